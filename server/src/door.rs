@@ -1,23 +1,81 @@
-//! The door: a client that has not said the password is answered here, and nothing of it comes to the library.
+//! The door: what of a client's bytes comes to the store. One that has not said the password is answered here, and nothing of it does.
+use crate::ahead::Ahead;
+use crate::house::House;
 use crate::options::Options;
 use std::hint::black_box;
 
 /// No request at the door is longer.
-pub const LONGEST: usize = 1 << 14;
+const LONGEST: usize = 1 << 14;
 pub const OK: &[u8] = b"+OK\r\n";
 
 /// What the front of some bytes lacks to be a request: they are a part of one, or of none.
-pub enum Lack {
+enum Lack {
     Part,
     Fault,
 }
 
 /// Requests that write: the first two only take away.
-pub const WRITES: [&str; 10] =
-    ["DEL", "FLUSHALL", "SET", "GETSET", "MSET", "APPEND", "INCR", "DECR", "INCRBY", "DECRBY"];
+const WRITES: [&str; 10] = ["DEL", "FLUSHALL", "SET", "GETSET", "MSET", "APPEND", "INCR", "DECR", "INCRBY", "DECRBY"];
 
-/// Requests that there is no room for, and what the store is fed in the place of one: a request that it hands to its host.
-pub type Away = (&'static [&'static str], &'static [u8]);
+/// What is done with the front of a client's bytes.
+pub enum Admit {
+    /// So many bytes are fed to the store, or this in the place of so many, which is a request that the store hands to its host.
+    Feed(usize),
+    Instead(&'static [u8], usize),
+    /// So many bytes are answered here, where nothing was fed of this client.
+    Tell(Vec<u8>, usize),
+    /// More is to come first, or nothing more is taken.
+    Wait,
+    End,
+}
+
+/// What stands beside knows of a client.
+#[derive(Default)]
+pub struct Guest {
+    /// A number that no other has or had.
+    pub id: u64,
+    /// Whether it said the password, or needn't, and whether it said at the door that it goes.
+    pub is_in: bool,
+    pub leaves: bool,
+    /// The frame up to which all is to be decided before it is answered, and what it was sent ahead.
+    pub waits: Option<u64>,
+    pub ahead: Option<Ahead>,
+}
+
+impl Guest {
+    /// What is done with the front of some bytes, of which the store has nothing yet.
+    pub fn admit(&mut self, bytes: &[u8], house: &House, has_room: bool) -> Admit {
+        if !self.is_in {
+            return self.greet(bytes, &house.options);
+        }
+        let (names, instead): (_, &[u8]) = match (has_room, house.is_heavy) {
+            (true, false) => return Admit::Feed(bytes.len()),
+            (false, _) => (&WRITES[..], b"NOROOM\r\n"),
+            _ => (&WRITES[2..], b"NOMEMORY\r\n"),
+        };
+        let is_away = |word: &&[u8]| names.iter().any(|name| word.eq_ignore_ascii_case(name.as_bytes()));
+        match request(bytes) {
+            Ok((words, count)) if words.first().is_some_and(is_away) => Admit::Instead(instead, count),
+            Ok((_, count)) => Admit::Feed(count),
+            Err(Lack::Part) if bytes.len() <= house.options.limits.bytes + LONGEST => Admit::Wait,
+            Err(_) => Admit::Feed(bytes.len()),
+        }
+    }
+
+    /// Answers the request of a client that is not in.
+    fn greet(&mut self, bytes: &[u8], options: &Options) -> Admit {
+        match request(bytes) {
+            Ok((words, count)) => {
+                let (told, is_in) = greet(options, &words, false);
+                (self.is_in, self.leaves) =
+                    (is_in, words.first().is_some_and(|word| word.eq_ignore_ascii_case(b"QUIT")));
+                Admit::Tell(told.unwrap_or_default(), count)
+            }
+            Err(Lack::Part) if bytes.len() <= LONGEST => Admit::Wait,
+            Err(_) => Admit::End,
+        }
+    }
+}
 
 /// A line without its end, and what stands behind it.
 fn line(bytes: &[u8]) -> Result<(&[u8], &[u8]), Lack> {
@@ -31,7 +89,7 @@ fn number(line: &[u8], mark: &[u8]) -> Result<usize, Lack> {
 }
 
 /// The words of the request that bytes begin with, and how many bytes it has.
-pub fn request(bytes: &[u8]) -> Result<(Vec<&[u8]>, usize), Lack> {
+fn request(bytes: &[u8]) -> Result<(Vec<&[u8]>, usize), Lack> {
     let (head, mut rest) = line(bytes)?;
     let mut words: Vec<_> = head.split(|byte| *byte == b' ').filter(|word| !word.is_empty()).collect();
     if head.starts_with(b"*") {
@@ -44,14 +102,6 @@ pub fn request(bytes: &[u8]) -> Result<(Vec<&[u8]>, usize), Lack> {
         }
     }
     Ok((words, bytes.len() - rest.len()))
-}
-
-/// What the store is fed of bytes: the first request as it stands, or where there is no room for it another in its place, and of how
-/// many bytes.
-pub fn turn_away(bytes: &[u8], (names, instead): Away) -> Result<(&[u8], Option<usize>), Lack> {
-    let (words, count) = request(bytes)?;
-    let is_away = |word: &&[u8]| names.iter().any(|name| word.eq_ignore_ascii_case(name.as_bytes()));
-    Ok(if words.first().is_some_and(is_away) { (instead, Some(count)) } else { (&bytes[..count], None) })
 }
 
 /// Whether a word is the password. How long that takes tells nothing of it.

@@ -15,8 +15,19 @@ pub const HELP: &str = "hidewillow-server [--NAME VALUE]..
   --snapshot 1g              bytes of the log after which a snapshot is made, once it has as many as the last snapshot
   --backups FOLDER/backups   where BACKUP NAME leaves a folder of this name
   --memory 0                 bytes of memory from which on writes that add are refused; 0 is no limit
+  --log disk                 or etcd:ADDRESS,..: where the log is, in the folder or in an engine, by the addresses of its members for clients
+  --prefix hidewillow/       what the keys of the log begin with in the engine
+  --lease 2                  seconds after which another leads where a host is gone
+  --clock untrusted          or trusted: whether reads go out by this host's clock alone while the lease runs
   --check FOLDER             says what a start on a folder would, changes nothing, and ends with 0 or 1";
 
+/// What may be undecided where the log is in an engine, which takes no larger batch.
+const MOST_IN_ENGINE: u32 = 1 << 20;
+/// Bytes of the log after which snapshots are made there, and of its segments, at the most.
+const LOG_IN_ENGINE: u64 = 128 << 20;
+const SEGMENT_IN_ENGINE: u64 = 16 << 20;
+
+#[derive(Clone)]
 pub struct Options {
     pub address: String,
     pub folder: String,
@@ -25,6 +36,11 @@ pub struct Options {
     pub snapshot: u64,
     pub backups: Option<String>,
     pub memory: u64,
+    /// The members of the engine, where the log lies in one; what its keys begin with; its lease in seconds; whether clocks are trusted.
+    pub engine: Vec<String>,
+    pub prefix: String,
+    pub lease: u64,
+    pub trusts_clock: bool,
     pub limits: StoreLimits,
 }
 
@@ -46,6 +62,15 @@ impl Options {
             "backups" => self.backups = Some(value.into()),
             "memory" => self.memory = number(value, 0..=1 << 50)?,
             "check" => self.check = Some(value.into()),
+            "log" => match value.strip_prefix("etcd:") {
+                Some(members) => self.engine = members.split(',').map(String::from).collect(),
+                None if value == "disk" => self.engine.clear(),
+                None => return Err(format!("{value}: disk, or etcd:ADDRESS,..")),
+            },
+            "prefix" => self.prefix = value.into(),
+            "lease" => self.lease = number(value, 1..=3600)?,
+            "clock" if value == "trusted" || value == "untrusted" => self.trusts_clock = value == "trusted",
+            "clock" => return Err(format!("{value}: trusted or untrusted")),
             "segment" => self.limits.segment = number(value, 64 << 10..=1 << 40)?,
             "undecided" => self.limits.undecided = number(value, 4 << 10..=128 << 20)? as u32,
             "batches" => self.limits.in_flight = number(value, 1..=63)? as u16,
@@ -70,7 +95,11 @@ impl Options {
         let limits = StoreLimits { words: 0, bytes: 0, line, waiting, segment, undecided, commands, in_flight };
         let (address, folder, password, snapshot) = ("127.0.0.1:7379".into(), ".".into(), Vec::new(), 1 << 30);
         let (check, backups, memory) = (None, None, 0);
-        let mut options = Options { address, folder, check, password, snapshot, backups, memory, limits };
+        let (engine, prefix, lease, trusts_clock) = (Vec::new(), "hidewillow/".into(), 2, false);
+        #[rustfmt::skip]
+        let mut options = Options {
+            address, folder, check, password, snapshot, backups, memory, engine, prefix, lease, trusts_clock, limits,
+        };
         for words in words.chunks(2) {
             let name = words[0].strip_prefix("--").filter(|_| words.len() == 2);
             match name.ok_or(format!("{}: --NAME VALUE", words[0]))? {
@@ -79,6 +108,11 @@ impl Options {
             }
         }
         let limits = &mut options.limits;
+        if !options.engine.is_empty() {
+            limits.undecided = limits.undecided.min(MOST_IN_ENGINE);
+            limits.segment = limits.segment.min(SEGMENT_IN_ENGINE);
+            options.snapshot = options.snapshot.min(LOG_IN_ENGINE);
+        }
         (limits.bytes, limits.words) = (limits.undecided as usize / 4, limits.undecided as usize / 64);
         if u64::from(limits.undecided) + 48 > limits.segment {
             return Err("more is undecided than a segment has".into());

@@ -46,17 +46,20 @@ REFUSALS = ("IOERR",)
 FAULTS = dict(fault="30,30,20", mixed="30,30,20", cut="0,0,30")
 # Hosts that are wrong on purpose: the file, what stands there, and what is put in its place.
 WRONG = {
-    "reply at once": [("log.rs", "self.log.under_way.push(at);",
-                       "self.log.under_way.push(at);\n                    if !self.log.is_cutting {\n"
-                       "                        done(self.store.synced(at.frame), \"synced\")?;\n                    }"),
-                      ("log.rs", "return done(self.store.synced(at.frame), \"synced\"); // [2]", "return Ok(());"),
-                      ("log.rs", "log.is_cutting = true;\n        if !is_head {\n            return done(self.store.failed(at.frame), \"failed\"); // [2]",
+    "reply at once": [("log.rs", "self.under_way.push(at);",
+                       "self.under_way.push(at);\n                    if !self.is_cutting {\n"
+                       "                        done(store.synced(at.frame), \"synced\")?;\n                    }"),
+                      ("log.rs", "return done(store.synced(at.frame), \"synced\"); // [2]", "return Ok(());"),
+                      ("log.rs", "self.is_cutting = true;\n        if !is_head {\n            return done(store.failed(at.frame), \"failed\"); // [2]",
                        "if !is_head {\n            return Ok(());")],
-    "no sync": [("disk.rs", "file.sync_data() // [2]", "Ok(())")],
-    "no cut": [("disk.rs", "let did = write(&folder, &job.at, &job.bytes);",
-                "let did = if job.is_head { Ok(()) } else { write(&folder, &job.at, &job.bytes) };")],
-    "shared file handle": [("disk.rs", "    let file = OpenOptions::new().write(true).open(folder.segment(at.segment))?; // [4]\n",
-                            """    static SHARED: Mutex<Option<(u64, &'static std::fs::File)>> = Mutex::new(None);
+    "no sync": [("disk.rs", "    file.sync_data()?; // [2]\n", "")],
+    "no cut": [("disk.rs", "let did = write(&folder, &mut own, &job.at, &job.bytes);",
+                "let did = if job.is_head { Ok(()) } else { write(&folder, &mut own, &job.at, &job.bytes) };")],
+    "shared file handle": [("disk.rs", """    let file = match own.take_if(|(of, _)| *of == at.segment) {
+        Some((_, file)) => file,
+        None => OpenOptions::new().write(true).open(folder.segment(at.segment))?,
+    };
+""", """    static SHARED: std::sync::Mutex<Option<(u64, &'static File)>> = std::sync::Mutex::new(None);
     let mut shared = SHARED.lock().unwrap();
     if shared.is_none_or(|(of, _)| of != at.segment) {
         let file = OpenOptions::new().write(true).open(folder.segment(at.segment))?;
@@ -64,21 +67,21 @@ WRONG = {
     }
     let (_, file) = shared.unwrap();
     drop(shared);
-""")],
+"""), ("disk.rs", "    *own = Some((at.segment, file)); // [4]\n", "    *own = None;\n")],
     "short write taken for whole": [("disk.rs", "file.write_all_at(&bytes[..at.len], at.offset)?; // [1]",
                                      "let _ = file.write_at(&bytes[..at.len], at.offset)?;")],
     "start that writes nothing again": [("folder.rs", "read(path, again, feed)", "read(path, false, feed)")],
-    "refusal before the cut": [("log.rs", "self.log.under_way.push(at);",
-                                "self.log.under_way.push(at);\n                    if self.log.is_cutting {\n"
-                                "                        done(self.store.cut(1), \"cut\")?;\n                    }"),
-                               ("log.rs", "return done(self.store.cut(1), \"cut\"); // [5]", "return Ok(());"),
-                               ("log.rs", "return done(self.store.turn(), \"turn\");", "return Ok(());")],
+    "refusal before the cut": [("log.rs", "self.under_way.push(at);",
+                                "self.under_way.push(at);\n                    if self.is_cutting {\n"
+                                "                        done(store.cut(1), \"cut\")?;\n                    }"),
+                               ("log.rs", "return done(store.cut(1), \"cut\"); // [5]", "return Ok(());"),
+                               ("log.rs", "return done(store.turn(), \"turn\");", "return Ok(());")],
     "snapshot that isn't on the disk": [("folder.rs", "fill(&mut file).and_then(|bytes| file.sync_all().map(|()| bytes))", "fill(&mut file)")],
     "segments removed before the snapshot has its name": [("folder.rs", "named(path, did.and_then(|bytes| File::open(&self.0)?.sync_all().map(|()| bytes)))",
                                                            "named(path, did)")],
-    "snapshot of what is written": [("log.rs", "self.under_way.iter().map(|at| at.segment).min().unwrap_or(self.segment) - 1", "self.segment")],
+    "snapshot of what is written": [("log.rs", "self.under_way.iter().map(|at| at.segment).min().unwrap_or(self.at.written) - 1", "self.at.written")],
     "all stands before it is decided": [("asked.rs", "Some(ahead) => ahead.waiting.is_empty(),", "Some(_) => true,")],
-    "start that serves before its head": [("main.rs", "disk::write(&folder, &at, &room)?; // [5]", "let _ = room;")],
+    "start that serves before its head": [("log.rs", "disk::write(&folder, &mut None, &place, &head)?; // [5]", "let _ = head;")],
 }
 
 
@@ -360,6 +363,15 @@ def check(book, link, mode, slow):
         book.held.clear()
 
 
+def trim(journal):
+    """Takes off what is no whole record: one that the end of a run left torn, before the write that it tells of."""
+    text, at = journal.read_bytes(), 0
+    while at + RECORD.size <= len(text) and at + RECORD.size + RECORD.unpack_from(text, at)[4] <= len(text):
+        at += RECORD.size + RECORD.unpack_from(text, at)[4]
+    if at < len(text):
+        os.truncate(journal, at)
+
+
 def take_back(journal, dice, keeps_failed):
     """What a loss of power may do: takes back bytes that no sync covered, and names. Answers how many writes it took back of."""
     text, at, step, run = journal.read_bytes(), 0, 0, 0
@@ -474,13 +486,15 @@ class Host:
             shim["SHIM_LIES"] = "1"
         if faults and self.mode in FAULTS:
             shim.update(SHIM_FAULTS=FAULTS[self.mode], SHIM_CUT="500" if self.mode == "cut" else "0")
+        if self.journal.exists():
+            trim(self.journal)
         with (self.room / "log").open("ab") as log:
             self.process = subprocess.Popen(self.words(self.folder, self.port), env=shim, stdout=log, stderr=log)
         return connected(self.port, self.process)
 
     def end(self, how):
         self.process.send_signal(how)
-        return self.process.wait(30)
+        return self.process.wait(300)
 
 
 def one_crash(options, host, book, dice):
@@ -550,7 +564,7 @@ def built(folder, edits):
     for name in ("server", "rust"):
         shutil.copytree(TOP.parent / name, folder / name, ignore=shutil.ignore_patterns("target"))
     for name, old, new in edits:
-        path = source / "src" / name
+        path = next((source / "src").rglob(name))
         text = path.read_text()
         if text.count(old) != 1:
             sys.exit(f"{name} has this {text.count(old)} times: {old}")
@@ -575,7 +589,7 @@ def find(options, name, shim):
 
 def marks():
     """Each of the ten sentences has its line, and no line has another number."""
-    found = {int(number) for path in (TOP / "src").glob("*.rs") for number in re.findall(r"// \[(\d+)\]", path.read_text())}
+    found = {int(number) for path in (TOP / "src" / "trusted").glob("*.rs") for number in re.findall(r"// \[(\d+)\]", path.read_text())}
     return found == set(range(1, 11))
 
 

@@ -136,10 +136,11 @@ def hosts(server):
     yield "what isn't known", server.ask(b"NOSUCH 1\r\nSELECT 1\r\nHELLO 3\r\n", b"-ERR unknown command\r\n-ERR DB index is out of range\r\n-NOPROTO")
     yield "settings", server.ask(b"CONFIG GET appendonly\r\nCONFIG GET x\r\n", b"*2\r\n$10\r\nappendonly\r\n$3\r\nyes\r\n*0\r\n")
     with socket.create_connection(("127.0.0.1", server.port), timeout=60) as link:
-        link.sendall(b"SET i 1\r\nDEL i\r\nINFO keys\r\nQUIT\r\n")
+        link.sendall(b"SET i 1\r\nDEL i\r\nINFO\r\nINFO keys\r\nQUIT\r\n")
         told = b"".join(iter(lambda: link.recv(1 << 16), b"")).decode()
     names = ["syncs", "commands_a_sync", "commands_a_batch", "replies_held", "undecided_bytes", "batches_kept", "keys", "batches_refused", "used_memory", "log_bytes", "snapshot_bytes"]
-    yield "INFO, and QUIT", all(re.search(rf"^{name}:\d+\r$", told, re.M) for name in names) and told.endswith("+OK\r\n")
+    yield "INFO, and QUIT", all(len(re.findall(rf"^{name}:\d+\r$", told, re.M)) == 2 for name in names) and told.endswith("+OK\r\n")
+    yield "the keys that INFO counts", re.findall(r"^keys:(\d+)\r$", told, re.M)[1:] == ["51"]
 
 
 def ahead(program, folder):

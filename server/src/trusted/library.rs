@@ -86,13 +86,13 @@ pub struct Store(Durable);
 impl Store {
     /// Goes on behind a log. The head in the room is to be on the disk, at this place, before anything else is done.
     pub fn open(
-        mut log: Recovery,
+        log: &mut Recovery,
         limits: &StoreLimits,
         seed: u64,
         room: &mut [u8],
     ) -> io::Result<(Store, FramePlace)> {
         let (mut store, mut at) = (Store(Durable { at: ptr::null_mut() }), FramePlace::default());
-        well(store.begin(&mut log, limits, seed, room, &mut at), &[OPENED], "store").map(|_| (store, at))
+        well(store.begin(log, limits, seed, room, &mut at), &[OPENED], "store").map(|_| (store, at))
     }
 
     calls! {

@@ -1,9 +1,11 @@
 //! What a store has in its folder: `log-N`, segments of zeros with frames over them, and `snapshot-N-F`, which stands for all
 //! segments up to N; the log goes on behind it with frame F.
-use crate::library::{done, well, Recovery, ABSENT, DAMAGED, DONE, OPENED, REFUSED, SHOWN};
+use super::library::{done, well, Recovery, ABSENT, DAMAGED, DONE, OPENED, REFUSED, SHOWN};
+use super::log::Closed;
+use crate::info::found;
 use hidewillow::store::ReadCounts;
 use std::fs::{self, File, OpenOptions};
-use std::io::{self, ErrorKind, Read, Write};
+use std::io::{self, BufWriter, Read, Write};
 use std::os::unix::fs::FileExt;
 use std::path::{Path, PathBuf};
 
@@ -15,16 +17,20 @@ const ENTRIES: usize = 32 << 20;
 
 pub struct Folder(pub PathBuf);
 
-/// A log that was read: in words, its keys, the number of the next frame, and the segments that its snapshot stands for.
+/// A log that was read, and the segments that its snapshot stands for.
 pub struct Found {
-    pub words: String,
-    keys: u64,
-    next: u64,
-    pub kept: u64,
     pub log: Recovery,
+    pub counts: ReadCounts,
+    pub kept: u64,
 }
 
-fn named<T>(path: &Path, did: io::Result<T>) -> io::Result<T> {
+/// A snapshot that was made: its keys, and its bytes.
+pub struct Made {
+    pub keys: u64,
+    pub bytes: u64,
+}
+
+pub fn named<T>(path: &Path, did: io::Result<T>) -> io::Result<T> {
     did.map_err(|error| io::Error::new(error.kind(), format!("{}: {error}", path.display())))
 }
 
@@ -76,8 +82,8 @@ impl Folder {
         Ok(files)
     }
 
-    /// Has the folder, which is made if it isn't there.
-    fn make(&self) -> io::Result<()> {
+    /// Makes the folder, if it isn't there.
+    pub fn make(&self) -> io::Result<()> {
         if self.0.is_dir() {
             return Ok(());
         }
@@ -110,20 +116,34 @@ impl Folder {
 
     /// Makes a segment of zeros, in the place of one that is unused.
     pub fn make_segment(&self, segment: u64, bytes: u64) -> io::Result<()> {
-        let zeros = |file: &mut File| io::copy(&mut io::repeat(0).take(bytes), file);
+        let zeros = |file: &mut File| {
+            let mut file = BufWriter::with_capacity(PIECE, file);
+            let count = io::copy(&mut io::repeat(0).take(bytes), &mut file)?;
+            file.flush().map(|()| count)
+        };
         self.place(&self.segment(segment), zeros).map(drop) // [3]
+    }
+
+    /// The segments that the newest snapshot stands for, the next frame, and its file, where there is one.
+    pub fn newest(&self) -> io::Result<(u64, u64, Option<PathBuf>)> {
+        Ok(self.files("snapshot-")?.pop().map_or((0, 1, None), |(kept, first, path)| (kept, first, Some(path))))
+    }
+
+    /// Begins to read a log: the newest snapshot, the segments that it stands for, and the next frame.
+    pub fn begin(&self) -> io::Result<(Recovery, u64, u64)> {
+        let (kept, first, snapshot) = self.newest()?;
+        let mut log = Recovery::new();
+        well(log.open(first), &[OPENED], "log")?;
+        if let Some(path) = &snapshot {
+            named(path, read(path, false, |piece| done(log.feed(0, piece), "piece")))?;
+            named(path, well(log.head(kept, &[]), &[ABSENT], "snapshot").map(drop))?;
+        }
+        Ok((log, kept, first))
     }
 
     /// Reads the log up to the end of a segment, where so many bytes may have been undecided.
     pub fn recover(&self, undecided: u32, up_to: u64, again: bool) -> io::Result<Found> {
-        let snapshot = self.files("snapshot-")?.pop();
-        let (kept, first) = snapshot.as_ref().map_or((0, 1), |(number, frame, _)| (*number, *frame));
-        let (mut log, mut counts) = (Recovery::new(), ReadCounts::default());
-        well(log.open(first), &[OPENED], "log")?;
-        if let Some((.., path)) = &snapshot {
-            named(path, read(path, false, |piece| done(log.feed(0, piece), "piece")))?;
-            named(path, well(log.head(kept, &[]), &[ABSENT], "snapshot").map(drop))?;
-        }
+        let ((mut log, kept, _), mut counts) = (self.begin()?, ReadCounts::default());
         let mut segments = self.files("log-")?;
         segments.retain(|(number, ..)| *number > kept);
         while segments.last().is_some_and(|(.., path)| is_unused(path).unwrap_or(false)) {
@@ -138,27 +158,26 @@ impl Folder {
             let feed = |piece: &[u8]| done(log.feed(*number, piece), "piece");
             named(path, read(path, again, feed))?; // [9]
         }
-        let most = u64::from(undecided) + 64 * HEAD as u64;
-        let told = log.end(most, &mut counts);
-        let is_damaged = told.answer == REFUSED && told.number == DAMAGED;
-        well(told, if is_damaged { &[REFUSED] } else { &[DONE] }, "log")?;
-        let ReadCounts { frames, commands, keys, next, segment, place, dropped } = counts;
-        let words = format!(
-            "{keys} keys, {commands} commands in {frames} frames of the log; it ends at byte {place} of segment {segment}, before \
-             frame {next}, and {dropped} bytes behind count for nothing"
-        );
-        if is_damaged {
+        let told = log.end(u64::from(undecided) + 64 * HEAD as u64, &mut counts);
+        if told.answer == REFUSED && told.number == DAMAGED {
             let says = "the log is damaged, more than a crash explains, and nothing was changed; go back to a copy";
-            return Err(io::Error::other(format!("{says}. Before that place are {words}")));
+            return Err(io::Error::other(format!("{says}. Before that place are {}", found(&counts))));
         }
-        Ok(Found { words, keys, next, kept, log })
+        done(told, "log")?;
+        Ok(Found { log, counts, kept })
     }
 
-    /// Writes a snapshot that stands for all segments up to this one: its path, what it is in words, and its bytes.
-    fn write(&self, undecided: u32, up_to: u64, into: &Folder) -> io::Result<(PathBuf, String, u64)> {
-        let Found { keys, next, mut log, .. } = self.recover(undecided, up_to, false)?;
-        let (path, mut room) = (into.0.join(format!("snapshot-{up_to:010}-{next}")), vec![0; ENTRIES]);
-        let bytes = into.place(&path, |file| {
+    /// Writes a snapshot that stands for these segments, into this folder or another; and its path.
+    pub fn write(&self, undecided: u32, closed: &Closed, into: &Folder) -> io::Result<(PathBuf, Made)> {
+        let up_to = closed.up_to();
+        let Found { mut log, counts: ReadCounts { keys, next, .. }, .. } = self.recover(undecided, up_to, false)?;
+        into.write_of(&mut log, up_to, next).map(|(path, bytes)| (path, Made { keys, bytes }))
+    }
+
+    /// Writes a snapshot of a log that was read up to the end of a segment, and behind which this frame is the next; its bytes too.
+    pub fn write_of(&self, log: &mut Recovery, up_to: u64, next: u64) -> io::Result<(PathBuf, u64)> {
+        let (path, mut room) = (self.0.join(format!("snapshot-{up_to:010}-{next}")), vec![0; ENTRIES]);
+        let bytes = self.place(&path, |file| {
             let mut bytes = 0;
             loop {
                 let told = well(log.snapshot(&mut room), &[SHOWN, ABSENT], "snapshot")?;
@@ -169,32 +188,23 @@ impl Folder {
                 bytes += told.bytes as u64;
             }
         })?;
-        Ok((path, format!("{keys} keys in {bytes} bytes"), bytes))
+        Ok((path, bytes))
     }
 
-    /// Makes a snapshot that stands for all segments up to this one, and removes what it stands for. In words, and its bytes.
-    pub fn snapshot(&self, undecided: u32, up_to: u64) -> io::Result<(String, u64)> {
-        let (path, words, bytes) = self.write(undecided, up_to, self)?;
+    /// Makes a snapshot that stands for these segments, and removes what it stands for.
+    pub fn snapshot(&self, undecided: u32, closed: &Closed) -> io::Result<Made> {
+        let (path, made) = self.write(undecided, closed, self)?;
+        self.remove(closed.up_to(), &path)?;
+        Ok(made)
+    }
+
+    /// Removes all that a snapshot up to a segment stands for.
+    pub fn remove(&self, up_to: u64, snapshot: &Path) -> io::Result<()> {
         for (number, _, old) in [self.files("log-")?, self.files("snapshot-")?].concat() {
-            if number <= up_to && old != path {
+            if number <= up_to && old != snapshot {
                 named(&old, fs::remove_file(&old))?; // [9]
             }
         }
-        Ok((words, bytes))
-    }
-
-    /// Makes a folder with a snapshot of all segments up to this one, under its name once it is whole and on the disk.
-    pub fn backup(&self, undecided: u32, up_to: u64, path: &Path) -> io::Result<(String, u64)> {
-        let name = path.file_name().unwrap_or_default().display();
-        let (home, new) = (Folder(path.with_file_name("")), Folder(path.with_file_name(format!(".{name}"))));
-        home.make()?;
-        if path.exists() {
-            return named(path, Err(ErrorKind::AlreadyExists.into()));
-        }
-        let _ = fs::remove_dir_all(&new.0);
-        new.make()?;
-        let (_, words, bytes) = self.write(undecided, up_to, &new)?;
-        named(path, fs::rename(&new.0, path).and_then(|()| File::open(&home.0)?.sync_all()))?;
-        Ok((words, bytes))
+        Ok(())
     }
 }

@@ -1,8 +1,11 @@
-//! What the system has ready, by `epoll`, and the signals that it sends, by a `signalfd`.
+//! What the system has ready, by `epoll`, and the signals that it sends.
 use std::ffi::c_int;
 use std::fs::File;
-use std::io::{self, ErrorKind};
+use std::io::{self, ErrorKind, Write};
 use std::os::fd::{AsRawFd, FromRawFd, OwnedFd};
+use std::os::unix::net::UnixStream;
+use std::thread;
+use std::time::Duration;
 
 /// As the kernel declares it: on this processor alone it is packed.
 #[cfg_attr(target_arch = "x86_64", repr(C, packed))]
@@ -13,24 +16,12 @@ struct Event {
     of: u64,
 }
 
-/// What memory allocated by the C library is: the bytes mapped are the fifth, those in use beside these the eighth.
-#[repr(C)]
-struct Allocated([usize; 10]);
-
 extern "C" {
     fn epoll_create1(flags: c_int) -> c_int;
     fn epoll_ctl(epoll: c_int, op: c_int, fd: c_int, event: *mut Event) -> c_int;
     fn epoll_wait(epoll: c_int, events: *mut Event, most: c_int, timeout: c_int) -> c_int;
     fn pthread_sigmask(how: c_int, set: *const [u64; 16], old: *mut [u64; 16]) -> c_int;
-    fn signalfd(fd: c_int, set: *const [u64; 16], flags: c_int) -> c_int;
-    fn mallinfo2() -> Allocated;
-}
-
-/// How many bytes of memory are in use.
-pub fn memory() -> u64 {
-    // Safety: it takes nothing, and is told by value.
-    let Allocated(of) = unsafe { mallinfo2() };
-    (of[4] + of[7]) as u64
+    fn sigwait(set: *const [u64; 16], signal: *mut c_int) -> c_int;
 }
 
 const CLOEXEC: c_int = 0o2000000;
@@ -48,16 +39,20 @@ fn opened(fd: c_int) -> io::Result<File> {
     Ok(File::from(unsafe { OwnedFd::from_raw_fd(fd) }))
 }
 
-/// Signals, which interrupt nothing from now on, in no thread that is started later either. The first four bytes of each 128 that
-/// are read are its number.
-pub fn signals() -> io::Result<File> {
+/// Signals interrupt nothing from now on, in no thread that is started later either: each is told by a byte of its number.
+pub fn signals(mut tell: UnixStream) {
     let mut set = [0; 16];
     set[0] = [SIGINT, SIGUSR1, SIGTERM].iter().map(|signal| 1 << (signal - 1)).sum();
-    // Safety: the set has the size of the C library's, 128 bytes, and lives for both calls; no old one is asked for.
-    opened(unsafe {
-        pthread_sigmask(0, &set, std::ptr::null_mut());
-        signalfd(-1, &set, CLOEXEC)
-    })
+    // Safety: the set has the size of the C library's, 128 bytes, and lives for the call; no old one is asked for.
+    unsafe { pthread_sigmask(0, &set, std::ptr::null_mut()) };
+    thread::spawn(move || loop {
+        let mut signal = 0;
+        // Safety: both live for the call.
+        unsafe { sigwait(&set, &mut signal) };
+        while tell.write(&[signal as u8]).is_err() {
+            thread::sleep(Duration::from_millis(10));
+        }
+    });
 }
 
 pub struct Poll(File);

@@ -1,0 +1,262 @@
+//! Calls of gRPC over one connection of HTTP/2: a call is a stream with one message out and one back.
+//!
+//! Headers that come back are passed over, so nothing of them has to be unpacked: a call is answered by a whole message, and one whose
+//! stream ends without is an error, of which nothing more is known. None of our own headers is shortened or remembered.
+use std::collections::HashMap;
+use std::io::{self, BufReader, Read, Write};
+use std::net::{Shutdown, TcpStream, ToSocketAddrs};
+use std::sync::mpsc::{self, Sender};
+use std::sync::{Arc, Condvar, Mutex, MutexGuard};
+use std::thread;
+use std::time::{Duration, Instant};
+
+const GREETING: &[u8] = b"PRI * HTTP/2.0\r\n\r\nSM\r\n\r\n";
+const DATA: u8 = 0;
+const HEADERS: u8 = 1;
+const RESET: u8 = 3;
+const SETTINGS: u8 = 4;
+const PING: u8 = 6;
+const GO_AWAY: u8 = 7;
+const WINDOW: u8 = 8;
+const END_STREAM: u8 = 1;
+const ACK: u8 = 1;
+const END_HEADERS: u8 = 4;
+const PADDED: u8 = 8;
+/// Settings: the table of headers that were sent before, whether streams are pushed, and the window of each stream.
+const TABLE: u16 = 1;
+const PUSH: u16 = 2;
+const FIRST_WINDOW: u16 = 4;
+/// No frame that either side sends is longer.
+const LONGEST: usize = 1 << 14;
+/// What may come unasked on a connection, and on each stream; and how much comes until more is asked for.
+const OURS: u32 = 1 << 30;
+const MORE: u32 = 1 << 24;
+/// How long a connection may take, and a write while the other side takes nothing.
+const SLOW: Duration = Duration::from_millis(700);
+
+fn broken(what: &str) -> io::Error {
+    io::Error::other(what.to_string())
+}
+
+fn put_frame(out: &mut Vec<u8>, kind: u8, flags: u8, stream: u32, load: &[u8]) {
+    out.extend_from_slice(&(load.len() as u32).to_be_bytes()[1..]);
+    out.extend_from_slice(&[kind, flags]);
+    out.extend_from_slice(&stream.to_be_bytes());
+    out.extend_from_slice(load);
+}
+
+fn number(bytes: &[u8]) -> u32 {
+    bytes.iter().fold(0, |number, byte| number << 8 | u32::from(*byte))
+}
+
+/// The headers of a call: those that everybody knows by their numbers, else texts as they are, none of which is to be remembered.
+fn headers(path: &str, authority: &str) -> Vec<u8> {
+    let (post, http) = (0x83, 0x86);
+    let mut block = vec![post, http];
+    let texts: [(&[u8], &str); 4] =
+        [(b"\x04", path), (b"\x01", authority), (b"\x0f\x10", "application/grpc"), (b"\x00\x02te", "trailers")];
+    for (name, text) in texts {
+        block.extend_from_slice(name);
+        // Below 127 a length is one byte.
+        block.push(text.len().min(126) as u8);
+        block.extend_from_slice(&text.as_bytes()[..text.len().min(126)]);
+    }
+    block
+}
+
+/// A call that waits to be answered: what its stream may still be sent, and what came.
+struct Call {
+    window: i64,
+    came: Vec<u8>,
+    tell: Sender<io::Result<Vec<u8>>>,
+}
+
+struct State {
+    out: TcpStream,
+    next: u32,
+    window: i64,
+    first_window: i64,
+    calls: HashMap<u32, Call>,
+    is_over: bool,
+}
+
+pub struct Connection {
+    authority: String,
+    state: Mutex<State>,
+    has_room: Condvar,
+}
+
+impl Connection {
+    /// Connects, with a thread that hears until the connection is over.
+    pub fn new(address: &str) -> io::Result<Arc<Connection>> {
+        let at = address.to_socket_addrs()?.next().ok_or_else(|| broken("no such address"))?;
+        let out = TcpStream::connect_timeout(&at, SLOW)?;
+        out.set_nodelay(true)?;
+        out.set_write_timeout(Some(SLOW))?;
+        let heard = out.try_clone()?;
+        let settings: Vec<u8> = [(TABLE, 0), (PUSH, 0), (FIRST_WINDOW, OURS)]
+            .iter()
+            .flat_map(|(of, value): &(u16, u32)| [&of.to_be_bytes()[..], &value.to_be_bytes()].concat())
+            .collect();
+        let mut greeting = GREETING.to_vec();
+        put_frame(&mut greeting, SETTINGS, 0, 0, &settings);
+        put_frame(&mut greeting, WINDOW, 0, 0, &OURS.to_be_bytes());
+        (&out).write_all(&greeting)?;
+        let state = State { out, next: 1, window: 65_535, first_window: 65_535, calls: HashMap::new(), is_over: false };
+        let authority = address.to_string();
+        let connection = Arc::new(Connection { authority, state: Mutex::new(state), has_room: Condvar::new() });
+        let hears = connection.clone();
+        thread::spawn(move || {
+            let error = hears.hear(heard).err().map_or("closed".into(), |error| error.to_string());
+            hears.end(&error);
+        });
+        Ok(connection)
+    }
+
+    fn state(&self) -> MutexGuard<'_, State> {
+        self.state.lock().expect("no thread ends that has it")
+    }
+
+    /// Nothing more is sent or heard; who waits for an answer is told.
+    pub fn end(&self, why: &str) {
+        let mut state = self.state();
+        state.is_over = true;
+        let _ = state.out.shutdown(Shutdown::Both);
+        for (_, call) in state.calls.drain() {
+            let _ = call.tell.send(Err(broken(why)));
+        }
+        self.has_room.notify_all();
+    }
+
+    pub fn is_over(&self) -> bool {
+        self.state().is_over
+    }
+
+    /// Sends a message, and waits for the answer, which may not come though what was asked for was done.
+    pub fn call(&self, path: &str, message: &[u8], patience: Duration) -> io::Result<Vec<u8>> {
+        let (tell, told) = mpsc::channel();
+        let until = Instant::now() + patience;
+        self.send(path, message, tell, until)?;
+        let answer = told.recv_timeout(until.saturating_duration_since(Instant::now()));
+        answer.unwrap_or_else(|_| Err(io::ErrorKind::TimedOut.into()))
+    }
+
+    fn send(&self, path: &str, message: &[u8], tell: Sender<io::Result<Vec<u8>>>, until: Instant) -> io::Result<()> {
+        let body = [&[0][..], &(message.len() as u32).to_be_bytes(), message].concat();
+        let mut state = self.state();
+        let stream = state.next;
+        if state.is_over || stream > OURS {
+            return Err(broken("the connection is over"));
+        }
+        state.next += 2;
+        let call = Call { window: state.first_window, came: Vec::new(), tell };
+        state.calls.insert(stream, call);
+        let (mut out, mut rest) = (Vec::with_capacity(body.len() + 256), &body[..]);
+        put_frame(&mut out, HEADERS, END_HEADERS, stream, &headers(path, &self.authority));
+        while !rest.is_empty() {
+            let all = state.window;
+            let call = state.calls.get_mut(&stream).ok_or_else(|| broken("the call is over"))?;
+            let most = LONGEST.min(rest.len()).min(call.window.min(all).max(0) as usize);
+            if most > 0 {
+                let (piece, behind) = rest.split_at(most);
+                rest = behind;
+                call.window -= most as i64;
+                state.window -= most as i64;
+                put_frame(&mut out, DATA, if rest.is_empty() { END_STREAM } else { 0 }, stream, piece);
+                continue;
+            }
+            state.out.write_all(&out)?;
+            out.clear();
+            let left = until.saturating_duration_since(Instant::now());
+            if left.is_zero() {
+                return Err(io::ErrorKind::TimedOut.into());
+            }
+            state = self.has_room.wait_timeout(state, left).expect("no thread ends that has it").0;
+        }
+        state.out.write_all(&out)
+    }
+
+    /// Hears frames until there are no more.
+    fn hear(&self, socket: TcpStream) -> io::Result<()> {
+        let (mut input, mut head, mut load, mut taken) =
+            (BufReader::with_capacity(1 << 16, socket), [0; 9], Vec::new(), 0);
+        loop {
+            input.read_exact(&mut head)?;
+            let (bytes, kind, flags, stream) = (number(&head[..3]), head[3], head[4], number(&head[5..]) & 0x7fff_ffff);
+            if bytes as usize > LONGEST {
+                return Err(broken("a frame is too long"));
+            }
+            load.resize(bytes as usize, 0);
+            input.read_exact(&mut load)?;
+            taken += if kind == DATA { bytes } else { 0 };
+            let mut state = self.state();
+            if taken >= MORE {
+                let mut out = Vec::new();
+                put_frame(&mut out, WINDOW, 0, 0, &taken.to_be_bytes());
+                taken = 0;
+                state.out.write_all(&out)?;
+            }
+            state.take(kind, flags, stream, &load)?;
+            self.has_room.notify_all();
+        }
+    }
+}
+
+impl State {
+    /// Takes a frame that came.
+    fn take(&mut self, kind: u8, flags: u8, stream: u32, load: &[u8]) -> io::Result<()> {
+        let mut out = Vec::new();
+        match kind {
+            DATA | HEADERS => return self.came(kind, flags, stream, load),
+            RESET => self.tell(stream, Err(broken("the call was broken off"))),
+            SETTINGS if flags & ACK == 0 => {
+                for setting in load.chunks_exact(6).filter(|setting| number(&setting[..2]) == u32::from(FIRST_WINDOW)) {
+                    let window = i64::from(number(&setting[2..]));
+                    let more = window - self.first_window;
+                    self.first_window = window;
+                    self.calls.values_mut().for_each(|call| call.window += more);
+                }
+                put_frame(&mut out, SETTINGS, ACK, 0, &[]);
+            }
+            PING if flags & ACK == 0 => put_frame(&mut out, PING, ACK, 0, load),
+            GO_AWAY => return Err(broken("the member goes away")),
+            WINDOW if stream == 0 => self.window += i64::from(number(load)),
+            WINDOW => {
+                if let Some(call) = self.calls.get_mut(&stream) {
+                    call.window += i64::from(number(load));
+                }
+            }
+            _ => (),
+        }
+        self.out.write_all(&out)
+    }
+
+    /// Takes what came on a stream: an answer is told once it is whole.
+    fn came(&mut self, kind: u8, flags: u8, stream: u32, load: &[u8]) -> io::Result<()> {
+        let Some(call) = self.calls.get_mut(&stream) else { return Ok(()) };
+        if kind == DATA {
+            let pad = if flags & PADDED == 0 { 0 } else { 1 + usize::from(*load.first().unwrap_or(&0)) };
+            let piece =
+                load.get(pad.min(1)..load.len() + pad.min(1) - pad).ok_or_else(|| broken("a frame is cut off"))?;
+            call.came.extend_from_slice(piece);
+        }
+        let is_plain = call.came.first().is_none_or(|mark| *mark == 0);
+        let wanted = call.came.get(1..5).map(|bytes| 5 + number(bytes) as usize);
+        if !is_plain {
+            self.tell(stream, Err(broken("an answer is packed")));
+        } else if wanted.is_some_and(|wanted| call.came.len() >= wanted) {
+            let answer = call.came.split_off(5);
+            self.tell(stream, Ok(answer));
+        } else if flags & END_STREAM != 0 {
+            self.tell(stream, Err(broken("no answer")));
+        }
+        Ok(())
+    }
+
+    fn tell(&mut self, stream: u32, answer: io::Result<Vec<u8>>) {
+        if let Some(call) = self.calls.remove(&stream) {
+            // Who has waited too long doesn't hear it.
+            let _ = call.tell.send(answer);
+        }
+    }
+}

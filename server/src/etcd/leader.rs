@@ -1,0 +1,284 @@
+//! The log in an engine, as the loop has it: frames to batches, what came of them, rounds, and the end of a leadership.
+use super::engine::{Batch, Engine, Fate, Keys, Word, ROUNDS};
+use super::requests::Members;
+use super::snapshots::{self, Leading};
+use crate::house::House;
+use crate::keeper::Keeper;
+use crate::options::Options;
+use crate::trusted::folder::Folder;
+use crate::trusted::library::{
+    done, well, Recovery, Store, ABSENT, BUSY, DONE, FULL, MEMORY, NOTHING, NO_CUT, REFUSED,
+};
+use crate::trusted::log::Log;
+use crate::trusted::server::Server;
+use crate::trusted::system::SIGUSR1;
+use hidewillow::store::{FramePlace, ReadCounts, StoreLimits};
+use hidewillow::Told;
+use std::hash::{BuildHasher, RandomState};
+use std::io::{self, ErrorKind, Read};
+use std::net::TcpListener;
+use std::os::unix::net::UnixStream;
+use std::sync::Arc;
+use std::time::Duration;
+
+/// How long the head of a frame is.
+const HEAD: usize = 24;
+/// How often it is looked whether somebody leads.
+const WAIT: Duration = Duration::from_millis(100);
+
+pub struct EtcdLog {
+    engine: Engine,
+    limits: StoreLimits,
+    trusts_clock: bool,
+    /// The batches under way, and the number of the next.
+    under_way: Vec<u64>,
+    next: u64,
+    /// The turn of the loop behind which this host led, by batches and rounds, the last turn behind which one of them was sent, and how many
+    /// rounds are under way.
+    led: u64,
+    asked: u64,
+    rounds: usize,
+    /// Batches that will never be in the log, once this host leads no more, and whether all is wound up.
+    is_losing: bool,
+    lost: Vec<u64>,
+    is_over: bool,
+    /// How many keys the log had.
+    found: u64,
+    /// Batches that are in the log, their bytes, the microseconds of all and of the longest, batches that were lost, and rounds.
+    counts: [u64; 6],
+}
+
+/// Feeds batches to the library that has what was before, segment by segment; this is the number behind them.
+pub fn recovered(recovery: &mut Recovery, batches: &[Batch], next: u64) -> io::Result<ReadCounts> {
+    let mut counts = ReadCounts::default();
+    for batch in batches.iter().filter(|batch| batch.offset == 0) {
+        let head = &batch.frame[..HEAD.min(batch.frame.len())];
+        well(recovery.head(batch.segment, head), &[DONE, ABSENT], "head")?;
+    }
+    for batch in batches {
+        done(recovery.feed(batch.segment, &batch.frame), "frame")?;
+    }
+    done(recovery.end(0, &mut counts), "log")?;
+    if counts.next != next || counts.dropped > 0 {
+        let words = format!("the log has {} frames, and {} count", next - 1, counts.next - 1);
+        return Err(io::Error::new(ErrorKind::InvalidData, words));
+    }
+    Ok(counts)
+}
+
+impl EtcdLog {
+    /// Recovers the log that a leader has, and goes on behind it. Nothing where it leads no more.
+    fn open(engine: Engine, options: &Options) -> io::Result<Option<(Store, EtcdLog)>> {
+        let (mut recovery, _, first) = Folder(options.folder.clone().into()).begin()?;
+        let log = engine.leadership.read_log(first)?;
+        if log.cut >= first {
+            let cut = log.cut;
+            return Err(io::Error::other(format!(
+                "no snapshot up to batch {cut} is in the folder: copy one of another host"
+            )));
+        }
+        if !engine.leadership.fence(log.gap)? {
+            return Ok(None);
+        }
+        let ReadCounts { keys, commands, next, .. } = recovered(&mut recovery, &log.batches, log.gap)
+            .map_err(|error| io::Error::new(ErrorKind::InvalidData, format!("the log is damaged: {error}")))?;
+        let behind = log.behind;
+        drop(log);
+        say!(
+            "{keys} keys, {commands} commands in {} batches of the log, and {behind} behind a gap are deleted",
+            next - 1
+        );
+        let (seed, mut head) = (RandomState::new().hash_one(std::process::id()), vec![0; HEAD]);
+        let (store, at) = Store::open(&mut recovery, &options.limits, seed, &mut head)?;
+        // The first batch is decided before any other is sent.
+        let leadership = &engine.leadership;
+        if at.frame != next || leadership.try_put(&batch(leadership.revision, &at, head), WAIT * 40)? != Fate::Synced {
+            return Ok(None);
+        }
+        let (trusts_clock, under_way, lost) = (options.trusts_clock, Vec::new(), Vec::new());
+        #[rustfmt::skip]
+        let log = EtcdLog {
+            engine, limits: options.limits, trusts_clock, under_way, next: next + 1, led: 0, asked: 0, rounds: 0,
+            is_losing: false, lost, is_over: false, found: keys, counts: [0; 6],
+        };
+        Ok(Some((store, log)))
+    }
+
+    /// What came of a batch.
+    fn came(&mut self, store: &mut Store, number: u64, turn: u64, fate: Fate, micros: u64) -> io::Result<()> {
+        self.under_way.retain(|it| *it != number);
+        match fate {
+            Fate::Synced => {
+                self.led = self.led.max(turn);
+                let [batches, _, all, longest, ..] = &mut self.counts;
+                (*batches, *all, *longest) = (*batches + 1, *all + micros, micros.max(*longest));
+                done(store.synced(number), "synced")
+            }
+            Fate::Lost => {
+                (self.is_losing, self.counts[4]) = (true, self.counts[4] + 1);
+                self.lost.push(number);
+                Ok(())
+            }
+            Fate::Unknowable => Err(io::Error::other(format!("nobody can know what came of batch {number}"))),
+            Fate::Breach => {
+                Err(io::Error::other("something else writes the keys of the log, so nothing more is answered"))
+            }
+        }
+    }
+
+    /// Once each batch has its word, the first that is lost and all behind are refused, and so is what was never sent: no later leader
+    /// has anything of them.
+    fn wind_up(&mut self, store: &mut Store) -> io::Result<()> {
+        for number in std::mem::take(&mut self.lost) {
+            done(store.failed(number), "failed")?;
+        }
+        loop {
+            let (mut at, mut bytes) = (FramePlace::default(), vec![0; store.counts().next_frame.max(HEAD)]);
+            if store.cut_frame(&mut bytes, &mut at).answer == DONE {
+                done(store.cut(1), "cut")?;
+            }
+            while store.decide().answer != ABSENT {}
+            match store.take_frame(&mut bytes, &mut at) {
+                Told { answer: DONE, .. } => done(store.failed(at.frame), "failed")?,
+                Told { answer: REFUSED, number: FULL, .. } => done(store.turn(), "turn")?,
+                _ => break,
+            }
+        }
+        self.is_over = true;
+        Ok(())
+    }
+}
+
+fn batch(leadership: u64, at: &FramePlace, mut frame: Vec<u8>) -> Batch {
+    frame.truncate(at.len);
+    Batch { leadership, number: at.frame, segment: at.segment, offset: at.offset, frame }
+}
+
+impl Log for EtcdLog {
+    fn hear(&mut self, store: &mut Store) -> io::Result<()> {
+        while let Some(word) = self.engine.next_word() {
+            match word {
+                Word::Fate { number, turn, fate, micros } => self.came(store, number, turn, fate, micros)?,
+                Word::Led(turn) => (self.led, self.rounds) = (self.led.max(turn), self.rounds - 1),
+                Word::Over(why) => {
+                    if !self.is_losing {
+                        say!("leads no more: {why}");
+                    }
+                    self.is_losing = true;
+                }
+            }
+        }
+        if self.is_losing && !self.is_over && self.under_way.is_empty() {
+            self.wind_up(store)?;
+        }
+        Ok(())
+    }
+
+    fn send(&mut self, store: &mut Store, turn: u64) -> io::Result<()> {
+        while !self.is_losing && self.under_way.len() < self.limits.in_flight.into() {
+            let (mut at, mut bytes) = (FramePlace::default(), vec![0; store.counts().next_frame]);
+            match store.take_frame(&mut bytes, &mut at) {
+                Told { answer: DONE, .. } => {
+                    (self.next, self.asked, self.counts[1]) = (at.frame + 1, turn, self.counts[1] + at.len as u64);
+                    self.under_way.push(at.frame);
+                    self.engine.send(batch(self.engine.leadership.revision, &at, bytes), turn);
+                }
+                Told { answer: REFUSED, number: FULL, .. } => done(store.turn(), "turn")?,
+                Told { answer: REFUSED, number: NOTHING | BUSY | NO_CUT, .. } | Told { answer: MEMORY, .. } => break,
+                told => done(told, "frame")?,
+            }
+        }
+        Ok(())
+    }
+
+    /// What is read rides on the next batch; a round goes where there is none.
+    fn prove(&mut self, store: &mut Store, read: u64, turn: u64) {
+        if self.trusts_clock && !self.is_losing && self.engine.leadership.runs() {
+            self.led = turn;
+        }
+        let rides = self.asked >= read || store.counts().next_frame > HEAD;
+        if read > self.led && !rides && !self.is_losing && self.rounds < ROUNDS {
+            (self.asked, self.rounds, self.counts[5]) = (turn, self.rounds + 1, self.counts[5] + 1);
+            self.engine.ask(turn);
+        }
+    }
+
+    fn proved(&self) -> u64 {
+        self.led
+    }
+
+    fn takes(&self) -> bool {
+        !self.is_losing
+    }
+
+    fn is_over(&self) -> bool {
+        self.is_over
+    }
+
+    fn next(&self) -> u64 {
+        self.next
+    }
+
+    fn is_decided(&self, frame: u64) -> bool {
+        self.next > frame && self.under_way.iter().all(|number| *number > frame)
+    }
+
+    fn counts(&self) -> Vec<(&'static str, u64)> {
+        let names =
+            ["syncs", "written_bytes", "sync_microseconds", "sync_longest_microseconds", "batches_lost", "rounds"];
+        names.into_iter().zip(self.counts).collect()
+    }
+}
+
+/// Leads where nobody does, and has the store then.
+fn lead(
+    options: &Options,
+    members: &Arc<Members>,
+    waker: &UnixStream,
+    leading: &Leading,
+) -> io::Result<Option<(Store, EtcdLog)>> {
+    let (keys, threads) = (Keys(options.prefix.clone()), options.limits.in_flight);
+    match Engine::lead(members.clone(), &keys, options.lease, threads, waker.try_clone()?)? {
+        Some(engine) => {
+            let leads = Arc::downgrade(&engine.leadership);
+            let opened = EtcdLog::open(engine, options)?;
+            *leading.lock().expect("no thread ends that has it") = leads;
+            Ok(opened)
+        }
+        None => Ok(None),
+    }
+}
+
+/// Leads whenever nobody does, and serves then, until it is told to stop.
+pub fn serve(options: &Options, mut wake: UnixStream, waker: &UnixStream) -> io::Result<()> {
+    let folder = Folder(options.folder.clone().into());
+    let _lock = folder.lock()?;
+    let (leading, members) = (snapshots::start(options), Arc::new(Members::new(options.engine.clone())));
+    let (mut woken, mut told) = ([0; 256], String::new());
+    loop {
+        wake.set_nonblocking(false)?;
+        wake.set_read_timeout(Some(WAIT))?;
+        let count = wake.read(&mut woken).unwrap_or(0);
+        if woken[..count].iter().any(|signal| *signal > 0 && u32::from(*signal) != SIGUSR1) {
+            return Ok(());
+        }
+        let (store, log) = match lead(options, &members, waker, &leading) {
+            Ok(Some(it)) => it,
+            Ok(None) => continue,
+            Err(error) if error.kind() == ErrorKind::InvalidData => return Err(error),
+            Err(error) => {
+                if told != error.to_string() {
+                    told = error.to_string();
+                    say!("the engine: {told}");
+                }
+                continue;
+            }
+        };
+        let listener = TcpListener::bind(&options.address)?;
+        say!("listening on {}", listener.local_addr()?);
+        let house = House::new(options.clone(), log.found, Keeper::new(0, waker.try_clone()?));
+        if !Server::new(house, listener, wake.try_clone()?, store, Box::new(log))?.run()? {
+            return Ok(());
+        }
+    }
+}

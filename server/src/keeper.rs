@@ -1,0 +1,133 @@
+//! When snapshots are made, and backups.
+use crate::trusted::folder::{named, Folder, Made};
+use crate::trusted::log::{Closed, Segments};
+use crate::trusted::server::Server;
+use std::collections::VecDeque;
+use std::fs::{self, File};
+use std::io::{self, ErrorKind, Write};
+use std::os::unix::net::UnixStream;
+use std::path::{Path, PathBuf};
+use std::sync::mpsc::{channel, Receiver, Sender};
+use std::sync::Arc;
+use std::thread;
+use std::time::Instant;
+
+/// A snapshot that is to stand for all segments up to one, for the log or as a backup, and the client that waits for it.
+pub struct Wish {
+    up_to: u64,
+    backup: Option<PathBuf>,
+    channel: u16,
+    client: u64,
+}
+
+type Word = (Wish, io::Result<Made>);
+
+pub struct Keeper {
+    /// What is wished for, and what came of it, which wakes the loop.
+    wishes: VecDeque<Wish>,
+    tell: Sender<Word>,
+    words: Receiver<Word>,
+    wake: Arc<UnixStream>,
+    /// The segments that one was to stand for, those that one stands for, with its bytes, and whether one is being made.
+    tried: u64,
+    pub kept: u64,
+    pub bytes: u64,
+    pub is_keeping: bool,
+}
+
+impl Keeper {
+    pub fn new(kept: u64, wake: UnixStream) -> Keeper {
+        let ((tell, words), wishes) = (channel(), VecDeque::new());
+        Keeper { wishes, tell, words, wake: Arc::new(wake), tried: kept, kept, bytes: 0, is_keeping: false }
+    }
+
+    /// Makes a snapshot on a thread of its own.
+    fn begin(&mut self, wish: Wish, closed: Closed, folder: &str, undecided: u32) {
+        let (folder, tell, wake) = (Folder(folder.into()), self.tell.clone(), self.wake.clone());
+        self.is_keeping = true;
+        thread::spawn(move || {
+            let did = match &wish.backup {
+                Some(path) => backup(&folder, undecided, &closed, path),
+                None => folder.snapshot(undecided, &closed),
+            };
+            drop(closed);
+            let _ = tell.send((wish, did)).map(|()| (&mut &*wake).write(&[0]));
+        });
+    }
+}
+
+/// Makes a folder with a snapshot of these segments, under its name once it is whole and on the disk.
+fn backup(folder: &Folder, undecided: u32, closed: &Closed, path: &Path) -> io::Result<Made> {
+    let name = path.file_name().unwrap_or_default().display();
+    let (home, new) = (Folder(path.with_file_name("")), Folder(path.with_file_name(format!(".{name}"))));
+    home.make()?;
+    if path.exists() {
+        return named(path, Err(ErrorKind::AlreadyExists.into()));
+    }
+    let _ = fs::remove_dir_all(&new.0);
+    new.make()?;
+    let (_, made) = folder.write(undecided, closed, &new)?;
+    named(path, fs::rename(&new.0, path).and_then(|()| File::open(&home.0)?.sync_all()))?;
+    Ok(made)
+}
+
+impl Server {
+    /// Wishes for a snapshot of all that is in the log up to now, and who is told when it is made.
+    pub fn wish(&mut self, channel: u16, backup: Option<&str>) -> Option<Vec<u8>> {
+        let Some(Segments { written: up_to, .. }) = self.log().segments() else {
+            return Some(b"-ERR no snapshots are made of this log\r\n".into());
+        };
+        let client = self.guest(channel).map_or(0, |guest| guest.id);
+        let (options, keeper) = (&self.house.options, &mut self.house.keeper);
+        let backups = options.backups.clone().unwrap_or_else(|| format!("{}/backups", options.folder));
+        let backup = backup.map(|name| Path::new(&backups).join(name));
+        keeper.tried = if backup.is_none() { up_to } else { keeper.tried };
+        keeper.wishes.push_back(Wish { up_to, backup, channel, client });
+        None
+    }
+
+    /// Tells what came of snapshots, and has the next made that is wished for, or due; one is due too where it may make room.
+    pub fn keep(&mut self) -> io::Result<()> {
+        while let Ok((wish, did)) = self.house.keeper.words.try_recv() {
+            self.snapshot_made(wish, did);
+        }
+        let Some(Segments { closed, lacks_room, .. }) = self.log().segments() else { return Ok(()) };
+        let (keeper, options) = (&mut self.house.keeper, &self.house.options);
+        let news = closed.saturating_sub(keeper.tried).saturating_mul(options.limits.segment);
+        if news >= options.snapshot.max(keeper.bytes) || lacks_room && news > 0 {
+            keeper.wishes.push_front(Wish { up_to: closed, backup: None, channel: 0, client: 0 });
+            keeper.tried = closed;
+        }
+        let Some(wish) = keeper.wishes.pop_front() else { return Ok(()) };
+        match self.close_segments(wish.up_to)? {
+            None => self.house.keeper.wishes.push_front(wish),
+            Some(closed) => {
+                let (keeper, options) = (&mut self.house.keeper, &self.house.options);
+                keeper.begin(wish, closed, &options.folder, options.limits.undecided);
+            }
+        }
+        Ok(())
+    }
+
+    /// What came of a snapshot.
+    fn snapshot_made(&mut self, wish: Wish, did: io::Result<Made>) {
+        let of_log = format!("snapshot up to segment {}", wish.up_to);
+        let what = wish.backup.as_ref().map_or(of_log, |path| format!("backup {}", path.display()));
+        let keeper = &mut self.house.keeper;
+        keeper.is_keeping = false;
+        match &did {
+            Err(error) => say!("no {what}: {error}"),
+            Ok(Made { keys, bytes }) => {
+                say!("{what}: {keys} keys in {bytes} bytes");
+                if wish.backup.is_none() {
+                    (keeper.kept, keeper.bytes) = (wish.up_to, *bytes);
+                    self.house.keys = (*keys, Instant::now(), 0);
+                }
+            }
+        }
+        if self.guest(wish.channel).is_some_and(|guest| guest.id == wish.client) {
+            let told = did.map_or_else(|error| format!("-IOERR no snapshot: {error}\r\n"), |_| "+OK\r\n".into());
+            self.tell(wish.channel, told.as_bytes());
+        }
+    }
+}

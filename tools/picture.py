@@ -609,7 +609,9 @@ def main():
     try:
         write(given.program or told.program(), given.scenario, given.html, given.svg)
     except (told.Fault, OSError) as fault:
-        sys.exit(f"{given.scenario}: {fault}")
+        # the program was given the text, and tells its place by no file's name
+        told_by_name = re.sub(r"^-(?=:\d)", lambda _: given.scenario, str(fault), flags=re.M)
+        sys.exit(f"{given.scenario}: {told_by_name}")
 
 
 if __name__ == "__main__":

@@ -10,6 +10,7 @@
 import re
 import sys
 sys.dont_write_bytecode = True
+from definitions import SAID
 from sources import Index, ROOT, crates, imports_of, module_of, words_of
 
 PAGE = ROOT / "docs/API.md"
@@ -160,7 +161,7 @@ def page(index):
 def main():
     index = Index()
     new, cited = page(index)
-    bare = [f"{it.file.relative_to(ROOT)}: {it.name}" for it in cited if not it.comment]
+    bare = [f"{it.file.relative_to(ROOT)}: {it.name}" for it in cited if not it.comment and it.name not in SAID.get(it.crate, {})]
     if sys.argv[1:] == ["--write"]:
         PAGE.write_text(new)
     elif sys.argv[1:] == ["--bare"]:

@@ -2,8 +2,8 @@
 """Prints what a reader of the headline has to believe: the definitions that the public clauses of `Kernel` reach.
 
     tools/reading.py            the list as docs/HEADLINE.md has it
-    tools/reading.py --write    puts it there
-    tools/reading.py --check    whether it stands there; the last line is 'N passed, M failed'
+    tools/reading.py --write    puts it there, and the text of its first two parts into docs/BELIEVE.md
+    tools/reading.py --check    whether both stand there; the last line is 'N passed, M failed'
 
 The heart comes first, then the kernel, then all that the plain kernel does at a step. In each part a file comes behind
 those that it cites. Lengths are lines, with the comments above a definition; types of the code are listed with their file.
@@ -11,11 +11,18 @@ those that it cites. Lengths are lines, with the comments above a definition; ty
 import re
 import sys
 sys.dont_write_bytecode = True
-from sources import Index, ROOT, crates, imports_of, words_of
+from sources import Index, ROOT, crates, depth, imports_of, words_of
 
 PAGE = ROOT / "docs/HEADLINE.md"
+BELIEVE = ROOT / "docs/BELIEVE.md"
 BEGIN, END = "<!-- tools/reading.py writes from here -->", "<!-- to here -->"
 CALLS = [ROOT / "crates/sk_kernel/src" / name for name in ("kernel.rt", "hand_in.rt")]
+BELIEVE_HEAD = """# What there is to believe
+
+Written by `tools/reading.py --write`: the definitions that the clauses of the public calls of `Kernel` come to, each behind those that it
+cites, and last those clauses. Who has read this page has read what [HEADLINE](HEADLINE.md) says of the kernel, but for the table of
+instructions, whose files HEADLINE lists. The rest is proof, which the prover has read.
+"""
 PARTS = (("The heart: dependence, striking, traces, statuses, what is released", ["sk_record"]),
          ("The kernel and its calls", ["sk_kernel", "sk_terminal", "sk_machine", "sk_guesses"]),
          ("The table: what a step does, and what entities have", None))
@@ -31,6 +38,21 @@ def clauses(text):
         is_clause = line.strip() != "{" and (is_clause or re.match(r"\s+(ensures|requires)", line) is not None)
         if is_public and is_clause:
             found.append(line)
+    return found
+
+
+def signatures(text):
+    """The public functions of `Kernel` in one of its files, with their documentation and clauses, without bodies."""
+    found, comment, is_head = [], [], False
+    body = text[text.index("\nimpl Kernel {"):]
+    for line in body[:body.index("\n}\n")].split("\n"):
+        if line.startswith("    pub fn ") or line.startswith("    pub const fn "):
+            found, is_head = found + comment, True
+        if is_head and line.strip() == "{":
+            found, is_head = found + [""], False
+        elif is_head:
+            found.append(line[4:])
+        comment = comment + [line[4:]] if line.startswith("    ///") else []
     return found
 
 
@@ -82,9 +104,35 @@ def row(file, its):
     return f"| `{file.relative_to(ROOT / 'crates')}` | {sum(it.length for it in its)} | {names} |"
 
 
-def page():
-    index = Index()
-    found = reached(index)
+def text_of(it):
+    """A definition or a type as its file has it, with the comment above it, moved to the left."""
+    lines = it.file.read_text().split("\n")
+    first, last = it.first, it.first + it.length
+    while first > 0 and re.match(r"\s*(--|///|#\[)", lines[first - 1]):
+        first, last = first - 1, last - 1
+    margin = min(depth(line) for line in lines[first:last] if line.strip())
+    return [line[margin:] for line in lines[first:last]]
+
+
+def believe(found, index):
+    """The page that has the text of the heart and of the kernel, in the order in which it is read."""
+    lines = BELIEVE_HEAD.split("\n")
+    for title, names in PARTS[:2]:
+        lines += [f"## {title}", ""]
+        for file, its in files_in_order([it for it in found if it.crate in names], index).items():
+            place = file.relative_to(ROOT)
+            lines += [f"[`{place.relative_to('crates')}`](../{place})", "", "```"]
+            for it in its:
+                lines += text_of(it) + [""]
+            lines[-1:] = ["```", ""]
+    lines += ["## The calls", "", "What each call of `Kernel` ensures, in these words:", "", "```"]
+    for file in CALLS:
+        lines += signatures(file.read_text())
+    lines[-1:] = ["```", ""]
+    return "\n".join(lines)
+
+
+def page(found, index):
     named = [it for _, names in PARTS for it in names or []]
     lines = [BEGIN, ""]
     total = sum(it.length for it in found)
@@ -97,7 +145,9 @@ def page():
 
 
 def main():
-    new, text = page(), PAGE.read_text()
+    index = Index()
+    found = reached(index)
+    new, text, told = page(found, index), PAGE.read_text(), believe(found, index)
     if sys.argv[1:] == []:
         print(new)
         return 0
@@ -105,11 +155,14 @@ def main():
     whole = head + new + rest.split(END)[1]
     if sys.argv[1] == "--write":
         PAGE.write_text(whole)
+        BELIEVE.write_text(told)
         return 0
-    is_same = whole == text
-    print("" if is_same else "docs/HEADLINE.md is not what `tools/reading.py --write` makes of it")
-    print(f"{int(is_same)} passed, {int(not is_same)} failed")
-    return int(not is_same)
+    stands = {PAGE: whole == text, BELIEVE: BELIEVE.exists() and BELIEVE.read_text() == told}
+    for file in (file for file, same in stands.items() if not same):
+        print(f"{file.relative_to(ROOT)} is not what `tools/reading.py --write` makes of it")
+    failed = len(stands) - sum(stands.values())
+    print(f"{len(stands) - failed} passed, {failed} failed")
+    return min(failed, 1)
 
 
 sys.exit(main())

@@ -5,7 +5,7 @@ import re
 
 ROOT = pathlib.Path(__file__).resolve().parent.parent
 NAME = r"[A-Za-z_][\w']*(?:-\w+)*"
-HEAD = re.compile(rf"(?:(?:abbrev|unfoldable|opaque) )?(?:pub )?(?:(?:record|data) )?(?:pub )?({NAME})(?= :| \(|$)")
+HEAD = re.compile(rf"(?:(?:abbrev|unfoldable|opaque) )?(?:pub )?(?:(?:record|data) )?(?:pub )?({NAME})(?= :| \(| [{{]|$)")
 IMPORT = re.compile(r"use Rattle\.([\w.]+)(?:\.\{([^}]*)\}| as (\w+))?;?$")
 WORD = re.compile(rf"(?<![\w.'◌])({NAME})(?:\.({NAME}))?")
 ITEM = re.compile(r"pub (?:const |unsafe )*(fn|struct|enum|trait|type|const) (\w+)")

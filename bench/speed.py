@@ -12,6 +12,7 @@ token. What stands left and right of a ratio is named in its row. The status is 
 """
 import argparse
 import functools
+import itertools
 import os
 import re
 import resource
@@ -360,6 +361,31 @@ def counts_rows(meter):
         yield f"counts of 200 guesses with 100 steps each, {decision} / of 50 with 400", counting(200, 100), counting(50, 400), LOOSE
 
 
+def traced(text):
+    """A scenario's events as a trace has them, where each guess is told its number."""
+    head, _, events = text.partition("\nsteps\n")
+    numbers = itertools.count(1)
+    return head + "\ntrace\n" + re.sub("^guess", lambda _: f"guess {next(numbers)}", events, flags=re.M)
+
+
+def failing(failures, steps):
+    """So many failures, and so many steps under their guesses."""
+    events = [line for number in range(1, failures + 1) for line in ("guess 1 good", *["step 1 none"] * (steps // failures), f"fail {number}")]
+    return scenario(["fetch /x"] + looping(["set r0 1"], 64), events)
+
+
+def plain_rows(meter):
+    """A trace on the plain kernel: twice as many guesses and steps, and as many steps with more guesses among them. The reading is
+    taken off, which is what `play` does of the same file before it refuses the section."""
+    def ran(text):
+        return meter.run("plain", traced(text)) - meter.run("play", traced(text))
+    for decision in ("commit", "fail"):
+        trace = lambda guesses, body: ran(decided(body, guesses, decision, "set r0 1"))
+        yield f"trace of 200 guesses with 100 steps each, {decision} / of 100", trace(200, 100), trace(100, 100), TWICE
+        yield f"trace of 200 guesses with 100 steps each, {decision} / of 50 with 400", trace(200, 100), trace(50, 400), LOOSE
+    yield "trace of 200,000 steps with 200 failures / with 20", ran(failing(200, 200_000)), ran(failing(20, 200_000)), LOOSE
+
+
 def private_steps(count):
     return scenario(looping(["set r0 1"], 64), ["step 1 none"] * count)
 
@@ -476,7 +502,7 @@ def main():
     meter = Meter(words.program, words.seconds)
     unit = "microseconds" if words.seconds else "instructions"
     print(f"{'ratio':>7} {'limit':>6} {unit + ' left':>20} {'right':>14}  what")
-    kinds = (table_rows, step_rows, rest_rows, long_rows, decision_rows, held_rows, nested_rows, text_rows, relisted_rows, block_rows, asked_rows, counts_rows)
+    kinds = (table_rows, step_rows, rest_rows, long_rows, decision_rows, held_rows, nested_rows, text_rows, relisted_rows, block_rows, asked_rows, counts_rows, plain_rows)
     tables = [(it.__name__, it(meter)) for it in kinds]
     if words.unproved:
         tables.append(("unproved_rows", unproved_rows(meter, Meter(words.unproved, words.seconds))))

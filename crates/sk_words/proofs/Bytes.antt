@@ -1,10 +1,6 @@
 -- Reading a literal byte by byte: what was said before joins what is said after it, from the definition of literals.
-use Rattle.std.proofs.Common.{◌≡◌, ◌<◌, ℕ, List, [], ◌∷◌, ◌++◌, length, Result, Ok, Err, refl, ap, sym, append_assoc, arith}
-use Rattle.std.proofs.lemmas.Bool.{lt-ltb}
-use Rattle.std.proofs.lemmas.List.{length-append}
-use Rattle.sk_words.specs.declared.fault.FaultKind.{FaultKind}
-use Rattle.sk_words.specs.Operands.{wrong}
-use Rattle.sk_words.specs.Literals.{then_byte, at_most_512}
+use Rattle.sk_words.proofs.Names.{◌≡◌, ◌<◌, ℕ, List, [], ◌∷◌, ◌++◌, length, Result, Ok, Err, refl, ap, sym}
+use Rattle.sk_words.proofs.Names.{append_assoc, arith, lt-ltb, length-append, FaultKind, wrong, then_byte, at_most_512}
 
 -- what was said before, and what is said after it
 abbrev pub with_front : List ℕ → Result (List ℕ) FaultKind → Result (List ℕ) FaultKind

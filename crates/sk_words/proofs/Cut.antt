@@ -1,11 +1,8 @@
 -- How the words of a line come apart at its front, for the loop that looks for a word's end: from the definition
 -- of words, byte by byte.
-use Rattle.std.proofs.Common.{◌≡◌, ◌≢◌, ℕ, ◌+◌, ◌<◌, List, [], ◌∷◌, ◌++◌, true, false, length, take, drop, get_or, refl, ap, ◌∙◌, add-one, drop-cons}
-use Rattle.std.proofs.lemmas.Grind.{take_at_read}
-use Rattle.std.specs.List.{onto_first}
-use Rattle.sk_words.specs.declared.line.Place.{Place}
-use Rattle.sk_words.specs.declared.line.Place.TheVariants.{Between, Word, Literal, Escape}
-use Rattle.sk_words.specs.Words.{words, words_from, is_blank}
+use Rattle.sk_words.proofs.Names.{◌≡◌, ◌≢◌, ℕ, ◌+◌, ◌<◌, List, [], ◌∷◌, ◌++◌, true, false, length, take, drop, get_or}
+use Rattle.sk_words.proofs.Names.{refl, ap, ◌∙◌, add-one, drop-cons, take_at_read, onto_first, Place, Between, Word}
+use Rattle.sk_words.proofs.Names.{Literal, Escape, words, words_from, is_blank}
 
 -- the words, the first of which begins with these bytes
 abbrev pub onto : List ℕ → List (List ℕ) → List (List ℕ)

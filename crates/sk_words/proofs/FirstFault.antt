@@ -1,8 +1,6 @@
 -- The fault that is told of some lines is that of their first faulty line: by the lines in turn.
-use Rattle.std.proofs.Common.{◌≡◌, ◌↔◌, ◌≤◌, inl, inr, ℕ, ◌+◌, List, [], ◌∷◌, ◌++◌, length, Result, Ok, Err, refl, sym, ap, ◌∙◌, arith}
-use Rattle.sk_words.specs.declared.fault.FaultKind.{FaultKind}
-use Rattle.sk_words.specs.declared.fault.Fault.{Fault}
-use Rattle.sk_words.specs.Reading.{at, read_from, IsFirstFault, TellsKind, Tells}
+use Rattle.sk_words.proofs.Names.{◌≡◌, ◌↔◌, ◌≤◌, inl, inr, ℕ, ◌+◌, List, [], ◌∷◌, ◌++◌, length, Result, Ok, Err, refl}
+use Rattle.sk_words.proofs.Names.{sym, ap, ◌∙◌, arith, FaultKind, Fault, at, read_from, IsFirstFault, TellsKind, Tells}
 
 abbrev kind_in : {S : Type 0} → FaultKind → Result S Fault → FaultKind
 kind_in k (Ok s) = k

@@ -1,12 +1,7 @@
 -- Lines that each add what they were printed of add all of it: item by item.
-use Rattle.std.proofs.Common.{◌≡◌, ℕ, ◌+◌, List, [], ◌∷◌, ◌++◌, map, Result, Ok, refl, sym, ap, ◌∙◌, append_assoc, append-nil}
-use Rattle.std.specs.Prelude.{flat_map, fold, All}
-use Rattle.std.specs.List.{AllByRecursion}
-use Rattle.std.specs.Str.Lines.{lines}
-use Rattle.std.proofs.lemmas.List.Elements.{All-head, All-tail}
-use Rattle.sk_words.specs.declared.fault.FaultKind.{FaultKind}
-use Rattle.sk_words.specs.Reading.{at, read_from}
-use Rattle.sk_words.specs.Printed.{IsReadAgain}
+use Rattle.sk_words.proofs.Names.{◌≡◌, ℕ, ◌+◌, List, [], ◌∷◌, ◌++◌, map, Result, Ok, refl, sym, ap, ◌∙◌, append_assoc}
+use Rattle.sk_words.proofs.Names.{append-nil, flat_map, fold, All, AllByRecursion, lines, All-head, All-tail, FaultKind}
+use Rattle.sk_words.proofs.Names.{at, read_from, IsReadAgain}
 use Rattle.sk_words.proofs.LinesAgain.{printed_lines}
 
 -- what holds of each holds of each

@@ -1,9 +1,10 @@
+pub mod Names
 pub mod Cut
 pub mod Quoteless
 pub mod Parts
 pub mod Numbers
 pub mod Bytes
-pub mod Names
+pub mod NameTest
 pub mod Taken
 pub mod Unknown
 pub mod FirstFault
@@ -13,3 +14,4 @@ pub mod NumberAgain
 pub mod PidAgain
 pub mod LinesAgain
 pub mod ItemsAgain
+pub mod Plain

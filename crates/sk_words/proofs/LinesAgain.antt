@@ -1,10 +1,6 @@
 -- Printed lines are cut again: line by line.
-use Rattle.std.proofs.Common.{◌≡◌, ℕ, List, [], ◌∷◌, ◌++◌, map, refl, sym, ap, ◌∙◌, append_assoc}
-use Rattle.std.specs.Prelude.{flat_map}
-use Rattle.std.specs.List.{AllByRecursion}
-use Rattle.std.specs.Str.Lines.{lines, strip_carriage_return}
-use Rattle.std.proofs.lemmas.List.Folds.{flat_map-map}
-use Rattle.sk_words.specs.Printed.{IsLine, lined}
+use Rattle.sk_words.proofs.Names.{◌≡◌, ℕ, List, [], ◌∷◌, ◌++◌, map, refl, sym, ap, ◌∙◌, append_assoc, flat_map}
+use Rattle.sk_words.proofs.Names.{AllByRecursion, lines, strip_carriage_return, flat_map-map, IsLine, lined}
 use Rattle.sk_words.proofs.Parts.{next_line, cut_at}
 
 -- no carriage return is taken off it

@@ -1,16 +1,10 @@
 -- A printed literal is read again, and is a word: from the shapes that a spelled byte can have.
-use Rattle.std.proofs.Common.{◌≡◌, ℕ, zero, suc, ◌+◌, ◌*◌, ◌<◌, ◌≤◌, ◌/◌, ◌%◌, List, [], ◌∷◌, ◌++◌, length, Bool, true, false, not, eqb, leb, Result, Ok, Err, refl, sym, ap, ◌∙◌, arith, append_assoc}
-use Rattle.std.specs.Prelude.{◌&&◌, ◌||◌, flat_map}
-use Rattle.std.specs.List.{list_any, onto_first}
-use Rattle.std.specs.Char.{digit_value}
-use Rattle.std.proofs.lemmas.Bool.{or_parts, and_parts, eqb-true, eqb-false, ne_eqb, lt-ltb, le-ltb, leb-true}
-use Rattle.std.proofs.lemmas.List.Folds.{list_any-append}
-use Rattle.sk_words.specs.declared.fault.FaultKind.{FaultKind}
-use Rattle.sk_words.specs.declared.line.Place.TheVariants.{Literal}
-use Rattle.sk_words.specs.Words.{words, words_from, is_open_from}
-use Rattle.sk_words.specs.Literals.{text_from, Plain, hex_digit, then_byte, literal}
-use Rattle.sk_words.specs.Spelling.{spelled, spelled_byte, hex_glyph}
-use Rattle.sk_words.specs.Printed.{AreBytes, IsWord, ends_line}
+use Rattle.sk_words.proofs.Names.{◌≡◌, ℕ, zero, suc, ◌+◌, ◌*◌, ◌<◌, ◌≤◌, ◌/◌, ◌%◌, List, [], ◌∷◌, ◌++◌, length, Bool}
+use Rattle.sk_words.proofs.Names.{true, false, not, eqb, leb, Result, Ok, Err, refl, sym, ap, ◌∙◌, arith, append_assoc}
+use Rattle.sk_words.proofs.Names.{◌&&◌, ◌||◌, flat_map, list_any, onto_first, digit_value, or_parts, and_parts}
+use Rattle.sk_words.proofs.Names.{eqb-true, eqb-false, ne_eqb, lt-ltb, le-ltb, leb-true, list_any-append, FaultKind}
+use Rattle.sk_words.proofs.Names.{Literal, words, words_from, is_open_from, text_from, Plain, hex_digit, then_byte}
+use Rattle.sk_words.proofs.Names.{literal, spelled, spelled_byte, hex_glyph, AreBytes, IsWord, ends_line}
 use Rattle.sk_words.proofs.Cut.{onto}
 
 -- ---- hexadecimal digits

@@ -1,13 +1,8 @@
 -- A printed number is read again, and is a word: from what std says of decimal digits.
-use Rattle.std.proofs.Common.{◌≡◌, ℕ, ◌^◌, ◌<◌, ◌≤◌, List, [], ◌∷◌, length, get_or, true, false, eqb, ltb, Some, Ok, refl, ap, ◌∙◌, arith}
-use Rattle.std.specs.Prelude.{pos, decimal}
-use Rattle.std.specs.List.{list_any, list_all}
-use Rattle.std.specs.Str.{all_ascii_digits}
-use Rattle.std.proofs.lemmas.Bool.{lt-ltb, le-leb, ne_eqb}
-use Rattle.std.proofs.lemmas.Str.Parse.{tells_all_ascii_digits}
-use Rattle.std.proofs.lemmas.Fmt.{digits_decimal, digits_value-decimal, decimal_nonempty}
-use Rattle.sk_words.specs.Operands.{digits, integer, natural, positive, index}
-use Rattle.sk_words.specs.Printed.{IsWord, is_bare_word}
+use Rattle.sk_words.proofs.Names.{◌≡◌, ℕ, ◌^◌, ◌<◌, ◌≤◌, List, [], ◌∷◌, length, get_or, true, false, eqb, ltb, Some, Ok}
+use Rattle.sk_words.proofs.Names.{refl, ap, ◌∙◌, arith, pos, decimal, list_any, list_all, all_ascii_digits, lt-ltb}
+use Rattle.sk_words.proofs.Names.{le-leb, ne_eqb, tells_all_ascii_digits, digits_decimal, digits_value-decimal}
+use Rattle.sk_words.proofs.Names.{decimal_nonempty, digits, integer, natural, positive, index, IsWord, is_bare_word}
 use Rattle.sk_words.proofs.Numbers.{own, number_is}
 use Rattle.sk_words.proofs.WordsAgain.{bare_word}
 

@@ -1,16 +1,11 @@
 -- A word that `parse` of std reads is a number, and no other word is: from what std says of `parse`.
-use Rattle.std.proofs.Common.{◌≡◌, ◌≢◌, ℕ, zero, suc, ◌+◌, ◌^◌, ◌<◌, List, [], ◌∷◌, true, false, ltb, eqb, Some, None, Result, Ok, Err, length, drop, get_or, refl, arith, inl, inr}
-use Rattle.std.specs.Prelude.{◌⊎◌, ℤ, pos, neg_ℤ, IsUtf8, OkIff, IsAscii}
-use Rattle.std.specs.Str.{all_ascii_digits}
-use Rattle.std.specs.Str.Parse.{digits_value, ParsesSigned}
-use Rattle.std.specs.Result.{result_ok}
-use Rattle.std.specs.List.{starts_with}
-use Rattle.std.specs.Int.{w64}
-use Rattle.std.proofs.lemmas.Str.Parse.{IsNumeralModel, numerals_by_value, tells_all_ascii_digits, parse_signed_minus, parse_signed_plain}
-use Rattle.std.proofs.lemmas.Fmt.{IsAscii-from_digits}
-use Rattle.std.proofs.lemmas.Str.{IsUtf8-from_ascii}
-use Rattle.std.proofs.lemmas.Bool.{eqb-true, eqb-false, ltb-true, lt-ltb}
-use Rattle.sk_words.specs.Operands.{digits, below, wrong, integer, SaysSome}
+use Rattle.sk_words.proofs.Names.{◌≡◌, ◌≢◌, ℕ, zero, suc, ◌+◌, ◌^◌, ◌<◌, List, [], ◌∷◌, true, false, ltb, eqb, Some}
+use Rattle.sk_words.proofs.Names.{None, Result, Ok, Err, length, drop, get_or, refl, arith, inl, inr, ◌⊎◌, ℤ, pos}
+use Rattle.sk_words.proofs.Names.{neg_ℤ, IsUtf8, OkIff, IsAscii, all_ascii_digits, digits_value, ParsesSigned}
+use Rattle.sk_words.proofs.Names.{result_ok, starts_with, w64, IsNumeralModel, numerals_by_value}
+use Rattle.sk_words.proofs.Names.{tells_all_ascii_digits, parse_signed_minus, parse_signed_plain, IsAscii-from_digits}
+use Rattle.sk_words.proofs.Names.{IsUtf8-from_ascii, eqb-true, eqb-false, ltb-true, lt-ltb, digits, below, wrong}
+use Rattle.sk_words.proofs.Names.{integer, SaysSome}
 
 pub own : IsNumeralModel (λ ds. all_ascii_digits ds ≡ true) (digits_value 10)
 own = numerals_by_value (λ ds. all_ascii_digits ds ≡ true) tells_all_ascii_digits

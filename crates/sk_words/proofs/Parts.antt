@@ -1,11 +1,9 @@
 -- How the parts of a text come apart at its front, for the loop that looks for a separator: from the definition of
 -- parts, byte by byte.
-use Rattle.std.proofs.Common.{◌≡◌, ℕ, zero, suc, ◌+◌, ◌-◌, ◌<◌, ◌≤◌, List, [], ◌∷◌, ◌++◌, true, false, eqb, length, take, drop, get_or, refl, ap, ◌∙◌, arith, add-one, drop-cons}
-use Rattle.std.proofs.lemmas.Grind.{take_at_read}
-use Rattle.std.proofs.lemmas.Bool.{ne_eqb, eq-eqb, or_parts}
-use Rattle.std.specs.List.{onto_first, list_any}
-use Rattle.std.specs.Str.Lines.{lines, lines_of_parts, strip_carriage_return}
-use Rattle.sk_words.specs.Lines.{parts}
+use Rattle.sk_words.proofs.Names.{◌≡◌, ℕ, zero, suc, ◌+◌, ◌-◌, ◌<◌, ◌≤◌, List, [], ◌∷◌, ◌++◌, true, false, eqb, length}
+use Rattle.sk_words.proofs.Names.{take, drop, get_or, refl, ap, ◌∙◌, arith, add-one, drop-cons, take_at_read, ne_eqb}
+use Rattle.sk_words.proofs.Names.{eq-eqb, or_parts, onto_first, list_any, lines, lines_of_parts, strip_carriage_return}
+use Rattle.sk_words.proofs.Names.{parts}
 use Rattle.sk_words.proofs.Cut.{onto, onto_more, onto_whole}
 
 at_front : (text : List ℕ) (i : ℕ) → i < length text → drop i text ≡ get_or text i 0 ∷ drop (i + 1) text

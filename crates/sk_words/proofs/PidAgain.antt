@@ -1,14 +1,8 @@
 -- A printed process is read again, and is a word: level by level.
-use Rattle.std.proofs.Common.{◌≡◌, ℕ, ◌+◌, ◌*◌, ◌^◌, ◌/◌, ◌%◌, ◌<◌, ◌≤◌, List, [], ◌∷◌, ◌++◌, true, false, ltb, Ok, refl, ap, ◌∙◌, arith, append_assoc}
-use Rattle.std.specs.Prelude.{decimal}
-use Rattle.std.specs.List.{list_all}
-use Rattle.std.proofs.lemmas.Bool.{lt-ltb, ltb-true, ltb-false}
-use Rattle.std.proofs.lemmas.List.Folds.{list_all-append}
-use Rattle.sk_ids.specs.Pid.{IsPath}
-use Rattle.sk_words.specs.Lines.{parts}
-use Rattle.sk_words.specs.Operands.{pid, path, path_below, child}
-use Rattle.sk_words.specs.Spelling.{pid_word, two_levels}
-use Rattle.sk_words.specs.Printed.{IsWord, is_bare_word}
+use Rattle.sk_words.proofs.Names.{◌≡◌, ℕ, ◌+◌, ◌*◌, ◌^◌, ◌/◌, ◌%◌, ◌<◌, ◌≤◌, List, [], ◌∷◌, ◌++◌, true, false, ltb, Ok}
+use Rattle.sk_words.proofs.Names.{refl, ap, ◌∙◌, arith, append_assoc, decimal, list_all, lt-ltb, ltb-true, ltb-false}
+use Rattle.sk_words.proofs.Names.{list_all-append, IsPath, parts, pid, path, path_below, child, pid_word, two_levels}
+use Rattle.sk_words.proofs.Names.{IsWord, is_bare_word}
 use Rattle.sk_words.proofs.Parts.{cut_at, uncut}
 use Rattle.sk_words.proofs.NumberAgain.{no_dot, number_bare, index_again}
 use Rattle.sk_words.proofs.WordsAgain.{bare_word}

@@ -1,8 +1,6 @@
 -- Bytes without a quote have no literal, and so none that is open: from the definition of words, byte by byte.
-use Rattle.std.proofs.Common.{◌≡◌, ℕ, List, [], ◌∷◌, true, false, ◌==◌, refl}
-use Rattle.std.specs.List.{onto_first, list_any}
-use Rattle.sk_words.specs.declared.line.Place.TheVariants.{Between, Word}
-use Rattle.sk_words.specs.Words.{words_from, is_open, is_blank, has_quote}
+use Rattle.sk_words.proofs.Names.{◌≡◌, ℕ, List, [], ◌∷◌, true, false, ◌==◌, refl, onto_first, list_any, Between, Word}
+use Rattle.sk_words.proofs.Names.{words_from, is_open, is_blank, has_quote}
 
 -- a byte that is no quote before the first word
 onto_plain : (b : ℕ) (ws : List (List ℕ)) → (b == 34) ≡ false → list_any is_open ws ≡ false → list_any is_open (onto_first b ws) ≡ false

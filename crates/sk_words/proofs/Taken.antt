@@ -1,7 +1,5 @@
 -- A word that was taken is the first of the words: from what `next_word` answers.
-use Rattle.std.proofs.Common.{◌≡◌, ℕ, List, [], ◌∷◌, Result, Ok, Err, ap}
-use Rattle.sk_words.specs.declared.fault.FaultKind.{FaultKind}
-use Rattle.sk_words.specs.Operands.{next_word}
+use Rattle.sk_words.proofs.Names.{◌≡◌, ℕ, List, [], ◌∷◌, Result, Ok, Err, ap, FaultKind, next_word}
 
 abbrev whole : Result (List ℕ × List (List ℕ)) FaultKind → List (List ℕ)
 whole (Ok x) = x.0 ∷ x.1

@@ -1,11 +1,8 @@
 -- A word that is none of a table's is passed over: from the table's definition, one word at a time.
-use Rattle.std.proofs.Common.{ltb, zero, suc, arith, ◌≡◌, ℕ, List, [], ◌∷◌, Bool, true, false, refl, sym}
-use Rattle.std.specs.Prelude.{◌&&◌, bytes_eq, IsAscii, IsUtf8}
-use Rattle.std.proofs.lemmas.Bool.{ltb-true}
-use Rattle.std.proofs.lemmas.Str.{IsUtf8-from_ascii}
-use Rattle.std.proofs.lemmas.Slice.Eq.{bytes_eq-Decides}
-use Rattle.sk_words.specs.Tables.{Rule, rule_in}
-use Rattle.sk_words.proofs.Names.{both}
+use Rattle.sk_words.proofs.Names.{ltb, zero, suc, arith, ◌≡◌, ℕ, List, [], ◌∷◌, Bool, true, false, refl, sym, ◌&&◌}
+use Rattle.sk_words.proofs.Names.{bytes_eq, IsAscii, IsUtf8, ltb-true, IsUtf8-from_ascii, bytes_eq-Decides, Rule}
+use Rattle.sk_words.proofs.Names.{rule_in}
+use Rattle.sk_words.proofs.NameTest.{both}
 
 abbrev pub IsNone : {A : Type 0} → List (List ℕ × Rule A) → List ℕ → Type 0
 IsNone [] word = Unit {0}

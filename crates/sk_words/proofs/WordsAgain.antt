@@ -1,12 +1,8 @@
 -- Printed words are cut again, and stand in one line: word by word.
-use Rattle.std.proofs.Common.{◌≡◌, ℕ, zero, suc, ◌-◌, List, [], ◌∷◌, ◌++◌, length, get_or, true, false, eqb, ltb, refl, ap, ◌∙◌, arith}
-use Rattle.std.specs.List.{AllByRecursion, list_any, list_all}
-use Rattle.std.proofs.lemmas.Bool.{or_parts, and_parts, ltb-true, ne_eqb}
-use Rattle.std.proofs.lemmas.List.Folds.{list_any-append}
-use Rattle.sk_words.specs.declared.line.Place.TheVariants.{Word}
-use Rattle.sk_words.specs.Words.{words, words_from, is_blank, is_open}
-use Rattle.sk_words.specs.Spelling.{spaced}
-use Rattle.sk_words.specs.Printed.{IsWord, IsLine, is_bare_word, ends_line}
+use Rattle.sk_words.proofs.Names.{◌≡◌, ℕ, zero, suc, ◌-◌, List, [], ◌∷◌, ◌++◌, length, get_or, true, false, eqb, ltb}
+use Rattle.sk_words.proofs.Names.{refl, ap, ◌∙◌, arith, AllByRecursion, list_any, list_all, or_parts, and_parts}
+use Rattle.sk_words.proofs.Names.{ltb-true, ne_eqb, list_any-append, Word, words, words_from, is_blank, is_open, spaced}
+use Rattle.sk_words.proofs.Names.{IsWord, IsLine, is_bare_word, ends_line}
 
 -- ---- bare words
 

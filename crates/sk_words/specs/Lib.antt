@@ -6,4 +6,5 @@ pub mod Literals
 pub mod Reading
 pub mod Tables
 pub mod Spelling
+pub mod Parts
 pub mod Printed

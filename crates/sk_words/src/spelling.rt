@@ -1,6 +1,7 @@
 //! How literals and identifiers are printed.
-ghost use Rattle.std.specs.Prelude.{◌≡◌, ◌<◌, Some};
-ghost use Rattle.sk_words.specs.Spelling.{hex_glyph};
+ghost use Rattle.std.specs.Prelude.{◌≡◌, ◌<◌, ◌≤◌, ◌++◌, ◌∷◌, [], Some, None, IfSome, true, length, take, flat_map};
+ghost use Rattle.sk_words.specs.Spelling.{hex_glyph, spelled_byte};
+ghost use Rattle.sk_words.specs.Parts.{part_text};
 
 use sk_ids::{Name, ObjId, Pid};
 use std::fmt;
@@ -43,6 +44,67 @@ impl fmt::Display for Spelled {
     }
 }
 
+/// A part of a literal: bytes that stand for themselves, or another one.
+#[derive(Clone, Copy)]
+enum Part<'a> {
+    Plain(&'a [u8]),
+    Other(Spelled),
+}
+
+impl fmt::Display for Part<'_> {
+    ghost use Rattle.std.specs.Prelude.{Some};
+    ghost use Rattle.sk_words.specs.Parts.{part_text};
+
+    ghost output = { λ p. Some (part_text p) };
+
+    fn fmt<W: fmt::Write>(&self, f: &mut fmt::Formatter<W>) -> fmt::Result {
+        match self {
+            Part::Plain(bytes) => match str::from_utf8(bytes) {
+                Ok(text) => write!(f, "{text}"),
+                Err(_) => Err(fmt::Error),
+            },
+            Part::Other(byte) => write!(f, "{byte}"),
+        }
+    }
+}
+
+/// Whether a byte stands for itself in a literal.
+#[inline]
+fn is_plain(byte: u8) -> bool
+    ensures { result ≡ true → spelled_byte byte ≡ byte ∷ [] }
+{
+    matches!(byte, b' '..=b'~') && byte != b'"' && byte != b'\\'
+}
+
+/// How many bytes at the front stand for themselves in a literal.
+fn plain_len(bytes: &[u8]) -> usize
+    ensures within { result ≤ length bytes.now }
+    ensures plain { flat_map spelled_byte (take result bytes.now) ≡ take result bytes.now }
+{
+    let mut len = 0;
+    while len < bytes.len() && is_plain(bytes[len]) {
+        len += 1;
+    }
+    len
+}
+
+/// The first part of a literal that is printed, as long as it can be, and the bytes behind it.
+fn first_part(bytes: &[u8]) -> Option<(Part<'_>, &[u8])>
+    ensures none { result ≡ None → bytes.now ≡ [] }
+    ensures text { IfSome result (λ cut. flat_map spelled_byte bytes.now
+        ≡ part_text cut.0 ++ flat_map spelled_byte cut.1.now) }
+    ensures less { IfSome result (λ cut. length cut.1.now < length bytes.now) }
+{
+    let [byte, behind @ ..] = bytes else {
+        return None;
+    };
+    let len = plain_len(bytes);
+    if len == 0 {
+        return Some((Part::Other(Spelled(*byte)), behind));
+    }
+    Some((Part::Plain(&bytes[..len]), &bytes[len..]))
+}
+
 /// Bytes as they stand between the quotes of a literal.
 #[derive(Clone, Copy)]
 pub struct Unquoted<'a>(pub &'a [u8]);
@@ -54,8 +116,10 @@ impl fmt::Display for Unquoted<'_> {
     ghost output = { λ t. Some (flat_map spelled_byte t.0.now) };
 
     fn fmt<W: fmt::Write>(&self, f: &mut fmt::Formatter<W>) -> fmt::Result {
-        for byte in self.0 {
-            write!(f, "{}", Spelled(*byte))?;
+        let mut rest = self.0;
+        while let Some((part, behind)) = first_part(rest) {
+            write!(f, "{part}")?;
+            rest = behind;
         }
         Ok(())
     }

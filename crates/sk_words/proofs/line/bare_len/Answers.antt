@@ -1,7 +1,5 @@
 -- Where a word ends: from the definition of words, byte by byte.
-use Rattle.std.proofs.Common.{rules, ◌≡◌, length, refl, arith}
-use Rattle.std.proofs.Math.Seq.{drop-length}
-use Rattle.sk_words.specs.declared.line.Place.TheVariants.{Word}
+use Rattle.sk_words.proofs.Names.{rules, ◌≡◌, length, refl, arith, drop-length, Word}
 use Rattle.sk_words.proofs.Cut.{goes_on_bare, stops, ends, word_is_inside}
 use Rattle.sk_words.proofs.line.bare_len.Goals as goal
 

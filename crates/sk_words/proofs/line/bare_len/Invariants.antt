@@ -1,8 +1,6 @@
 -- The bytes so far lie in the first word.
-use Rattle.std.proofs.Common.{◌≡◌, take, drop}
-use Rattle.sk_words.specs.Words.{words_from}
+use Rattle.sk_words.proofs.Names.{◌≡◌, take, drop, words_from, Word}
 use Rattle.sk_words.proofs.Cut.{onto}
-use Rattle.sk_words.specs.declared.line.Place.TheVariants.{Word}
 use Rattle.sk_words.proofs.line.bare_len.Given as goal
 
 abbrev pub invariant-loop-i : goal.invariant-loop-i

@@ -1,7 +1,5 @@
 -- The bytes that are left close the literal just where all its bytes do.
-use Rattle.std.proofs.Common.{◌≡◌, ◌≢◌, length}
-use Rattle.sk_words.specs.Words.{is_open_from}
-use Rattle.sk_words.specs.declared.line.Place.TheVariants.{Between, Literal}
+use Rattle.sk_words.proofs.Names.{◌≡◌, ◌≢◌, length, is_open_from, Between, Literal}
 use Rattle.sk_words.proofs.line.has_no_end.Given as goal
 
 abbrev pub invariant-loop-rest : goal.invariant-loop-rest

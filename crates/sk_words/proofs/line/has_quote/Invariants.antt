@@ -1,6 +1,5 @@
 -- A quote is among the bytes that are left just where one is among all.
-use Rattle.std.proofs.Common.{◌≡◌, length}
-use Rattle.sk_words.specs.Words.{has_quote}
+use Rattle.sk_words.proofs.Names.{◌≡◌, length, has_quote}
 use Rattle.sk_words.proofs.line.has_quote.Given as goal
 
 abbrev pub invariant-loop-rest : goal.invariant-loop-rest

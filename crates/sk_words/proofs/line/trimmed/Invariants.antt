@@ -1,6 +1,5 @@
 -- The words of the bytes that are left are those of the line.
-use Rattle.std.proofs.Common.{◌≡◌, length}
-use Rattle.sk_words.specs.Words.{words}
+use Rattle.sk_words.proofs.Names.{◌≡◌, length, words}
 use Rattle.sk_words.proofs.line.trimmed.Given as goal
 
 abbrev pub invariant-loop-rest : goal.invariant-loop-rest

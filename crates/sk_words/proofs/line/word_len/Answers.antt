@@ -1,6 +1,5 @@
 -- Where a word ends: from the definition of words, byte by byte.
-use Rattle.std.proofs.Common.{rules, ◌≡◌, length, arith}
-use Rattle.std.proofs.Math.Seq.{drop-length}
+use Rattle.sk_words.proofs.Names.{rules, ◌≡◌, length, arith, drop-length}
 use Rattle.sk_words.proofs.Cut.{goes_on, stops, ends}
 use Rattle.sk_words.proofs.line.word_len.Goals as goal
 

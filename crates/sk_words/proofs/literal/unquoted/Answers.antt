@@ -1,7 +1,6 @@
 -- The bytes so far, and those that the rest of a literal says: from the definition of literals.
-use Rattle.std.proofs.Common.{rules, ◌≡◌, length, take, sym, ap, ◌∙◌, arith}
-use Rattle.std.proofs.lemmas.List.{take_more_set, length-set, length-take-le}
-use Rattle.sk_words.specs.Literals.{text_from, Plain, at_most_512}
+use Rattle.sk_words.proofs.Names.{rules, ◌≡◌, length, take, sym, ap, ◌∙◌, arith, take_more_set, length-set}
+use Rattle.sk_words.proofs.Names.{length-take-le, text_from, Plain, at_most_512}
 use Rattle.sk_words.proofs.Bytes.{with_front, with_front_more, too_many}
 use Rattle.sk_words.proofs.literal.unquoted.Goals as goal
 

@@ -1,6 +1,5 @@
 -- The bytes so far, and those that the rest says, are those of the literal.
-use Rattle.std.proofs.Common.{◌≡◌, ◌≤◌, length, take}
-use Rattle.sk_words.specs.Literals.{text_from, Plain}
+use Rattle.sk_words.proofs.Names.{◌≡◌, ◌≤◌, length, take, text_from, Plain}
 use Rattle.sk_words.proofs.Bytes.{with_front}
 use Rattle.sk_words.proofs.literal.unquoted.Given as goal
 

@@ -1,6 +1,5 @@
 -- The fault of the line that was taken last is the first of all lines: from the lines that were left.
-use Rattle.std.proofs.Common.{◌≡◌, ◌≤◌, ◌+◌, ◌∷◌, length, refl, arith}
-use Rattle.sk_words.specs.Lines.{last_line}
+use Rattle.sk_words.proofs.Names.{◌≡◌, ◌≤◌, ◌+◌, ◌∷◌, length, refl, arith, last_line}
 use Rattle.sk_words.proofs.FirstFault.{told_here}
 use Rattle.sk_words.proofs.reader.read.Goals as goal
 

@@ -1,6 +1,5 @@
 -- The lines that are left say of the state so far what all lines say of the first, and the last of them stays.
-use Rattle.std.proofs.Common.{◌≡◌, ◌≤◌, ◌+◌, length}
-use Rattle.sk_words.specs.Reading.{read_from}
+use Rattle.sk_words.proofs.Names.{◌≡◌, ◌≤◌, ◌+◌, length, read_from}
 use Rattle.sk_words.proofs.reader.read.Given as goal
 
 abbrev pub invariant-loop-line : goal.invariant-loop-line

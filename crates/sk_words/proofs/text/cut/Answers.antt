@@ -1,7 +1,5 @@
 -- What stands before and behind the first separator: from the definition of parts, byte by byte.
-use Rattle.std.proofs.Common.{◌≡◌, ◌+◌, ◌-◌, length, take, drop, arith}
-use Rattle.std.proofs.Math.Seq.{drop-length}
-use Rattle.std.proofs.lemmas.List.{take_all, length-drop}
+use Rattle.sk_words.proofs.Names.{◌≡◌, ◌+◌, ◌-◌, length, take, drop, arith, drop-length, take_all, length-drop}
 use Rattle.sk_words.proofs.Parts.{goes_on, stops, never}
 use Rattle.sk_words.proofs.text.cut.Goals as goal
 

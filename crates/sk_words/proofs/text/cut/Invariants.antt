@@ -1,6 +1,5 @@
 -- The bytes so far lie in the first part.
-use Rattle.std.proofs.Common.{◌≡◌, take, drop}
-use Rattle.sk_words.specs.Lines.{parts}
+use Rattle.sk_words.proofs.Names.{◌≡◌, take, drop, parts}
 use Rattle.sk_words.proofs.Cut.{onto}
 use Rattle.sk_words.proofs.text.cut.Given as goal
 

@@ -1,7 +1,5 @@
 -- The digits that are left go on from the number so far.
-use Rattle.std.proofs.Common.{◌≡◌, ◌<◌, length}
-use Rattle.std.specs.Str.{all_ascii_digits}
-use Rattle.std.specs.Str.Parse.{digits_value, digits_value_after}
+use Rattle.sk_words.proofs.Names.{◌≡◌, ◌<◌, length, all_ascii_digits, digits_value, digits_value_after}
 use Rattle.sk_words.proofs.values.few_digits.Given as goal
 
 abbrev pub invariant-loop-rest : goal.invariant-loop-rest

@@ -1,7 +1,5 @@
 -- The process so far, and the numbers that are left, say what the word says.
-use Rattle.std.proofs.Common.{◌≡◌, length}
-use Rattle.sk_words.specs.Lines.{parts}
-use Rattle.sk_words.specs.Operands.{pid, path_below}
+use Rattle.sk_words.proofs.Names.{◌≡◌, length, parts, pid, path_below}
 use Rattle.sk_words.proofs.values.path.Given as goal
 
 abbrev pub invariant-loop-number : goal.invariant-loop-number

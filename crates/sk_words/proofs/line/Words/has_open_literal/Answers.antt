@@ -1,7 +1,5 @@
 -- Without a quote there is no literal.
-use Rattle.std.proofs.Common.{rules, ◌≡◌, sym, ◌∙◌, ap, false}
-use Rattle.std.specs.List.{list_any}
-use Rattle.sk_words.specs.Words.{is_open, has_quote}
+use Rattle.sk_words.proofs.Names.{rules, ◌≡◌, sym, ◌∙◌, ap, false, list_any, is_open, has_quote}
 use Rattle.sk_words.proofs.Quoteless.{none_open}
 use Rattle.sk_words.proofs.line.Words.has_open_literal.Goals as goal
 

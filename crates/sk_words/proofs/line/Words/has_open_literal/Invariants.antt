@@ -1,7 +1,5 @@
 -- An open literal is among the words that are left just where one is among all words.
-use Rattle.std.proofs.Common.{◌≡◌, length}
-use Rattle.std.specs.List.{list_any}
-use Rattle.sk_words.specs.Words.{is_open}
+use Rattle.sk_words.proofs.Names.{◌≡◌, length, list_any, is_open}
 use Rattle.sk_words.proofs.line.Words.has_open_literal.Given as goal
 
 abbrev pub invariant-loop-word : goal.invariant-loop-word

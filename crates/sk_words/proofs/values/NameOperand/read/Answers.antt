@@ -1,6 +1,6 @@
 -- A word is a name just where the test of names passes.
 use Rattle.std.proofs.Common.{◌∙◌}
-use Rattle.sk_words.proofs.Names.{name_said}
+use Rattle.sk_words.proofs.NameTest.{name_said}
 use Rattle.sk_words.proofs.values.NameOperand.read.Goals as goal
 
 pub returns : goal.returns

@@ -4,4 +4,6 @@
 #[cfg(test)]
 mod owners;
 #[cfg(test)]
+mod rounds;
+#[cfg(test)]
 mod words;

@@ -1,16 +1,12 @@
 -- What holds of all that was decided, lost and still held, after any moves.
-use Rattle.std.proofs.Common.{◌≡◌, ℕ, suc, ◌<◌, ◌≤◌, Bool, true, false, cond, List, [], ◌∷◌, Option, Some, inl, inr, refl, sym, ◌∙◌, ap, subst, arith}
-use Rattle.std.specs.Prelude.{nat_le, if◌then◌else◌}
-use Rattle.std.proofs.lemmas.Bool.{eqb-false, ltb-true}
-use Rattle.sk_engine.specs.declared.answer.BatchAnswer.{BatchAnswer}
+use Rattle.sk_engine.proofs.Names.{◌≡◌, ℕ, suc, ◌<◌, ◌≤◌, Bool, true, false, cond, List, [], ◌∷◌, Option, Some, inl}
+use Rattle.sk_engine.proofs.Names.{inr, refl, sym, ◌∙◌, ap, subst, arith, nat_le, if◌then◌else◌, eqb-false, ltb-true}
+use Rattle.sk_engine.proofs.Names.{BatchAnswer, Batch, Fence, Still, Over, leads, with_entry, without_from, without_to}
+use Rattle.sk_engine.proofs.Names.{may_put, may_fence, may_cut, batch_answer, fence_answer, Has, BatchTry, FenceTry}
+use Rattle.sk_engine.proofs.Names.{World, new_world, batch_of, owner_of, whole, WasLost, HasDecided, Move, Leads, Ends, ServesFrom}
+use Rattle.sk_engine.proofs.Names.{Reads, Fences, Sends, Tries, Cuts, Happens, Runs, DecidedStays, DecidedIsSent}
+use Rattle.sk_engine.proofs.Names.{DecidedIsRead, LostIsNeverFound, StillHasAll}
 use Rattle.sk_engine.specs.declared.answer.BatchAnswer.TheVariants as batch
-use Rattle.sk_engine.specs.declared.request.Batch.{Batch}
-use Rattle.sk_engine.specs.declared.request.Fence.{Fence}
-use Rattle.sk_engine.specs.declared.request.Told.TheVariants.{Still, Over}
-use Rattle.sk_engine.specs.Told.{leads}
-use Rattle.sk_engine.specs.Engine.{with_entry, without_from, without_to, may_put, may_fence, may_cut, batch_answer, fence_answer}
-use Rattle.sk_engine.specs.Moves.{Has, BatchTry, FenceTry, World, new_world, batch_of, owner_of, whole, WasLost, HasDecided, Move, Leads, Ends, Reads, Fences, Sends, Tries, Cuts, Happens, Runs}
-use Rattle.sk_engine.specs.Laws.{DecidedStays, DecidedIsSent, DecidedIsRead, LostIsNeverFound, StillHasAll}
 use Rattle.sk_engine.proofs.Tests.{both, off, led, none}
 use Rattle.sk_engine.proofs.Sound.{IsThere, IsDense, HasPut, IsSound}
 use Rattle.sk_engine.proofs.Steps.{order, absent_there, put_cases, fence_keeps, dense_before, cut_keeps, at_gap, step, new_sound}
@@ -58,7 +54,7 @@ keeps w (Cuts r g last) m so h n dense i low lt = ap (λ x. whole x i) h.1 ∙ c
 
 -- ---- what was answered stays answered
 
-more_batches : (w : World) (c : Move) (m : World) → Happens w c m → (t : BatchTry) → Has t w.batches → Has t m.batches
+pub more_batches : (w : World) (c : Move) (m : World) → Happens w c m → (t : BatchTry) → Has t w.batches → Has t m.batches
 more_batches w (Leads r) m h t was = subst (λ x. Has t x.batches) (sym h.2) was
 more_batches w Ends m h t was = subst (λ x. Has t x.batches) (sym h) was
 more_batches w (Reads r g) m h t was = subst (λ x. Has t x.batches) (sym h.3) was
@@ -67,7 +63,7 @@ more_batches w (Sends b v) m h t was = subst (λ x. Has t x.batches) (sym h.1) w
 more_batches w (Tries b v) m h t was = subst (λ x. Has t x.batches) (sym h.1) (inr was)
 more_batches w (Cuts r g last) m h t was = subst (λ x. Has t x.batches) (sym h.1) was
 
-more_fences : (w : World) (c : Move) (m : World) → Happens w c m → (t : FenceTry) → Has t w.fences → Has t m.fences
+pub more_fences : (w : World) (c : Move) (m : World) → Happens w c m → (t : FenceTry) → Has t w.fences → Has t m.fences
 more_fences w (Leads r) m h t was = subst (λ x. Has t x.fences) (sym h.2) was
 more_fences w Ends m h t was = subst (λ x. Has t x.fences) (sym h) was
 more_fences w (Reads r g) m h t was = subst (λ x. Has t x.fences) (sym h.3) was
@@ -162,15 +158,14 @@ lost_is_never_found before after w m r lost number value runs was more le found 
 
 -- ---- what still holds
 
-still_led : (r : ℕ) (k : ℕ) (o : Option ℕ) (t : Bool) → leads r o ≡ t → cond t (Still k) Over ≡ Still k → t ≡ true
+pub still_led : (r : ℕ) (k : ℕ) (o : Option ℕ) (t : Bool) → leads r o ≡ t → cond t (Still k) Over ≡ Still k → t ≡ true
 still_led r k o true e told = refl
 still_led r k o false e told = absurd (let no : Over ≡ Still k = told in cc)
 
-pub still_has_all : StillHasAll
-still_has_all moves w round gap other from last runs serves told decided ordered differs =
-    let so = run moves new_world w runs new_sound in
-    let r = round.leadership in
-    let leader = led r w.engine.leader (still_led r round.number w.engine.leader (leads r w.engine.leader) refl told) in
+-- what holds while the leader is of a leadership that serves
+pub newest_found : (w : World) → IsSound w → (r gap other from last : ℕ) → ServesFrom w r gap → w.engine.leader ≡ Some r → HasDecided w other from last
+    → from ≤ last → (other ≡ r → ⊥) → last < gap
+newest_found w so r gap other from last serves leader decided ordered differs =
     let newest = (so.led r leader).0 in
     let fenced = so.after r gap (so.served r gap serves) in
     let under : other ≤ w.engine.fence = (so.after other from (so.served other from decided.0)).under in
@@ -183,3 +178,10 @@ still_has_all moves w round gap other from last runs serves told decided ordered
           let above : r ≤ owner_of x.0 = fenced.own last x.0 le x.1 in
           absurd (differs (omega arith))
     ]
+
+pub still_has_all : StillHasAll
+still_has_all moves w round gap other from last runs serves told decided ordered differs =
+    let so = run moves new_world w runs new_sound in
+    let r = round.leadership in
+    let leader = led r w.engine.leader (still_led r round.number w.engine.leader (leads r w.engine.leader) refl told) in
+    newest_found w so r gap other from last serves leader decided ordered differs

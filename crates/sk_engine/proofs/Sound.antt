@@ -1,14 +1,9 @@
 -- What is so of an engine and its hosts at any moment.
-use Rattle.std.proofs.Common.{◌≡◌, ℕ, ◌<◌, ◌≤◌, List, Option, Some, None}
-use Rattle.sk_engine.specs.declared.answer.BatchAnswer.{BatchAnswer}
+use Rattle.sk_engine.proofs.Names.{◌≡◌, ℕ, ◌<◌, ◌≤◌, List, Option, Some, None, BatchAnswer, Synced, Lost, Batch, Fence}
+use Rattle.sk_engine.proofs.Names.{batch_told, Entries, Has, FenceTry, World, batch_of, fence_of, owner_of, whole}
+use Rattle.sk_engine.proofs.Names.{ServesFrom}
 use Rattle.sk_engine.specs.declared.answer.BatchAnswer.TheVariants as batch
 use Rattle.sk_engine.specs.declared.answer.FenceAnswer.TheVariants as fence
-use Rattle.sk_engine.specs.declared.request.Told.TheVariants.{Synced, Lost}
-use Rattle.sk_engine.specs.declared.request.Batch.{Batch}
-use Rattle.sk_engine.specs.declared.request.Fence.{Fence}
-use Rattle.sk_engine.specs.Told.{batch_told}
-use Rattle.sk_engine.specs.Engine.{Entries}
-use Rattle.sk_engine.specs.Moves.{Has, FenceTry, World, batch_of, fence_of, owner_of, whole, ServesFrom}
 
 abbrev pub IsThere : Option (List ℕ) → Type 0
 IsThere o = (v : List ℕ) × (o ≡ Some v)

@@ -1,17 +1,14 @@
 -- Each move leaves what is so of an engine and its hosts.
-use Rattle.std.proofs.Common.{◌≡◌, ◌==◌, ℕ, suc, ◌<◌, ◌≤◌, Bool, true, false, cond, not, List, ◌∷◌, Option, Some, None, inl, inr, refl, sym, ◌∙◌, ap, subst, arith}
-use Rattle.std.specs.Prelude.{◌⊎◌, nat_le, nat_lt, is_none, if◌then◌else◌}
-use Rattle.std.proofs.lemmas.Bool.{eqb-true, eqb-false, eq-eqb, leb-false, leb-true, le-leb, ltb-true, lt-ltb}
+use Rattle.sk_engine.proofs.Names.{◌≡◌, ◌==◌, ℕ, suc, ◌<◌, ◌≤◌, Bool, true, false, cond, not, List, ◌∷◌, Option, Some}
+use Rattle.sk_engine.proofs.Names.{None, inl, inr, refl, sym, ◌∙◌, ap, subst, arith, ◌⊎◌, nat_le, nat_lt, is_none}
+use Rattle.sk_engine.proofs.Names.{if◌then◌else◌, eqb-true, eqb-false, eq-eqb, leb-false, leb-true, le-leb, ltb-true}
+use Rattle.sk_engine.proofs.Names.{lt-ltb, BatchSeen, FenceSeen, Synced, Lost, Serves, Batch, Fence, leads, held_of}
+use Rattle.sk_engine.proofs.Names.{batch_told, fence_told, with_entry, without_from, without_to, may_put, may_fence}
+use Rattle.sk_engine.proofs.Names.{may_cut, Has, Sent, BatchTry, FenceTry, World, new_world, batch_of, fence_of}
+use Rattle.sk_engine.proofs.Names.{owner_of, whole, HasDecided, IsGap, MaySend, Move, Leads, Ends, Reads, Fences, Sends}
+use Rattle.sk_engine.proofs.Names.{Tries, Cuts, Happens}
 use Rattle.sk_engine.specs.declared.answer.BatchAnswer.TheVariants as batch
-use Rattle.sk_engine.specs.declared.answer.BatchSeen.{BatchSeen}
 use Rattle.sk_engine.specs.declared.answer.FenceAnswer.TheVariants as fence
-use Rattle.sk_engine.specs.declared.answer.FenceSeen.{FenceSeen}
-use Rattle.sk_engine.specs.declared.request.Told.TheVariants.{Synced, Lost, Serves}
-use Rattle.sk_engine.specs.declared.request.Batch.{Batch}
-use Rattle.sk_engine.specs.declared.request.Fence.{Fence}
-use Rattle.sk_engine.specs.Told.{leads, held_of, batch_told, fence_told}
-use Rattle.sk_engine.specs.Engine.{with_entry, without_from, without_to, may_put, may_fence, may_cut}
-use Rattle.sk_engine.specs.Moves.{Has, Sent, BatchTry, FenceTry, World, new_world, batch_of, fence_of, owner_of, whole, HasDecided, IsGap, MaySend, Move, Leads, Ends, Reads, Fences, Sends, Tries, Cuts, Happens}
 use Rattle.sk_engine.proofs.Tests.{both, off, led, unled, none, mine, is_mine, told_synced, told_lost, told_serves, on, not_on, not_le, not_lt, whole_behind, whole_cut}
 use Rattle.sk_engine.proofs.Sound.{IsThere, IsDense, HasFenced, HasPut, AtGap, AfterFence, AsSent, IsOver, IsSound}
 
@@ -46,7 +43,7 @@ both_there x y o e f = let is : Some x ≡ Some y = sym e ∙ f in cc
 pub absent_there : (o : Option (List ℕ)) → o ≡ None → IsThere o → ⊥
 absent_there o e t = none_some t.0 (sym e ∙ t.1)
 
-done_not : (seen : BatchSeen) → batch.Done ≡ batch.Not seen → ⊥
+pub done_not : (seen : BatchSeen) → batch.Done ≡ batch.Not seen → ⊥
 done_not seen e = cc
 
 fenced_not : (seen : FenceSeen) → fence.Done ≡ fence.Not seen → ⊥
@@ -54,6 +51,16 @@ fenced_not seen e = cc
 
 synced_lost : (n : ℕ) → Synced n ≡ Lost n → ⊥
 synced_lost n e = cc
+
+-- what holds of one more, and of each that was there, holds of each that is there then
+one_more : {A : Type 0} (P : A → Type 0) (x y : A) (ys : List A) → Has x (y ∷ ys) → P y → (Has x ys → P x) → P x
+one_more P x y ys (inl is) new old = subst P (sym is) new
+one_more P x y ys (inr has) new old = old has
+
+-- what is not that one was there
+was_there : {A : Type 0} (x y : A) (ys : List A) → Has x (y ∷ ys) → (x ≡ y → ⊥) → Has x ys
+was_there x y ys (inl is) other = absurd (other is)
+was_there x y ys (inr has) other = has
 
 log_by : (log : Option (List ℕ)) (u : List ℕ) (t : Bool) → cond t log None ≡ Some u → log ≡ Some u
 log_by log u true e = e
@@ -154,24 +161,13 @@ module _ (w : World) (so : IsSound w) where
   reads_sound r g le first gap = record {
     led = so.led;
     fence_led = so.fence_led;
-    read_led = λ s k h. elim h as (λ _. s ≤ w.engine.newest) [
-      | inl is ↦ let same : s ≡ r = ap (λ (f : Fence). f.leadership) is in omega arith
-      | inr old ↦ so.read_led s k old
-    ];
-    read_once = λ s k l h i. elim h as (λ _. k ≡ l) [
-      | inl is ↦ elim i as (λ _. k ≡ l) [
-        | inl it ↦ ap (λ (f : Fence). f.gap) is ∙ sym (ap (λ (f : Fence). f.gap) it)
-        | inr old ↦ absurd (first l (subst (λ n. Has (fence_of n l) w.reads) (ap (λ (f : Fence). f.leadership) is) old))
-      ]
-      | inr old ↦ elim i as (λ _. k ≡ l) [
-        | inl it ↦ absurd (first k (subst (λ n. Has (fence_of n k) w.reads) (ap (λ (f : Fence). f.leadership) it) old))
-        | inr older ↦ so.read_once s k l old older
-      ]
-    ];
-    gap = λ s k h lower is. elim h as (λ _. AtGap w.engine.snap (whole w) k) [
-      | inl is ↦ subst (λ n. AtGap w.engine.snap (whole w) n) (sym (ap (λ (f : Fence). f.gap) is)) (at_gap g gap)
-      | inr old ↦ so.gap s k old lower is
-    ];
+    read_led = λ s k h. one_more (λ (f : Fence). f.leadership ≤ w.engine.newest) (fence_of s k) (fence_of r g) w.reads h le (λ old. so.read_led s k old);
+    read_once = λ s k l h i. one_more (λ (f : Fence). Has (fence_of f.leadership l) (fence_of r g ∷ w.reads) → f.gap ≡ l) (fence_of s k) (fence_of r g) w.reads h
+        (λ j. one_more (λ (f : Fence). f.leadership ≡ r → g ≡ f.gap) (fence_of r l) (fence_of r g) w.reads j (λ _. refl) (λ old _. absurd (first l old)) refl)
+        (λ old j. one_more (λ (f : Fence). Has (fence_of f.leadership k) w.reads → k ≡ f.gap) (fence_of s l) (fence_of r g) w.reads j
+        (λ its. absurd (first k its)) (λ older its. so.read_once s k l its older) old) i;
+    gap = λ s k h lower is. one_more (λ (f : Fence). w.engine.fence < f.leadership → f.leadership ≡ w.engine.newest → AtGap w.engine.snap (whole w) f.gap)
+        (fence_of s k) (fence_of r g) w.reads h (λ _ _. at_gap g gap) (λ old. so.gap s k old) lower is;
     after = λ s k h. let old = so.after s k h in
         record { read = inr old.read; under = old.under; low = old.low; dense = old.dense; own = old.own };
     fence_done = so.fence_done;
@@ -206,11 +202,9 @@ module _ (w : World) (so : IsSound w) where
     cut = so.cut;
     in_log = so.in_log;
     in_whole = so.in_whole;
-    sends = λ c u h. elim h as (λ _. AsSent w.fences c u) [
-      | inl is ↦ subst (λ (s : Sent). AsSent w.fences s.batch s.value) (sym is)
-          (record { own = may.own; gap = may.gap; fenced = so.served b.leadership may.gap may.serves; behind = may.behind })
-      | inr old ↦ so.sends c u old
-    ];
+    sends = λ c u h. one_more (λ (s : Sent). AsSent w.fences s.batch s.value) (record { batch = c; value = u }) (record { batch = b; value = v }) w.sent h
+        (record { own = may.own; gap = may.gap; fenced = so.served b.leadership may.gap may.serves; behind = may.behind })
+        (λ old. so.sends c u old);
     same = λ c x y h i. elim h as (λ _. x ≡ y) [
       | inl is ↦ elim i as (λ _. x ≡ y) [
         | inl it ↦ ap (λ (s : Sent). s.value) is ∙ sym (ap (λ (s : Sent). s.value) it)
@@ -241,7 +235,8 @@ module _ (w : World) (so : IsSound w) where
     not_put = record w { batches = record { batch = b; value = v; answer = batch.Not seen } ∷ w.batches }
 
     put_before : (r n : ℕ) (u : List ℕ) → HasPut not_put r n u → HasPut w r n u
-    put_before r n u h = elim h as (λ _. HasPut w r n u) [ inl is ↦ absurd (done_not seen (ap (λ (t : BatchTry). t.answer) is)) | inr old ↦ old ]
+    put_before r n u h = was_there (record { batch = batch_of r n; value = u; answer = batch.Done }) (record { batch = b; value = v; answer = batch.Not seen })
+        w.batches h (λ is. done_not seen (ap (λ (t : BatchTry). t.answer) is))
 
     not_put_synced : batch_told b (batch.Not seen) ≡ Synced b.number → HasPut w b.leadership b.number v
     not_put_synced told =
@@ -285,24 +280,17 @@ module _ (w : World) (so : IsSound w) where
       in_whole = λ i u e. inr (so.in_whole i u e);
       sends = so.sends;
       same = so.same;
-      tried = λ c u a h. elim h as (λ _. Has (record { batch = c; value = u }) w.sent) [
-        | inl is ↦ subst (λ (t : BatchTry). Has (record { batch = t.batch; value = t.value }) w.sent) (sym is) sent
-        | inr old ↦ so.tried c u a old
-      ];
-      synced = λ c u a h told. elim h as (λ _. HasPut not_put c.leadership c.number u) [
-        | inl is ↦ subst (λ (t : BatchTry). batch_told t.batch t.answer ≡ Synced t.batch.number → HasPut not_put t.batch.leadership t.batch.number t.value)
-            (sym is) (λ it. inr (not_put_synced it)) told
-        | inr old ↦ inr (so.synced c u a old told)
-      ];
+      tried = λ c u a h. one_more (λ (t : BatchTry). Has (record { batch = t.batch; value = t.value }) w.sent) (record { batch = c; value = u; answer = a })
+          (record { batch = b; value = v; answer = batch.Not seen }) w.batches h sent (λ old. so.tried c u a old);
+      synced = λ c u a h. one_more (λ (t : BatchTry). batch_told t.batch t.answer ≡ Synced t.batch.number → HasPut not_put t.batch.leadership t.batch.number t.value)
+          (record { batch = c; value = u; answer = a }) (record { batch = b; value = v; answer = batch.Not seen }) w.batches h
+          (λ told. inr (not_put_synced told)) (λ old told. inr (so.synced c u a old told));
       put = λ n u h. so.put n u (put_before w.engine.fence n u h);
       firm = λ r g n f all i u ge le h.
           so.firm r g n f (λ j a c. let x = all j a c in (x.0, put_before r j x.0 x.1)) i u ge le (put_before r i u h);
       rising = so.rising;
-      over = λ c u a h told. elim h as (λ _. IsOver w.engine.leader w.engine.newest (whole w) c) [
-        | inl is ↦ subst (λ (t : BatchTry). batch_told t.batch t.answer ≡ Lost t.batch.number → IsOver w.engine.leader w.engine.newest (whole w) t.batch)
-            (sym is) not_put_lost told
-        | inr old ↦ so.over c u a old told
-      ];
+      over = λ c u a h. one_more (λ (t : BatchTry). batch_told t.batch t.answer ≡ Lost t.batch.number → IsOver w.engine.leader w.engine.newest (whole w) t.batch)
+          (record { batch = c; value = u; answer = a }) (record { batch = b; value = v; answer = batch.Not seen }) w.batches h not_put_lost (λ old. so.over c u a old);
     }
 
   -- ---- a batch is put
@@ -409,17 +397,14 @@ module _ (w : World) (so : IsSound w) where
     in_log_then i u false e is = inr (so.in_log i u is)
 
     put_then : (n : ℕ) (u : List ℕ) → HasPut (put_world b v) w.engine.fence n u → whole (put_world b v) n ≡ Some u
-    put_then n u h = elim h as (λ _. whole (put_world b v) n ≡ Some u) [
-      | inl is ↦ subst (λ (t : BatchTry). whole (put_world b v) t.batch.number ≡ Some t.value) (sym is) stands
-      | inr old ↦ kept_there n u (so.put n u old)
-    ]
+    put_then n u h = one_more (λ (t : BatchTry). whole (put_world b v) t.batch.number ≡ Some t.value)
+        (record { batch = batch_of w.engine.fence n; value = u; answer = batch.Done }) (record { batch = b; value = v; answer = batch.Done })
+        w.batches h stands (λ old. kept_there n u (so.put n u old))
 
     -- what another leadership put it put before
     other_before : (r i : ℕ) (u : List ℕ) → (r ≡ w.engine.fence → ⊥) → HasPut (put_world b v) r i u → HasPut w r i u
-    other_before r i u other h = elim h as (λ _. HasPut w r i u) [
-      | inl is ↦ absurd (other (ap (λ (t : BatchTry). t.batch.leadership) is ∙ is_fence))
-      | inr old ↦ old
-    ]
+    other_before r i u other h = was_there (record { batch = batch_of r i; value = u; answer = batch.Done }) (record { batch = b; value = v; answer = batch.Done })
+        w.batches h (λ is. other (ap (λ (t : BatchTry). t.batch.leadership) is ∙ is_fence))
 
     put_firm : (r g n : ℕ) → HasFenced w r g → ((i : ℕ) → g ≤ i → i ≤ n → (x : List ℕ) × HasPut (put_world b v) r i x)
         → (i : ℕ) (u : List ℕ) → g ≤ i → i ≤ n → HasPut (put_world b v) r i u → whole (put_world b v) i ≡ Some u
@@ -480,14 +465,10 @@ module _ (w : World) (so : IsSound w) where
       ];
       sends = so.sends;
       same = so.same;
-      tried = λ c u a h. elim h as (λ _. Has (record { batch = c; value = u }) w.sent) [
-        | inl is ↦ subst (λ (t : BatchTry). Has (record { batch = t.batch; value = t.value }) w.sent) (sym is) sent
-        | inr old ↦ so.tried c u a old
-      ];
-      synced = λ c u a h told. elim h as (λ _. HasPut (put_world b v) c.leadership c.number u) [
-        | inl is ↦ subst (λ (t : BatchTry). HasPut (put_world b v) t.batch.leadership t.batch.number t.value) (sym is) (inl refl)
-        | inr old ↦ inr (so.synced c u a old told)
-      ];
+      tried = λ c u a h. one_more (λ (t : BatchTry). Has (record { batch = t.batch; value = t.value }) w.sent) (record { batch = c; value = u; answer = a })
+          (record { batch = b; value = v; answer = batch.Done }) w.batches h sent (λ old. so.tried c u a old);
+      synced = λ c u a h told. one_more (λ (t : BatchTry). HasPut (put_world b v) t.batch.leadership t.batch.number t.value) (record { batch = c; value = u; answer = a })
+          (record { batch = b; value = v; answer = batch.Done }) w.batches h (inl refl) (λ old. inr (so.synced c u a old told));
       put = put_then;
       firm = put_firm;
       rising = put_rising;
@@ -515,7 +496,8 @@ module _ (w : World) (so : IsSound w) where
     not_fenced = record w { fences = record { fence = f; answer = fence.Not unfenced } ∷ w.fences }
 
     fenced_before : (r g : ℕ) → HasFenced not_fenced r g → HasFenced w r g
-    fenced_before r g h = elim h as (λ _. HasFenced w r g) [ inl is ↦ absurd (fenced_not unfenced (ap (λ (t : FenceTry). t.answer) is)) | inr old ↦ old ]
+    fenced_before r g h = was_there (record { fence = fence_of r g; answer = fence.Done }) (record { fence = f; answer = fence.Not unfenced }) w.fences h
+        (λ is. fenced_not unfenced (ap (λ (t : FenceTry). t.answer) is))
 
     was_fenced : fence_told f (fence.Not unfenced) ≡ Serves → HasFenced w f.leadership f.gap
     was_fenced told =
@@ -541,10 +523,7 @@ module _ (w : World) (so : IsSound w) where
             (sym is) (λ told. inr (was_fenced told)) s.2
         | inr old ↦ inr (so.served r g (s.0, old, s.2))
       ];
-      tried_fence = λ t h. elim h as (λ _. Has t.fence w.reads) [
-        | inl is ↦ subst (λ (x : FenceTry). Has x.fence w.reads) (sym is) read
-        | inr old ↦ so.tried_fence t old
-      ];
+      tried_fence = λ t h. one_more (λ (x : FenceTry). Has x.fence w.reads) t (record { fence = f; answer = fence.Not unfenced }) w.fences h read (λ old. so.tried_fence t old);
       cut = so.cut;
       in_log = so.in_log;
       in_whole = so.in_whole;
@@ -658,10 +637,7 @@ module _ (w : World) (so : IsSound w) where
         | inl is ↦ inl (ap (λ (t : FenceTry). record t { answer = fence.Done }) is)
         | inr old ↦ inr (so.served r g (s.0, old, s.2))
       ];
-      tried_fence = λ t h. elim h as (λ _. Has t.fence w.reads) [
-        | inl is ↦ subst (λ (x : FenceTry). Has x.fence w.reads) (sym is) read
-        | inr old ↦ so.tried_fence t old
-      ];
+      tried_fence = λ t h. one_more (λ (x : FenceTry). Has x.fence w.reads) t (record { fence = f; answer = fence.Done }) w.fences h read (λ old. so.tried_fence t old);
       cut = λ i low le. kept_before i (let behind = at_end.behind in omega arith) (so.cut i low le);
       in_log = λ i u e. so.in_log i u (log_by (w.engine.log i) u (nat_lt i f.gap) e);
       in_whole = λ i u e. so.in_whole i u (back_before i u e).1;

@@ -1,14 +1,9 @@
 -- What tests of the engine say, and what is whole.
-use Rattle.std.proofs.Common.{◌≡◌, ℕ, ◌<◌, ◌≤◌, Bool, true, false, cond, not, ◌&&◌, List, Option, Some, None, refl, sym, ap, arith}
-use Rattle.std.specs.Prelude.{nat_le, nat_lt, is_none}
-use Rattle.std.specs.Str.{bytes_eq}
-use Rattle.std.proofs.lemmas.Bool.{eqb-true, eqb-false, leb-true, le-leb, ltb-true}
-use Rattle.std.proofs.lemmas.Slice.Eq.{bytes_eq-Decides}
-use Rattle.sk_engine.specs.declared.answer.Held.{Held}
-use Rattle.sk_engine.specs.declared.answer.Held.TheVariants.{Absent, Mine, Another}
-use Rattle.sk_engine.specs.declared.request.Told.TheVariants.{Synced, Lost, Unknowable, Serves, Over, Breach}
-use Rattle.sk_engine.specs.Told.{leads, held_of, refused_told, unfenced_told}
-use Rattle.sk_engine.specs.Moves.{World, whole}
+use Rattle.sk_engine.proofs.Names.{◌≡◌, ℕ, ◌<◌, ◌≤◌, Bool, true, false, cond, not, ◌&&◌, List, Option, Some, None, refl}
+use Rattle.sk_engine.proofs.Names.{sym, ap, arith, nat_le, nat_lt, is_none, bytes_eq, eqb-true, eqb-false, leb-true}
+use Rattle.sk_engine.proofs.Names.{le-leb, ltb-true, bytes_eq-Decides, Held, Absent, Mine, Another, Synced, Lost}
+use Rattle.sk_engine.proofs.Names.{Unknowable, Serves, Over, Breach, leads, held_of, refused_told, unfenced_told, World}
+use Rattle.sk_engine.proofs.Names.{whole}
 
 pub both : (a b : Bool) → a && b ≡ true → (a ≡ true) × (b ≡ true)
 both true b e = (refl, e)

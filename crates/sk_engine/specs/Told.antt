@@ -7,10 +7,12 @@ use Rattle.sk_engine.specs.declared.answer.BatchAnswer.{BatchAnswer}
 use Rattle.sk_engine.specs.declared.answer.BatchAnswer.TheVariants as batch
 use Rattle.sk_engine.specs.declared.answer.FenceAnswer.{FenceAnswer}
 use Rattle.sk_engine.specs.declared.answer.FenceAnswer.TheVariants as fence
+use Rattle.sk_engine.specs.declared.answer.LeadAnswer.{LeadAnswer}
+use Rattle.sk_engine.specs.declared.answer.LeadAnswer.TheVariants as lead
 use Rattle.sk_engine.specs.declared.answer.RoundAnswer.{RoundAnswer}
 use Rattle.sk_engine.specs.declared.answer.RoundAnswer.TheVariants as round
 use Rattle.sk_engine.specs.declared.request.Told.{Told}
-use Rattle.sk_engine.specs.declared.request.Told.TheVariants.{Synced, Lost, Unknowable, Still, Serves, Over, Again, Breach}
+use Rattle.sk_engine.specs.declared.request.Told.TheVariants.{Synced, Lost, Unknowable, Still, Serves, Over, Again, Claimed, Waits, Breach}
 use Rattle.sk_engine.specs.declared.request.Batch.{Batch}
 use Rattle.sk_engine.specs.declared.request.Fence.{Fence}
 use Rattle.sk_engine.specs.declared.request.Round.{Round}
@@ -51,3 +53,14 @@ fence_told f fence.Unknown = Again
 abbrev pub round_told : Round → RoundAnswer → Told
 round_told r (round.Seen leader) = if leads r.leadership leader then Still r.number else Over
 round_told r round.Unknown = Again
+
+-- A leader that was not put: of which leadership the one is that there was, and whether it has the host's word.
+abbrev pub claim_told : ℕ → Held → Told
+claim_told leadership Mine = Claimed leadership
+claim_told leadership Another = Waits
+claim_told leadership Absent = Breach
+
+abbrev pub lead_told : LeadAnswer → Told
+lead_told (lead.Done leadership) = Claimed leadership
+lead_told (lead.Not seen) = claim_told seen.leadership seen.held
+lead_told lead.Unknown = Again

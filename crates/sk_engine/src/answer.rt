@@ -51,6 +51,25 @@ pub enum FenceAnswer {
     Unknown,
 }
 
+/// What the engine saw as it did not put a leader: of which leadership the one is that there was, and whether it has the word that was to
+/// be put there.
+#[derive(Clone, Copy, Debug, PartialEq, Eq)]
+pub struct LeadSeen {
+    pub leadership: u64,
+    pub held: Held,
+}
+
+/// What is known of a try to lead, by a word that nobody else puts.
+#[derive(Clone, Copy, Debug, PartialEq, Eq)]
+pub enum LeadAnswer {
+    /// The word was put: this is its leadership.
+    Done(u64),
+    /// There was a leader, and this was seen at that moment.
+    Not(LeadSeen),
+    /// Nothing.
+    Unknown,
+}
+
 /// What is known of a round: of which leadership the leader was, if there was one.
 #[derive(Clone, Copy, Debug, PartialEq, Eq)]
 pub enum RoundAnswer {

@@ -1,5 +1,8 @@
 //! What holds of any number of hosts beside an engine. Each law is the contract of a function that does nothing.
+ghost use Rattle.sk_engine.specs.Claims.{LeadershipIsOne};
 ghost use Rattle.sk_engine.specs.Laws.{DecidedIsRead, DecidedIsSent, DecidedStays, LostIsNeverFound, StillHasAll};
+ghost use Rattle.sk_engine.specs.Newest.{ToldIsNewest};
+ghost use Rattle.sk_engine.specs.Rounds.{ToldBehindARound};
 
 /// What was decided holds the same bytes for ever, in the log or in the snapshot; from the gap on it is what was sent.
 pub fn decided_law()
@@ -20,4 +23,19 @@ pub fn lost_law()
 /// A leadership that still holds after a read was carried out has all that any other decided before.
 pub fn still_law()
     ensures { StillHasAll }
+{}
+
+/// What was carried out may be told only once a round that was taken later has held.
+pub fn rounds_law()
+    ensures { ToldBehindARound }
+{}
+
+/// Where it may be told, the host had found all that any other leadership decided before it was carried out.
+pub fn newest_law()
+    ensures { ToldIsNewest }
+{}
+
+/// No two hosts take the same leadership for their own.
+pub fn claims_law()
+    ensures { LeadershipIsOne }
 {}

@@ -1,8 +1,8 @@
 //! What a host asks the engine, and what it is to do on each answer.
 ghost use Rattle.std.specs.Prelude.{◌≡◌};
-ghost use Rattle.sk_engine.specs.Told.{batch_told, fence_told, leads, round_told};
+ghost use Rattle.sk_engine.specs.Told.{batch_told, fence_told, lead_told, leads, round_told};
 
-use crate::answer::{BatchAnswer, FenceAnswer, Held, RoundAnswer};
+use crate::answer::{BatchAnswer, FenceAnswer, Held, LeadAnswer, RoundAnswer};
 
 /// What a host is told by an answer.
 #[derive(Clone, Copy, Debug, PartialEq, Eq)]
@@ -21,6 +21,10 @@ pub enum Told {
     Over,
     /// Nothing is known: the same is asked again, until an answer tells more.
     Again,
+    /// This leadership is the host's own.
+    Claimed(u64),
+    /// Another host leads: it is waited for.
+    Waits,
     /// The engine contradicts itself: stop, and answer nothing more.
     Breach,
 }
@@ -53,6 +57,23 @@ fn is_led(leadership: u64, leader: Option<u64>) -> bool
     match leader {
         Some(other) => other == leadership,
         None => false,
+    }
+}
+
+impl LeadAnswer {
+    /// What an answer to one of the tries to lead tells.
+    pub fn told(self) -> Told
+        ensures { result ≡ lead_told self }
+    {
+        match self {
+            LeadAnswer::Done(leadership) => Told::Claimed(leadership),
+            LeadAnswer::Unknown => Told::Again,
+            LeadAnswer::Not(seen) => match seen.held {
+                Held::Mine => Told::Claimed(seen.leadership),
+                Held::Another => Told::Waits,
+                Held::Absent => Told::Breach,
+            },
+        }
     }
 }
 

@@ -1,15 +1,9 @@
 -- Frames and words of the host only become more, where no cut is made.
-use Rattle.std.proofs.Common.{◌≡◌, ◌==◌, ℕ, zero, suc, ◌<◌, ◌≤◌, Bool, true, false, List, [], ◌∷◌, ◌++◌, length, map, take, Some, None, inl, inr, refl, sym, ◌∙◌, ap, subst, append_assoc, arith}
-use Rattle.std.specs.Prelude.{◌⊎◌, slice_get}
-use Rattle.std.proofs.lemmas.Bool.{or_right}
-use Rattle.std.proofs.lemmas.List.{append-nil}
-use Rattle.sk_record.specs.Notes.{has}
-use Rattle.sk_batches.specs.Records.{payload, RecordView}
+use Rattle.sk_led.proofs.Names.{◌≡◌, ◌==◌, ℕ, zero, suc, ◌<◌, ◌≤◌, Bool, true, false, List, [], ◌∷◌, ◌++◌, length, map}
+use Rattle.sk_led.proofs.Names.{take, Some, None, inl, inr, refl, sym, ◌∙◌, ap, subst, append_assoc, arith, ◌⊎◌}
+use Rattle.sk_led.proofs.Names.{slice_get, or_right, append-nil, has, payload, RecordView, Call, Sends, Learns, Cuts}
+use Rattle.sk_led.proofs.Names.{frames_by, frames_from, synced_by, synced_from, order, AreUncut}
 use Rattle.sk_batches.specs.declared.batch.Stage.TheVariants as stages
-use Rattle.sk_durable.specs.Calls.{Call, Sends, Learns, Cuts}
-use Rattle.sk_durable.specs.History.{frames_by, frames_from, synced_by, synced_from}
-use Rattle.sk_engine.proofs.Steps.{order}
-use Rattle.sk_led.specs.Led.{AreUncut}
 
 pub uncut_behind : (cs ds : List Call) → AreUncut (cs ++ ds) → AreUncut ds
 uncut_behind [] ds uncut = uncut

@@ -1,23 +1,12 @@
 -- What was told as logged stands in the engine, and what is found of a leadership is what its first commands leave.
-use Rattle.std.proofs.Common.{◌≡◌, ℕ, zero, suc, ◌+◌, ◌-◌, ◌<◌, ◌≤◌, Bool, true, false, List, [], ◌∷◌, length, Option, Some, None, inl, inr, refl, sym, ◌∙◌, ap, subst, arith}
-use Rattle.std.specs.Prelude.{◌≢◌, slice_get}
-use Rattle.sk_record.specs.Notes.{has}
-use Rattle.sk_batches.specs.Records.{payload, RecordView}
-use Rattle.sk_batched.specs.declared.batched.Outcome.TheVariants.{Logged}
-use Rattle.sk_replay.specs.Frames.{SayAll}
-use Rattle.sk_durable.specs.declared.store.Next.{Next}
-use Rattle.sk_durable.specs.Calls.{Call, Decides}
-use Rattle.sk_durable.specs.History.{frames, synced}
-use Rattle.sk_durable.proofs.ChannelLaws.{channels_let_go_just_what_may}
-use Rattle.sk_durable.proofs.Crashes.{crashes_are_recovered}
-use Rattle.sk_durable.proofs.OnDisk.{logged_is_on_disk}
+use Rattle.sk_led.proofs.Names.{◌≡◌, ℕ, zero, suc, ◌+◌, ◌-◌, ◌<◌, ◌≤◌, Bool, true, false, List, [], ◌∷◌, length, Option}
+use Rattle.sk_led.proofs.Names.{Some, None, inl, inr, refl, sym, ◌∙◌, ap, subst, arith, ◌≢◌, slice_get, has, payload}
+use Rattle.sk_led.proofs.Names.{RecordView, Logged, SayAll, Next, Call, Decides, frames, synced}
+use Rattle.sk_led.proofs.Names.{channels_let_go_just_what_may, crashes_are_recovered, logged_is_on_disk, batch_of}
+use Rattle.sk_led.proofs.Names.{new_world, owner_of, whole, HasDecided, WasSynced, World, HasPut, IsSound, both_there}
+use Rattle.sk_led.proofs.Names.{new_sound, order, decided_is_read, decided_stays, run, sent_there, AreUncut, IsLed}
+use Rattle.sk_led.proofs.Names.{AreOf, LeadersGoOn, LoggedIsInEngine, RepliesRestOnEngine}
 use Rattle.sk_engine.specs.declared.answer.BatchAnswer.TheVariants as batch
-use Rattle.sk_engine.specs.Moves.{batch_of, new_world, owner_of, whole, HasDecided, WasSynced, World}
-use Rattle.sk_engine.proofs.Sound.{HasPut, IsSound}
-use Rattle.sk_engine.proofs.Steps.{both_there, new_sound, order}
-use Rattle.sk_engine.proofs.Runs.{decided_is_read, decided_stays, run, sent_there}
-use Rattle.sk_led.specs.Led.{AreUncut, IsLed}
-use Rattle.sk_led.specs.Laws.{AreOf, LeadersGoOn, LoggedIsInEngine, RepliesRestOnEngine}
 use Rattle.sk_led.proofs.Grows.{first_off, frame_stays, same_payloads, synced_grow}
 
 both_records : (x y : List RecordView) (o : Option (List RecordView)) → o ≡ Some x → o ≡ Some y → x ≡ y

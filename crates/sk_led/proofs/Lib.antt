@@ -1,2 +1,4 @@
+pub mod Names
 pub mod Grows
 pub mod Leads
+pub mod Order

@@ -1,5 +1,6 @@
 //! What holds of stores whose log lies in an engine. Each law is the contract of a function that does nothing.
 ghost use Rattle.sk_led.specs.Laws.{LeadersGoOn, LoggedIsInEngine, RepliesRestOnEngine};
+ghost use Rattle.sk_led.specs.Order.{OneOrder};
 
 /// What a batch logs that was told as logged stands in the engine for ever, and each later leadership finds it.
 pub fn logged_law()
@@ -15,4 +16,10 @@ pub fn replies_law()
 /// logs which was told as logged.
 pub fn found_law()
     ensures { LeadersGoOn }
+{}
+
+/// Over any number of leaderships there is one order of commands, of each the first that it logged, with all that are settled, and the
+/// last begins with what a plain store has behind it.
+pub fn order_law()
+    ensures { OneOrder }
 {}

@@ -65,6 +65,17 @@ static int play(hidewillow_handle *kernel, const char *decision)
     return report(kernel);
 }
 
+/* Prints where the first fault of a text stands, so many lines further up, and what is wrong there. */
+static int fault(const char *call, const char *text, unsigned above)
+{
+    uint8_t room[1024] = {0};
+    hidewillow_fault_place place = {0};
+    hidewillow_told told = hidewillow_fault(bytes(text), strlen(text), &place, room, sizeof room);
+    if (told.answer != HIDEWILLOW_FAULT || told.bytes > sizeof room) return 0;
+    unsigned long long line = place.line - above;
+    return printf("%s: answer %u, %llu:%zu: %.*s\n", call, told.answer, line, place.column, (int)told.bytes, (const char *)room) > 0;
+}
+
 int main(void)
 {
     hidewillow_handle kernel = {0};
@@ -80,6 +91,6 @@ int main(void)
     hidewillow_told told = hidewillow_report(&kernel, &none, 0);
     if (told.answer != HIDEWILLOW_CLOSED) return 1;
     told = hidewillow_open(&kernel, bytes("oops\n"), 5);
-    printf("open: answer %u, line %llu\n", told.answer, (unsigned long long)told.number);
-    return told.answer != HIDEWILLOW_FAULT;
+    if (told.answer != HIDEWILLOW_FAULT || !fault("open", "oops\n", 0)) return 1;
+    return !fault("line", "steps\nguess one good", 1);
 }

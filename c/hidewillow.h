@@ -88,10 +88,26 @@ typedef struct {
     size_t notes;      /* held now for what may be taken back */
 } hidewillow_counted;
 
+typedef struct {
+    uint64_t line;   /* from 1 on */
+    size_t column;   /* of the first byte of the word at fault, in its line, from 1 on */
+    size_t len;      /* how many bytes the word has; 0 where a word is missing, and then it stands
+                        behind the line's last byte */
+    uint64_t kind;   /* as the `number` of a line's FAULT */
+} hidewillow_fault_place;
+
 /* Opens what a scenario's declarations say, at its start: a world where the text ends with the line
  * `world`, else a kernel. The section has no line that says something. Told: OPENED, and the handle
  * holds it; FAULT or MEMORY, and it holds nothing; or HELD. */
 hidewillow_told hidewillow_open(hidewillow_handle *handle, const uint8_t *text, size_t text_bytes);
+
+/* Tells the first fault of a text that is to be opened: where it stands, and in the room what is wrong
+ * there and what was expected, as `speculate` prints it behind `FILE:LINE:COLUMN: `. Nothing is opened.
+ * Of one line of a section give `steps` or `world`, a line feed and the line, which is line 2 then.
+ * Told: FAULT with the line, where `bytes` is 0 without memory for what is wrong; ABSENT where no line
+ * is faulty; MEMORY. After the latter two the place and the room are as they were. */
+hidewillow_told hidewillow_fault(const uint8_t *text, size_t text_bytes, hidewillow_fault_place *place,
+                                 uint8_t *room, size_t room_bytes);
 
 /* Makes the call that a line of the section says: `step PID INPUT`, `guess PID INPUT`, `commit G`
  * or `fail G`; of a world `turn PID`, `serve`, `reply` or `edit NAME VERSION BYTES`. A line comes
@@ -120,6 +136,28 @@ hidewillow_told hidewillow_tags(hidewillow_handle *handle, const uint8_t *name, 
  * wait, and those that are released. Told: SHOWN, MEMORY, or CLOSED. */
 hidewillow_told hidewillow_terminal(hidewillow_handle *handle, uint16_t number, uint8_t *room,
                                     size_t room_bytes);
+
+/* Shows the text at a place, from 0 on, among those that a terminal has released in this epoch. What is
+ * released stays so: who keeps the next place gets each text once. Told: SHOWN, ABSENT past the last, or
+ * CLOSED. */
+hidewillow_told hidewillow_released(hidewillow_handle *handle, uint16_t number, size_t place,
+                                    uint8_t *room, size_t room_bytes);
+
+/* Begins a new epoch: the trace and the texts of terminals are let go of, so ask for those first, and
+ * what is kept of a guess is two bits, so that a long run takes no more memory than an epoch; the
+ * state and the numbers of guesses and requests go on. Told: DONE with how many events are let go;
+ * REFUSED 1 where a guess is undecided, 2 where a world's request has no reply; MEMORY. */
+hidewillow_told hidewillow_epoch(hidewillow_handle *handle);
+
+/* Lends the process of this name, as `1` or `1.2`, has it do up to `count` private instructions away
+ * from its kernel, and hands it in: each is a step of the trace without input, as `step PID none`, but
+ * the kernel looks at the process once. It stops before an instruction that is not private: one that
+ * reads or writes anything but the process itself. Told: STEPPED with how many were done, maybe 0; REFUSED
+ * with the refusal of a line, and nothing was done: no process, ended, blocked, the trace is full; or 10
+ * where a signal is due, which the next step of the process takes; FAULT where no process can have this
+ * name; MEMORY. */
+hidewillow_told hidewillow_lease(hidewillow_handle *handle, const uint8_t *name, size_t name_bytes,
+                                 uint32_t count);
 
 /* Counts the guesses and the steps so far, in one pass over what was done: each failure costs a run
  * of the steps behind the oldest guess that was undecided there, and no other.
@@ -282,6 +320,11 @@ hidewillow_told hidewillow_desk_open(hidewillow_desk *desk, const uint8_t *text,
  * which a request waits then; ASKED with the request for which the process waits; REFUSED with the
  * refusal of a kernel's line; FAULT where no process can have this name; MEMORY. */
 hidewillow_told hidewillow_desk_turn(hidewillow_desk *desk, const uint8_t *name, size_t name_bytes);
+
+/* Has the process of this name do up to `count` private instructions away from its kernel, as
+ * hidewillow_lease does. A process that waits for a reply is refused as blocked. */
+hidewillow_told hidewillow_desk_lease(hidewillow_desk *desk, const uint8_t *name, size_t name_bytes,
+                                      uint32_t count);
 
 /* Shows the oldest request that waits to be sent, as bytes. It is taken where the room has all of it;
  * else it stays, and the next of these calls shows it again. Told: SHOWN with the number of the request;
@@ -625,6 +668,47 @@ hidewillow_told hidewillow_store_counts(hidewillow_store *store, hidewillow_stor
 /* Ends what the handle holds, if anything, and frees its memory. What is undecided is dropped, and nothing
  * goes out any more. */
 void hidewillow_store_close(hidewillow_store *store);
+
+/* ---- What the answers of a consensus engine tell a host whose log lies in one: batches under numbers, put
+ * by leaderships. Nothing is held, and each of the four calls is told by its numbers alone.
+ *
+ * `leadership` is that of the host. `answer` is 0 where a try was carried out (a batch was put, all from a
+ * gap on was deleted), 1 where it was not, or where it only looked, and what was seen at that moment is
+ * told; and any other number where nothing is known, as after a time out or an error. `leader` is the
+ * leadership of the leader that was seen, 0 where there was none; `held` is 0 where nothing stands under
+ * the number of the batch, 1 where just its bytes do, else another number; `snap` is up to which number
+ * the log was cut; `fenced` is the leadership that deleted last. What was not seen is not looked at. */
+enum hidewillow_engine_word {
+    /* of a batch, with its number */
+    HIDEWILLOW_ENGINE_SYNCED = 0,     /* it stands in the log, and each later leadership reads it */
+    HIDEWILLOW_ENGINE_LOST = 1,       /* it does not, and never will */
+    HIDEWILLOW_ENGINE_UNKNOWABLE = 2, /* nobody can know: its clients get no answer */
+    /* of a round, with its number */
+    HIDEWILLOW_ENGINE_STILL = 3,      /* the leadership held at some moment after it was begun */
+    /* of a fence */
+    HIDEWILLOW_ENGINE_SERVES = 4,     /* nothing stands behind the gap: batches go there */
+    /* of a fence and a round */
+    HIDEWILLOW_ENGINE_OVER = 5,       /* the leadership is over: no new batch; those under way wait for
+                                         words of their own */
+    /* of all four */
+    HIDEWILLOW_ENGINE_AGAIN = 6,      /* nothing is known: the same is to be asked again */
+    /* of a try to lead; of the first, with the number of the leadership */
+    HIDEWILLOW_ENGINE_CLAIMED = 7,    /* the leadership is the host's */
+    HIDEWILLOW_ENGINE_WAITS = 8,      /* another leads */
+    /* of a batch, a fence and a try to lead */
+    HIDEWILLOW_ENGINE_BREACH = 9      /* the engine contradicts itself, so something else writes there:
+                                         stop, and answer nothing more; never of a round */
+};
+
+hidewillow_told hidewillow_engine_batch(uint64_t leadership, uint64_t number, uint32_t answer,
+                                        uint64_t leader, uint32_t held, uint64_t snap);
+hidewillow_told hidewillow_engine_fence(uint64_t leadership, uint64_t gap, uint32_t answer,
+                                        uint64_t leader, uint64_t fenced);
+hidewillow_told hidewillow_engine_round(uint64_t leadership, uint64_t number, uint32_t answer,
+                                        uint64_t leader);
+/* Of a try to lead by a word that nobody else puts: `leadership` is its own where it was put, else that of
+ * the leader that was seen; `held` is 1 where that leader has this very word, else another number than 0. */
+hidewillow_told hidewillow_engine_lead(uint32_t answer, uint64_t leadership, uint32_t held);
 
 #ifdef __cplusplus
 }

@@ -1,20 +1,31 @@
-//! As many events as it is told, ten million where it is told nothing, by a desk in bounded memory: the C example again.
+//! As many events as it is told, ten million where it is told nothing, in bounded memory, by a desk and then by a kernel of
+//! scripts: the C example again.
 //!
-//!     cargo run --release --example long_run -- 100000000
+//!     cargo run --release --example long_run -- play 100000000
 use hidewillow::desk::{Answer, Content, Desk, Reply, Request};
+use hidewillow::{Epoch, Lease, Play};
 
 type Wrong = Box<dyn std::error::Error>;
 
 const START: &str = "script computes\ntop:\nadd r1 r2\njump top\nend\n\
     script reads\ntop:\nfetch /x\nsay\njump top\nend\n\
-    copy /x 3 \"old\"\nprocess 1 computes 1\nprocess 2 reads 2\nlimit 101000\nworld\n";
+    copy /x 3 \"old\"\nprocess 1 computes 1\nprocess 2 reads 2\nlimit 101000\n";
 
-/// The steps of a round, and the rounds of an epoch.
-const STEPS: u64 = 995;
+/// The steps of a round, of which so many are those of a lease, and the rounds of an epoch.
+const STEPS: u32 = 995;
+const LEASED: u32 = 500;
 const ROUNDS: u64 = 100;
 
 /// More than this, in kilobytes, is not to be taken.
 const MEMORY_LIMIT: u64 = 32 * 1024;
+
+/// What was done so far.
+#[derive(Default)]
+struct Counted {
+    events: u64,
+    rounds: u64,
+    texts: u64,
+}
 
 /// The request that waits is answered, and its reply is given.
 fn answer(desk: &mut Desk, is_good: bool) -> Result<(), Wrong> {
@@ -33,10 +44,11 @@ fn answer(desk: &mut Desk, is_good: bool) -> Result<(), Wrong> {
 }
 
 /// A guess and what is said under it, steps of another process, and the decision. How many events that were.
-fn round(desk: &mut Desk, is_good: bool) -> Result<u64, Wrong> {
+fn desk_round(desk: &mut Desk, is_good: bool) -> Result<u64, Wrong> {
     desk.turn("2")?;
     desk.turn("2")?;
-    for _ in 0..STEPS {
+    assert_eq!(desk.lease("1", LEASED)?, Lease::Ran(LEASED.into()));
+    for _ in LEASED..STEPS {
         desk.turn("1")?;
     }
     answer(desk, is_good)?;
@@ -45,7 +57,7 @@ fn round(desk: &mut Desk, is_good: bool) -> Result<u64, Wrong> {
         desk.turn("2")?;
     }
     desk.turn("2")?;
-    Ok(STEPS + 4 + again)
+    Ok(u64::from(STEPS) + 4 + again)
 }
 
 /// How many texts the process said in the epoch that ended.
@@ -57,6 +69,54 @@ fn texts_left(desk: &mut Desk) -> Result<u64, Wrong> {
     Ok(count as u64)
 }
 
+fn run_desk(wanted: u64) -> Result<Counted, Wrong> {
+    let mut desk = Desk::open(&[START, "world\n"].concat())?;
+    let mut done = Counted::default();
+    while done.events < wanted {
+        for _ in 0..ROUNDS {
+            done.rounds += 1;
+            done.events += desk_round(&mut desk, done.rounds % 100 != 0)?;
+        }
+        desk.new_epoch()?;
+        done.texts += texts_left(&mut desk)?;
+    }
+    assert_eq!(done.texts, done.rounds);
+    Ok(done)
+}
+
+/// The same round.
+fn play_round(kernel: &mut Play, is_good: bool) -> Result<u64, Wrong> {
+    let guess = kernel.line("guess 2 good")?.ok_or("no answer")?.number;
+    kernel.line("step 2 none")?;
+    assert_eq!(kernel.lease("1", LEASED)?, Lease::Ran(LEASED.into()));
+    for _ in LEASED..STEPS {
+        kernel.line("step 1 none")?;
+    }
+    let decision = if is_good { "commit" } else { "fail" };
+    kernel.line(&format!("{decision} {guess}"))?;
+    if is_good {
+        kernel.line("step 2 none")?;
+    }
+    Ok(u64::from(STEPS) + 3 + u64::from(is_good))
+}
+
+fn run_play(wanted: u64) -> Result<Counted, Wrong> {
+    let mut kernel = Play::open(START)?;
+    let mut done = Counted::default();
+    while done.events < wanted {
+        let mut events = 0;
+        for _ in 0..ROUNDS {
+            done.rounds += 1;
+            events += play_round(&mut kernel, done.rounds % 100 != 0)?;
+        }
+        done.texts += kernel.drain(2)?.len() as u64;
+        done.events += events;
+        assert_eq!(kernel.new_epoch()?, Epoch::Begun(events));
+    }
+    assert_eq!(done.texts, done.rounds - done.rounds / 100);
+    Ok(done)
+}
+
 /// The most memory that was taken so far, in kilobytes.
 fn memory() -> Result<u64, Wrong> {
     let status = std::fs::read_to_string("/proc/self/status")?;
@@ -66,21 +126,16 @@ fn memory() -> Result<u64, Wrong> {
 }
 
 fn main() -> Result<(), Wrong> {
-    let wanted: u64 = std::env::args()
-        .nth(1)
-        .map_or(Ok(10_000_000), |it| it.parse())?;
-    let mut desk = Desk::open(START)?;
-    let (mut events, mut rounds, mut texts) = (0, 0, 0);
-    while events < wanted {
-        for _ in 0..ROUNDS {
-            rounds += 1;
-            events += round(&mut desk, rounds % 100 != 0)?;
+    let words: Vec<String> = std::env::args().skip(1).collect();
+    let wanted = words.get(1).map_or(Ok(10_000_000), |it| it.parse())?;
+    let runs: [(_, fn(u64) -> _); 2] = [("desk", run_desk), ("play", run_play)];
+    for (name, run) in runs {
+        if words.first().is_none_or(|it| it == name) {
+            let done: Counted = run(wanted)?;
+            let (events, rounds, texts) = (done.events, done.rounds, done.texts);
+            println!("{name}: events {events} rounds {rounds} texts {texts}");
         }
-        desk.new_epoch()?;
-        texts += texts_left(&mut desk)?;
     }
-    println!("events {events} rounds {rounds} texts {texts}");
-    assert_eq!(texts, rounds);
     let is_bounded = memory()? < MEMORY_LIMIT;
     println!(
         "{}",

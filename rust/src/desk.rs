@@ -1,8 +1,8 @@
 //! A desk: a kernel whose cached copies are of files of a server of your own. Its requests go out as bytes, and the server's
 //! replies come as bytes, whatever carries them.
 use crate::{
-    room, shown, Counts, Error, Told, DONE, FAULT, GUESSED, OPENED, REFUSED, ROOM_BYTES, SHOWN,
-    STEPPED,
+    room, shown, unopened, Counts, Error, Lease, Told, DONE, FAULT, GUESSED, OPENED, REFUSED,
+    ROOM_BYTES, SHOWN, STEPPED,
 };
 use std::ffi::c_void;
 use std::fmt;
@@ -18,6 +18,12 @@ type Asks = unsafe extern "C" fn(*mut DeskHandle, *const u8, usize, *mut u8, usi
 unsafe extern "C" {
     fn hidewillow_desk_open(desk: *mut DeskHandle, text: *const u8, bytes: usize) -> Told;
     fn hidewillow_desk_turn(desk: *mut DeskHandle, name: *const u8, bytes: usize) -> Told;
+    fn hidewillow_desk_lease(
+        desk: *mut DeskHandle,
+        name: *const u8,
+        bytes: usize,
+        count: u32,
+    ) -> Told;
     fn hidewillow_desk_request(desk: *mut DeskHandle, room: *mut u8, bytes: usize) -> Told;
     fn hidewillow_desk_reply(desk: *mut DeskHandle, reply: *const u8, bytes: usize) -> Told;
     fn hidewillow_desk_pending(desk: *mut DeskHandle) -> Told;
@@ -143,7 +149,7 @@ impl Desk {
         let told = unsafe { hidewillow_desk_open(&mut handle, text.as_ptr(), text.len()) };
         match told.answer {
             OPENED => Ok(Desk { handle }),
-            FAULT => Err(Error::Fault(told.number)),
+            FAULT => Err(unopened(text, told.number)),
             _ => Err(Error::Memory),
         }
     }
@@ -160,6 +166,18 @@ impl Desk {
             STEPPED => Ok(Turn::Stepped),
             GUESSED => Ok(Turn::Guessed(told.number)),
             ASKED => Ok(Turn::Asked(told.number)),
+            _ => Err(refusal(told)),
+        }
+    }
+
+    /// Lends a process, has it do up to so many private instructions away from its kernel, and hands it in.
+    pub fn lease(&mut self, process: &str, count: u32) -> Result<Lease, Refusal> {
+        let (name, bytes) = (process.as_ptr(), process.len());
+        // SAFETY: as in `turn`.
+        let told = unsafe { hidewillow_desk_lease(&mut self.handle, name, bytes, count) };
+        match told.answer {
+            STEPPED => Ok(Lease::Ran(told.number)),
+            REFUSED => Ok(Lease::Refused(told.number)),
             _ => Err(refusal(told)),
         }
     }

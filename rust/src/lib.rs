@@ -2,9 +2,11 @@
 //! sources of the library.
 #![warn(missing_docs)]
 pub mod desk;
+pub mod engine;
 pub mod speculator;
 pub mod store;
 
+use std::collections::HashMap;
 use std::ffi::c_void;
 use std::fmt;
 
@@ -47,6 +49,16 @@ pub struct Counts {
     pub notes: usize,
 }
 
+/// Where the word at fault stands, as the library tells it.
+#[repr(C)]
+#[derive(Debug, Default, Clone, Copy)]
+struct FaultPlace {
+    line: u64,
+    column: usize,
+    len: usize,
+    kind: u64,
+}
+
 #[repr(C)]
 struct Own {
     at: *mut c_void,
@@ -73,6 +85,13 @@ type Asks = unsafe extern "C" fn(*mut Handle, *const u8, usize, *mut u8, usize) 
 // for its length; what one call is given does not overlap; a room is set, and so are the counts.
 unsafe extern "C" {
     fn hidewillow_open(handle: *mut Handle, text: *const u8, bytes: usize) -> Told;
+    fn hidewillow_fault(
+        text: *const u8,
+        bytes: usize,
+        place: *mut FaultPlace,
+        room: *mut u8,
+        room_bytes: usize,
+    ) -> Told;
     fn hidewillow_line(
         handle: *mut Handle,
         line: *const u8,
@@ -95,6 +114,15 @@ unsafe extern "C" {
         room_bytes: usize,
     ) -> Told;
     fn hidewillow_terminal(handle: *mut Handle, number: u16, room: *mut u8, bytes: usize) -> Told;
+    fn hidewillow_released(
+        handle: *mut Handle,
+        number: u16,
+        place: usize,
+        room: *mut u8,
+        bytes: usize,
+    ) -> Told;
+    fn hidewillow_epoch(handle: *mut Handle) -> Told;
+    fn hidewillow_lease(handle: *mut Handle, name: *const u8, bytes: usize, count: u32) -> Told;
     fn hidewillow_report(handle: *mut Handle, room: *mut u8, bytes: usize) -> Told;
     fn hidewillow_counts(handle: *mut Handle, counts: *mut Counts) -> Told;
     fn hidewillow_close(handle: *mut Handle);
@@ -143,6 +171,9 @@ const WRITTEN: u32 = 26;
 /// An answer is at most this long.
 const ANSWER_BYTES: usize = 64;
 
+/// So much of what is wrong with a line is kept.
+const REASON_BYTES: usize = 1024;
+
 /// The first room for a text that is asked for.
 const ROOM_BYTES: usize = 4096;
 
@@ -157,12 +188,51 @@ pub struct Answer {
     pub text: Option<String>,
 }
 
-/// Why a call gives nothing.
+/// What is wrong with a line.
 #[derive(Debug, Clone, Copy, PartialEq, Eq)]
+pub enum FaultKind {
+    /// A word is unknown, missing or one too many.
+    Word,
+    /// A word has not the form that it must have.
+    Operand,
+    /// A name is declared twice or not at all.
+    Label,
+    /// A script or a scenario is too long.
+    TooLong,
+}
+
+/// A fault of a text, or of a line, and the word where it stands.
+#[derive(Debug, Clone, PartialEq, Eq)]
+pub struct Fault {
+    /// The number of the line, from 1 on; of a line that was passed alone 1.
+    pub line: u64,
+    /// The place of the word's first byte in its line, from 1 on.
+    pub column: usize,
+    /// How many bytes the word has; 0 where a word is missing behind the line's last byte.
+    pub len: usize,
+    /// What is wrong.
+    pub kind: FaultKind,
+    /// What is wrong there and what was expected, as the program tells it; `None` without memory for it.
+    pub reason: Option<String>,
+}
+
+impl fmt::Display for Fault {
+    fn fmt(&self, f: &mut fmt::Formatter<'_>) -> fmt::Result {
+        write!(f, "{}:{}: ", self.line, self.column)?;
+        match &self.reason {
+            Some(reason) => f.write_str(reason),
+            None => write!(f, "{:?}", self.kind),
+        }
+    }
+}
+
+/// Why a call gives nothing.
+#[derive(Debug, Clone, PartialEq, Eq)]
 pub enum Error {
-    /// Of a text its first faulty line, or 0 where its section is a trace or has a line; of a line
-    /// the number of its fault, as the header has it. Nothing has changed.
-    Fault(u64),
+    /// The first fault of a text, or that of a line. Nothing has changed.
+    Fault(Fault),
+    /// The section of a text is a trace or has a line, or is another one than what is opened needs.
+    Section,
     /// Want of memory. Nothing has changed, with one exception: the line `serve` of a world may
     /// have taken the oldest request, which the next `serve` then answers.
     Memory,
@@ -171,7 +241,8 @@ pub enum Error {
 impl fmt::Display for Error {
     fn fmt(&self, f: &mut fmt::Formatter<'_>) -> fmt::Result {
         match self {
-            Error::Fault(number) => write!(f, "fault {number}"),
+            Error::Fault(fault) => fault.fmt(f),
+            Error::Section => write!(f, "the section is a trace, has a line, or is another one"),
             Error::Memory => write!(f, "out of memory"),
         }
     }
@@ -184,6 +255,99 @@ impl std::error::Error for Error {}
 /// nor `Sync`: it stays on its thread.
 pub struct Play {
     handle: Handle,
+    /// The heading of its section.
+    section: &'static str,
+    /// How many texts of each terminal were drained in this epoch.
+    drained: HashMap<u16, usize>,
+}
+
+/// What comes of private instructions that a process does away from its kernel.
+#[derive(Debug, Clone, Copy, PartialEq, Eq)]
+pub enum Lease {
+    /// So many were done, each a step of the trace.
+    Ran(u64),
+    /// Nothing was done, for this refusal, as the header numbers them: 10 where a signal is due.
+    Refused(u64),
+}
+
+/// What comes of a wish for a new epoch.
+#[derive(Debug, Clone, Copy, PartialEq, Eq)]
+pub enum Epoch {
+    /// It has begun, and so many events of the last one are let go of.
+    Begun(u64),
+    /// Nothing has changed: 1 a guess is undecided, 2 a request of a world has no reply, as the header numbers it.
+    Refused(u64),
+}
+
+/// What is wrong by its number in the library.
+fn kind_of(number: u64) -> FaultKind {
+    match number {
+        2 => FaultKind::Operand,
+        3 => FaultKind::Label,
+        4 => FaultKind::TooLong,
+        _ => FaultKind::Word,
+    }
+}
+
+/// The first fault of a text; `None` where no line is faulty, or where memory is wanted.
+fn fault_of(text: &str) -> Option<Fault> {
+    let mut place = FaultPlace::default();
+    let mut into = [0; REASON_BYTES];
+    // SAFETY: the pointers are those of references, of the place and the room exclusive ones: none
+    // is null, each is good for its length, they don't overlap, and both are set.
+    let told = unsafe {
+        let (to, of) = (into.as_mut_ptr(), into.len());
+        hidewillow_fault(text.as_ptr(), text.len(), &mut place, to, of)
+    };
+    let reason = match told.bytes {
+        0 => None,
+        bytes => text_of(&into[..bytes.min(into.len())]),
+    };
+    (told.answer == FAULT).then_some(Fault {
+        line: place.line,
+        column: place.column,
+        len: place.len,
+        kind: kind_of(place.kind),
+        reason,
+    })
+}
+
+/// Why a text that the library refuses with this line is not opened.
+pub(crate) fn unopened(text: &str, line: u64) -> Error {
+    match fault_of(text) {
+        Some(fault) => Error::Fault(fault),
+        None if line == 0 => Error::Section,
+        None => Error::Memory,
+    }
+}
+
+/// A fault of a line, or of a name, of which no word is known.
+fn whole_fault(line: &str, kind: FaultKind) -> Fault {
+    Fault {
+        line: 1,
+        column: 1,
+        len: line.len(),
+        kind,
+        reason: None,
+    }
+}
+
+/// The fault of a line that was passed alone, of which this kind was told.
+fn line_fault(section: &str, line: &str, number: u64) -> Error {
+    let kind = kind_of(number);
+    match fault_of(&[section, "\n", line].concat()) {
+        Some(fault) if fault.kind == kind => Error::Fault(Fault { line: 1, ..fault }),
+        _ => Error::Fault(whole_fault(line, kind)),
+    }
+}
+
+/// The heading of the section of a text.
+fn section_of(text: &str) -> &'static str {
+    let is_world = |line: &str| line.split_ascii_whitespace().eq(["world"]);
+    match text.lines().any(is_world) {
+        true => "world",
+        false => "steps",
+    }
 }
 
 /// A room for a text.
@@ -194,22 +358,33 @@ fn room(bytes: usize) -> Result<Vec<u8>, Error> {
     Ok(room)
 }
 
-/// The text of a call that has a room of its own: it is made again where the room is too short.
-fn shown(mut ask: impl FnMut(&mut [u8]) -> Told) -> Result<Option<String>, Error> {
+/// The bytes of a call that has a room of its own: it is made again where the room is too short.
+fn shown_bytes(mut ask: impl FnMut(&mut [u8]) -> Told) -> Result<Option<Vec<u8>>, Error> {
     let mut into = room(ROOM_BYTES)?;
     loop {
         let told = ask(&mut into);
         match told.answer {
             SHOWN if told.bytes > into.len() => into = room(told.bytes)?,
-            SHOWN => return text(&into[..told.bytes]).map(Some).ok_or(Error::Memory),
+            SHOWN => {
+                into.truncate(told.bytes);
+                return Ok(Some(into));
+            }
             ABSENT => return Ok(None),
             _ => return Err(Error::Memory),
         }
     }
 }
 
+/// The same as a text.
+fn shown(ask: impl FnMut(&mut [u8]) -> Told) -> Result<Option<String>, Error> {
+    match shown_bytes(ask)? {
+        Some(bytes) => text_of(&bytes).map(Some).ok_or(Error::Memory),
+        None => Ok(None),
+    }
+}
+
 /// A text of the library, which is ASCII; `None` without memory for it.
-fn text(bytes: &[u8]) -> Option<String> {
+fn text_of(bytes: &[u8]) -> Option<String> {
     let mut text = String::new();
     text.try_reserve_exact(bytes.len()).ok()?;
     text.extend(bytes.iter().copied().map(char::from));
@@ -220,7 +395,7 @@ fn text(bytes: &[u8]) -> Option<String> {
 fn answer_text(room: &[u8], bytes: usize) -> Option<String> {
     match bytes {
         0 => None,
-        _ => text(&room[..bytes.min(room.len())]),
+        _ => text_of(&room[..bytes.min(room.len())]),
     }
 }
 
@@ -235,8 +410,12 @@ impl Play {
         // exclusive: none is null, each is good for its length, and they don't overlap.
         let told = unsafe { hidewillow_open(&mut handle, text.as_ptr(), text.len()) };
         match told.answer {
-            OPENED => Ok(Play { handle }),
-            FAULT => Err(Error::Fault(told.number)),
+            OPENED => Ok(Play {
+                handle,
+                section: section_of(text),
+                drained: HashMap::new(),
+            }),
+            FAULT => Err(unopened(text, told.number)),
             _ => Err(Error::Memory),
         }
     }
@@ -253,7 +432,7 @@ impl Play {
         let told = unsafe { hidewillow_line(&mut self.handle, line.as_ptr(), line.len(), to, of) };
         match told.answer {
             NOTHING => Ok(None),
-            FAULT => Err(Error::Fault(told.number)),
+            FAULT => Err(line_fault(self.section, line, told.number)),
             MEMORY => Err(Error::Memory),
             code => Ok(Some(Answer {
                 code,
@@ -300,6 +479,56 @@ impl Play {
             hidewillow_terminal(&mut self.handle, number, room.as_mut_ptr(), room.len())
         };
         Ok(shown(ask)?.unwrap_or_default())
+    }
+
+    /// The texts that a terminal has released and that were not drained before, the oldest first.
+    pub fn drain(&mut self, number: u16) -> Result<Vec<Vec<u8>>, Error> {
+        let mut texts = Vec::new();
+        let mut place = self.drained.get(&number).copied().unwrap_or(0);
+        while let Some(text) = self.released(number, place)? {
+            texts.push(text);
+            place += 1;
+        }
+        self.drained.insert(number, place);
+        Ok(texts)
+    }
+
+    /// The text at a place, from 0 on, among those that a terminal has released in this epoch.
+    pub fn released(&mut self, number: u16, place: usize) -> Result<Option<Vec<u8>>, Error> {
+        // SAFETY: of the handle and the room as in `line`.
+        let ask = |room: &mut [u8]| unsafe {
+            let (to, of) = (room.as_mut_ptr(), room.len());
+            hidewillow_released(&mut self.handle, number, place, to, of)
+        };
+        shown_bytes(ask)
+    }
+
+    /// Begins a new epoch: the trace and the texts of terminals are let go of, so `drain` those first, and what is kept of
+    /// a guess is two bits. The state and the numbers of guesses and requests go on.
+    pub fn new_epoch(&mut self) -> Result<Epoch, Error> {
+        // SAFETY: of the handle as in `line`.
+        let told = unsafe { hidewillow_epoch(&mut self.handle) };
+        match told.answer {
+            DONE => {
+                self.drained.clear();
+                Ok(Epoch::Begun(told.number))
+            }
+            REFUSED => Ok(Epoch::Refused(told.number)),
+            _ => Err(Error::Memory),
+        }
+    }
+
+    /// Lends a process, as of `1` or `1.2`, has it do up to so many private instructions away from its kernel, and hands it in.
+    pub fn lease(&mut self, process: &str, count: u32) -> Result<Lease, Error> {
+        // SAFETY: of the handle and the name as in `line`.
+        let told =
+            unsafe { hidewillow_lease(&mut self.handle, process.as_ptr(), process.len(), count) };
+        match told.answer {
+            STEPPED => Ok(Lease::Ran(told.number)),
+            REFUSED => Ok(Lease::Refused(told.number)),
+            FAULT => Err(Error::Fault(whole_fault(process, kind_of(told.number)))),
+            _ => Err(Error::Memory),
+        }
     }
 
     /// The guesses and the steps so far.

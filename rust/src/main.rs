@@ -38,8 +38,12 @@ fn main() -> Result<(), Error> {
         line(&mut kernel, &format!("{decision} {guess}"))?;
         println!("{}", kernel.report()?);
     }
-    if let Err(Error::Fault(number)) = Play::open("oops\n") {
-        println!("open: answer 6, line {number}");
+    if let Err(Error::Fault(fault)) = Play::open("oops\n") {
+        println!("open: answer 6, {fault}");
+    }
+    let mut kernel = Play::open(START)?;
+    if let Err(Error::Fault(fault)) = kernel.line("guess one good") {
+        println!("line: answer 6, {fault}");
     }
     Ok(())
 }

@@ -133,7 +133,11 @@ unsafe extern "C" {
     ) -> Told;
 
     /// The next piece of a snapshot of what was found, as a frame in the room.
-    pub fn hidewillow_recovery_snapshot(recovery: *mut Recovering, room: *mut u8, room_count: usize) -> Told;
+    pub fn hidewillow_recovery_snapshot(
+        recovery: *mut Recovering,
+        room: *mut u8,
+        room_count: usize,
+    ) -> Told;
 
     /// Ends what the handle holds. It holds nothing then.
     pub fn hidewillow_recovery_close(recovery: *mut Recovering);

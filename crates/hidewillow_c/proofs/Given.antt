@@ -1,13 +1,8 @@
 -- How long the pieces of a snapshot are.
-use Rattle.std.proofs.Common.{ℕ, zero, suc, ◌+◌, ◌<◌, ◌≤◌, ◌^◌, List, [], ◌∷◌, ◌++◌, length, ap, arith, length-append}
-use Rattle.sk_requests.specs.Lines.{head, said}
-use Rattle.sk_requests.specs.Request.{bulk, bulks}
-use Rattle.sk_requests.proofs.Lines.{length-said}
-use Rattle.sk_commands.specs.Names.{text_of}
-use Rattle.sk_commands.specs.Requests.{log_text}
+use Rattle.hidewillow_c.proofs.Names.{ℕ, zero, suc, ◌+◌, ◌<◌, ◌≤◌, ◌^◌, List, [], ◌∷◌, ◌++◌, length, ap, arith}
+use Rattle.hidewillow_c.proofs.Names.{length-append, head, said, bulk, bulks, length-said, text_of, log_text, Entries}
+use Rattle.hidewillow_c.proofs.Names.{set_of, IsFilled, IsPiece}
 use Rattle.sk_commands.specs.declared.name.Name.TheVariants as named
-use Rattle.sk_plain_store.specs.Plain.{Entries}
-use Rattle.sk_replay.specs.Snapshot.{set_of, IsFilled, IsPiece}
 
 head_short : (mark n : ℕ) → n < 2 ^ 32 → length (head mark n) ≤ 13
 head_short mark n small = omega (arith, length-append (said mark n) (10 ∷ []), length-said mark n small)

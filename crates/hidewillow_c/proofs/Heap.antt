@@ -1,13 +1,9 @@
 -- The allocator of the C library, as what a generic function of a box takes of it.
 --     Global     its type.     Z, LZ     the same as a call passes it, with its laws
 --     dict, drops     its methods, and its glue, which does nothing
-use Rattle.std.proofs.Common.{[], ◌∷◌, refl}
-use mir.Syntax.{Ty, Dict, impl, tcons, tnil, dnil}
+use Rattle.hidewillow_c.proofs.Names.{[], ◌∷◌, refl, Ty, Dict, impl, tcons, tnil, dnil, no, RattleType, layout, arg}
+use Rattle.hidewillow_c.proofs.Names.{Laws, arg_laws}
 use mir.Raw.{raw}
-use denote.Exit.{no}
-use denote.RattleType.{RattleType}
-use denote.Param.{layout, arg}
-use denote.Param.Laws.{Laws, arg_laws}
 pub use Rattle.std.specs.contracts.impls.GlobalAllocator.TheImpl.{ghosts, dict}
 use Rattle.std.specs.contracts.alloc.Global as heap
 use Rattle.std.proofs.alloc.Global.TheLaws as laws

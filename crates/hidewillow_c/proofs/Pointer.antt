@@ -1,17 +1,7 @@
 -- A struct of one raw pointer: its word in the machine, and that nothing but the word is owned of it. Assumes `Logic`.
-use Rattle.std.proofs.Common.{List, [], ◌∷◌, refl, lit<}
-use lib.Dec.{T}
-use seplogic.Ra.Ura.{Ura}
-use mir.Syntax.{ty_ptr}
-use mir.Val.{Val, vstruct, vcons, vnil, has_ty, WT}
-use types.Logic.{Logic}
-use types.Kit.{Item, Goal, Step, ‵}
-use denote.RattleType.{RattleType}
-use denote.Laws.{Is}
-use denote.Param.{layout}
-use denote.RawPtr.{Ptr, RawPtr, block_ptr, null_ptr, ptr_val, rawptr_pure}
-use denote.Steps.{owned}
-use denote.Struct.Struct.{Shape, Struct, Struct-Makes}
+use Rattle.hidewillow_c.proofs.Names.{List, [], ◌∷◌, refl, lit<, T, Ura, ty_ptr, Val, vstruct, vcons, vnil, has_ty, WT}
+use Rattle.hidewillow_c.proofs.Names.{Logic, Item, Goal, Step, ‵, RattleType, Is, layout, Ptr, RawPtr, block_ptr}
+use Rattle.hidewillow_c.proofs.Names.{null_ptr, ptr_val, rawptr_pure, owned, Shape, Struct, Struct-Makes}
 
 abbrev pub word : Ptr → Val
 word p = vstruct (vcons (ptr_val p) vnil)

@@ -1,15 +1,9 @@
 -- A piece of a segment that came.
-use Rattle.std.proofs.Common.{◌≡◌, ℕ, List, [], ◌∷◌, ◌++◌, length, refl, sym, ap, subst, ◌∙◌}
-use mathlib.Core.Logic.{inl, inr}
-use Rattle.sk_plain_store.specs.Plain.{Entries}
-use Rattle.sk_recovered.specs.Recovered.{HasRecovered, IsWithin}
-use Rattle.sk_recovered.specs.declared.heads.Head.{Head}
-use Rattle.sk_recovered.specs.declared.recovered.Recovered.{Recovered}
-use Rattle.sk_recovered.specs.declared.segment.Segment.{Segment}
-use Rattle.hidewillow_c.specs.declared.reading.Stage.{Stage}
+use Rattle.hidewillow_c.proofs.Names.{◌≡◌, ℕ, List, [], ◌∷◌, ◌++◌, length, refl, sym, ap, subst, ◌∙◌, inl, inr, Entries}
+use Rattle.hidewillow_c.proofs.Names.{HasRecovered, IsWithin, Head, Recovered, Segment, Stage, next_number, Comes}
+use Rattle.hidewillow_c.proofs.Names.{GoesTo, HoldsFrom}
 use Rattle.hidewillow_c.specs.declared.reading.Stage.TheVariants as stages
 use Rattle.hidewillow_c.specs.declared.reading.Way.TheVariants as ways
-use Rattle.hidewillow_c.specs.Reading.{next_number, Comes, GoesTo, HoldsFrom}
 
 -- where one stage is known so much as of another
 abbrev pub Closes : ℕ → Stage → Stage → Type 0

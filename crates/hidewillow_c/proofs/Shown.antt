@@ -1,11 +1,6 @@
 -- A text that was read is shown.
-use Rattle.std.proofs.Common.{ℕ, List, Option, Some, None, Result, Ok, Err}
-use Rattle.std.specs.declared.vec.Vec.{Vec}
-use Rattle.std.specs.declared.alloc.Global.{Global}
-use mathlib.Core.Logic.{inl, inr}
-use Rattle.sk_report.specs.declared.stop.Stop.{Stop}
-use Rattle.hidewillow_c.specs.declared.told.Told.{Told}
-use Rattle.hidewillow_c.specs.Asked.{Reads, ShowsRead, ShowsText}
+use Rattle.hidewillow_c.proofs.Names.{ℕ, List, Option, Some, None, Result, Ok, Err, Vec, Global, inl, inr, Stop, Told}
+use Rattle.hidewillow_c.proofs.Names.{Reads, ShowsRead, ShowsText}
 
 pub text_is_shown : (told : Told) (read : Result (Option (Vec ℕ Global)) Stop) (text : Option (List ℕ)) (old new : List ℕ) → Reads read text → ShowsRead told read old new → ShowsText told text old new
 text_is_shown told (Ok (Some v)) text old new reads shows = rw reads (inl shows)

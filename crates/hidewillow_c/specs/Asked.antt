@@ -1,6 +1,7 @@
 -- What is asked of what is at play, and what is told of it.
 use Rattle.std.specs.Prelude.{◌≡◌, ◌⊎◌, ⊤, ℕ, List, Option, Some, None, Result, Ok, Err}
 use Rattle.std.specs.FinMap as map
+use Rattle.std.specs.List.{slice_get}
 use Rattle.std.specs.declared.vec.Vec.{Vec}
 use Rattle.std.specs.declared.alloc.Global.{Global}
 use Rattle.sk_ids.specs.declared.entity.Entity.{Entity}
@@ -13,6 +14,7 @@ use Rattle.sk_report.specs.Printed.{tags_text}
 use Rattle.sk_report.specs.Directories.{gathered}
 use Rattle.sk_report.specs.Report.{terminal_said}
 use Rattle.sk_talk.specs.Asked.{named}
+use Rattle.sk_talk.specs.HandedOut.{released_in}
 use Rattle.sk_talk.specs.Played.{kernel_of, report_of}
 use Rattle.sk_talk.specs.declared.play.Play.{Play}
 use Rattle.hidewillow_c.specs.declared.codes.TheConstants.{SHOWN, ABSENT, MEMORY}
@@ -51,6 +53,10 @@ tags_shown name p = of_named (tags_text_of (kernel_of p)) (named (kernel_of p) n
 -- the lines of a terminal, as the report has them
 abbrev pub terminal_shown : ℕ → Play → Option (List ℕ)
 terminal_shown number p = Some (terminal_said (kernel_of p) number)
+
+-- the text at a place among those that a terminal has released
+abbrev pub released_text : ℕ → ℕ → Play → Option (List ℕ)
+released_text number place p = slice_get (released_in (kernel_of p) number) place
 
 -- ---- what is told
 

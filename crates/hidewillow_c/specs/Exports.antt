@@ -12,6 +12,7 @@ use Rattle.hidewillow_c.specs.Lines.{TakesLine}
 use Rattle.hidewillow_c.specs.Opening.{OpenedBy, UnopenedBy}
 use Rattle.sk_talk.specs.Played.{kernel_of}
 use Rattle.hidewillow_c.specs.Asked.{ShowsText, CountsKernel}
+use Rattle.hidewillow_c.specs.OwnCalls.{ShowsBytes}
 
 -- a text is opened where nothing is held: what it declares is held then, or it is told why nothing is
 abbrev pub Opens : Told → List ℕ → Option Play → Option Play → Type 0
@@ -33,6 +34,17 @@ Takes told line None new room_old room_new = IsClosed told new × (room_new ≡ 
 abbrev pub Shows : (Play → Option (List ℕ)) → Told → Option Play → Option Play → List ℕ → List ℕ → Type 0
 Shows text told (Some old) new room_old room_new = (new ≡ Some old) × ShowsText told (text old) room_old room_new
 Shows text told None new room_old room_new = IsClosed told new × (room_new ≡ room_old)
+
+-- the same of bytes that are there as they are shown, so that no memory is wanted
+abbrev pub ShowsKept : (Play → Option (List ℕ)) → Told → Option Play → Option Play → List ℕ → List ℕ → Type 0
+ShowsKept bytes told (Some old) new room_old room_new = (new ≡ Some old) × ShowsBytes told (bytes old) room_old room_new
+ShowsKept bytes told None new room_old room_new = IsClosed told new × (room_new ≡ room_old)
+
+-- what is held does this
+abbrev pub PlayDoes : (Told → Play → Play → Type 0) → Told → Option Play → Option Play → Type 0
+PlayDoes does told (Some old) (Some new) = does told old new
+PlayDoes does told (Some old) None = ⊥
+PlayDoes does told None new = IsClosed told new
 
 -- what is held is counted, and nothing changes
 abbrev pub Counted : Told → Option Play → Option Play → Counts → Counts → Type 0

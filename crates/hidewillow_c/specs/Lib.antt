@@ -12,5 +12,9 @@ pub mod StoreCalls
 pub mod ReadingOwned
 pub mod Reading
 pub mod Reopening
+pub mod Faults
+pub mod Epochs
+pub mod Leases
 pub mod DeskOwned
 pub mod DeskCalls
+pub mod EngineCalls

@@ -3,7 +3,8 @@ ghost use Rattle.std.specs.Prelude.{◌≡◌, Some};
 ghost use Rattle.sk_report.specs.Report.{terminal_said};
 ghost use Rattle.sk_talk.specs.Asked.{named};
 ghost use Rattle.sk_talk.specs.Played.{kernel_of};
-ghost use Rattle.hidewillow_c.specs.Asked.{of_named, value_text, tags_text_of, report_shown, value_shown, tags_shown, terminal_shown, Reads, ShowsText, ShowsRead, CountsKernel};
+ghost use Rattle.hidewillow_c.specs.Asked.{of_named, value_text, tags_text_of, released_text, report_shown, value_shown, tags_shown, terminal_shown, Reads, ShowsText, ShowsRead, CountsKernel};
+ghost use Rattle.hidewillow_c.specs.OwnCalls.{ShowsBytes};
 
 use crate::codes::{ABSENT, MEMORY, SHOWN};
 use crate::room::put;
@@ -12,7 +13,7 @@ use sk_counts::Counts;
 use sk_ids::Entity;
 use sk_kernel::Kernel;
 use sk_report::{PrintedTags, Stop, Subject};
-use sk_talk::{Play, named, write_value};
+use sk_talk::{Play, named, released, write_value};
 use std::alloc::Global;
 use std::io::Write;
 
@@ -49,6 +50,17 @@ pub fn tell_terminal(play: &Play, alloc: Global, number: u16, room: &mut [u8]) -
     ensures { ShowsText result (terminal_shown number play.now) room.old room.new }
 {
     shown(terminal(alloc, play.kernel(), number), room)
+}
+
+/// Shows in the room the text at a place among those that a terminal has released.
+pub fn tell_released(play: &Play, number: u16, place: usize, room: &mut [u8]) -> Told
+    ensures { ShowsBytes result (released_text number place play.now) room.old room.new }
+{
+    let Some(text) = released(play.kernel(), number).get(place) else {
+        return Told::of(ABSENT, 0);
+    };
+    put(text.as_slice(), room);
+    Told::of(SHOWN, 0).with_text(text.len())
 }
 
 /// Counts the guesses and the steps so far.

@@ -8,6 +8,7 @@ ghost use Rattle.sk_messages.specs.Replies.{reply_of};
 ghost use Rattle.sk_messages.specs.Requests.{request_bytes};
 ghost use Rattle.hidewillow_c.specs.Asked.{CountsKernel, Reads, ShowsText};
 ghost use Rattle.hidewillow_c.specs.DeskCalls.{client_in, epoch_refused, given_told, is_unsent, kernel_report, kernel_tags, kernel_terminal, kernel_value, left_text, taken, turn_told, BeginsEpoch, ClientBy, Gives, GivesReply, GivesTo, NoClient, SendsRequest, ShowsLeft, ShowsRequest, TakesTurn, TellsPending, TurnsAs};
+ghost use Rattle.hidewillow_c.specs.Leases.{ClientLeases, LeasesAs};
 
 use crate::asked::{shown, tags, terminal, value};
 use crate::codes::{ABSENT, DONE, FAULT, IDLE, MEMORY, REFUSED, SHOWN};
@@ -19,7 +20,7 @@ use sk_ids::Pid;
 use sk_kernel::{EpochRefusal, Kernel};
 use sk_messages::{read_reply, write_request};
 use sk_plain::Refusal;
-use sk_play::desk_of;
+use sk_play::{desk_of, lease_at_desk};
 use sk_report::{Stop, write_report};
 use sk_scenario::{Declarations, Scenario, Section};
 use sk_server::{Reply, Request};
@@ -163,6 +164,26 @@ impl Client {
         let pid: Result<Pid, FaultKind> = Operand::read(name);
         match pid {
             Ok(pid) => self.take_turn(pid),
+            Err(kind) => faulty(kind, kind_number(kind)),
+        }
+    }
+
+    fn run_lease(&mut self, pid: Pid, count: u32) -> Told
+        ensures { ClientLeases pid count result self.old self.new }
+    {
+        match lease_at_desk(&mut self.desk, pid, count) {
+            Ok(told) => Told::of_lease(told),
+            Err(AllocError) => Told::of(MEMORY, 0),
+        }
+    }
+
+    /// Has the process of this name do up to so many private instructions away from its kernel.
+    pub(crate) fn lease(&mut self, name: &[u8], count: u32) -> Told
+        ensures { LeasesAs ClientLeases (pid name.now) count result self.old self.new }
+    {
+        let pid: Result<Pid, FaultKind> = Operand::read(name);
+        match pid {
+            Ok(pid) => self.run_lease(pid, count),
             Err(kind) => faulty(kind, kind_number(kind)),
         }
     }

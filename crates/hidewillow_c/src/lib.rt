@@ -2,8 +2,15 @@
 #![tactic(auto)]
 
 ghost use Rattle.std.specs.Prelude.{◌≡◌, None};
-ghost use Rattle.hidewillow_c.specs.Exports.{Opens, Takes, Shows, Counted};
-ghost use Rattle.hidewillow_c.specs.Asked.{report_shown, value_shown, tags_shown, terminal_shown};
+ghost use Rattle.std.specs.Str.Lines.{lines};
+ghost use Rattle.sk_scenario.specs.Scenario.{scenario_of};
+ghost use Rattle.hidewillow_c.specs.Exports.{Opens, PlayDoes, Takes, Shows, ShowsKept, Counted};
+ghost use Rattle.hidewillow_c.specs.Asked.{report_shown, value_shown, tags_shown, terminal_shown, released_text};
+ghost use Rattle.sk_engine.specs.Told.{batch_told, fence_told, lead_told, round_told};
+ghost use Rattle.hidewillow_c.specs.EngineCalls.{batch_answer_of, fence_answer_of, lead_answer_of, round_answer_of, word_told};
+ghost use Rattle.hidewillow_c.specs.Epochs.{EndsEpoch};
+ghost use Rattle.hidewillow_c.specs.Faults.{TellsFault};
+ghost use Rattle.hidewillow_c.specs.Leases.{ClientLeases, LeasesAs, PlayLeases};
 ghost use Rattle.sk_messages.specs.Replies.{reply_of};
 ghost use Rattle.sk_words.specs.Operands.{pid};
 ghost use Rattle.hidewillow_c.specs.DeskCalls.{kernel_report, kernel_tags, kernel_terminal, kernel_value, BeginsEpoch, CountsDesk, DeskDoes, DeskOpens, DeskTells, Gives, LeavesText, SendsRequest, ShowsKernel, TellsPending, TurnsAs};
@@ -21,6 +28,8 @@ pub mod client;
 pub mod codes;
 pub mod desk;
 pub mod durable;
+pub mod engine;
+pub mod faults;
 pub mod handle;
 pub mod kept;
 pub mod opening;
@@ -38,8 +47,10 @@ use crate::client::client_of;
 use crate::codes::{CLOSED, HELD, MEMORY, REFUSED, WRITTEN};
 use crate::desk::DeskHandle;
 use crate::durable::Durable;
+use crate::engine::{tell_batch, tell_fence, tell_lead, tell_round};
+use crate::faults::{FaultPlace, tell_fault};
 use crate::handle::Handle;
-use crate::opening::{play_of, tell_line};
+use crate::opening::{play_of, tell_epoch, tell_lease, tell_line};
 use crate::own::Own;
 use crate::own_calls::{
     OwnCounts, commit, count, fail, guess, look, put_value, remove, say, take, tell_released,
@@ -51,6 +62,7 @@ use crate::reopening::{StoreLimits, not_opened, opened};
 use crate::store_calls::{CutOff, FramePlace, StoreCounts};
 use crate::told::Told;
 use sk_counts::Counts;
+use sk_engine::{Batch, Fence, Round};
 use sk_held::Held;
 use std::alloc::Global;
 use std::mem::replace;
@@ -162,6 +174,58 @@ pub extern "C" fn hidewillow_terminal(
     told
 }
 
+/// Shows in the room the text at a place among those that a terminal has released in this epoch.
+#[unsafe(no_mangle)]
+pub extern "C" fn hidewillow_released(
+    alloc: Global,
+    handle: &mut Handle,
+    number: u16,
+    place: usize,
+    room: &mut [u8],
+) -> Told
+    ensures { ShowsKept (released_text number place) result handle.old.held handle.new.held
+        room.old room.new }
+{
+    let Some(play) = replace(handle, Handle::closed()).into_box(alloc) else {
+        return Told::of(CLOSED, 0);
+    };
+    let told = asked::tell_released(&play, number, place, room);
+    replace(handle, Handle::of(play)).let_go();
+    told
+}
+
+/// Begins a new epoch: the trace and the texts are let go.
+#[unsafe(no_mangle)]
+pub extern "C" fn hidewillow_epoch(alloc: Global, handle: &mut Handle) -> Told
+    ensures { PlayDoes EndsEpoch result handle.old.held handle.new.held }
+{
+    let Some(mut play) = replace(handle, Handle::closed()).into_box(alloc) else {
+        return Told::of(CLOSED, 0);
+    };
+    let told = tell_epoch(&mut play);
+    replace(handle, Handle::of(play)).let_go();
+    told
+}
+
+/// Lends the process of this name, has it do up to so many private instructions, and hands it in: each is a step.
+#[unsafe(no_mangle)]
+pub extern "C" fn hidewillow_lease(
+    alloc: Global,
+    handle: &mut Handle,
+    name: &[u8],
+    count: u32,
+) -> Told
+    ensures { PlayDoes (LeasesAs PlayLeases (pid name.now) count) result handle.old.held
+        handle.new.held }
+{
+    let Some(mut play) = replace(handle, Handle::closed()).into_box(alloc) else {
+        return Told::of(CLOSED, 0);
+    };
+    let told = tell_lease(&mut play, name, count);
+    replace(handle, Handle::of(play)).let_go();
+    told
+}
+
 /// Counts the guesses and the steps so far.
 #[unsafe(no_mangle)]
 pub extern "C" fn hidewillow_counts(alloc: Global, handle: &mut Handle, counts: &mut Counts) -> Told
@@ -181,6 +245,21 @@ pub extern "C" fn hidewillow_close(alloc: Global, handle: &mut Handle)
     ensures { handle.new.held ≡ None }
 {
     let _play = replace(handle, Handle::closed()).into_box(alloc);
+}
+
+/// Tells the first fault of a text that is to be opened: its line, its kind and its word's place, and in the room what is wrong
+/// there and what was expected.
+#[unsafe(no_mangle)]
+pub extern "C" fn hidewillow_fault(
+    alloc: Global,
+    text: &[u8],
+    place: &mut FaultPlace,
+    room: &mut [u8],
+) -> Told
+    ensures { TellsFault (scenario_of text.now) (lines text.now) result place.old place.new
+        room.old room.new }
+{
+    tell_fault(alloc, text, place, room)
 }
 
 /// Opens a kernel over its caller's own byte strings, for a handle that holds nothing: its number, how many guesses may be
@@ -970,6 +1049,25 @@ pub extern "C" fn hidewillow_desk_turn(alloc: Global, desk: &mut DeskHandle, nam
     told
 }
 
+/// Lends the process of this name, has it do up to so many private instructions, and hands it in: each is a step.
+#[unsafe(no_mangle)]
+pub extern "C" fn hidewillow_desk_lease(
+    alloc: Global,
+    desk: &mut DeskHandle,
+    name: &[u8],
+    count: u32,
+) -> Told
+    ensures { DeskDoes (LeasesAs ClientLeases (pid name.now) count) (Unit {0}) result
+        desk.old.held desk.new.held }
+{
+    let Some(mut client) = replace(desk, DeskHandle::closed()).into_box(alloc) else {
+        return Told::of(CLOSED, 0);
+    };
+    let told = client.lease(name, count);
+    replace(desk, DeskHandle::of(client)).let_go();
+    told
+}
+
 /// Shows the oldest request that waits, as bytes. It is taken where the room has all of it; else the next call shows it again.
 #[unsafe(no_mangle)]
 pub extern "C" fn hidewillow_desk_request(
@@ -1140,4 +1238,58 @@ pub extern "C" fn hidewillow_desk_close(alloc: Global, desk: &mut DeskHandle)
     ensures { desk.new.held ≡ None }
 {
     let _client = replace(desk, DeskHandle::closed()).into_box(alloc);
+}
+
+/// Tells a host whose log lies in a consensus engine what an answer to a try of a batch means, which was to be put under its number.
+#[unsafe(no_mangle)]
+pub extern "C" fn hidewillow_engine_batch(
+    leadership: u64,
+    number: u64,
+    answer: u32,
+    leader: u64,
+    held: u32,
+    snap: u64,
+) -> Told
+    ensures { result ≡ word_told (batch_told (record { leadership = leadership; number = number })
+        (batch_answer_of answer leader held snap)) }
+{
+    tell_batch(Batch { leadership, number }, answer, leader, held, snap)
+}
+
+/// Tells it what an answer to a try of a fence means, by which a new leadership deletes all from the gap on.
+#[unsafe(no_mangle)]
+pub extern "C" fn hidewillow_engine_fence(
+    leadership: u64,
+    gap: u64,
+    answer: u32,
+    leader: u64,
+    fenced: u64,
+) -> Told
+    ensures { result ≡ word_told (fence_told (record { leadership = leadership; gap = gap })
+        (fence_answer_of answer leader fenced)) }
+{
+    tell_fence(Fence { leadership, gap }, answer, leader, fenced)
+}
+
+/// Tells it what the answer to a round means, a question whether a leadership still holds.
+#[unsafe(no_mangle)]
+pub extern "C" fn hidewillow_engine_round(
+    leadership: u64,
+    number: u64,
+    answer: u32,
+    leader: u64,
+) -> Told
+    ensures { result ≡ word_told (round_told (record { leadership = leadership; number = number })
+        (round_answer_of answer leader)) }
+{
+    tell_round(Round { leadership, number }, answer, leader)
+}
+
+/// Tells it what an answer to one of its tries to lead means, by a word that nobody else puts: of which leadership it is, where it was put;
+/// else that of the leader that was seen, and whether it has this word.
+#[unsafe(no_mangle)]
+pub extern "C" fn hidewillow_engine_lead(answer: u32, leadership: u64, held: u32) -> Told
+    ensures { result ≡ word_told (lead_told (lead_answer_of answer leadership held)) }
+{
+    tell_lead(answer, leadership, held)
 }

@@ -4,11 +4,17 @@ ghost use Rattle.std.specs.Str.Lines.{lines};
 ghost use Rattle.sk_scenario.specs.Scenario.{scenario_of};
 ghost use Rattle.hidewillow_c.specs.Opening.{OpenedBy, UnopenedBy};
 ghost use Rattle.hidewillow_c.specs.Lines.{TakesLine, TellsLine};
+ghost use Rattle.hidewillow_c.specs.Epochs.{EndsEpoch};
+ghost use Rattle.hidewillow_c.specs.Leases.{LeasesAs, PlayLeases};
+ghost use Rattle.sk_words.specs.Operands.{pid};
 
+use crate::codes::MEMORY;
 use crate::room::put;
-use crate::told::{Told, Unopened};
+use crate::told::{Told, Unopened, faulty, kind_number};
+use sk_ids::Pid;
 use sk_scenario::Scenario;
 use sk_talk::{LineTold, Play};
+use sk_words::{FaultKind, Operand};
 use std::alloc::{AllocError, Global};
 use std::io::Write;
 
@@ -50,4 +56,34 @@ fn tell(alloc: Global, told: LineTold, room: &mut [u8]) -> Told
     }
     put(&text, room);
     Told::of_line(told).with_text(text.len())
+}
+
+/// Begins a new epoch.
+pub fn tell_epoch(play: &mut Play) -> Told
+    ensures { EndsEpoch result play.old play.new }
+{
+    match play.new_epoch() {
+        Ok(told) => Told::of_epoch(told),
+        Err(AllocError) => Told::of(MEMORY, 0),
+    }
+}
+
+fn lease(play: &mut Play, pid: Pid, count: u32) -> Told
+    ensures { PlayLeases pid count result play.old play.new }
+{
+    match play.lease(pid, count) {
+        Ok(told) => Told::of_lease(told),
+        Err(AllocError) => Told::of(MEMORY, 0),
+    }
+}
+
+/// Has the process of this name do up to so many private instructions away from its kernel.
+pub fn tell_lease(play: &mut Play, name: &[u8], count: u32) -> Told
+    ensures { LeasesAs PlayLeases (pid name.now) count result play.old play.new }
+{
+    let pid: Result<Pid, FaultKind> = Operand::read(name);
+    match pid {
+        Ok(pid) => lease(play, pid, count),
+        Err(kind) => faulty(kind, kind_number(kind)),
+    }
 }

@@ -1,5 +1,7 @@
 //! What calls are told.
-ghost use Rattle.std.specs.Prelude.{◌≡◌};
+ghost use Rattle.std.specs.Prelude.{◌≡◌, Some};
+ghost use Rattle.hidewillow_c.specs.Epochs.{epoch_told};
+ghost use Rattle.hidewillow_c.specs.Leases.{lease_told};
 ghost use Rattle.hidewillow_c.specs.Told.{just, kind_number, faulty, told_of_answer, told_of_turn, told_of_reply, told_of_given, told_of_world, told_of_event, told_of_line, opened, unopened};
 
 use crate::codes::{
@@ -7,7 +9,7 @@ use crate::codes::{
     MEMORY, NO, NO_TOKEN, NOTHING, OPENED, OTHER_VERSION, REFUSED, STEPPED, TAKEN, YES,
 };
 use sk_client::{Given, Turn, WorldAnswer};
-use sk_play::{CallAnswer, WorldTold};
+use sk_play::{CallAnswer, EpochTold, LeaseTold, WorldTold};
 use sk_server::Answer as ServerAnswer;
 use sk_talk::LineTold;
 use sk_words::{Fault, FaultKind};
@@ -100,6 +102,28 @@ impl Told {
             LineTold::Happened(told) => Told::of_event(told),
             LineTold::Nothing => Told::of(NOTHING, 0),
             LineTold::Fault(kind) => faulty(kind, kind_number(kind)),
+        }
+    }
+
+    /// What came of a wish for a new epoch.
+    pub fn of_epoch(told: EpochTold) -> Told
+        ensures { result ≡ epoch_told (Some told) }
+    {
+        match told {
+            EpochTold::Begun(events) => Told::of(DONE, events as u64),
+            EpochTold::Undecided(_) => Told::of(REFUSED, 1),
+            EpochTold::Pending(_) => Told::of(REFUSED, 2),
+        }
+    }
+
+    /// What came of private instructions away from the kernel.
+    pub fn of_lease(told: LeaseTold) -> Told
+        ensures { result ≡ lease_told (Some told) }
+    {
+        match told {
+            LeaseTold::Ran(count) => Told::of(STEPPED, u64::from(count)),
+            LeaseTold::Refused(why) => Told::of(REFUSED, u64::from(why.number())),
+            LeaseTold::Signalled => Told::of(REFUSED, 10),
         }
     }
 

@@ -1,18 +1,12 @@
 -- What is found behind a first word is what its rule tells: for each count of operands, and for tables of rules.
-use Rattle.std.proofs.Common.{◌≡◌, ℕ, List, [], ◌∷◌, Bool, true, false, ◌||◌, Option, Some, None, Result, Ok, Err, bytes_eq, if◌then◌else◌, refl}
-use Rattle.std.specs.List.{list_any}
-use Rattle.sk_words.specs.declared.fault.FaultKind.{FaultKind}
+use Rattle.sk_faults.proofs.Names.{◌≡◌, ℕ, List, [], ◌∷◌, Bool, true, false, ◌||◌, Option, Some, None, Result, Ok, Err}
+use Rattle.sk_faults.proofs.Names.{bytes_eq, if◌then◌else◌, refl, list_any, FaultKind, ◌>>=◌, is_open, closed}
+use Rattle.sk_faults.proofs.Names.{next_word, no_more, Rule, rule_in, Form, Found, is_said, fits, Table, forms_in}
+use Rattle.sk_faults.proofs.Names.{fault_at, or_else, next_index, open_at, count_at, wrong_at, operand_fault, IsOther}
+use Rattle.sk_faults.proofs.Names.{Agrees}
 use Rattle.sk_words.specs.declared.fault.FaultKind.TheVariants as kinds
-use Rattle.sk_words.specs.Faults.{◌>>=◌}
-use Rattle.sk_words.specs.Words.{is_open}
-use Rattle.sk_words.specs.Operands.{closed, next_word, no_more, none_of, one_of, both, the_two, two_of, three_of}
-use Rattle.sk_words.specs.Tables.{Rule, rule_in}
-use Rattle.sk_faults.specs.declared.form.Form.{Form}
-use Rattle.sk_faults.specs.declared.found.Found.{Found}
+use Rattle.sk_words.specs.Operands.{none_of, one_of, both, the_two, two_of, three_of}
 use Rattle.sk_faults.specs.declared.found.Why.TheVariants as why
-use Rattle.sk_faults.specs.Forms.{is_said, fits}
-use Rattle.sk_faults.specs.Tables.{Table, forms_in}
-use Rattle.sk_faults.specs.Found.{fault_at, or_else, next_index, open_at, count_at, wrong_at, operand_fault, IsOther, Agrees}
 use Rattle.sk_faults.proofs.Readings.{OnlyOperand, IsReading}
 
 -- ---- open literals are told first

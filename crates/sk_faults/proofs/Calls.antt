@@ -1,16 +1,12 @@
 -- What is found in an event of steps is what its reading tells.
-use Rattle.std.proofs.Common.{ℕ, List, [], ◌∷◌, Bool, true, false, Some, None, Ok, bytes_eq, codes, if◌then◌else◌, refl}
-use Rattle.sk_words.specs.Faults.{◌>>=◌}
-use Rattle.sk_words.specs.Operands.{one_of, positive}
-use Rattle.sk_words.specs.Tables.{Rule, rule_in, unknown}
-use Rattle.sk_trace.specs.Lines.{step}
-use Rattle.sk_scenario.specs.Calls.{step_call, guess_call, call}
-use Rattle.sk_scenario.specs.declared.call.Call.{Call}
+use Rattle.sk_faults.proofs.Names.{ℕ, List, [], ◌∷◌, Bool, true, false, Some, None, Ok, bytes_eq, codes, if◌then◌else◌}
+use Rattle.sk_faults.proofs.Names.{refl, ◌>>=◌, one_of, positive, Rule, rule_in, unknown, step, step_call, guess_call}
+use Rattle.sk_faults.proofs.Names.{Call, Table, input_forms, forms_in, second, is_wide, operand_fault, found_behind}
+use Rattle.sk_faults.proofs.Names.{Agrees}
+use Rattle.sk_scenario.specs.Calls.{call}
 use Rattle.sk_scenario.specs.declared.call.Call.TheVariants as calls
 use Rattle.sk_faults.specs.declared.form.Form.TheVariants as forms
 use Rattle.sk_faults.specs.declared.part.Part.TheVariants as parts
-use Rattle.sk_faults.specs.Tables.{Table, input_forms, forms_in}
-use Rattle.sk_faults.specs.Found.{second, is_wide, operand_fault, found_behind, Agrees}
 use Rattle.sk_faults.proofs.Readings.{reads_guess}
 use Rattle.sk_faults.proofs.Agree.{then_agrees, one_so, in_table}
 use Rattle.sk_faults.proofs.Steps.{step_agrees, last_forms, unknown_told}

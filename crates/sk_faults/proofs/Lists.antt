@@ -1,11 +1,7 @@
 -- What is found in a line of a section is what its reading tells, where it is so behind each first word.
-use Rattle.std.proofs.Common.{ℕ, List, [], ◌∷◌, Bool, true, false, ◌==◌, Some, None, Option, Result, Ok, Err, slice_index, if◌then◌else◌}
-use Rattle.sk_words.specs.declared.fault.FaultKind.{FaultKind}
-use Rattle.sk_words.specs.Tables.{Rule, with_said, with_line}
-use Rattle.sk_words.specs.Words.{first_of}
-use Rattle.sk_faults.specs.declared.part.Part.{Part}
-use Rattle.sk_faults.specs.declared.found.Found.{Found}
-use Rattle.sk_faults.specs.Found.{found_behind, found_of, Agrees, IsToldIn}
+use Rattle.sk_faults.proofs.Names.{ℕ, List, [], ◌∷◌, Bool, true, false, ◌==◌, Some, None, Option, Result, Ok, Err}
+use Rattle.sk_faults.proofs.Names.{slice_index, if◌then◌else◌, FaultKind, Rule, with_said, with_line, first_of, Part}
+use Rattle.sk_faults.proofs.Names.{Found, found_behind, found_of, Agrees, IsToldIn}
 
 said_agrees : {A : Type 0} (before : List A) (ws : List (List ℕ)) (r : Result A FaultKind) (found : Option Found) → Agrees ws r found → Agrees ws (with_said before r) found
 said_agrees before ws (Ok a) None h = tt

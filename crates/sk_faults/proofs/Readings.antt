@@ -1,16 +1,12 @@
 -- The readings of operands tell no other kind than Operand: each from its definition.
-use Rattle.std.proofs.Common.{◌≡◌, ℕ, ◌+◌, ◌*◌, ◌^◌, ◌-◌, ℤ, pos, negsuc, neg_ℤ, List, [], ◌∷◌, Bool, true, false, ◌==◌, ◌&&◌, Option, Some, None, Result, Ok, Err, nat_lt, nat_le, length, drop, slice_index, if◌then◌else◌, refl}
-use Rattle.std.specs.List.{list_all}
-use Rattle.sk_words.specs.declared.fault.FaultKind.{FaultKind}
+use Rattle.sk_faults.proofs.Names.{◌≡◌, ℕ, ◌+◌, ◌*◌, ◌^◌, ◌-◌, ℤ, pos, negsuc, neg_ℤ, List, [], ◌∷◌, Bool, true, false}
+use Rattle.sk_faults.proofs.Names.{◌==◌, ◌&&◌, Option, Some, None, Result, Ok, Err, nat_lt, nat_le, length, drop}
+use Rattle.sk_faults.proofs.Names.{slice_index, if◌then◌else◌, refl, list_all, FaultKind, ◌>>=◌, parts, literal}
+use Rattle.sk_faults.proofs.Names.{at_most_512, text_from, Plain, wrong, below, digits, integer, between, natural}
+use Rattle.sk_faults.proofs.Names.{positive, index, short, is_name, name, is_label_byte, label, numbered_child, child}
+use Rattle.sk_faults.proofs.Names.{path_below, path, pid, register, Form, is_said, fits}
 use Rattle.sk_words.specs.declared.fault.FaultKind.TheVariants as kinds
-use Rattle.sk_words.specs.Faults.{◌>>=◌}
-use Rattle.sk_words.specs.Lines.{parts}
-use Rattle.sk_words.specs.Literals.{literal, at_most_512, text_from, Plain}
-use Rattle.sk_words.specs.Operands.{wrong, below, digits, integer, between, natural, positive, index, short, is_name, name, is_label_byte, label, numbered_child, child, path_below, path, pid}
-use Rattle.sk_script.specs.Registers.{register}
-use Rattle.sk_faults.specs.declared.form.Form.{Form}
 use Rattle.sk_faults.specs.declared.form.Form.TheVariants as forms
-use Rattle.sk_faults.specs.Forms.{is_said, fits}
 
 abbrev pub OnlyOperand : {A : Type 0} → Result A FaultKind → Type 0
 OnlyOperand (Ok a) = Unit {0}

@@ -1,19 +1,13 @@
 -- What is found in a line of a script is what its reading tells: a label, or an instruction.
-use Rattle.std.proofs.Common.{◌≡◌, ℕ, List, [], ◌∷◌, ◌++◌, Bool, true, false, ◌==◌, Some, None, Option, Result, Ok, Err, length, slice_index, if◌then◌else◌}
-use Rattle.sk_words.specs.Operands.{none_of}
-use Rattle.sk_words.specs.declared.fault.FaultKind.{FaultKind}
+use Rattle.sk_faults.proofs.Names.{◌≡◌, ℕ, List, [], ◌∷◌, ◌++◌, Bool, true, false, ◌==◌, Some, None, Option, Result, Ok}
+use Rattle.sk_faults.proofs.Names.{Err, length, slice_index, if◌then◌else◌, none_of, FaultKind, ◌>>=◌, INSTRUCTIONS}
+use Rattle.sk_faults.proofs.Names.{Instruction, place_of, instruction, ScriptState, label_in, declares_or_does, line_of}
+use Rattle.sk_faults.proofs.Names.{undeclared, room_for, Form, is_end_of, instruction_forms, is_labelled, operand_fault}
+use Rattle.sk_faults.proofs.Names.{found_of, Agrees, IsToldIn}
 use Rattle.sk_words.specs.declared.fault.FaultKind.TheVariants as kinds
-use Rattle.sk_words.specs.Faults.{◌>>=◌}
-use Rattle.sk_script.specs.Script.{INSTRUCTIONS}
-use Rattle.sk_script.specs.declared.instruction.Instruction.{Instruction}
-use Rattle.sk_script.specs.Instructions.{place_of, instruction}
 use Rattle.sk_script.specs.Scripting as code
-use Rattle.sk_script.specs.Scripting.{ScriptState, label_in, declares_or_does, line_of, undeclared, room_for, added}
-use Rattle.sk_faults.specs.declared.form.Form.{Form}
+use Rattle.sk_script.specs.Scripting.{added}
 use Rattle.sk_faults.specs.declared.part.Part.TheVariants as parts
-use Rattle.sk_scenario.specs.Scenario.{is_end_of}
-use Rattle.sk_faults.specs.Tables.{instruction_forms, is_labelled}
-use Rattle.sk_faults.specs.Found.{operand_fault, found_of, Agrees, IsToldIn}
 use Rattle.sk_faults.proofs.Agree.{OnlyOther, then_agrees, none_agrees}
 use Rattle.sk_faults.proofs.Scripts.{instruction_agrees}
 

@@ -1,17 +1,12 @@
 -- What is found in a line of a script is what its reading tells: table by table.
-use Rattle.std.proofs.Common.{ℕ, List, [], ◌∷◌, Bool, true, false, Some, None, Result, Ok, Err, bytes_eq, if◌then◌else◌, refl}
-use Rattle.sk_words.specs.Operands.{integer, index, name, label, one_of, two_of}
-use Rattle.sk_words.specs.Literals.{literal}
-use Rattle.sk_words.specs.declared.fault.FaultKind.{FaultKind}
-use Rattle.sk_words.specs.Faults.{◌>>=◌}
-use Rattle.sk_words.specs.Tables.{unknown}
-use Rattle.sk_script.specs.declared.instruction.Instruction.{Instruction}
+use Rattle.sk_faults.proofs.Names.{ℕ, List, [], ◌∷◌, Bool, true, false, Some, None, Result, Ok, Err, bytes_eq}
+use Rattle.sk_faults.proofs.Names.{if◌then◌else◌, refl, integer, index, name, label, one_of, two_of, literal, FaultKind}
+use Rattle.sk_faults.proofs.Names.{◌>>=◌, unknown, Instruction, register, Labels, place_of, at_label, value_rules}
+use Rattle.sk_faults.proofs.Names.{place_rules, object_rules, byte_rules, outer_rules, operand_fault, Agrees}
 use Rattle.sk_script.specs.declared.instruction.Instruction.TheVariants as does
-use Rattle.sk_script.specs.Registers.{register}
-use Rattle.sk_script.specs.Instructions.{Labels, place_of, at_label, value_rules, place_rules, object_rules, byte_rules, outer_rules, instruction, place_instruction, object_instruction, byte_instruction, outer_instruction}
+use Rattle.sk_script.specs.Instructions.{instruction, place_instruction, object_instruction, byte_instruction, outer_instruction}
 use Rattle.sk_faults.specs.declared.form.Form.TheVariants as forms
 use Rattle.sk_faults.specs.Tables as found
-use Rattle.sk_faults.specs.Found.{operand_fault, Agrees}
 use Rattle.sk_faults.proofs.Readings.{reads_register, reads_number, reads_label, reads_literal, reads_name, reads_index}
 use Rattle.sk_faults.proofs.Agree.{one_agrees, two_agrees, none_so, one_so, two_so, three_so, OnlyOther, then_agrees, in_table}
 

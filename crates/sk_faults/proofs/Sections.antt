@@ -1,26 +1,21 @@
 -- What is found in a line of a section without inputs, or in a declaration, is what its reading tells.
-use Rattle.std.proofs.Common.{ℕ, List, [], ◌∷◌, Bool, true, false, ◌==◌, Some, None, Option, Result, Ok, Err, slice_index, if◌then◌else◌, refl, nat_lt, length}
-use Rattle.sk_words.specs.declared.fault.FaultKind.{FaultKind}
+use Rattle.sk_faults.proofs.Names.{ℕ, List, [], ◌∷◌, Bool, true, false, ◌==◌, Some, None, Option, Result, Ok, Err}
+use Rattle.sk_faults.proofs.Names.{slice_index, if◌then◌else◌, refl, nat_lt, length, FaultKind, ◌>>=◌, literal, pid}
+use Rattle.sk_faults.proofs.Names.{name, natural, index, short, one_of, two_of, three_of, unknown, first_of}
+use Rattle.sk_faults.proofs.Names.{BOOT_OBJECTS, has_script, has_object, has_copy, has_process, with_object, with_copy}
+use Rattle.sk_faults.proofs.Names.{with_process, ObjectKind, File, Dir, Pipe, Declared, object, content_of, copy}
+use Rattle.sk_faults.proofs.Names.{has_remote, with_remote, remote, process, once, declaration_rules, new_name}
+use Rattle.sk_faults.proofs.Names.{new_script, line_rules, declared_next, line_said, world_rules, Form, Found, forms_in}
+use Rattle.sk_faults.proofs.Names.{world_forms, heading_forms, other_forms, operand_fault, found_behind, found_of}
+use Rattle.sk_faults.proofs.Names.{Agrees, IsToldIn}
 use Rattle.sk_words.specs.declared.fault.FaultKind.TheVariants as kinds
-use Rattle.sk_words.specs.Faults.{◌>>=◌}
-use Rattle.sk_words.specs.Literals.{literal}
-use Rattle.sk_words.specs.Operands.{pid, name, natural, index, short, one_of, two_of, three_of}
-use Rattle.sk_words.specs.Tables.{unknown}
-use Rattle.sk_words.specs.Words.{first_of}
 use Rattle.sk_client.specs.declared.world.WorldEvent.TheVariants as events
-use Rattle.sk_script.specs.Boot.{BOOT_OBJECTS, has_script, has_object, has_copy, has_process, with_object, with_copy, with_process}
-use Rattle.sk_script.specs.declared.boot.ObjectKind.{ObjectKind}
-use Rattle.sk_script.specs.declared.boot.ObjectKind.TheVariants.{File, Dir, Pipe}
 use Rattle.sk_scenario.specs.declared.declarations.Heading.TheVariants as headings
 use Rattle.sk_scenario.specs.declared.declarations.Said.TheVariants as says
-use Rattle.sk_scenario.specs.Declarations.{Declared, object, content_of, copy, has_remote, with_remote, remote, process, once, declaration_rules, declares, new_name, new_script, line_rules, declared_next, says_next, line_said}
-use Rattle.sk_scenario.specs.WorldEvents.{world_rules, world_event}
-use Rattle.sk_faults.specs.declared.form.Form.{Form}
+use Rattle.sk_scenario.specs.Declarations.{declares, says_next}
+use Rattle.sk_scenario.specs.WorldEvents.{world_event}
 use Rattle.sk_faults.specs.declared.form.Form.TheVariants as forms
 use Rattle.sk_faults.specs.declared.part.Part.TheVariants as parts
-use Rattle.sk_faults.specs.declared.found.Found.{Found}
-use Rattle.sk_faults.specs.Tables.{forms_in, world_forms, heading_forms, other_forms}
-use Rattle.sk_faults.specs.Found.{operand_fault, found_behind, found_of, Agrees, IsToldIn}
 use Rattle.sk_faults.proofs.Readings.{reads_literal, reads_name, reads_index, reads_natural, reads_short, reads_process}
 use Rattle.sk_faults.proofs.Agree.{OnlyOther, then_agrees, none_so, one_so, one_agrees, two_agrees, three_agrees, three_so, in_table}
 

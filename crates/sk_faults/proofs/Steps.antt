@@ -1,30 +1,21 @@
 -- What is found in a line with an input is what its reading tells. The input is read before the words in front of it, so what is
 -- wrong with these is told last; of malformed words the first is found, whichever is told, since all tell one kind.
-use Rattle.std.proofs.Common.{◌≡◌, ℕ, ◌+◌, List, [], ◌∷◌, Bool, true, false, ◌||◌, Option, Some, None, Result, Ok, Err, bytes_eq, codes, drop, if◌then◌else◌, refl, ◌∙◌, subst}
-use Rattle.std.specs.List.{list_any}
-use Rattle.std.proofs.lemmas.Slice.Eq.{bytes_eq-Decides}
-use Rattle.sk_words.specs.declared.fault.FaultKind.{FaultKind}
+use Rattle.sk_faults.proofs.Names.{◌≡◌, ℕ, ◌+◌, List, [], ◌∷◌, Bool, true, false, ◌||◌, Option, Some, None, Result, Ok}
+use Rattle.sk_faults.proofs.Names.{Err, bytes_eq, codes, drop, if◌then◌else◌, refl, ◌∙◌, subst, list_any}
+use Rattle.sk_faults.proofs.Names.{bytes_eq-Decides, FaultKind, ◌>>=◌, is_open, literal, next_word, one_of, natural}
+use Rattle.sk_faults.proofs.Names.{positive, pid, Rule, rule_in, unknown, ContentView, Input, Event, Form, Found}
+use Rattle.sk_faults.proofs.Names.{is_said, brings_content, fits, Table, input_forms, forms_in, fault_at, or_else}
+use Rattle.sk_faults.proofs.Names.{count_at, wrong_at, input_word, second, third, is_wide, unknown_input, operand_fault}
+use Rattle.sk_faults.proofs.Names.{found_behind, kind_of, Agrees}
 use Rattle.sk_words.specs.declared.fault.FaultKind.TheVariants as kinds
-use Rattle.sk_words.specs.Faults.{◌>>=◌}
-use Rattle.sk_words.specs.Words.{is_open}
-use Rattle.sk_words.specs.Literals.{literal}
-use Rattle.sk_words.specs.Operands.{next_word, none_of, one_of, both, the_two, two_of, natural, positive, pid}
-use Rattle.sk_words.specs.Tables.{Rule, rule_in, unknown}
-use Rattle.sk_objects.specs.Content.{ContentView}
-use Rattle.sk_script.specs.declared.instruction.Input.{Input}
+use Rattle.sk_words.specs.Operands.{none_of, both, the_two, two_of}
 use Rattle.sk_script.specs.declared.instruction.Input.TheVariants as inputs
 use Rattle.sk_script.specs.StepInput.{content_of, content, input}
 use Rattle.sk_trace.specs.Lines.{step, numbered_step, event}
-use Rattle.sk_trace.specs.declared.event.Event.{Event}
 use Rattle.sk_trace.specs.declared.event.Event.TheVariants as events
-use Rattle.sk_faults.specs.declared.form.Form.{Form}
 use Rattle.sk_faults.specs.declared.form.Form.TheVariants as forms
 use Rattle.sk_faults.specs.declared.part.Part.TheVariants as parts
-use Rattle.sk_faults.specs.declared.found.Found.{Found}
 use Rattle.sk_faults.specs.declared.found.Why.TheVariants as why
-use Rattle.sk_faults.specs.Forms.{is_said, brings_content, fits}
-use Rattle.sk_faults.specs.Tables.{Table, input_forms, forms_in}
-use Rattle.sk_faults.specs.Found.{fault_at, or_else, count_at, wrong_at, input_word, second, third, is_wide, unknown_input, operand_fault, found_behind, kind_of, Agrees}
 use Rattle.sk_faults.proofs.Readings.{OnlyOperand, reads_natural, reads_literal, reads_guess, reads_process}
 use Rattle.sk_faults.proofs.Agree.{after_open, then_agrees, one_so, in_table}
 

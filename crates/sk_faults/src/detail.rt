@@ -1,5 +1,5 @@
 //! The place of a text's fault, and its reason.
-ghost use Rattle.std.specs.Prelude.{◌≡◌, [], IfSome, MatchOption, length};
+ghost use Rattle.std.specs.Prelude.{◌≡◌, [], IfSome, IsSomeAnd, MatchOption, length};
 ghost use Rattle.std.specs.Str.Lines.{lines};
 ghost use Rattle.sk_words.specs.Words.{words, first_of};
 ghost use Rattle.sk_faults.specs.Found.{found_of};
@@ -245,7 +245,7 @@ pub fn explain<'a>(text: &'a [u8], fault: &Fault) -> Option<Detail<'a>>
     ensures number { IfSome result (λ detail. detail.line ≡ fault.now.line) }
     ensures place { MatchOption result
         (IsUntold fault.now.kind (line_at Declarations fault.now.line (lines text.now)))
-        (λ detail. IfSome (line_at Declarations fault.now.line (lines text.now))
+        (λ detail. IsSomeAnd (line_at Declarations fault.now.line (lines text.now))
         (λ x. IsTold fault.now.kind x detail.place.start detail.place.word.now)) }
 {
     let Fault { line: number, kind } = *fault;

@@ -1,9 +1,5 @@
 -- What was counted is what is held before and after.
-use Rattle.std.proofs.Common.{rules, ◌≡◌, subst, sym, Option, Some}
-use Rattle.sk_talk.specs.declared.play.Play.{Play}
-use Rattle.sk_talk.specs.Played.{kernel_of}
-use Rattle.hidewillow_c.specs.Asked.{CountsKernel}
-use Rattle.hidewillow_c.specs.Exports.{Counted}
+use Rattle.hidewillow_c.proofs.Names.{rules, ◌≡◌, subst, sym, Option, Some, Play, kernel_of, CountsKernel, Counted}
 use Rattle.hidewillow_c.proofs.hidewillow_counts.Goals as goal
 
 -- src/lib.rt:129:1

@@ -1,7 +1,5 @@
 -- What was counted is what is held before and after.
-use Rattle.std.proofs.Common.{rules, ◌≡◌, subst, sym, Option, Some}
-use Rattle.hidewillow_c.specs.declared.client.Client.{Client}
-use Rattle.hidewillow_c.specs.DeskCalls.{CountsDesk, DeskTells}
+use Rattle.hidewillow_c.proofs.Names.{rules, ◌≡◌, subst, sym, Option, Some, Client, CountsDesk, DeskTells}
 use Rattle.hidewillow_c.proofs.hidewillow_desk_counts.Goals as goal
 
 pub returns : goal.returns

@@ -1,7 +1,5 @@
 -- What the call did to what the box has.
-use Rattle.std.proofs.Common.{rules, ◌≡◌, Option, Some, sym, subst}
-use Rattle.sk_durable.specs.Store.{StoreView}
-use Rattle.hidewillow_c.specs.StoreCalls.{HangsUp, StoreDoes}
+use Rattle.hidewillow_c.proofs.Names.{rules, ◌≡◌, Option, Some, sym, subst, StoreView, HangsUp, StoreDoes}
 use Rattle.hidewillow_c.proofs.hidewillow_store_hang_up.Goals as goal
 
 pub returns : goal.returns

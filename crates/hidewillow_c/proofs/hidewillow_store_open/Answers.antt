@@ -1,10 +1,6 @@
 -- A store is opened, of what the handle of a log held.
-use Rattle.std.proofs.Common.{rules, ◌≡◌, Option, Some, None, sym, subst}
-use Rattle.sk_durable.specs.Store.{StoreView}
-use Rattle.hidewillow_c.specs.declared.reading.Reading.{Reading}
-use Rattle.hidewillow_c.specs.declared.told.Told.{Told}
-use Rattle.hidewillow_c.specs.Reopening.{OpensStore, StoreOpens}
-use Rattle.hidewillow_c.specs.Told.{opened}
+use Rattle.hidewillow_c.proofs.Names.{rules, ◌≡◌, Option, Some, None, sym, subst, StoreView, Reading, Told, OpensStore}
+use Rattle.hidewillow_c.proofs.Names.{StoreOpens, opened}
 use Rattle.hidewillow_c.proofs.hidewillow_store_open.Goals as goal
 
 pub returns-in-Ok : goal.returns-in-Ok

@@ -1,8 +1,5 @@
 -- The counts are those of the kernel.
-use Rattle.std.proofs.Common.{subst}
-use mathlib.Core.Logic.{inl}
-use Rattle.sk_kernel.specs.Kernel.{KernelView}
-use Rattle.sk_counts.specs.Counts.{AreCounts}
+use Rattle.hidewillow_c.proofs.Names.{subst, inl, KernelView, AreCounts}
 use Rattle.hidewillow_c.proofs.asked.tell_counts.Goals as goal
 
 -- src/asked.rt:71:5

@@ -1,8 +1,6 @@
 -- What is read of the kernel is shown.
-use Rattle.std.proofs.Common.{subst}
-use Rattle.sk_kernel.specs.Kernel.{KernelView}
-use Rattle.sk_talk.specs.Asked.{named}
-use Rattle.hidewillow_c.specs.Asked.{of_named, tags_text_of, tags_shown, Reads}
+use Rattle.hidewillow_c.proofs.Names.{subst, KernelView, named, of_named, tags_text_of, Reads}
+use Rattle.hidewillow_c.specs.Asked.{tags_shown}
 use Rattle.hidewillow_c.proofs.Shown.{text_is_shown}
 use Rattle.hidewillow_c.proofs.asked.tell_tags.Goals as goal
 

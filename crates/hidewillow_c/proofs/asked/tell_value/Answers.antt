@@ -1,8 +1,6 @@
 -- What is read of the kernel is shown.
-use Rattle.std.proofs.Common.{subst}
-use Rattle.sk_kernel.specs.Kernel.{KernelView}
-use Rattle.sk_talk.specs.Asked.{named}
-use Rattle.hidewillow_c.specs.Asked.{of_named, value_text, value_shown, Reads}
+use Rattle.hidewillow_c.proofs.Names.{subst, KernelView, named, of_named, value_text, Reads}
+use Rattle.hidewillow_c.specs.Asked.{value_shown}
 use Rattle.hidewillow_c.proofs.Shown.{text_is_shown}
 use Rattle.hidewillow_c.proofs.asked.tell_value.Goals as goal
 

@@ -1,7 +1,5 @@
 -- The scenario declares no desk.
-use Rattle.std.proofs.Common.{rules, ◌≡◌, None}
-use Rattle.sk_scenario.specs.Scenario.{section_view, scenario_view}
-use Rattle.hidewillow_c.specs.DeskCalls.{client_in}
+use Rattle.hidewillow_c.proofs.Names.{rules, ◌≡◌, None, section_view, scenario_view, client_in}
 use Rattle.hidewillow_c.proofs.client.client_of.Goals as goal
 
 pub returns-in-Ok-None : goal.returns-in-Ok-None

@@ -1,7 +1,5 @@
 -- The scenario opens nothing.
-use Rattle.std.proofs.Common.{rules, ◌≡◌, None}
-use Rattle.sk_scenario.specs.Scenario.{scenario_view}
-use Rattle.hidewillow_c.specs.Opening.{opening}
+use Rattle.hidewillow_c.proofs.Names.{rules, ◌≡◌, None, scenario_view, opening}
 use Rattle.hidewillow_c.proofs.opening.play_of.Goals as goal
 
 pub returns-in-Ok-None : goal.returns-in-Ok-None

@@ -1,10 +1,7 @@
 -- The piece has room, and is sealed there.
-use Rattle.std.proofs.Common.{rules, ◌≡◌, ◌+◌, ◌-◌, ◌<◌, ◌≤◌, ◌++◌, ◌^◌, ℕ, List, drop, length, Ok, sym, ap, subst, ◌∙◌, arith}
-use Rattle.std.proofs.Math.Nat.{min-le_left, min-le_right}
-use Rattle.sk_log.specs.Frame.{frame}
-use Rattle.sk_plain_store.specs.Plain.{Entries}
-use Rattle.sk_replay.specs.Snapshot.{IsPiece}
-use Rattle.hidewillow_c.specs.Reading.{IsGiven, NextIs}
+use Rattle.hidewillow_c.proofs.Names.{rules, ◌≡◌, ◌+◌, ◌-◌, ◌<◌, ◌≤◌, ◌++◌, ◌^◌, ℕ, List, length, Ok, sym, ap, subst}
+use Rattle.hidewillow_c.proofs.Names.{◌∙◌, arith, min-le_left, min-le_right, frame, Entries, IsPiece, IsGiven, NextIs}
+use Rattle.std.proofs.Common.{drop}
 use Rattle.hidewillow_c.proofs.Given.{piece_fits}
 use Rattle.hidewillow_c.proofs.reading.give.Goals as goal
 

@@ -1,8 +1,7 @@
 -- The payload stands behind the place of the head, which is sealed in front of it.
-use Rattle.std.proofs.Common.{◌≡◌, ◌+◌, ◌≤◌, ◌++◌, length, drop, take, sym, ap, ◌∙◌, arith}
-use Rattle.std.proofs.lemmas.List.{drop-drop}
-use Rattle.sk_log.specs.Frame.{frame}
-use Rattle.sk_batches.proofs.Sealing.{filled, sealed_room}
+use Rattle.hidewillow_c.proofs.Names.{◌≡◌, ◌+◌, ◌≤◌, ◌++◌, length, take, sym, ap, ◌∙◌, arith, drop-drop, frame, filled}
+use Rattle.hidewillow_c.proofs.Names.{sealed_room}
+use Rattle.std.proofs.Common.{drop}
 use Rattle.hidewillow_c.proofs.reading.put_frame.Goals as goal
 
 pub returns : goal.returns

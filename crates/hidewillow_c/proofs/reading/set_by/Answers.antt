@@ -1,7 +1,5 @@
 -- All of the snapshot came.
-use Rattle.std.proofs.Common.{rules, ◌≡◌, true, false, [], ◌∷◌, refl}
-use Rattle.sk_recovered.specs.Snapshots.{snapshot_heads}
-use Rattle.hidewillow_c.specs.Reading.{is_damaged, FindsOf}
+use Rattle.hidewillow_c.proofs.Names.{rules, ◌≡◌, true, false, [], ◌∷◌, refl, snapshot_heads, is_damaged, FindsOf}
 use Rattle.hidewillow_c.proofs.reading.set_by.Goals as goal
 
 pub returns-then-is_damaged : goal.returns-then-is_damaged

@@ -1,16 +1,8 @@
 -- A store goes on, or it is told why none does.
-use Rattle.std.proofs.Common.{rules, ◌≡◌, ℕ, List, refl, subst}
-use mathlib.Core.Logic.{inl, inr}
-use Rattle.sk_plain_store.specs.Plain.{Entries}
-use Rattle.sk_durable.specs.declared.limits.Limits.{Limits}
-use Rattle.sk_reopened.specs.Reopened.{IsAgainst, Reopens}
-use Rattle.sk_reopened.specs.declared.refusal.Refusal.{Refusal}
+use Rattle.hidewillow_c.proofs.Names.{rules, ◌≡◌, ℕ, List, refl, subst, inl, inr, Entries, Limits, IsAgainst, Reopens}
+use Rattle.hidewillow_c.proofs.Names.{Refusal, Reading, Refused, StoreLimits, last_of, AreGiven, HasFound, IsCause}
+use Rattle.hidewillow_c.proofs.Names.{place_of}
 use Rattle.sk_reopened.specs.declared.refusal.Refusal.TheVariants as refusals
-use Rattle.hidewillow_c.specs.declared.reading.Reading.{Reading}
-use Rattle.hidewillow_c.specs.declared.reopening.NotOpened.TheVariants.{Refused}
-use Rattle.hidewillow_c.specs.declared.reopening.StoreLimits.{StoreLimits}
-use Rattle.hidewillow_c.specs.Reopening.{last_of, AreGiven, HasFound, IsCause}
-use Rattle.hidewillow_c.specs.StoreCalls.{place_of}
 use Rattle.hidewillow_c.proofs.reopening.opened.Goals as goal
 
 refused : (why : Refusal) (given : StoreLimits) (read : Reading) (limits : Limits) (entries : Entries) (room filled : List ℕ)

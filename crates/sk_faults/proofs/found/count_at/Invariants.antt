@@ -1,6 +1,5 @@
 -- The forms and words that are left have the first fault just where all have it.
-use Rattle.std.proofs.Common.{◌≡◌, ◌+◌, length}
-use Rattle.sk_faults.specs.Found.{count_at}
+use Rattle.sk_faults.proofs.Names.{◌≡◌, ◌+◌, length, count_at}
 use Rattle.sk_faults.proofs.found.count_at.Given as goal
 
 abbrev pub invariant-loop-forms : goal.invariant-loop-forms

@@ -1,6 +1,5 @@
 -- The words that are left have the first open literal just where all words have it.
-use Rattle.std.proofs.Common.{◌≡◌, length}
-use Rattle.sk_faults.specs.Found.{open_at}
+use Rattle.sk_faults.proofs.Names.{◌≡◌, length, open_at}
 use Rattle.sk_faults.proofs.found.open_at.Given as goal
 
 abbrev pub invariant-loop-word : goal.invariant-loop-word

@@ -1,6 +1,5 @@
 -- The forms and words that are left have the first fault just where all have it.
-use Rattle.std.proofs.Common.{◌≡◌, ◌+◌, length}
-use Rattle.sk_faults.specs.Found.{wrong_at}
+use Rattle.sk_faults.proofs.Names.{◌≡◌, ◌+◌, length, wrong_at}
 use Rattle.sk_faults.proofs.found.wrong_at.Given as goal
 
 abbrev pub invariant-loop-forms : goal.invariant-loop-forms

@@ -1,6 +1,5 @@
 -- In an event: by its words.
-use Rattle.sk_words.specs.Words.{words}
-use Rattle.sk_trace.specs.Lines.{event}
+use Rattle.sk_faults.proofs.Names.{words, event}
 use Rattle.sk_faults.specs.declared.part.Part.TheVariants as parts
 use Rattle.sk_faults.proofs.Lists.{list_told}
 use Rattle.sk_faults.proofs.Steps.{event_agrees}

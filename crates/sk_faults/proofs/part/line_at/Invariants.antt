@@ -1,8 +1,5 @@
 -- The lines that are left have the line just where all lines have it.
-use Rattle.std.proofs.Common.{◌≡◌, length}
-use Rattle.sk_faults.specs.Parts.{line_at}
-use Rattle.sk_faults.specs.declared.part.Part.TheVariants.{Declarations}
-use Rattle.std.specs.Str.Lines.{lines}
+use Rattle.sk_faults.proofs.Names.{◌≡◌, length, line_at, Declarations, lines}
 use Rattle.sk_faults.proofs.part.line_at.Given as goal
 
 abbrev pub invariant-loop-line : goal.invariant-loop-line

@@ -1,6 +1,5 @@
 -- The word is that of an index among the words that are left.
-use Rattle.std.proofs.Common.{◌≡◌, length, drop}
-use Rattle.sk_words.specs.Words.{words}
+use Rattle.sk_faults.proofs.Names.{◌≡◌, length, drop, words}
 use Rattle.sk_faults.proofs.place.place_of.Given as goal
 
 abbrev pub invariant-loop-word : goal.invariant-loop-word

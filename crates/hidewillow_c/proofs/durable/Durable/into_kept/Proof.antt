@@ -1,40 +1,17 @@
 -- At null nothing is held; elsewhere the pointer is passed on, with what is owned there.
-use Rattle.std.proofs.Common.{◌≡◌, ◌∙◌, ℕ, List, [], ◌∷◌, refl, ap, lit<, Option, Some, None}
-use seplogic.Ra.Ura.{Ura}
-use mir.Val.{Val, vcons, vnil}
-use mir.Raw.{raw as bare}
-use base.Logic.{ent, never, fst∗, snd∗, guard_i, via}
-use base.Fml.{ftrue}
-use prog.Wp.{WpFn}
-use types.Logic.{Logic, sem}
-use types.Kit.{Item, Goal, Seq, ‵, prop, at_ret, given, ◌⊛◌, ◌$◌, ◌∵◌, !, qed, drop, keep, split, join, fsplit, fjoin, feq_l, learn, regoal, rewrite, suffices, use0, use1, done}
-use types.Run.{enter, of_opd, bin, lit, stop, fld, first, branches, exec, no_more, and_then, returns}
-use types.ByLocal.{alloc_all, pass_all, free_all, look_at, get, get_in, sets, sets_last, env}
-use types.Part.{agg, sub, whole}
-use types.Match.{live}
-use contract.Monad.{fact, fact_use}
-use contract.Running.{tables}
-use denote.Exit.{yes}
-use denote.Memory.{lone}
-use denote.Param.{layout}
-use denote.RattleType.{RattleType}
-use denote.RawPtr.{Ptr, block_ptr, null_ptr, in_a_block, tests_null}
-use denote.Signature.{plain}
-use denote.Steps.{nothing}
-use denote.Triple.Walked.{Stays, stay_dropped, Goes-dropped, walk_of, says, ends_at}
-use Rattle.core.proofs.alloc.Shapes.{after}
-use Rattle.core.proofs.cell.Inside.{Good}
-use Rattle.core.proofs.option.Made.{Some-of, none_of}
-use Rattle.core.specs.Ptr.{points_to}
+use Rattle.hidewillow_c.proofs.Names.{◌≡◌, ◌∙◌, ℕ, List, [], ◌∷◌, refl, ap, lit<, Option, Some, None, Ura, Val, vcons}
+use Rattle.hidewillow_c.proofs.Names.{vnil, bare, ent, never, fst∗, snd∗, guard_i, via, ftrue, WpFn, Logic, sem, Item}
+use Rattle.hidewillow_c.proofs.Names.{Goal, Seq, ‵, prop, at_ret, given, ◌⊛◌, ◌$◌, ◌∵◌, !, qed, drop, keep, split, join}
+use Rattle.hidewillow_c.proofs.Names.{fsplit, fjoin, feq_l, learn, regoal, rewrite, suffices, use0, use1, done, enter}
+use Rattle.hidewillow_c.proofs.Names.{of_opd, bin, lit, stop, fld, first, branches, exec, no_more, and_then, returns}
+use Rattle.hidewillow_c.proofs.Names.{alloc_all, pass_all, free_all, look_at, get, get_in, sets, sets_last, env, agg}
+use Rattle.hidewillow_c.proofs.Names.{sub, whole, live, fact, fact_use, tables, yes, lone, layout, RattleType, Ptr}
+use Rattle.hidewillow_c.proofs.Names.{block_ptr, null_ptr, in_a_block, tests_null, plain, nothing, Stays, stay_dropped}
+use Rattle.hidewillow_c.proofs.Names.{Goes-dropped, walk_of, says, ends_at, after, Good, Some-of, none_of, points_to}
+use Rattle.hidewillow_c.proofs.Names.{ghosts, dealloc_token_start, proved, heap, kept_at, store_at, StoreView}
 use Rattle.core.specs.contracts.option.Option as option
-use Rattle.std.specs.contracts.impls.GlobalAllocator.TheImpl.{ghosts}
-use Rattle.std_heap.proofs.GlobalToken.{dealloc_token_start}
-use Rattle.std.proofs.raw_atomic.Walks.{proved}
 use Rattle.hidewillow_c.proofs.Pointer.{word, ptr_fits, word_fits, pointed}
 use Rattle.hidewillow_c.proofs.durable.Durable.TheLaws.{lowers}
-use Rattle.hidewillow_c.specs.Kept.{heap, kept_at}
-use Rattle.hidewillow_c.specs.StoreOwned.{store_at}
-use Rattle.sk_durable.specs.Store.{StoreView}
 use Rattle.sk_durable.specs.contracts.store.Store.{the_row as R}
 use Rattle.hidewillow_c.specs.contracts.kept.Kept as kept
 use Rattle.hidewillow_c.specs.contracts.durable.Durable.{the_row}

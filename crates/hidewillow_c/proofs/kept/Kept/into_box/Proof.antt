@@ -1,44 +1,20 @@
 -- What is owned at the pointer is owned by the box that `from_raw` answers.
-use Rattle.std.proofs.Common.{◌≡◌, List, [], ◌∷◌, refl}
-use mir.Syntax.{a_type}
-use mir.Val.{Val}
-use mir.MapTy.{inst_fn}
-use base.Fraction.{full_share}
-use base.Logic.{id⊢}
-use base.Fml.{ftrue, flft}
-use types.Kit.{‵, raw, at_ret, ◌⊛◌, some, later, ◌$◌, ◌∵◌, !, qed, drop, keep, move, split, split3, join, fsplit, fjoin, feq_i, pick, await, suffices, use1, use0, done}
-use types.Run.{enter, of_opd, stop, fld, first, blocks, exec, no_more, and_then, returns}
-use types.ByLocal.{alloc_all, pass_all, free_all, look_at, get, get_in, sets, lands_last, env}
-use types.Part.{sub, whole}
-use types.Tokens.{lft_new}
-use contract.BorrowLft.{◌⊑◌}
-use contract.Monad.{fact, fact_i}
-use contract.Running.{tables}
-use denote.Exit.{yes, no}
-use denote.RattleType.{RattleType}
-use denote.Param.{param, layouts}
-use denote.Param.Laws.{param_laws}
-use denote.Param.NoDrop.{glues}
-use denote.RawPtr.{ptr_val}
-use denote.Signature.{plain}
-use denote.Laws.{Is, shows}
-use denote.Steps.{nothing, heard, peeks}
-use denote.Triple.Call.{calls_at_last}
-use denote.Triple.Clauses.{Lasts, lasts}
-use denote.Triple.Spec.{triple_of}
-use denote.Triple.Walked.{Stays, stay_dropped, Goes-dropped, walk_of, says, ends_at}
-use Rattle.core.proofs.atomic.Steps.{fm}
-use Rattle.core.proofs.alloc.Shapes.{after}
-use Rattle.std.proofs.raw_atomic.Walks.{proved}
-use Rattle.std.proofs.impls.GlobalAllocator.TheImpl.Met.{passed}
+use Rattle.hidewillow_c.proofs.Names.{◌≡◌, List, [], ◌∷◌, refl, a_type, Val, inst_fn, full_share, id⊢, ftrue, flft, ‵}
+use Rattle.hidewillow_c.proofs.Names.{raw, at_ret, ◌⊛◌, some, later, ◌$◌, ◌∵◌, !, qed, drop, keep, move, split, split3}
+use Rattle.hidewillow_c.proofs.Names.{join, fsplit, fjoin, feq_i, pick, await, suffices, use1, use0, done, enter}
+use Rattle.hidewillow_c.proofs.Names.{of_opd, stop, fld, first, blocks, exec, no_more, and_then, returns, alloc_all}
+use Rattle.hidewillow_c.proofs.Names.{pass_all, free_all, look_at, get, get_in, sets, lands_last, env, sub, whole}
+use Rattle.hidewillow_c.proofs.Names.{lft_new, ◌⊑◌, fact, fact_i, tables, yes, no, RattleType, param, layouts}
+use Rattle.hidewillow_c.proofs.Names.{param_laws, glues, ptr_val, plain, Is, shows, nothing, heard, peeks}
+use Rattle.hidewillow_c.proofs.Names.{calls_at_last, Lasts, lasts, triple_of, Stays, stay_dropped, Goes-dropped}
+use Rattle.hidewillow_c.proofs.Names.{walk_of, says, ends_at, fm, after, proved, passed, global_laws, global_within}
+use Rattle.hidewillow_c.proofs.Names.{global_lowers, met}
 use Rattle.hidewillow_c.proofs.Destruct++none.drop.Code as nodrop
 use Rattle.hidewillow_c.proofs.Pointer.{word, ptr_fits, word_fits}
 use Rattle.hidewillow_c.proofs.Heap.{Global, Z, LZ, ghosts, dict, drops}
-use Rattle.std.proofs.alloc.Global.TheLaws.{the_row_laws as global_laws, the_within as global_within, lowers as global_lowers}
 use Rattle.std_alloc.specs.contracts.boxed.Box as box
 use Rattle.std_alloc.proofs.boxed.Box.TheLaws as box_laws
 use Rattle.std_alloc.specs.contracts.boxed.Box.from_raw as g
-use Rattle.std_alloc.proofs.boxed.Box.from_raw.Met.{met}
 use Rattle.hidewillow_c.specs.contracts.kept.Kept as kept
 use Rattle.hidewillow_c.proofs.kept.Kept.TheLaws.{lowers}
 use Rattle.hidewillow_c.specs.contracts.kept.Kept.into_box as f

@@ -1,41 +1,16 @@
 -- What the box owned is owned at the pointer that `into_raw` answers.
-use Rattle.std.proofs.Common.{List, [], ◌∷◌, ◌++◌, refl, ap}
-use mir.Syntax.{a_type, dcons, dnil}
-use mir.Val.{Val}
-use mir.MapTy.{inst_fn}
-use base.Fraction.{full_share}
-use base.Logic.{id⊢}
-use base.Fml.{ftrue, flft}
-use prog.Wp.{WpFn}
-use types.Kit.{‵, raw, prop, ◌⊛◌, some, later, ◌$◌, ◌∵◌, !, qed, drop, keep, move, split, join, fjoin, pick, await, rewrite, regoal, feq_l, suffices, use1, use0, done}
-use types.Run.{enter, of_opd, no_more, and_then, returns}
-use types.ByLocal.{alloc_all, pass_all, free_all, look_at, get, sets, lands_as}
-use types.Part.{agg}
-use types.Tokens.{lft_new}
-use contract.BorrowLft.{◌⊑◌}
-use contract.Monad.{fact, fact_i}
-use contract.Running.{tables}
-use denote.Exit.{no}
-use denote.RattleType.{RattleType}
-use denote.Param.{param, layout, bounded}
-use denote.Param.Laws.{param_laws}
-use denote.Param.NoDrop.{glues}
-use denote.RawPtr.{Ptr, RawPtr}
-use denote.Signature.{plain}
-use denote.Steps.{nothing, heard, only}
-use denote.Triple.Call.{calls_at}
-use denote.Triple.Clauses.{Lasts, lasts}
-use denote.Triple.Spec.{triple_of}
-use denote.Triple.Walked.{Stays, stay_dropped, Goes-dropped, walk_of, says, ends_at}
-use Rattle.core.proofs.atomic.Steps.{fm}
-use Rattle.core.proofs.cell.Inside.{one}
-use Rattle.std.proofs.raw_atomic.Walks.{proved_at}
-use Rattle.std.proofs.impls.GlobalAllocator.TheImpl.Met.{passed}
+use Rattle.hidewillow_c.proofs.Names.{List, [], ◌∷◌, ◌++◌, refl, ap, a_type, dcons, dnil, Val, inst_fn, full_share, id⊢}
+use Rattle.hidewillow_c.proofs.Names.{ftrue, flft, WpFn, ‵, raw, prop, ◌⊛◌, some, later, ◌$◌, ◌∵◌, !, qed, drop, keep}
+use Rattle.hidewillow_c.proofs.Names.{move, split, join, fjoin, pick, await, rewrite, regoal, feq_l, suffices, use1}
+use Rattle.hidewillow_c.proofs.Names.{use0, done, enter, of_opd, no_more, and_then, returns, alloc_all, pass_all}
+use Rattle.hidewillow_c.proofs.Names.{free_all, look_at, get, sets, lands_as, agg, lft_new, ◌⊑◌, fact, fact_i, tables}
+use Rattle.hidewillow_c.proofs.Names.{no, RattleType, param, layout, bounded, param_laws, glues, Ptr, RawPtr, plain}
+use Rattle.hidewillow_c.proofs.Names.{nothing, heard, only, calls_at, Lasts, lasts, triple_of, Stays, stay_dropped}
+use Rattle.hidewillow_c.proofs.Names.{Goes-dropped, walk_of, says, ends_at, fm, one, proved_at, passed, kept_at}
+use Rattle.hidewillow_c.proofs.Names.{global_laws, global_within}
 use Rattle.hidewillow_c.proofs.Destruct++none.drop.Code as nodrop
 use Rattle.hidewillow_c.proofs.Pointer.{word, ptr_fits, word_fits, pointed}
 use Rattle.hidewillow_c.proofs.Heap.{Global, Z, LZ, ghosts, dict, drops}
-use Rattle.hidewillow_c.specs.Kept.{kept_at}
-use Rattle.std.proofs.alloc.Global.TheLaws.{the_row_laws as global_laws, the_within as global_within}
 use Rattle.std_alloc.specs.contracts.boxed.Box as box
 use Rattle.std_alloc.proofs.boxed.Box.TheLaws as box_laws
 use Rattle.std_alloc.specs.contracts.boxed.Box.into_raw as g

@@ -1,15 +1,9 @@
 -- The pointer is passed on, with what is owned there.
-use Rattle.std.proofs.Common.{[], ◌∷◌, refl, Some}
-use base.Fml.{ftrue}
-use types.Kit.{‵, ◌⊛◌, ◌$◌, ◌∵◌, !, qed, drop, keep, split, join, fsplit, fjoin, suffices, done}
-use types.Run.{enter, of_opd, stop, fld, no_more, and_then, returns}
-use types.ByLocal.{alloc_all, pass_all, free_all, look_at, get, get_in, sets}
-use types.Part.{agg, sub, whole}
-use denote.Exit.{yes}
-use denote.Signature.{plain}
-use denote.Steps.{nothing}
-use denote.Triple.Walked.{Stays, stay_dropped, Goes-dropped, walk_of, says, ends_at}
-use Rattle.std.proofs.raw_atomic.Walks.{proved}
+use Rattle.hidewillow_c.proofs.Names.{[], ◌∷◌, refl, Some, ftrue, ‵, ◌⊛◌, ◌$◌, ◌∵◌, !, qed, drop, keep, split, join}
+use Rattle.hidewillow_c.proofs.Names.{fsplit, fjoin, suffices, done, enter, of_opd, stop, fld, no_more, and_then}
+use Rattle.hidewillow_c.proofs.Names.{returns, alloc_all, pass_all, free_all, look_at, get, get_in, sets, agg, sub}
+use Rattle.hidewillow_c.proofs.Names.{whole, yes, plain, nothing, Stays, stay_dropped, Goes-dropped, walk_of, says}
+use Rattle.hidewillow_c.proofs.Names.{ends_at, proved}
 use Rattle.hidewillow_c.proofs.Pointer.{word, ptr_fits, word_fits, pointed}
 use Rattle.sk_held.proofs.held.Held.TheLaws.{the_row_laws}
 use Rattle.hidewillow_c.proofs.kept.Kept.TheLaws.{lowers}

@@ -1,8 +1,5 @@
 -- The piece is joined to its segment, or counts for nothing.
-use Rattle.std.proofs.Common.{refl, sym, subst}
-use mathlib.Core.Logic.{inl}
-use Rattle.hidewillow_c.specs.declared.reading.Stage.{Stage}
-use Rattle.hidewillow_c.specs.Reading.{HoldsFrom}
+use Rattle.hidewillow_c.proofs.Names.{refl, sym, subst, inl, Stage, HoldsFrom}
 use Rattle.hidewillow_c.proofs.Read.{takes}
 use Rattle.hidewillow_c.proofs.reading.Reading.feed_segment.Goals as goal
 

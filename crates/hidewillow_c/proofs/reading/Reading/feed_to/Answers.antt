@@ -1,7 +1,5 @@
 -- The piece is joined to what came.
-use Rattle.std.proofs.Common.{rules, [], refl}
-use mathlib.Core.Logic.{inl}
-use Rattle.sk_recovered.specs.Snapshots.{snapshot_heads}
+use Rattle.hidewillow_c.proofs.Names.{rules, [], refl, inl, snapshot_heads}
 use Rattle.hidewillow_c.proofs.reading.Reading.feed_to.Goals as goal
 
 pub returns-in-Ok : goal.returns-in-Ok

@@ -1,14 +1,8 @@
 -- A handle at null owns nothing.
-use Rattle.std.proofs.Common.{[], ◌∷◌, refl, lit<, None}
-use types.Kit.{‵, ◌⊛◌, ◌$◌, ◌∵◌, !, qed, keep, join, fjoin, feq_i, suffices, done}
-use types.Run.{enter, lit, no_more, and_then, returns}
-use types.ByLocal.{alloc_all, pass_all, free_all, look_at, sets}
-use types.Part.{agg}
-use base.Fml.{ftrue}
-use denote.RawPtr.{Ptr, null_ptr}
-use denote.Steps.{nothing}
-use denote.Triple.Walked.{Stays, says, ends_at}
-use Rattle.std.proofs.raw_atomic.Walks.{proved}
+use Rattle.hidewillow_c.proofs.Names.{[], ◌∷◌, refl, lit<, None, ‵, ◌⊛◌, ◌$◌, ◌∵◌, !, qed, keep, join, fjoin, feq_i}
+use Rattle.hidewillow_c.proofs.Names.{suffices, done, enter, lit, no_more, and_then, returns, alloc_all, pass_all}
+use Rattle.hidewillow_c.proofs.Names.{free_all, look_at, sets, agg, ftrue, Ptr, null_ptr, nothing, Stays, says, ends_at}
+use Rattle.hidewillow_c.proofs.Names.{proved}
 use Rattle.hidewillow_c.proofs.Pointer.{word, pointed}
 use Rattle.hidewillow_c.specs.contracts.recovering.Recovering.closed as f
 use Rattle.hidewillow_c.proofs.recovering.Recovering.closed.Statement.{statement}

@@ -1,14 +1,9 @@
 -- What clap says of our command line.
-use Rattle.std.proofs.Common.{◌≡◌, List, true, codes, option_map, Option, Some, None, refl, ap, sym, ◌∙◌}
-use Rattle.std.specs.Prelude.{option_and_then, unwrap_or}
-use Rattle.clap.specs.Faults.{is_simple_and_free}
-use Rattle.clap.specs.Matches.{subcommand_name_of}
-use Rattle.clap.specs.Simple.{is_simple, subcommand_rows_of}
-use Rattle.clap.specs.Walk.{Row, Text, first_of}
-use Rattle.clap.specs.declared.parser.matches.ArgMatches.{ArgMatches}
-use Rattle.clap.specs.declared.parser.matches.ArgMatches.TheViews.{out-ArgMatches}
+use Rattle.sk_command.proofs.Names.{◌≡◌, List, true, codes, option_map, Option, Some, None, refl, ap, sym, ◌∙◌}
+use Rattle.sk_command.proofs.Names.{option_and_then, unwrap_or, is_simple_and_free, subcommand_name_of, is_simple}
+use Rattle.sk_command.proofs.Names.{subcommand_rows_of, Row, Text, first_of, ArgMatches, out-ArgMatches, command_line}
+use Rattle.sk_command.proofs.Names.{wish_for, wish_found}
 use Rattle.clap.proofs.OnLiterals.{clap_on_literals}
-use Rattle.sk_command.specs.CommandLine.{command_line, wish_for, wish_found}
 
 -- clap's facts are exact for it
 pub is_known : is_simple_and_free command_line ≡ true

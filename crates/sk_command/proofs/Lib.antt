@@ -1,3 +1,4 @@
+pub mod Names
 pub mod Jobs
 pub mod Numbers
 pub mod Written

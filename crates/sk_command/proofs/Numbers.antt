@@ -1,12 +1,7 @@
 -- When a text says a number within a limit.
-use Rattle.std.proofs.Common.{◌≡◌, ℕ, true, false, Some, None, refl, ap}
-use Rattle.std.specs.Str.Parse.{digits_value, without_leading_plus}
-use Rattle.clap.specs.ValueTests.{is_unsigned_in}
-use Rattle.clap.specs.Values.{IsUnsignedIn}
-use Rattle.clap.specs.Walk.{Text}
+use Rattle.sk_command.proofs.Names.{◌≡◌, ℕ, true, false, Some, None, refl, ap, digits_value, without_leading_plus}
+use Rattle.sk_command.proofs.Names.{is_unsigned_in, IsUnsignedIn, Text, accepts-Accepts, Accepts-accepts, number_said}
 use Rattle.clap.specs.declared.builder.value_parser.ValueParser.TheVariants as parsers
-use Rattle.clap.proofs.ValueTestLemmas.{accepts-Accepts, Accepts-accepts}
-use Rattle.sk_command.specs.CommandLine.{number_said}
 
 pub is_said : (most n : ℕ) (text : Text) → IsUnsignedIn 1 most text → n ≡ digits_value 10 (without_leading_plus text) → Some n ≡ number_said most text
 is_said most n text within same = rw (Accepts-accepts false (parsers.Unsigned 1 most) text within) (ap (λ m. Some m) same)

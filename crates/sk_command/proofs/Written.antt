@@ -1,10 +1,7 @@
 -- An output that is written out.
-use Rattle.std.proofs.Common.{◌≡◌, ℕ, List, Option, IfSome}
-use Rattle.std.specs.Io.KnownBytes.{Appends, Keeps}
-use Rattle.std.proofs.KnownBytes.{Appends-kept}
-use Rattle.sk_command.specs.declared.end.End.{End}
+use Rattle.sk_command.proofs.Names.{◌≡◌, ℕ, List, Option, IfSome, Appends, Keeps, Appends-kept, End, EndsWithHelp}
+use Rattle.sk_command.proofs.Names.{IsFlushed, IsWritten}
 use Rattle.sk_command.specs.declared.end.End.TheVariants as ends
-use Rattle.sk_command.specs.Ends.{EndsWithHelp, IsFlushed, IsWritten}
 
 -- nothing is left of what was written out
 pub written_is_flushed : (end : End) (buffer : List ℕ) → IsWritten end buffer → IsFlushed end buffer

@@ -23,17 +23,9 @@ use Rattle.sk_command.specs.Ends.{EndsFor, EndsUnwritten}
 abbrev pub file_rule : Rule
 file_rule = record (new_rule (codes "FILE")) { required = true; action = Some Set; value_names = 1 }
 
--- the flag --trace
-abbrev pub trace_rule : Rule
-trace_rule = record (new_rule (codes "trace")) { long = Some (codes "trace"); action = Some SetTrue }
-
--- the flag --steps
-abbrev pub steps_rule : Rule
-steps_rule = record (new_rule (codes "steps")) { long = Some (codes "steps"); action = Some SetTrue }
-
--- the flag --counts
-abbrev pub counts_rule : Rule
-counts_rule = record (new_rule (codes "counts")) { long = Some (codes "counts"); action = Some SetTrue }
+-- a flag, as --trace
+abbrev pub flag_rule : Text → Rule
+flag_rule name = record (new_rule name) { long = Some name; action = Some SetTrue }
 
 -- the option --workers, a number from 1 to 8
 abbrev pub workers_rule : Rule
@@ -43,23 +35,15 @@ workers_rule = record (new_rule (codes "workers")) { long = Some (codes "workers
 abbrev pub turns_rule : Rule
 turns_rule = record (new_rule (codes "turns")) { long = Some (codes "turns"); action = Some Set; value_names = 1; defaults = codes "100000" ∷ []; parser = Some (parsers.Unsigned 1 TURNS_MOST) }
 
-abbrev pub play_of_file : App
-play_of_file = with_rule (with_rule (new_app (codes "play")) file_rule) trace_rule
+-- a command that takes a file
+abbrev pub file_command : Text → App
+file_command name = with_rule (new_app name) file_rule
 
 abbrev pub play_command : App
-play_command = with_rule (with_rule play_of_file steps_rule) counts_rule
-
-abbrev pub talk_command : App
-talk_command = with_rule (new_app (codes "talk")) file_rule
-
-abbrev pub plain_command : App
-plain_command = with_rule (new_app (codes "plain")) file_rule
-
-abbrev pub replay_command : App
-replay_command = with_rule (new_app (codes "replay")) file_rule
+play_command = with_rule (with_rule (with_rule (file_command (codes "play")) (flag_rule (codes "trace"))) (flag_rule (codes "steps"))) (flag_rule (codes "counts"))
 
 abbrev pub work_command : App
-work_command = with_rule (with_rule (with_rule (new_app (codes "work")) file_rule) workers_rule) turns_rule
+work_command = with_rule (with_rule (file_command (codes "work")) workers_rule) turns_rule
 
 -- it takes no word, and without one it has help to print
 abbrev pub prints_help : Shape → Shape
@@ -80,7 +64,8 @@ bare_command_line = on_top wants_command (new_app (codes "speculate"))
 -- with those that take a file
 abbrev pub with_files : App
 with_files =
-    with_subcommand (with_subcommand (with_subcommand (with_subcommand (with_subcommand bare_command_line play_command.top) talk_command.top) plain_command.top) replay_command.top) work_command.top
+    with_subcommand (with_subcommand (with_subcommand (with_subcommand (with_subcommand bare_command_line play_command.top) (file_command (codes "talk")).top)
+    (file_command (codes "plain")).top) (file_command (codes "replay")).top) work_command.top
 
 abbrev pub command_line : App
 command_line = with_subcommand with_files instructions_command.top

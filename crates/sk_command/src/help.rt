@@ -25,6 +25,13 @@ pub const WORK: &str =
 /// Of `instructions`.
 pub const INSTRUCTIONS: &str = "Prints the table of the instructions of scripts.";
 
+/// Of the flags of `play`.
+pub const TRACE_FLAG: &str = "Prints the trace behind the report";
+
+pub const STEPS_FLAG: &str = "Prints what each step reads, writes and rests on below its answer";
+
+pub const COUNTS_FLAG: &str = "Prints how many guesses and steps there were behind the report";
+
 /// The forms of scenarios and of their words, and the statuses of the program.
 pub const FORMS: &str = "A scenario is a text of lines. First come the declarations:
   script NAME .. end    a script, an instruction or label per line

@@ -8,12 +8,13 @@ ghost use Rattle.clap.specs.Simple.{app_of, subcommand_rows_of};
 ghost use Rattle.clap.specs.Values.{kind_of};
 ghost use Rattle.clap.specs.Walk.{rows_of, rule_of};
 ghost use Rattle.clap.specs.declared.builder.command.Command.TheViews.{out-Command as fields_of};
-ghost use Rattle.sk_command.specs.CommandLine.{bare_command_line, command_line, play_of_file, play_command, talk_command, plain_command, replay_command, work_command, instructions_command, file_rule, trace_rule, steps_rule, counts_rule, workers_rule, turns_rule, has_flag, shows_found, number_said, number_found, wish_to_work, IsWithinBounds, wish_of, wish_found, wished, faults_of, wish_file};
+ghost use Rattle.sk_command.specs.CommandLine.{bare_command_line, command_line, file_command, play_command, work_command, instructions_command, file_rule, flag_rule, workers_rule, turns_rule, has_flag, shows_found, number_said, number_found, wish_to_work, wish_for, IsWithinBounds, wish_of, wish_found, wished, faults_of, wish_file};
 ghost use Rattle.sk_command.specs.Ends.{EndsFor, EndsWithHelp, IsFlushed};
 
 use crate::end::{End, flushed};
 use crate::help::{
-    COMMAND_LINE, FORMS, INSTRUCTIONS, INSTRUCTIONS_TABLE, PLAIN, PLAY, REPLAY, TALK, WORK,
+    COMMAND_LINE, COUNTS_FLAG, FORMS, INSTRUCTIONS, INSTRUCTIONS_TABLE, PLAIN, PLAY, REPLAY,
+    STEPS_FLAG, TALK, TRACE_FLAG, WORK,
 };
 use clap::builder::ValueParser;
 use clap::error::ErrorKind;
@@ -93,34 +94,15 @@ fn file_arg<'a>(alloc: Global) -> Arg<'a>
         .help("The scenario's file, or - for standard input")
 }
 
-fn trace_arg<'a>(alloc: Global) -> Arg<'a>
-    ensures rule { rule_of result ≡ trace_rule }
+/// A flag of this name.
+fn flag<'a>(alloc: Global, name: &'a str, help: &'a str) -> Arg<'a>
+    ensures rule { rule_of result ≡ flag_rule name.entry.now }
     ensures local { result.global ≡ false }
 {
-    Arg::new(alloc, "trace")
-        .long("trace")
+    Arg::new(alloc, name)
+        .long(name)
         .action(ArgAction::SetTrue)
-        .help("Prints the trace behind the report")
-}
-
-fn steps_arg<'a>(alloc: Global) -> Arg<'a>
-    ensures rule { rule_of result ≡ steps_rule }
-    ensures local { result.global ≡ false }
-{
-    Arg::new(alloc, "steps")
-        .long("steps")
-        .action(ArgAction::SetTrue)
-        .help("Prints what each step reads, writes and rests on below its answer")
-}
-
-fn counts_arg<'a>(alloc: Global) -> Arg<'a>
-    ensures rule { rule_of result ≡ counts_rule }
-    ensures local { result.global ≡ false }
-{
-    Arg::new(alloc, "counts")
-        .long("counts")
-        .action(ArgAction::SetTrue)
-        .help("Prints how many guesses and steps there were behind the report")
+        .help(help)
 }
 
 fn workers_arg<'a>(alloc: Global) -> Arg<'a>
@@ -149,65 +131,32 @@ fn turns_arg<'a>(alloc: Global) -> Arg<'a>
         .help("The greatest number of turns of each worker, 1 to 1000000")
 }
 
-/// The command `play` with the file and the trace alone.
-fn play_of_file<'a>(alloc: Global) -> Result<Command<'a>, AllocError>
-    ensures app { IfOk result (λ command. app_of command ≡ play_of_file) }
+/// A command of this name that takes a file.
+fn of_file<'a>(alloc: Global, name: &'a str, about: &'a str) -> Result<Command<'a>, AllocError>
+    ensures app { IfOk result (λ command. app_of command ≡ file_command name.entry.now) }
     ensures local { IfOk result (λ command. (fields_of command).has_globals ≡ false) }
 {
-    Command::new(alloc, "play")
-        .about(PLAY)
+    Command::new(alloc, name)
+        .about(about)
         .after_help(FORMS)
-        .arg(file_arg(alloc))?
-        .arg(trace_arg(alloc))
+        .arg(file_arg(alloc))
 }
 
 fn play<'a>(alloc: Global) -> Result<Command<'a>, AllocError>
     ensures app { IfOk result (λ command. app_of command ≡ play_command) }
     ensures local { IfOk result (λ command. (fields_of command).has_globals ≡ false) }
 {
-    play_of_file(alloc)?
-        .arg(steps_arg(alloc))?
-        .arg(counts_arg(alloc))
-}
-
-fn talk<'a>(alloc: Global) -> Result<Command<'a>, AllocError>
-    ensures app { IfOk result (λ command. app_of command ≡ talk_command) }
-    ensures local { IfOk result (λ command. (fields_of command).has_globals ≡ false) }
-{
-    Command::new(alloc, "talk")
-        .about(TALK)
-        .after_help(FORMS)
-        .arg(file_arg(alloc))
-}
-
-fn plain<'a>(alloc: Global) -> Result<Command<'a>, AllocError>
-    ensures app { IfOk result (λ command. app_of command ≡ plain_command) }
-    ensures local { IfOk result (λ command. (fields_of command).has_globals ≡ false) }
-{
-    Command::new(alloc, "plain")
-        .about(PLAIN)
-        .after_help(FORMS)
-        .arg(file_arg(alloc))
-}
-
-fn replay<'a>(alloc: Global) -> Result<Command<'a>, AllocError>
-    ensures app { IfOk result (λ command. app_of command ≡ replay_command) }
-    ensures local { IfOk result (λ command. (fields_of command).has_globals ≡ false) }
-{
-    Command::new(alloc, "replay")
-        .about(REPLAY)
-        .after_help(FORMS)
-        .arg(file_arg(alloc))
+    of_file(alloc, "play", PLAY)?
+        .arg(flag(alloc, "trace", TRACE_FLAG))?
+        .arg(flag(alloc, "steps", STEPS_FLAG))?
+        .arg(flag(alloc, "counts", COUNTS_FLAG))
 }
 
 fn work<'a>(alloc: Global) -> Result<Command<'a>, AllocError>
     ensures app { IfOk result (λ command. app_of command ≡ work_command) }
     ensures local { IfOk result (λ command. (fields_of command).has_globals ≡ false) }
 {
-    Command::new(alloc, "work")
-        .about(WORK)
-        .after_help(FORMS)
-        .arg(file_arg(alloc))?
+    of_file(alloc, "work", WORK)?
         .arg(workers_arg(alloc))?
         .arg(turns_arg(alloc))
 }
@@ -239,9 +188,9 @@ fn command<'a>(alloc: Global) -> Result<Command<'a>, AllocError>
 {
     without_commands(alloc)
         .subcommand(play(alloc)?)?
-        .subcommand(talk(alloc)?)?
-        .subcommand(plain(alloc)?)?
-        .subcommand(replay(alloc)?)?
+        .subcommand(of_file(alloc, "talk", TALK)?)?
+        .subcommand(of_file(alloc, "plain", PLAIN)?)?
+        .subcommand(of_file(alloc, "replay", REPLAY)?)?
         .subcommand(work(alloc)?)?
         .subcommand(instructions(alloc))
 }
@@ -299,6 +248,15 @@ fn job_of<'a>(matches: &ArgMatches<'a>) -> Option<Job<'a>>
 {
     let (command, words) = matches.subcommand()?;
     let file = words.get_str("FILE")?;
+    job_for(command, words, file)
+}
+
+/// The job of the command of this name on a file.
+fn job_for<'a>(command: &str, words: &ArgMatches, file: &'a str) -> Option<Job<'a>>
+    ensures job { option_map wish_of result
+        ≡ wish_for command.now (rows_of (found_of words.now)) file.entry.now }
+    ensures within { IfSome result IsWithinBounds }
+{
     match command {
         "play" => Some(Job::Play {
             file,

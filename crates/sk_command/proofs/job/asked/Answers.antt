@@ -1,9 +1,6 @@
 -- The command that is built is the one that the definition has, so clap's facts are exact for it.
-use Rattle.std.proofs.Common.{ap, subst, ◌∙◌, ◌≡◌, [], map, string_bytes}
-use Rattle.clap.specs.Faults.{fault_of, is_simple_and_free}
-use Rattle.clap.specs.Kinds.{HasKind}
-use Rattle.clap.specs.Simple.{App, is_simple, subcommand_of}
-use Rattle.sk_command.specs.CommandLine.{wish_found}
+use Rattle.sk_command.proofs.Names.{ap, subst, ◌∙◌, ◌≡◌, [], map, string_bytes, fault_of, is_simple_and_free, HasKind}
+use Rattle.sk_command.proofs.Names.{App, is_simple, subcommand_of, wish_found}
 use Rattle.sk_command.proofs.Jobs.{is_plain, is_known}
 use Rattle.sk_command.proofs.job.asked.Goals as goal
 

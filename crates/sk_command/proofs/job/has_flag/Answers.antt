@@ -1,7 +1,5 @@
 -- The flag's value is the first of its row.
-use Rattle.std.proofs.Common.{◌∙◌, refl}
-use Rattle.clap.specs.Matches.{found_of}
-use Rattle.clap.proofs.WalkLemmas.{first_value-rows}
+use Rattle.sk_command.proofs.Names.{◌∙◌, refl, found_of, first_value-rows}
 use Rattle.sk_command.proofs.job.has_flag.Goals as goal
 
 pub returns-in-Some : goal.returns-in-Some

@@ -1,7 +1,5 @@
 -- The text of an argument is the first value of its row.
-use Rattle.std.proofs.Common.{◌∙◌, refl}
-use Rattle.clap.specs.Matches.{found_of}
-use Rattle.clap.proofs.WalkLemmas.{first_value-rows}
+use Rattle.sk_command.proofs.Names.{◌∙◌, refl, found_of, first_value-rows}
 use Rattle.sk_command.proofs.job.number_of.Goals as goal
 
 pub returns-in-Some-clause-value : goal.returns-in-Some-clause-value

@@ -1,7 +1,5 @@
 -- Reading all: what was read so far, with what is left, is what the reader had.
-use Rattle.std.proofs.Common.{◌≤◌, vec_len}
-use Rattle.std.specs.Io.KnownBytes.{Consumes}
-use Rattle.sk_command.specs.ReadAll.{INPUT_LIMIT}
+use Rattle.sk_command.proofs.Names.{◌≤◌, vec_len, Consumes, INPUT_LIMIT}
 use Rattle.sk_command.proofs.read_all.read_all.Given as goal
 
 abbrev pub invariant-reads : goal.invariant-reads

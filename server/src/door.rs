@@ -105,7 +105,7 @@ fn request(bytes: &[u8]) -> Result<(Vec<&[u8]>, usize), Lack> {
 }
 
 /// Whether a word is the password. How long that takes tells nothing of it.
-fn is_password(options: &Options, word: &[u8]) -> bool {
+pub fn is_password(options: &Options, word: &[u8]) -> bool {
     let wanted = options.password.iter().chain(&[0]).cycle();
     let differs = word.iter().zip(wanted).fold(0, |differs, (it, wanted)| black_box(differs | (it ^ wanted)));
     (differs == 0) & (word.len() == options.password.len())

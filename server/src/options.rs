@@ -18,6 +18,7 @@ pub const HELP: &str = "hidewillow-server [--NAME VALUE]..
   --log disk                 or etcd:ADDRESS,..: where the log is, in the folder or in an engine, by the addresses of its members for clients
   --prefix hidewillow/       what the keys of the log begin with in the engine
   --lease 2                  seconds after which another leads where a host is gone
+  --copies 127.0.0.1:0       where other hosts of a log in an engine copy this one's snapshot
   --clock untrusted          or trusted: whether reads go out by this host's clock alone while the lease runs
   --check FOLDER             says what a start on a folder would, changes nothing, and ends with 0 or 1";
 
@@ -41,6 +42,8 @@ pub struct Options {
     pub prefix: String,
     pub lease: u64,
     pub trusts_clock: bool,
+    /// Where other hosts copy snapshots.
+    pub copies: String,
     pub limits: StoreLimits,
 }
 
@@ -68,6 +71,7 @@ impl Options {
                 None => return Err(format!("{value}: disk, or etcd:ADDRESS,..")),
             },
             "prefix" => self.prefix = value.into(),
+            "copies" => self.copies = value.into(),
             "lease" => self.lease = number(value, 1..=3600)?,
             "clock" if value == "trusted" || value == "untrusted" => self.trusts_clock = value == "trusted",
             "clock" => return Err(format!("{value}: trusted or untrusted")),
@@ -96,9 +100,11 @@ impl Options {
         let (address, folder, password, snapshot) = ("127.0.0.1:7379".into(), ".".into(), Vec::new(), 1 << 30);
         let (check, backups, memory) = (None, None, 0);
         let (engine, prefix, lease, trusts_clock) = (Vec::new(), "hidewillow/".into(), 2, false);
+        let copies = "127.0.0.1:0".into();
         #[rustfmt::skip]
         let mut options = Options {
-            address, folder, check, password, snapshot, backups, memory, engine, prefix, lease, trusts_clock, limits,
+            address, folder, check, password, snapshot, backups, memory, engine, prefix, lease, trusts_clock, copies,
+            limits,
         };
         for words in words.chunks(2) {
             let name = words[0].strip_prefix("--").filter(|_| words.len() == 2);

@@ -2,6 +2,7 @@
 """Faults of hosts over an engine of three members, and what must hold at any time.
 
     tests/failovers.py [--server PROGRAM] [--faults 20] [--kinds NAME,..] [--seed N] [--batches 4] [--hosts 2] [--clock trusted]
+    tests/failovers.py --back              kills the host that leads, and looks how soon another does
     tests/failovers.py --wrong [NAME ..]   builds hosts that are wrong on purpose, and says whether they are found
 
 Where `etcd` is not installed the last line is 'not there', else 'N passed, M failed'. All that it writes is in a folder of its own, in
@@ -23,6 +24,7 @@ import re
 import shutil
 import signal
 import socket
+import statistics
 import subprocess
 import sys
 import tempfile
@@ -34,10 +36,14 @@ from crashes import ROOMS, Link, Wrong, free_port, home, need
 
 CLIENTS, LISTS, COUNTERS, PAIRS = 8, 3, 3, 4
 LEASE = 2
-BACK = 120
+BACK, BACK_OF_WRONG = 120, 30
+# How soon somebody is to lead again where a host was killed, in the median, by how much longer for each second that a thread sleeps longer than it wished.
+SOON, SOON_BY_LATE = 3.0, 100
+# What hosts say.
+CUT, COPIED = "is cut off up to", "is copied from"
 PUT_GUARDS = "[is_made(&leader, self.revision), has_value(&leader, &self.token), is_made(&key, 0)]"
 KINDS = ["host killed", "host sleeps", "member stopped, host killed", "host cut off", "host sleeps beside an idle one", "host stopped a while",
-         "member stopped, host sleeps", "member killed", "two killed", "member stopped", "answers lost, host sleeps long"]
+         "member stopped, host sleeps", "member killed", "two killed", "member stopped", "answers lost, host sleeps long", "host loses its folder"]
 SLEEPS = ["host sleeps", "host sleeps beside an idle one", "member stopped, host sleeps"]
 # Hosts that are wrong on purpose: the faults that are tried, and the file, what stands there, and what is put in its place.
 WRONG = {
@@ -46,10 +52,11 @@ WRONG = {
     "no guard of the leader": (["host sleeps beside an idle one", "host cut off", "member stopped, host sleeps"],
                                [("etcd/engine.rs", PUT_GUARDS, "[is_made(&key, 0)]")]),
     "a time out is a failure": (["member stopped", "host cut off", "host stopped a while", "two killed"],
-                                [("etcd/engine.rs", "settled(|patience| self.try_put(batch, patience))",
-                                  "self.try_put(batch, PATIENCE / 4).unwrap_or(Fate::Lost)")]),
+                                [("etcd/engine.rs", "Err(_) => drop(thread::spawn(move || tell.tell(leadership.settled(&asked)))),",
+                                  "Err(_) => tell.tell(Heard { word: asked.batch.as_ref().map_or(Word::Over, |it| Word::Lost(it.number)),"
+                                  " turn: 0, micros: 0 }),")]),
     "absent is never, behind a cut": (["answers lost, host sleeps long"],
-                                      [("etcd/engine.rs", "if up_to(found(2)) >= number => Fate::Unknowable", "if number == 0 => Fate::Unknowable")]),
+                                      [("etcd/engine.rs", "let snap = did.found(2).map_or(0, |entry| up_to(&entry.value));", "let snap = 0;")]),
     "nothing is deleted behind the gap": (["member stopped, host killed", "member stopped, host sleeps", "two killed"],
                                           [("etcd/engine.rs", ", delete(&self.keys.log(gap), &self.keys.log_end())],", "],")]),
 }
@@ -272,7 +279,7 @@ class Gate:
     def __init__(self, port):
         self.target, self.open, self.socket = port, threading.Event(), socket.create_server((home(), 0))
         self.open.set()
-        self.taken, self.muted = 0.0, 0.0
+        self.moved, self.muted = 0, 0.0
         self.port = self.socket.getsockname()[1]
         threading.Thread(target=self.takes, daemon=True).start()
 
@@ -282,7 +289,6 @@ class Gate:
                 near, _ = self.socket.accept()
             except OSError:
                 return
-            self.taken = time.monotonic()
             threading.Thread(target=self.joins, args=(near,), daemon=True).start()
 
     def joins(self, near):
@@ -304,6 +310,7 @@ class Gate:
                 self.open.wait()
                 if not is_back or begun > self.muted:
                     target.sendall(piece)
+                self.moved += 0 if is_back else len(piece)
             target.shutdown(socket.SHUT_WR)
         except OSError:
             for end in (source, target):
@@ -337,11 +344,11 @@ class Process:
 
 class Host(Process):
     def __init__(self, trial, name, members, room):
-        self.port, self.gates = free_port(), [Gate(member.port) for member in members]
+        self.port, self.gates, self.folder = free_port(), [Gate(member.port) for member in members], room / f"folder-{name}"
         where = ",".join(f"{home()}:{gate.port}" for gate in self.gates)
         options = trial.options
         super().__init__([options.server, "--log", f"etcd:{where}", "--address", f"{home()}:{self.port}", "--lease", LEASE,
-                          "--batches", options.batches, "--clock", options.clock, "--folder", room / f"folder-{name}",
+                          "--batches", options.batches, "--clock", options.clock, "--folder", self.folder,
                           "--snapshot", options.snapshot, "--segment", "64k", "--undecided", "60k"], room / f"host-{name}.log")
 
 
@@ -350,7 +357,7 @@ class Trial:
 
     def __init__(self, options, room):
         self.options, self.room, self.book, self.over, self.calm = options, room, Book(), threading.Event(), threading.Event()
-        self.dice, self.wrong, self.back, self.probes = random.Random(f"{options.seed}"), None, [], {}
+        self.dice, self.wrong, self.back, self.late, self.probes = random.Random(f"{options.seed}"), None, [], [], {}
         ports = [(free_port(), free_port()) for _ in range(3)]
         cluster = ",".join(f"m{place}=http://{home()}:{peer}" for place, (_, peer) in enumerate(ports))
         self.members = []
@@ -364,6 +371,13 @@ class Trial:
             self.members.append(member)
         self.hosts = [Host(self, name, self.members[place:] + self.members[:place], room) for place, name in enumerate("abc"[:options.hosts])]
 
+    def lags(self):
+        """How much longer a thread sleeps than it wished, which tells what the machine has for others."""
+        while not self.over.is_set():
+            begun = time.monotonic()
+            time.sleep(0.05)
+            self.late.append(time.monotonic() - begun - 0.05)
+
     def fails(self, wrong):
         with self.book.lock:
             self.wrong = self.wrong or wrong
@@ -374,7 +388,7 @@ class Trial:
 
     def leader(self, not_this=None):
         """The host that leads, once one does."""
-        until = time.monotonic() + BACK
+        until = time.monotonic() + (BACK if self.options.wrong is None else BACK_OF_WRONG)
         while time.monotonic() < until:
             self.looked()
             for host in self.hosts:
@@ -476,8 +490,10 @@ class Trial:
                 pass
 
     def asked(self, host):
-        """The member that a host asks now."""
-        gate = max(host.gates, key=lambda gate: gate.taken)
+        """The member that a host asks now: most goes there."""
+        before = [gate.moved for gate in host.gates]
+        time.sleep(0.1)
+        gate, _ = max(zip(host.gates, before), key=lambda it: it[0].moved - it[1])
         return next(member for member in self.members if member.port == gate.target)
 
     def sleeps(self, host, is_idle, member=None):
@@ -514,6 +530,20 @@ class Trial:
             gate.open.set()
         for thread in waiting:
             thread.join(31)
+
+    def said(self, text):
+        """How often hosts said something."""
+        return sum(len(re.findall(text, path.read_text(errors="replace"))) for path in self.room.glob("host-*.log"))
+
+    def loses(self, host):
+        """Its folder is gone, so it needs the snapshot of another where the log has been cut off."""
+        host.kill()
+        shutil.rmtree(host.folder)
+        cuts, copies, until = self.said(CUT), self.said(COPIED), time.monotonic() + BACK
+        host.start()
+        while cuts and self.said(COPIED) == copies:
+            need(time.monotonic() < until, "no snapshot is copied")
+            time.sleep(0.05)
 
     def fault(self, kind):
         host, member = self.leader(), self.dice.choice(self.members)
@@ -559,6 +589,8 @@ class Trial:
             time.sleep(3)
             host.wake()
             time.sleep(2)
+        elif kind == "host loses its folder":
+            self.loses(self.dice.choice(self.hosts))
         elif kind == "host cut off":
             self.holds_up(host, self.dice.uniform(0.2, 5))
         return host
@@ -573,6 +605,7 @@ class Trial:
         clients = [Client(self, who) for who in range(CLIENTS)]
         for client in clients:
             client.start()
+        threading.Thread(target=self.lags, daemon=True).start()
         kinds, moved, tally = self.options.kinds, 0, {}
         for place in range(self.options.faults):
             kind = kinds[place % len(kinds)]
@@ -597,10 +630,11 @@ class Trial:
         self.checked(1 << 30)
         self.looked()
         self.stops()
-        back = sorted(self.back)[len(self.back) // 2]
-        logs = "".join(path.read_text() for path in self.room.glob("host-*.log"))
-        counts = [("snapshots", "a snapshot up to"), ("cuts", "is cut off up to"), ("starts behind a gap", "and [1-9][0-9]* behind a gap")]
-        self.book.totals.update({name: len(re.findall(text, logs)) for name, text in counts})
+        back, late = statistics.median(self.back), statistics.median(self.late)
+        if self.options.back:
+            need(back < SOON + SOON_BY_LATE * late, f"another led again after {back:.1f} s (p50), where threads sleep {late:.4f} s too long")
+        counts = [("snapshots", "a snapshot up to .* bytes"), ("cuts", CUT), ("copies", COPIED), ("starts behind a gap", "and [1-9][0-9]* behind a gap")]
+        self.book.totals.update({name: self.said(text) for name, text in counts})
         return f"{self.options.faults} faults, {moved} changes of leader, {self.book.totals}, back after {back:.1f} s (p50): nothing wrong"
 
     def stops(self):
@@ -661,10 +695,11 @@ def main():
     words.add_argument("--hosts", type=int, default=2)
     words.add_argument("--clock", default="untrusted")
     words.add_argument("--snapshot", default="128k", help="bytes of the log after which a snapshot is made")
+    words.add_argument("--back", action="store_true", help="the host that leads is killed each time, and another is to lead soon")
     words.add_argument("--tell", action="store_true", help="a line for each fault on stderr")
     words.add_argument("--wrong", nargs="*", metavar="NAME", help="those that have one of these names, or all")
     options = words.parse_args()
-    options.kinds = [kind.replace("; ", ", ") for kind in options.kinds.split(",")]
+    options.kinds = ["host killed"] if options.back else [kind.replace("; ", ", ") for kind in options.kinds.split(",")]
     if shutil.which("etcd") is None:
         print("not there")
         return

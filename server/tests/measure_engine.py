@@ -55,7 +55,8 @@ class Engine:
         for name, clock in (("store", "untrusted"), ("trusts clocks", "trusted")):
             self.ports[name] = free_port()
             self.start([options.server, "--log", "etcd:" + ",".join(self.addresses), "--address", at(self.ports[name]), "--clock", clock,
-                        "--prefix", f"{name}/", "--batches", options.batches], name.replace(" ", "-"))
+                        "--prefix", f"{name}/", "--batches", options.batches, "--folder", self.data / name.replace(" ", "-")],
+                       name.replace(" ", "-"))
         until = time.monotonic() + 60
         for port in self.ports.values():
             while time.monotonic() < until:

@@ -1,15 +1,20 @@
-//! A leadership over the log in the engine, and threads that have batches and rounds decided.
+//! A leadership over the log in the engine, of which the loop asks and is told: to put batches, and whether it still leads.
 //!
 //! Each request to the engine is here, with what its answers mean; `docs/STORE.md` has them as a table. A request that is answered by an
 //! error, or too late, is of unknown fate: the same is sent again, to the next member, until there is a definite word.
-use super::requests::{delete, has_value, is_changed, is_made, is_older, put, read, transaction, Did, Entry, Members};
+use super::requests::{
+    delete, did, found, has_value, is_changed, is_made, is_older, put, range, read, transaction, Entry, Members,
+    Request,
+};
+use hidewillow::engine::{self, Answer, BatchSeen, FenceSeen, Held, Word};
 use std::collections::hash_map::RandomState;
 use std::hash::BuildHasher;
 use std::io::{self, ErrorKind, Write};
+use std::mem;
 use std::os::unix::net::UnixStream;
 use std::sync::atomic::{AtomicBool, AtomicU64, Ordering};
 use std::sync::mpsc::{channel, Receiver, Sender};
-use std::sync::{Arc, Mutex};
+use std::sync::Arc;
 use std::thread;
 use std::time::{Duration, Instant};
 
@@ -17,8 +22,6 @@ use std::time::{Duration, Instant};
 const PATIENCE: Duration = Duration::from_millis(1000);
 const MOST: Duration = Duration::from_secs(4);
 const PAUSE: Duration = Duration::from_millis(20);
-/// How many rounds are under way at once.
-pub const ROUNDS: usize = 2;
 /// Bytes of a page of the log at which the next has no more entries.
 const PAGE: usize = 4 << 20;
 
@@ -29,7 +32,7 @@ pub struct Batch {
     pub number: u64,
     pub segment: u64,
     pub offset: u64,
-    pub frame: Vec<u8>,
+    pub frame: Arc<[u8]>,
 }
 
 impl Batch {
@@ -46,46 +49,54 @@ impl Batch {
     }
 }
 
-/// Tells that this host has a snapshot of all up to a number, the end of a segment.
-pub fn tell_have(members: &Members, keys: &Keys, host: &str, number: u64, segment: u64) -> io::Result<()> {
-    let mine = format!("{number:016} {segment:010}");
-    let request = transaction([], [put(&keys.of(&format!("have/{host}")), mine.as_bytes(), 0)], []);
+/// What a host has: a snapshot of all up to a number, the end of a segment, of which copies are to be had at an address.
+pub struct Have {
+    pub number: u64,
+    pub segment: u64,
+    pub copies: String,
+}
+
+impl Have {
+    fn of(value: &[u8]) -> Option<Have> {
+        let mut words = std::str::from_utf8(value).ok()?.split(' ');
+        let (number, segment) = (words.next()?.parse().ok()?, words.next()?.parse().ok()?);
+        Some(Have { number, segment, copies: words.next().unwrap_or_default().into() })
+    }
+
+    /// What is put under the key that says up to where the log is cut off.
+    fn value(&self) -> String {
+        format!("{:016} {:010}", self.number, self.segment)
+    }
+}
+
+/// Tells what this host has.
+pub fn tell_have(members: &Members, keys: &Keys, host: &str, have: &Have) -> io::Result<()> {
+    let value = format!("{} {}", have.value(), have.copies);
+    let request = transaction([], [put(&keys.of(&format!("have/{host}")), value.as_bytes(), 0)], []);
     members.carry_out(&request, 0, PATIENCE).map(drop)
 }
 
-/// What a majority of the hosts has that told so.
-pub fn most_have(members: &Members, keys: &Keys) -> io::Result<Vec<u8>> {
+/// What the hosts have that told so, the most first.
+pub fn have(members: &Members, keys: &Keys) -> io::Result<Vec<Have>> {
     let found = members.read(&keys.of("have/"), &keys.of("have0"), 0, 0, PATIENCE)?;
-    let mut values: Vec<Vec<u8>> = found.entries.into_iter().map(|entry| entry.value).collect();
-    values.sort_unstable_by(|one, other| other.cmp(one));
-    Ok(values.get(values.len() / 2).cloned().unwrap_or_default())
+    let mut have: Vec<Have> = found.entries.iter().flat_map(|entry| Have::of(&entry.value)).collect();
+    have.sort_unstable_by_key(|have| std::cmp::Reverse(have.number));
+    Ok(have)
 }
 
-/// What came of a batch.
-#[derive(Debug, Clone, Copy, PartialEq, Eq)]
-pub enum Fate {
-    /// It is in the log, and every later leader reads it.
-    Synced,
-    /// It is not, and never will be.
-    Lost,
-    /// Nobody can know.
-    Unknowable,
-    /// Something else writes these keys.
-    Breach,
+/// What the loop asked: to put a batch, or whether this host leads, in a turn of it.
+pub struct Question {
+    batch: Option<Batch>,
+    turn: u64,
+    begun: Instant,
+    request: Request,
 }
 
-/// What the loop is told.
-pub enum Word {
-    Fate {
-        number: u64,
-        turn: u64,
-        fate: Fate,
-        micros: u64,
-    },
-    /// This host led at some moment behind this turn of the loop.
-    Led(u64),
-    /// It leads no more.
-    Over(String),
+/// What it is told: a word on what it asked in a turn, so many microseconds ago.
+pub struct Heard {
+    pub word: Word,
+    pub turn: u64,
+    pub micros: u64,
 }
 
 /// Names of keys.
@@ -169,29 +180,6 @@ fn token() -> [u8; 16] {
     std::array::from_fn(|place| words[place / 8][place % 8])
 }
 
-/// Asks until there is a definite word.
-fn settled<T>(mut ask: impl FnMut(Duration) -> io::Result<T>) -> T {
-    let mut patience = PATIENCE;
-    loop {
-        match ask(patience) {
-            Ok(word) => return word,
-            Err(_) => thread::sleep(PAUSE),
-        }
-        patience = MOST.min(patience * 3 / 2);
-    }
-}
-
-/// What the engine's answer to a batch means.
-fn fate(did: &Did, leads: bool, number: u64, mine: &[u8]) -> Fate {
-    let found = |place: usize| did.found.get(place).and_then(Option::as_ref).map_or(&[][..], |entry| &entry.value);
-    match (did.done || found(1) == mine, leads) {
-        (true, _) => Fate::Synced,
-        (false, true) => Fate::Breach,
-        (false, false) if up_to(found(2)) >= number => Fate::Unknowable,
-        (false, false) => Fate::Lost,
-    }
-}
-
 impl Leadership {
     /// Leads, if nobody does.
     fn begin(members: Arc<Members>, keys: &Keys, seconds: u64) -> io::Result<Option<Leadership>> {
@@ -204,7 +192,7 @@ impl Leadership {
         let request = transaction([is_made(&leader, 0)], [put(&leader, &token, lease)], [read(&leader)]);
         // A try that was given up leads at most as long as its lease, which nobody has run anew.
         let did = members.carry_out(&request, 1, PATIENCE).or_else(|_| members.carry_out(&request, 1, PATIENCE))?;
-        let held = did.found.into_iter().flatten().find(|entry| entry.value == token).map(|entry| entry.created);
+        let held = did.found(0).filter(|entry| entry.value == token).map(|entry| entry.created);
         let Some(revision) = held.or(did.done.then_some(did.revision)) else {
             members.revoke(lease, PATIENCE)?;
             return Ok(None);
@@ -213,8 +201,9 @@ impl Leadership {
         Ok(Some(Leadership { members, keys, revision, token, lease, seconds, begun, runs_until, is_over }))
     }
 
-    fn leads(&self, leader: Option<&Entry>) -> bool {
-        leader.is_some_and(|entry| entry.created == self.revision && entry.value == self.token)
+    /// The leadership that the leader is of, if it has this host's token.
+    fn of(&self, leader: Option<&Entry>) -> Option<u64> {
+        leader.filter(|entry| entry.value == self.token).map(|entry| entry.created)
     }
 
     /// Reads the log from a number on as of one moment of this leadership.
@@ -224,19 +213,19 @@ impl Leadership {
 
     /// Cuts off all up to a number, for which a majority of hosts has snapshots: it is done once, since it wants what was cut off before to be
     /// as it was read. Then the engine may forget it.
-    pub fn cut(&self, value: &[u8], cut: u64, cut_at: u64) -> io::Result<()> {
-        if up_to(value) <= cut {
+    pub fn cut(&self, most: &Have, cut: u64, cut_at: u64) -> io::Result<()> {
+        if most.number <= cut {
             return Ok(());
         }
         let (leader, snap) = (self.keys.of("leader"), self.keys.of("snap"));
         let request = transaction(
             [is_made(&leader, self.revision), has_value(&leader, &self.token), is_changed(&snap, cut_at)],
-            [put(&snap, value, 0), delete(&self.keys.log(0), &self.keys.log(up_to(value) + 1))],
+            [put(&snap, most.value().as_bytes(), 0), delete(&self.keys.log(0), &self.keys.log(most.number + 1))],
             [],
         );
         let did = self.members.carry_out(&request, 0, MOST)?;
         if did.done {
-            say!("the log is cut off up to batch {}", up_to(value));
+            say!("the log is cut off up to batch {}", most.number);
             self.members.compact(did.revision, MOST)?;
         }
         Ok(())
@@ -253,50 +242,88 @@ impl Leadership {
             [read(&leader), read(&fence)],
         );
         let did = self.members.carry_out(&request, 2, MOST)?;
-        let found = |place: usize| did.found.get(place).and_then(Option::as_ref);
-        let is_fenced = found(1).is_some_and(|entry| entry.value == mine.as_bytes());
-        Ok(did.done || is_fenced && self.leads(found(0)))
+        let fenced = did.found(1).map_or(0, |entry| up_to(&entry.value));
+        let answer = did.answer(FenceSeen { leader: self.of(did.found(0)), fenced });
+        Ok(engine::fence(self.revision, gap, answer) == Word::Serves)
     }
 
-    /// Tries to put a batch into the log, and tells what came of it. An error tells nothing.
-    pub fn try_put(&self, batch: &Batch, patience: Duration) -> io::Result<Fate> {
+    /// Asks to put a batch into the log.
+    pub fn to_put(&self, batch: Batch, turn: u64) -> Question {
         let (leader, key, mine) = (self.keys.of("leader"), self.keys.log(batch.number), batch.bytes());
         let request = transaction(
             [is_made(&leader, self.revision), has_value(&leader, &self.token), is_made(&key, 0)],
             [put(&key, &mine, 0)],
             [read(&leader), read(&key), read(&self.keys.of("snap"))],
         );
-        let did = self.members.carry_out(&request, 3, patience)?;
-        let leads = self.leads(did.found.first().and_then(Option::as_ref));
-        Ok(fate(&did, leads, batch.number, &mine))
+        Question { batch: Some(batch), turn, begun: Instant::now(), request }
     }
 
-    /// Has a batch put into the log, until it is known what came of it.
-    fn put(&self, batch: &Batch) -> Fate {
-        settled(|patience| self.try_put(batch, patience))
+    /// Asks whether this host leads.
+    fn round(&self, turn: u64) -> Question {
+        Question { batch: None, turn, begun: Instant::now(), request: range(&self.keys.of("leader"), &[], 1, 0) }
     }
 
-    /// Whether this host leads at some moment of this call.
-    fn still(&self) -> bool {
-        let leader = self.keys.of("leader");
-        let found = settled(|patience| self.members.read(&leader, &[], 1, 0, patience));
-        self.leads(found.entries.first())
+    /// The word that an answer has. An error tells nothing.
+    fn word(&self, question: &Question, answer: &[u8]) -> io::Result<Heard> {
+        let Question { turn, ref batch, begun, .. } = *question;
+        let word = match batch {
+            None => engine::round(self.revision, turn, Answer::Seen(self.of(found(answer)?.entries.first()))),
+            Some(batch) => {
+                let did = did(answer, 3)?;
+                let is_mine = |entry: &Entry| entry.value == batch.bytes();
+                let held = did.found(1).map_or(Held::Absent, |it| if is_mine(it) { Held::Mine } else { Held::Another });
+                let snap = did.found(2).map_or(0, |entry| up_to(&entry.value));
+                let answer = did.answer(BatchSeen { leader: self.of(did.found(0)), held, snap });
+                engine::batch(self.revision, batch.number, answer)
+            }
+        };
+        match word {
+            Word::Again => Err(io::Error::other("nothing is known")),
+            word => Ok(Heard { word, turn, micros: begun.elapsed().as_micros() as u64 }),
+        }
     }
 
-    /// Has the lease run on until it is over, or nobody wants it any more.
-    fn keep(&self) {
-        let pause = Duration::from_secs(self.seconds) / 3;
+    /// Asks once, and waits for the word.
+    pub fn once(&self, question: &Question, patience: Duration) -> io::Result<Heard> {
+        self.members.ask(&question.request, patience).and_then(|answer| self.word(question, &answer))
+    }
+
+    /// Asks until there is a definite word.
+    fn settled(&self, question: &Question) -> Heard {
+        let mut patience = PATIENCE;
+        loop {
+            match self.once(question, patience) {
+                Ok(heard) => return heard,
+                Err(_) => thread::sleep(PAUSE),
+            }
+            patience = MOST.min(patience * 3 / 2);
+        }
+    }
+
+    /// Has the lease run on while this is wanted, and tells once that it is over. What is asked of a member that doesn't answer this is asked of
+    /// the next.
+    fn keep(&self, tell: &Tell) {
+        let (pause, mut is_told) = (Duration::from_secs(self.seconds) / 3, false);
         while !self.is_over.load(Ordering::Acquire) {
             let begun = self.begun.elapsed();
-            match self.members.keep(self.lease, pause) {
-                Ok(0) => return,
+            let kept = self.members.keep(self.lease, pause);
+            match kept {
+                Ok(0) if !mem::replace(&mut is_told, true) => tell.tell(Heard { word: Word::Over, turn: 0, micros: 0 }),
+                Ok(0) | Err(_) => (),
                 Ok(seconds) => {
                     let until = begun + Duration::from_secs(seconds) * 4 / 5;
                     self.runs_until.store(until.as_micros() as u64, Ordering::Release);
-                    thread::sleep(pause);
                 }
-                Err(_) => thread::sleep(PAUSE),
             }
+            thread::sleep(if kept.is_ok() { pause } else { PAUSE });
+        }
+    }
+
+    /// Has that member asked that leads the others.
+    fn prefer(&self) {
+        while !self.is_over.load(Ordering::Acquire) {
+            let _ = self.members.prefer();
+            thread::sleep(Duration::from_secs(self.seconds) / 3);
         }
     }
 
@@ -306,77 +333,62 @@ impl Leadership {
     }
 }
 
-/// Threads that have batches and rounds decided.
-pub struct Engine {
-    pub leadership: Arc<Leadership>,
-    batches: Sender<(Batch, u64)>,
-    rounds: Sender<u64>,
-    words: Receiver<Word>,
-}
+/// Tells the loop, and wakes it. That may have ended: then nobody is to be told.
+#[derive(Clone)]
+struct Tell(Sender<Heard>, Arc<UnixStream>);
 
-/// Works for each that comes on a thread, and tells the word and wakes the loop. That may have ended: then nobody is to be told.
-fn works<T: Send + 'static>(
-    taken: &Arc<Mutex<Receiver<T>>>,
-    (tell, wake): &(Sender<Word>, Arc<UnixStream>),
-    leadership: &Arc<Leadership>,
-    work: fn(&Leadership, T) -> Word,
-) {
-    let (taken, tell, wake, leadership) = (taken.clone(), tell.clone(), wake.clone(), leadership.clone());
-    thread::spawn(move || loop {
-        let next = taken.lock().expect("no thread ends that has it").recv();
-        let Ok(next) = next else { return };
-        let _ = tell.send(work(&leadership, next)).map(|()| (&mut &*wake).write(&[0]));
-    });
-}
-
-fn decide(leadership: &Leadership, (batch, turn): (Batch, u64)) -> Word {
-    let begun = Instant::now();
-    let fate = leadership.put(&batch);
-    Word::Fate { number: batch.number, turn, fate, micros: begun.elapsed().as_micros() as u64 }
-}
-
-fn round(leadership: &Leadership, turn: u64) -> Word {
-    if leadership.still() {
-        Word::Led(turn)
-    } else {
-        Word::Over("another leads, or nobody".into())
+impl Tell {
+    fn tell(&self, heard: Heard) {
+        let _ = self.0.send(heard).map(|()| (&mut &*self.1).write(&[0]));
     }
 }
 
+/// A leadership, of which the loop asks and is told.
+pub struct Engine {
+    pub leadership: Arc<Leadership>,
+    tell: Tell,
+    words: Receiver<Heard>,
+}
+
 impl Engine {
-    /// Leads, if nobody does: so many batches may be put at once.
-    pub fn lead(
-        members: Arc<Members>,
-        keys: &Keys,
-        seconds: u64,
-        threads: u16,
-        wake: UnixStream,
-    ) -> io::Result<Option<Engine>> {
+    /// Leads, if nobody does.
+    pub fn lead(members: Arc<Members>, keys: &Keys, seconds: u64, wake: UnixStream) -> io::Result<Option<Engine>> {
         let Some(leadership) = Leadership::begin(members, keys, seconds)?.map(Arc::new) else { return Ok(None) };
-        let ((tell, words), (batches, to_put), (rounds, to_ask)) = (channel(), channel(), channel());
-        let (to_put, to_ask) = (Arc::new(Mutex::new(to_put)), Arc::new(Mutex::new(to_ask)));
-        let hears = (tell, Arc::new(wake));
-        (0..threads).for_each(|_| works(&to_put, &hears, &leadership, decide));
-        (0..ROUNDS).for_each(|_| works(&to_ask, &hears, &leadership, round));
-        let (keeps, (tell, wake)) = (leadership.clone(), hears);
-        thread::spawn(move || {
-            keeps.keep();
-            let _ = tell.send(Word::Over("the lease is over".into())).map(|()| (&mut &*wake).write(&[0]));
-        });
-        Ok(Some(Engine { leadership, batches, rounds, words }))
+        let (tell, words) = channel();
+        let engine = Engine { leadership, tell: Tell(tell, Arc::new(wake)), words };
+        let (keeps, tells) = (engine.leadership.clone(), engine.tell.clone());
+        thread::spawn(move || keeps.keep(&tells));
+        Ok(Some(engine))
+    }
+
+    /// Has that member asked from now on that leads the others. What is under way then is asked again.
+    pub fn prefer(&self) {
+        let prefers = self.leadership.clone();
+        thread::spawn(move || prefers.prefer());
     }
 
     /// Has a batch put, which is of this turn of the loop.
     pub fn send(&self, batch: Batch, turn: u64) {
-        self.batches.send((batch, turn)).expect("threads that put batches don't end");
+        self.ask(self.leadership.to_put(batch, turn));
     }
 
     /// Has it asked whether this host leads behind this turn.
-    pub fn ask(&self, turn: u64) {
-        self.rounds.send(turn).expect("threads that ask don't end");
+    pub fn round(&self, turn: u64) {
+        self.ask(self.leadership.round(turn));
     }
 
-    pub fn next_word(&self) -> Option<Word> {
+    /// Asks at once; where nothing is told the same is asked by a thread of its own until something is.
+    fn ask(&self, question: Question) {
+        let (leadership, tell, question) = (self.leadership.clone(), self.tell.clone(), Arc::new(question));
+        let asked = question.clone();
+        let hears = move |answer: io::Result<Vec<u8>>| match answer.and_then(|it| leadership.word(&asked, &it)) {
+            Ok(heard) => tell.tell(heard),
+            Err(_) => drop(thread::spawn(move || tell.tell(leadership.settled(&asked)))),
+        };
+        self.leadership.members.begin(&question.request, Box::new(hears));
+    }
+
+    pub fn next_word(&self) -> Option<Heard> {
         self.words.try_recv().ok()
     }
 }

@@ -2,13 +2,14 @@
 //!
 //! Headers that come back are passed over, so nothing of them has to be unpacked: a call is answered by a whole message, and one whose
 //! stream ends without is an error, of which nothing more is known. None of our own headers is shortened or remembered.
-use std::collections::HashMap;
+use std::collections::BTreeMap;
 use std::io::{self, BufReader, Read, Write};
+use std::mem;
 use std::net::{Shutdown, TcpStream, ToSocketAddrs};
-use std::sync::mpsc::{self, Sender};
-use std::sync::{Arc, Condvar, Mutex, MutexGuard};
+use std::sync::mpsc;
+use std::sync::{Arc, Mutex, MutexGuard};
 use std::thread;
-use std::time::{Duration, Instant};
+use std::time::Duration;
 
 const GREETING: &[u8] = b"PRI * HTTP/2.0\r\n\r\nSM\r\n\r\n";
 const DATA: u8 = 0;
@@ -64,11 +65,16 @@ fn headers(path: &str, authority: &str) -> Vec<u8> {
     block
 }
 
-/// A call that waits to be answered: what its stream may still be sent, and what came.
+/// Is told once what a call is answered, or that nothing is known, on the thread that hears or on the one that asks.
+pub type Hears = Box<dyn FnOnce(io::Result<Vec<u8>>) + Send>;
+
+/// A call that waits to be answered: its message and how much of it is sent, what its stream may still be sent, and what came.
 struct Call {
+    message: Vec<u8>,
+    sent: usize,
     window: i64,
     came: Vec<u8>,
-    tell: Sender<io::Result<Vec<u8>>>,
+    hears: Hears,
 }
 
 struct State {
@@ -76,14 +82,16 @@ struct State {
     next: u32,
     window: i64,
     first_window: i64,
-    calls: HashMap<u32, Call>,
+    calls: BTreeMap<u32, Call>,
     is_over: bool,
 }
+
+/// Who is told which answer, if anyone is.
+type Answer = Option<(Hears, io::Result<Vec<u8>>)>;
 
 pub struct Connection {
     authority: String,
     state: Mutex<State>,
-    has_room: Condvar,
 }
 
 impl Connection {
@@ -102,9 +110,9 @@ impl Connection {
         put_frame(&mut greeting, SETTINGS, 0, 0, &settings);
         put_frame(&mut greeting, WINDOW, 0, 0, &OURS.to_be_bytes());
         (&out).write_all(&greeting)?;
-        let state = State { out, next: 1, window: 65_535, first_window: 65_535, calls: HashMap::new(), is_over: false };
-        let authority = address.to_string();
-        let connection = Arc::new(Connection { authority, state: Mutex::new(state), has_room: Condvar::new() });
+        let (window, calls) = (65_535, BTreeMap::new());
+        let state = Mutex::new(State { out, next: 1, window, first_window: window, calls, is_over: false });
+        let connection = Arc::new(Connection { authority: address.to_string(), state });
         let hears = connection.clone();
         thread::spawn(move || {
             let error = hears.hear(heard).err().map_or("closed".into(), |error| error.to_string());
@@ -122,10 +130,9 @@ impl Connection {
         let mut state = self.state();
         state.is_over = true;
         let _ = state.out.shutdown(Shutdown::Both);
-        for (_, call) in state.calls.drain() {
-            let _ = call.tell.send(Err(broken(why)));
-        }
-        self.has_room.notify_all();
+        let calls = mem::take(&mut state.calls);
+        drop(state);
+        calls.into_values().for_each(|call| (call.hears)(Err(broken(why))));
     }
 
     pub fn is_over(&self) -> bool {
@@ -135,45 +142,28 @@ impl Connection {
     /// Sends a message, and waits for the answer, which may not come though what was asked for was done.
     pub fn call(&self, path: &str, message: &[u8], patience: Duration) -> io::Result<Vec<u8>> {
         let (tell, told) = mpsc::channel();
-        let until = Instant::now() + patience;
-        self.send(path, message, tell, until)?;
-        let answer = told.recv_timeout(until.saturating_duration_since(Instant::now()));
-        answer.unwrap_or_else(|_| Err(io::ErrorKind::TimedOut.into()))
+        // Who has waited too long doesn't hear it.
+        self.ask(path, message, Box::new(move |answer| drop(tell.send(answer))));
+        told.recv_timeout(patience).unwrap_or_else(|_| Err(io::ErrorKind::TimedOut.into()))
     }
 
-    fn send(&self, path: &str, message: &[u8], tell: Sender<io::Result<Vec<u8>>>, until: Instant) -> io::Result<()> {
-        let body = [&[0][..], &(message.len() as u32).to_be_bytes(), message].concat();
+    /// Sends a message, and has the answer told.
+    pub fn ask(&self, path: &str, message: &[u8], hears: Hears) {
         let mut state = self.state();
         let stream = state.next;
         if state.is_over || stream > OURS {
-            return Err(broken("the connection is over"));
+            drop(state);
+            return hears(Err(broken("the connection is over")));
         }
-        state.next += 2;
-        let call = Call { window: state.first_window, came: Vec::new(), tell };
-        state.calls.insert(stream, call);
-        let (mut out, mut rest) = (Vec::with_capacity(body.len() + 256), &body[..]);
+        let message = [&[0][..], &(message.len() as u32).to_be_bytes(), message].concat();
+        let mut out = Vec::with_capacity(message.len() + 256);
         put_frame(&mut out, HEADERS, END_HEADERS, stream, &headers(path, &self.authority));
-        while !rest.is_empty() {
-            let all = state.window;
-            let call = state.calls.get_mut(&stream).ok_or_else(|| broken("the call is over"))?;
-            let most = LONGEST.min(rest.len()).min(call.window.min(all).max(0) as usize);
-            if most > 0 {
-                let (piece, behind) = rest.split_at(most);
-                rest = behind;
-                call.window -= most as i64;
-                state.window -= most as i64;
-                put_frame(&mut out, DATA, if rest.is_empty() { END_STREAM } else { 0 }, stream, piece);
-                continue;
-            }
-            state.out.write_all(&out)?;
-            out.clear();
-            let left = until.saturating_duration_since(Instant::now());
-            if left.is_zero() {
-                return Err(io::ErrorKind::TimedOut.into());
-            }
-            state = self.has_room.wait_timeout(state, left).expect("no thread ends that has it").0;
-        }
-        state.out.write_all(&out)
+        let (sent, window, came) = (0, state.first_window, Vec::new());
+        state.calls.insert(stream, Call { message, sent, window, came, hears });
+        state.next += 2;
+        let did = state.send(out);
+        drop(state);
+        did.unwrap_or_else(|error| self.end(&error.to_string()));
     }
 
     /// Hears frames until there are no more.
@@ -189,36 +179,51 @@ impl Connection {
             load.resize(bytes as usize, 0);
             input.read_exact(&mut load)?;
             taken += if kind == DATA { bytes } else { 0 };
-            let mut state = self.state();
+            let (mut state, mut out) = (self.state(), Vec::new());
             if taken >= MORE {
-                let mut out = Vec::new();
                 put_frame(&mut out, WINDOW, 0, 0, &taken.to_be_bytes());
                 taken = 0;
-                state.out.write_all(&out)?;
             }
-            state.take(kind, flags, stream, &load)?;
-            self.has_room.notify_all();
+            let answer = state.take(&mut out, kind, flags, stream, &load)?;
+            state.send(out)?;
+            drop(state);
+            if let Some((hears, answer)) = answer {
+                hears(answer);
+            }
         }
     }
 }
 
 impl State {
-    /// Takes a frame that came.
-    fn take(&mut self, kind: u8, flags: u8, stream: u32, load: &[u8]) -> io::Result<()> {
-        let mut out = Vec::new();
+    /// Sends frames, and of messages what the other side has room for.
+    fn send(&mut self, mut out: Vec<u8>) -> io::Result<()> {
+        for (stream, call) in &mut self.calls {
+            while call.sent < call.message.len() && call.window.min(self.window) > 0 {
+                let rest = &call.message[call.sent..];
+                let piece = &rest[..rest.len().min(LONGEST).min(call.window.min(self.window) as usize)];
+                put_frame(&mut out, DATA, if piece.len() == rest.len() { END_STREAM } else { 0 }, *stream, piece);
+                call.window -= piece.len() as i64;
+                self.window -= piece.len() as i64;
+                call.sent += piece.len();
+            }
+        }
+        self.out.write_all(&out)
+    }
+
+    /// Takes a frame that came: what is to be sent for it, and who is told an answer.
+    fn take(&mut self, out: &mut Vec<u8>, kind: u8, flags: u8, stream: u32, load: &[u8]) -> io::Result<Answer> {
         match kind {
             DATA | HEADERS => return self.came(kind, flags, stream, load),
-            RESET => self.tell(stream, Err(broken("the call was broken off"))),
+            RESET => return Ok(self.told(stream, Err(broken("the call was broken off")))),
             SETTINGS if flags & ACK == 0 => {
                 for setting in load.chunks_exact(6).filter(|setting| number(&setting[..2]) == u32::from(FIRST_WINDOW)) {
                     let window = i64::from(number(&setting[2..]));
-                    let more = window - self.first_window;
-                    self.first_window = window;
+                    let more = window - mem::replace(&mut self.first_window, window);
                     self.calls.values_mut().for_each(|call| call.window += more);
                 }
-                put_frame(&mut out, SETTINGS, ACK, 0, &[]);
+                put_frame(out, SETTINGS, ACK, 0, &[]);
             }
-            PING if flags & ACK == 0 => put_frame(&mut out, PING, ACK, 0, load),
+            PING if flags & ACK == 0 => put_frame(out, PING, ACK, 0, load),
             GO_AWAY => return Err(broken("the member goes away")),
             WINDOW if stream == 0 => self.window += i64::from(number(load)),
             WINDOW => {
@@ -228,35 +233,32 @@ impl State {
             }
             _ => (),
         }
-        self.out.write_all(&out)
+        Ok(None)
     }
 
     /// Takes what came on a stream: an answer is told once it is whole.
-    fn came(&mut self, kind: u8, flags: u8, stream: u32, load: &[u8]) -> io::Result<()> {
-        let Some(call) = self.calls.get_mut(&stream) else { return Ok(()) };
+    fn came(&mut self, kind: u8, flags: u8, stream: u32, load: &[u8]) -> io::Result<Answer> {
+        let Some(call) = self.calls.get_mut(&stream) else { return Ok(None) };
         if kind == DATA {
             let pad = if flags & PADDED == 0 { 0 } else { 1 + usize::from(*load.first().unwrap_or(&0)) };
-            let piece =
-                load.get(pad.min(1)..load.len() + pad.min(1) - pad).ok_or_else(|| broken("a frame is cut off"))?;
-            call.came.extend_from_slice(piece);
+            let piece = load.get(pad.min(1)..(load.len() + pad.min(1)).saturating_sub(pad));
+            call.came.extend_from_slice(piece.ok_or_else(|| broken("a frame is cut off"))?);
         }
         let is_plain = call.came.first().is_none_or(|mark| *mark == 0);
         let wanted = call.came.get(1..5).map(|bytes| 5 + number(bytes) as usize);
-        if !is_plain {
-            self.tell(stream, Err(broken("an answer is packed")));
+        Ok(if !is_plain {
+            self.told(stream, Err(broken("an answer is packed")))
         } else if wanted.is_some_and(|wanted| call.came.len() >= wanted) {
             let answer = call.came.split_off(5);
-            self.tell(stream, Ok(answer));
+            self.told(stream, Ok(answer))
         } else if flags & END_STREAM != 0 {
-            self.tell(stream, Err(broken("no answer")));
-        }
-        Ok(())
+            self.told(stream, Err(broken("no answer")))
+        } else {
+            None
+        })
     }
 
-    fn tell(&mut self, stream: u32, answer: io::Result<Vec<u8>>) {
-        if let Some(call) = self.calls.remove(&stream) {
-            // Who has waited too long doesn't hear it.
-            let _ = call.tell.send(answer);
-        }
+    fn told(&mut self, stream: u32, answer: io::Result<Vec<u8>>) -> Answer {
+        self.calls.remove(&stream).map(|call| (call.hears, answer))
     }
 }

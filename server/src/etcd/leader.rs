@@ -1,7 +1,7 @@
 //! The log in an engine, as the loop has it: frames to batches, what came of them, rounds, and the end of a leadership.
-use super::engine::{Batch, Engine, Fate, Keys, Word, ROUNDS};
+use super::engine::{Batch, Engine, Heard, Keys};
+use super::follower::{warmed, Follower};
 use super::requests::Members;
-use super::snapshots::{self, Leading};
 use crate::house::House;
 use crate::keeper::Keeper;
 use crate::options::Options;
@@ -12,6 +12,7 @@ use crate::trusted::library::{
 use crate::trusted::log::Log;
 use crate::trusted::server::Server;
 use crate::trusted::system::SIGUSR1;
+use hidewillow::engine::Word;
 use hidewillow::store::{FramePlace, ReadCounts, StoreLimits};
 use hidewillow::Told;
 use std::hash::{BuildHasher, RandomState};
@@ -23,8 +24,11 @@ use std::time::Duration;
 
 /// How long the head of a frame is.
 const HEAD: usize = 24;
-/// How often it is looked whether somebody leads.
-const WAIT: Duration = Duration::from_millis(100);
+/// How often it is looked whether somebody leads, and how many rounds are under way at once.
+const WAIT: Duration = Duration::from_millis(50);
+const ROUNDS: usize = 2;
+/// How long what came may wait for more that goes with it into a batch, while more comes.
+const GATHERS: Duration = Duration::from_micros(300);
 
 pub struct EtcdLog {
     engine: Engine,
@@ -67,34 +71,40 @@ pub fn recovered(recovery: &mut Recovery, batches: &[Batch], next: u64) -> io::R
 }
 
 impl EtcdLog {
-    /// Recovers the log that a leader has, and goes on behind it. Nothing where it leads no more.
-    fn open(engine: Engine, options: &Options) -> io::Result<Option<(Store, EtcdLog)>> {
-        let (mut recovery, _, first) = Folder(options.folder.clone().into()).begin()?;
-        let log = engine.leadership.read_log(first)?;
-        if log.cut >= first {
-            let cut = log.cut;
-            return Err(io::Error::other(format!(
-                "no snapshot up to batch {cut} is in the folder: copy one of another host"
-            )));
-        }
-        if !engine.leadership.fence(log.gap)? {
+    /// Recovers the log that a leader has, of what was read along and what came since, and goes on behind it. Nothing where it leads no more.
+    fn open(
+        engine: Engine,
+        options: &Options,
+        follower: &Follower,
+        mut recovery: Recovery,
+        first: u64,
+    ) -> io::Result<Option<(Store, EtcdLog)>> {
+        let mut batches = {
+            let along = follower.along();
+            if along.first == first {
+                along.batches.clone()
+            } else {
+                Vec::new()
+            }
+        };
+        let ahead = first + batches.len() as u64;
+        let log = engine.leadership.read_log(ahead)?;
+        if log.cut >= ahead || !engine.leadership.fence(log.gap)? {
             return Ok(None);
         }
-        let ReadCounts { keys, commands, next, .. } = recovered(&mut recovery, &log.batches, log.gap)
+        batches.extend(log.batches);
+        let ReadCounts { keys, commands, next, .. } = recovered(&mut recovery, &batches, log.gap)
             .map_err(|error| io::Error::new(ErrorKind::InvalidData, format!("the log is damaged: {error}")))?;
-        let behind = log.behind;
-        drop(log);
-        say!(
-            "{keys} keys, {commands} commands in {} batches of the log, and {behind} behind a gap are deleted",
-            next - 1
-        );
+        let (all, behind, new) = (next - 1, log.behind, log.gap - ahead);
+        say!("{keys} keys, {commands} commands in {all} batches, {new} of them read now, and {behind} behind a gap are deleted");
         let (seed, mut head) = (RandomState::new().hash_one(std::process::id()), vec![0; HEAD]);
         let (store, at) = Store::open(&mut recovery, &options.limits, seed, &mut head)?;
         // The first batch is decided before any other is sent.
-        let leadership = &engine.leadership;
-        if at.frame != next || leadership.try_put(&batch(leadership.revision, &at, head), WAIT * 40)? != Fate::Synced {
+        let first = engine.leadership.to_put(batch(engine.leadership.revision, &at, &head), 0);
+        if at.frame != next || engine.leadership.once(&first, WAIT * 80)?.word != Word::Synced(next) {
             return Ok(None);
         }
+        engine.prefer();
         let (trusts_clock, under_way, lost) = (options.trusts_clock, Vec::new(), Vec::new());
         #[rustfmt::skip]
         let log = EtcdLog {
@@ -104,26 +114,35 @@ impl EtcdLog {
         Ok(Some((store, log)))
     }
 
-    /// What came of a batch.
-    fn came(&mut self, store: &mut Store, number: u64, turn: u64, fate: Fate, micros: u64) -> io::Result<()> {
-        self.under_way.retain(|it| *it != number);
-        match fate {
-            Fate::Synced => {
+    /// What came of a batch, or of a round.
+    fn came(&mut self, store: &mut Store, Heard { word, turn, micros }: Heard) -> io::Result<()> {
+        match word {
+            Word::Synced(number) => {
                 self.led = self.led.max(turn);
+                self.under_way.retain(|it| *it != number);
                 let [batches, _, all, longest, ..] = &mut self.counts;
                 (*batches, *all, *longest) = (*batches + 1, *all + micros, micros.max(*longest));
-                done(store.synced(number), "synced")
+                done(store.synced(number), "synced")?;
             }
-            Fate::Lost => {
+            Word::Still(turn) => (self.led, self.rounds) = (self.led.max(turn), self.rounds - 1),
+            Word::Lost(number) => {
+                self.under_way.retain(|it| *it != number);
                 (self.is_losing, self.counts[4]) = (true, self.counts[4] + 1);
                 self.lost.push(number);
-                Ok(())
             }
-            Fate::Unknowable => Err(io::Error::other(format!("nobody can know what came of batch {number}"))),
-            Fate::Breach => {
-                Err(io::Error::other("something else writes the keys of the log, so nothing more is answered"))
+            Word::Over => {
+                if !std::mem::replace(&mut self.is_losing, true) {
+                    say!("leads no more");
+                }
+            }
+            Word::Unknowable(number) => {
+                return Err(io::Error::other(format!("nobody can know what came of batch {number}")));
+            }
+            _ => {
+                return Err(io::Error::other("something else writes the keys of the log, so nothing more is answered"))
             }
         }
+        Ok(())
     }
 
     /// Once each batch has its word, the first that is lost and all behind are refused, and so is what was never sent: no later leader
@@ -149,24 +168,14 @@ impl EtcdLog {
     }
 }
 
-fn batch(leadership: u64, at: &FramePlace, mut frame: Vec<u8>) -> Batch {
-    frame.truncate(at.len);
-    Batch { leadership, number: at.frame, segment: at.segment, offset: at.offset, frame }
+fn batch(leadership: u64, at: &FramePlace, frame: &[u8]) -> Batch {
+    Batch { leadership, number: at.frame, segment: at.segment, offset: at.offset, frame: frame[..at.len].into() }
 }
 
 impl Log for EtcdLog {
     fn hear(&mut self, store: &mut Store) -> io::Result<()> {
-        while let Some(word) = self.engine.next_word() {
-            match word {
-                Word::Fate { number, turn, fate, micros } => self.came(store, number, turn, fate, micros)?,
-                Word::Led(turn) => (self.led, self.rounds) = (self.led.max(turn), self.rounds - 1),
-                Word::Over(why) => {
-                    if !self.is_losing {
-                        say!("leads no more: {why}");
-                    }
-                    self.is_losing = true;
-                }
-            }
+        while let Some(heard) = self.engine.next_word() {
+            self.came(store, heard)?;
         }
         if self.is_losing && !self.is_over && self.under_way.is_empty() {
             self.wind_up(store)?;
@@ -181,7 +190,7 @@ impl Log for EtcdLog {
                 Told { answer: DONE, .. } => {
                     (self.next, self.asked, self.counts[1]) = (at.frame + 1, turn, self.counts[1] + at.len as u64);
                     self.under_way.push(at.frame);
-                    self.engine.send(batch(self.engine.leadership.revision, &at, bytes), turn);
+                    self.engine.send(batch(self.engine.leadership.revision, &at, &bytes), turn);
                 }
                 Told { answer: REFUSED, number: FULL, .. } => done(store.turn(), "turn")?,
                 Told { answer: REFUSED, number: NOTHING | BUSY | NO_CUT, .. } | Told { answer: MEMORY, .. } => break,
@@ -199,12 +208,17 @@ impl Log for EtcdLog {
         let rides = self.asked >= read || store.counts().next_frame > HEAD;
         if read > self.led && !rides && !self.is_losing && self.rounds < ROUNDS {
             (self.asked, self.rounds, self.counts[5]) = (turn, self.rounds + 1, self.counts[5] + 1);
-            self.engine.ask(turn);
+            self.engine.round(turn);
         }
     }
 
     fn proved(&self) -> u64 {
         self.led
+    }
+
+    /// A batch costs the engine as much as a single write.
+    fn gathers(&self) -> Duration {
+        GATHERS
     }
 
     fn takes(&self) -> bool {
@@ -230,31 +244,11 @@ impl Log for EtcdLog {
     }
 }
 
-/// Leads where nobody does, and has the store then.
-fn lead(
-    options: &Options,
-    members: &Arc<Members>,
-    waker: &UnixStream,
-    leading: &Leading,
-) -> io::Result<Option<(Store, EtcdLog)>> {
-    let (keys, threads) = (Keys(options.prefix.clone()), options.limits.in_flight);
-    match Engine::lead(members.clone(), &keys, options.lease, threads, waker.try_clone()?)? {
-        Some(engine) => {
-            let leads = Arc::downgrade(&engine.leadership);
-            let opened = EtcdLog::open(engine, options)?;
-            *leading.lock().expect("no thread ends that has it") = leads;
-            Ok(opened)
-        }
-        None => Ok(None),
-    }
-}
-
 /// Leads whenever nobody does, and serves then, until it is told to stop.
 pub fn serve(options: &Options, mut wake: UnixStream, waker: &UnixStream) -> io::Result<()> {
-    let folder = Folder(options.folder.clone().into());
-    let _lock = folder.lock()?;
-    let (leading, members) = (snapshots::start(options), Arc::new(Members::new(options.engine.clone())));
-    let (mut woken, mut told) = ([0; 256], String::new());
+    let _lock = Folder(options.folder.clone().into()).lock()?;
+    let (follower, members) = (Follower::start(options)?, Arc::new(Members::new(options.engine.clone())));
+    let (mut woken, mut told, mut warm) = ([0; 256], String::new(), None);
     loop {
         wake.set_nonblocking(false)?;
         wake.set_read_timeout(Some(WAIT))?;
@@ -262,7 +256,7 @@ pub fn serve(options: &Options, mut wake: UnixStream, waker: &UnixStream) -> io:
         if woken[..count].iter().any(|signal| *signal > 0 && u32::from(*signal) != SIGUSR1) {
             return Ok(());
         }
-        let (store, log) = match lead(options, &members, waker, &leading) {
+        let (store, log) = match lead(options, &members, waker, &follower, &mut warm) {
             Ok(Some(it)) => it,
             Ok(None) => continue,
             Err(error) if error.kind() == ErrorKind::InvalidData => return Err(error),
@@ -281,4 +275,32 @@ pub fn serve(options: &Options, mut wake: UnixStream, waker: &UnixStream) -> io:
             return Ok(());
         }
     }
+}
+
+/// Leads where nobody does, and has the store then; until then the newest snapshot is read, so that this needn't be done then.
+fn lead(
+    options: &Options,
+    members: &Arc<Members>,
+    waker: &UnixStream,
+    follower: &Follower,
+    warm: &mut Option<(Recovery, u64)>,
+) -> io::Result<Option<(Store, EtcdLog)>> {
+    let (first, is_whole) = {
+        let along = follower.along();
+        (along.first, along.is_whole)
+    };
+    if !is_whole {
+        return Ok(None);
+    }
+    let (recovery, of) = match warm.take() {
+        Some(it) if it.1 == first => it,
+        _ => warmed(options)?,
+    };
+    let keys = Keys(options.prefix.clone());
+    let Some(engine) = Engine::lead(members.clone(), &keys, options.lease, waker.try_clone()?)? else {
+        *warm = Some((recovery, of));
+        return Ok(None);
+    };
+    follower.along().leads = Arc::downgrade(&engine.leadership);
+    EtcdLog::open(engine, options, follower, recovery, of)
 }

@@ -5,7 +5,7 @@ use super::log::Closed;
 use crate::info::found;
 use hidewillow::store::ReadCounts;
 use std::fs::{self, File, OpenOptions};
-use std::io::{self, BufWriter, Read, Write};
+use std::io::{self, Read, Write};
 use std::os::unix::fs::FileExt;
 use std::path::{Path, PathBuf};
 
@@ -103,7 +103,7 @@ impl Folder {
     }
 
     /// Makes a file, under its name once it is on the disk, in the place of one of this name; and has that on the disk too.
-    fn place(&self, path: &Path, fill: impl FnOnce(&mut File) -> io::Result<u64>) -> io::Result<u64> {
+    pub fn place(&self, path: &Path, fill: impl FnOnce(&mut File) -> io::Result<u64>) -> io::Result<u64> {
         let new = self.0.join(format!("new-0-{}", path.file_name().unwrap_or_default().display()));
         let mut file = named(&new, File::create(&new))?;
         let did = fill(&mut file).and_then(|bytes| file.sync_all().map(|()| bytes));
@@ -116,10 +116,14 @@ impl Folder {
 
     /// Makes a segment of zeros, in the place of one that is unused.
     pub fn make_segment(&self, segment: u64, bytes: u64) -> io::Result<()> {
+        let room = vec![0; PIECE];
+        // Each piece is synced, so that a frame that is written meanwhile waits for one of them at most.
         let zeros = |file: &mut File| {
-            let mut file = BufWriter::with_capacity(PIECE, file);
-            let count = io::copy(&mut io::repeat(0).take(bytes), &mut file)?;
-            file.flush().map(|()| count)
+            for place in (0..bytes).step_by(PIECE) {
+                file.write_all(&room[..PIECE.min((bytes - place) as usize)])?;
+                file.sync_data()?;
+            }
+            Ok(bytes)
         };
         self.place(&self.segment(segment), zeros).map(drop) // [3]
     }
@@ -174,9 +178,14 @@ impl Folder {
         into.write_of(&mut log, up_to, next).map(|(path, bytes)| (path, Made { keys, bytes }))
     }
 
+    /// The name of a snapshot that stands for the segments up to one, behind which this frame is the next.
+    pub fn snapshot_of(&self, up_to: u64, next: u64) -> PathBuf {
+        self.0.join(format!("snapshot-{up_to:010}-{next}"))
+    }
+
     /// Writes a snapshot of a log that was read up to the end of a segment, and behind which this frame is the next; its bytes too.
     pub fn write_of(&self, log: &mut Recovery, up_to: u64, next: u64) -> io::Result<(PathBuf, u64)> {
-        let (path, mut room) = (self.0.join(format!("snapshot-{up_to:010}-{next}")), vec![0; ENTRIES]);
+        let (path, mut room) = (self.snapshot_of(up_to, next), vec![0; ENTRIES]);
         let bytes = self.place(&path, |file| {
             let mut bytes = 0;
             loop {

@@ -21,6 +21,10 @@ pub trait Log {
     fn hear(&mut self, store: &mut Store) -> io::Result<()>;
     /// Gives on the frames that the store has, in a turn of the loop.
     fn send(&mut self, store: &mut Store, turn: u64) -> io::Result<()>;
+    /// How long at most what came may wait while more comes, which goes with it.
+    fn gathers(&self) -> Duration {
+        Duration::ZERO
+    }
     /// Whether it takes more; and whether it never will, so that nothing more is to be done but to send what may go out.
     fn takes(&self) -> bool {
         true

@@ -8,7 +8,8 @@ use hidewillow::Told;
 use std::io::{self, Read};
 use std::net::TcpListener;
 use std::os::unix::net::UnixStream;
-use std::{mem, thread, time::Duration};
+use std::time::{Duration, Instant};
+use std::{mem, thread};
 
 const LISTENER: u64 = 1 << 32;
 const WAKE: u64 = LISTENER + 1;
@@ -27,9 +28,11 @@ pub struct Server {
     pub(super) later: Vec<u16>,
     pub(super) touched: Vec<u16>,
     pub(super) ending: Vec<u16>,
-    /// Whether the store took nothing, as much is undecided as may be; and how many turns the loop has taken.
+    /// Whether the store took nothing, as much is undecided as may be; how many turns the loop has taken; and since when what comes waits for
+    /// more to go with it.
     pub(super) is_full: bool,
     pub(super) turn: u64,
+    gathers: Option<Instant>,
     /// A room for what sockets read and channels put out.
     pub(super) room: Vec<u8>,
 }
@@ -49,22 +52,30 @@ impl Server {
         poll.ask(true, &listener, LISTENER, (true, false))?;
         poll.ask(true, &wake, WAKE, (true, false))?;
         let (clients, later, touched, ending) = (Vec::new(), Vec::new(), Vec::new(), Vec::new());
-        let (listener, is_full, turn, room) = (Some(listener), false, 0, vec![0; 1 << 18]);
-        Ok(Server { house, poll, listener, wake, store, log, clients, later, touched, ending, is_full, turn, room })
+        let (listener, is_full, turn, gathers, room) = (Some(listener), false, 0, None, vec![0; 1 << 18]);
+        #[rustfmt::skip]
+        let server = Server {
+            house, poll, listener, wake, store, log, clients, later, touched, ending, is_full, turn, gathers, room,
+        };
+        Ok(server)
     }
 
     /// Serves until it is told to stop, or the log is over: then it is told so.
     pub fn run(mut self) -> io::Result<bool> {
         while !self.is_over()? && !self.log.is_over() {
             self.turn += 1;
-            self.poll()?;
+            let came = self.poll()?;
+            let begun = self.gathers.unwrap_or_else(Instant::now);
             self.log.hear(&mut self.store)?;
             self.decide();
             self.is_full = false;
             for channel in mem::take(&mut self.later) {
                 self.feed(channel);
             }
-            self.log.send(&mut self.store, self.turn)?;
+            self.gathers = Some(begun).filter(|begun| came && !self.is_full && begun.elapsed() < self.log.gathers());
+            if self.gathers.is_none() {
+                self.log.send(&mut self.store, self.turn)?;
+            }
             self.take_output();
             self.attend()?;
             self.prove();
@@ -78,13 +89,15 @@ impl Server {
         Ok(self.log.is_over())
     }
 
-    /// Waits until something is to be done, and reads what came.
-    fn poll(&mut self) -> io::Result<()> {
-        let patience = match (self.is_full || self.listener.is_none(), self.later.is_empty()) {
-            (true, _) => 100,
-            (_, true) => -1,
+    /// Waits until something is to be done, and reads what came; whether that is anything of a client.
+    fn poll(&mut self) -> io::Result<bool> {
+        let patience = match (self.later.is_empty() && self.gathers.is_none(), self.is_full || self.listener.is_none())
+        {
+            (_, true) => 100,
+            (true, _) => -1,
             _ => 0,
         };
+        let mut came = false;
         for (of, is_read) in self.poll.wait(patience)? {
             match of {
                 LISTENER => self.accept().unwrap_or_else(|error| {
@@ -96,11 +109,14 @@ impl Server {
                     let signals: Vec<u8> = self.room[..count].iter().copied().filter(|byte| *byte > 0).collect();
                     signals.into_iter().for_each(|signal| self.signalled(signal));
                 }
-                channel if is_read => self.read(channel as u16),
+                channel if is_read => {
+                    came = true;
+                    self.read(channel as u16);
+                }
                 channel => self.touched.push(channel as u16),
             }
         }
-        Ok(())
+        Ok(came)
     }
 
     /// Decides what can be.

@@ -1,8 +1,5 @@
 -- What the tags of the newest run are covered by.
-use Rattle.std.proofs.Common.{◌≡◌, ℕ, true, false, List, [], sym, ◌∙◌, ap}
-use Rattle.std.proofs.lemmas.Bool.{true≢false}
-use Rattle.sk_record.specs.Notes.{has}
-use Rattle.sk_undo.specs.Log.{Covers}
+use Rattle.kernels_tests.proofs.Names.{◌≡◌, ℕ, true, false, List, [], sym, ◌∙◌, ap, true≢false, has, Covers}
 
 -- none are covered by any, and any by the same
 pub covers_none : (these tags : List ℕ) → tags ≡ [] → Covers these tags

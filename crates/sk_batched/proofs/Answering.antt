@@ -1,27 +1,12 @@
 -- What calls of the kernel leave of the step that kernel and queue keep, whatever they answer.
-use Rattle.std.proofs.Common.{◌≡◌, ℕ, ◌+◌, ◌*◌, ◌<◌, ◌≤◌, Bool, true, false, cond, is_err, List, [], ◌∷◌, ◌++◌, length, map, Option, Some, None, Result, Ok, Err, inl, inr, refl, sym, ◌∙◌, ap, subst, arith}
-use Rattle.std.specs.Prelude.{◌⊎◌, nat_le, nat_lt, IfOk, OnErr, OnOk}
-use Rattle.std.specs.Global.{Vec}
-use Rattle.std.specs.Vec.{vec_items}
-use Rattle.std.proofs.lemmas.Bool.{true≢false, leb-false, ltb-false}
-use Rattle.sk_guesses.specs.Token.{Token}
-use Rattle.sk_index.specs.Index.{bytes_cmp}
-use Rattle.sk_deeds.specs.Deed.{Deed}
-use Rattle.sk_speculator.specs.Calls.{Refuses, Takes}
-use Rattle.sk_speculator.specs.Parts.{Parts, IsSame}
-use Rattle.sk_speculator.specs.WholeStep.{WholeStep}
+use Rattle.sk_batched.proofs.Names.{◌≡◌, ℕ, ◌+◌, ◌*◌, ◌<◌, ◌≤◌, Bool, true, false, cond, is_err, List, [], ◌∷◌, ◌++◌}
+use Rattle.sk_batched.proofs.Names.{length, map, Option, Some, None, Result, Ok, Err, inl, inr, refl, sym, ◌∙◌, ap}
+use Rattle.sk_batched.proofs.Names.{subst, arith, ◌⊎◌, nat_le, nat_lt, IfOk, OnErr, OnOk, Vec, vec_items, true≢false}
+use Rattle.sk_batched.proofs.Names.{leb-false, ltb-false, Token, bytes_cmp, Deed, Refuses, Takes, Parts, IsSame}
+use Rattle.sk_batched.proofs.Names.{WholeStep, Unchanged, byte_deed, ByteView, QueueView, FramePost, PlacesView, Sealed}
+use Rattle.sk_batched.proofs.Names.{Refusal, batch_key, capped, opening, BatchedView, Begins, Draws, IsStill, MayBegin}
+use Rattle.sk_batched.proofs.Names.{IsInStep}
 use Rattle.sk_speculator.specs.declared.refusal.Refusal.TheVariants as inner
-use Rattle.sk_bytes.specs.Calls.{Unchanged}
-use Rattle.sk_bytes.specs.Steps.{byte_deed}
-use Rattle.sk_bytes.specs.Told.{ByteView}
-use Rattle.sk_batches.specs.Queue.{QueueView}
-use Rattle.sk_batches.specs.Frames.{FramePost}
-use Rattle.sk_batches.specs.Places.{PlacesView}
-use Rattle.sk_batches.specs.declared.frames.Sealed.{Sealed}
-use Rattle.sk_batches.specs.declared.refusal.Refusal.{Refusal}
-use Rattle.sk_reserved.specs.Keys.{batch_key}
-use Rattle.sk_batched.specs.Batched.{capped, opening, BatchedView, Begins, Draws, IsStill, MayBegin}
-use Rattle.sk_batched.specs.InStep.{IsInStep}
 use Rattle.sk_batched.proofs.Moves.{Spares}
 use Rattle.sk_batched.proofs.Queues.{same_seen, step_taken, taken}
 use Rattle.sk_batched.proofs.Same.{all_same, takes_to}

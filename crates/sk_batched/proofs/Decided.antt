@@ -1,14 +1,9 @@
 -- The kernel inside was told of a commit or a failure just where a batch was decided so.
-use Rattle.std.proofs.Common.{◌≡◌, ℕ, zero, suc, ◌+◌, ◌<◌, Bool, true, false, List, [], ◌∷◌, length, Option, Some, None, inl, inr, refl, sym, ◌∙◌, ap, arith}
-use Rattle.std.specs.Prelude.{◌⊎◌, ◌↔◌}
-use Rattle.std.specs.List.{Contains}
-use Rattle.sk_record.specs.Trace.{Event, Taken, Commit, Fail}
-use Rattle.sk_speculator.specs.Law.{events_of}
-use Rattle.sk_batches.specs.declared.batch.Stage.{Stage}
-use Rattle.sk_batches.specs.declared.queue.Cut.{Cut}
-use Rattle.sk_batches.specs.declared.queue.Decision.{Decision}
-use Rattle.sk_batches.specs.declared.queue.Decision.TheVariants.{Logged, Refused}
-use Rattle.sk_batched.specs.Runs.{kernel_calls, opens_first, BatchStep, Opens, Plain, InBatch, Call, Steps, LogsStep, IsRefused, DrawsGuess, Sends, Hears, Cuts, Stops, Decides, LetsOut}
+use Rattle.sk_batched.proofs.Names.{◌≡◌, ℕ, zero, suc, ◌+◌, ◌<◌, Bool, true, false, List, [], ◌∷◌, length, Option, Some}
+use Rattle.sk_batched.proofs.Names.{None, inl, inr, refl, sym, ◌∙◌, ap, arith, ◌⊎◌, ◌↔◌, Contains, Event, Taken, Commit}
+use Rattle.sk_batched.proofs.Names.{Fail, events_of, Stage, Cut, Decision, Logged, Refused, kernel_calls, opens_first}
+use Rattle.sk_batched.proofs.Names.{BatchStep, Opens, Plain, InBatch, Call, Steps, LogsStep, IsRefused, DrawsGuess}
+use Rattle.sk_batched.proofs.Names.{Sends, Hears, Cuts, Stops, Decides, LetsOut}
 
 module _ {A : Type 0} where
   front : (x y : A) (xs : List A) → x ≡ y → Contains (x ∷ xs) y

@@ -1,45 +1,26 @@
 -- Each call is told to the kernel inside as steps, guesses, commits and failures of one trace.
-use Rattle.std.proofs.Common.{◌≡◌, ℕ, ◌+◌, ◌*◌, ◌<◌, ◌≤◌, Bool, true, false, cond, not, ◌||◌, ◌&&◌, List, [], ◌∷◌, ◌++◌, length, map, Option, Some, None, Result, Ok, Err, inl, inr, refl, sym, ◌∙◌, ap, subst, arith}
-use Rattle.std.specs.Prelude.{◌↔◌, ◌==◌, nat_le, nat_lt, slice_index_or}
-use Rattle.std.specs.List.{list_any, remove}
-use Rattle.std.specs.Ordering.{eq_by_cmp}
-use Rattle.std.specs.FinMap.{empty, get}
-use Rattle.std.proofs.lemmas.Bool.{true≢false, leb-false, ltb-false, or_parts, or_from, false_from_ne_true}
-use Rattle.std.proofs.lemmas.List.{map-append}
-use Rattle.std.proofs.lemmas.List.Folds.{list_any-append}
-use Rattle.sk_record.specs.Effects.{is_in, written_value}
-use Rattle.sk_record.specs.Step.{Step, Ask, Refuse, Done, Effect, perform, with_read}
-use Rattle.sk_record.specs.Run.{System}
-use Rattle.sk_record.specs.Trace.{Taken}
-use Rattle.sk_guesses.specs.Kept.{KeptView}
-use Rattle.sk_guesses.specs.Token.{Token}
-use Rattle.sk_record.specs.Machine.{IsPlainRun}
-use Rattle.sk_deeds.specs.Deed.{Deed, effect_of}
-use Rattle.sk_deeds.specs.Told.{Told, told_more, with_told}
-use Rattle.sk_slots.specs.Slots.{look_at}
-use Rattle.sk_index.specs.Index.{bytes_cmp}
-use Rattle.sk_index.proofs.Strings.{same_bytes}
-use Rattle.sk_speculator.specs.Calls.{next_of, Commits, FailsIn, Takes}
-use Rattle.sk_speculator.specs.Law.{Call as KernelCall, Calls, Does, Tells, events_of, Hands, IsFirst}
-use Rattle.sk_speculator.specs.Parts.{Parts, IsSame}
-use Rattle.sk_bytes.specs.Told.{ByteView}
-use Rattle.sk_bytes.specs.Calls.{Unchanged}
-use Rattle.sk_batches.specs.Queue.{QueueView, after_word, after_cut, after_take, decided, left}
-use Rattle.sk_batches.specs.declared.queue.Decision.{Decision}
-use Rattle.sk_batches.specs.declared.queue.Decision.TheVariants.{Logged, Refused}
-use Rattle.sk_reserved.specs.Keys.{batch_key, is_reserved}
-use Rattle.sk_batched.specs.Batched.{capped, in_batch, is_full, opening, BatchedView, Draws, IsNew, IsStill}
-use Rattle.sk_batched.specs.InStep.{open_if, open_numbers, tokens_of, IsInStep, IsRow}
-use Rattle.sk_batched.specs.Runs.{act_of, in_batches, kernel_calls, looking_at, opens_first, BatchStep, Opens, Plain, InBatch, Call, Steps, LogsStep, IsRefused, DrawsGuess, Sends, Hears, Cuts, Stops, Decides, LetsOut, HandsIn, Runs, BatchesAsPlain}
+use Rattle.sk_batched.proofs.Names.{◌≡◌, ℕ, ◌+◌, ◌*◌, ◌<◌, ◌≤◌, Bool, true, false, cond, not, ◌||◌, ◌&&◌, List, [], ◌∷◌}
+use Rattle.sk_batched.proofs.Names.{◌++◌, length, map, Option, Some, None, Result, Ok, Err, inl, inr, refl, sym, ◌∙◌}
+use Rattle.sk_batched.proofs.Names.{ap, subst, arith, ◌↔◌, ◌==◌, nat_le, nat_lt, slice_index_or, list_any, remove}
+use Rattle.sk_batched.proofs.Names.{eq_by_cmp, empty, get, true≢false, leb-false, ltb-false, or_parts, or_from}
+use Rattle.sk_batched.proofs.Names.{false_from_ne_true, map-append, list_any-append, is_in, written_value, Step, Ask}
+use Rattle.sk_batched.proofs.Names.{Refuse, Done, Effect, perform, with_read, System, Taken, KeptView, Token}
+use Rattle.sk_batched.proofs.Names.{IsPlainRun, Deed, effect_of, Told, told_more, with_told, look_at, bytes_cmp}
+use Rattle.sk_batched.proofs.Names.{same_bytes, next_of, Commits, FailsIn, Takes, KernelCall, Calls, Does, Tells}
+use Rattle.sk_batched.proofs.Names.{events_of, Hands, IsFirst, Parts, IsSame, ByteView, Unchanged, QueueView}
+use Rattle.sk_batched.proofs.Names.{after_word, after_cut, after_take, decided, left, Decision, Logged, Refused}
+use Rattle.sk_batched.proofs.Names.{batch_key, is_reserved, capped, in_batch, is_full, opening, BatchedView, Draws}
+use Rattle.sk_batched.proofs.Names.{IsNew, IsStill, open_if, open_numbers, tokens_of, IsInStep, IsRow, act_of}
+use Rattle.sk_batched.proofs.Names.{in_batches, kernel_calls, looking_at, opens_first, BatchStep, Opens, Plain, InBatch}
+use Rattle.sk_batched.proofs.Names.{Call, Steps, LogsStep, IsRefused, DrawsGuess, Sends, Hears, Cuts, Stops, Decides}
+use Rattle.sk_batched.proofs.Names.{LetsOut, HandsIn, Runs, BatchesAsPlain, runs_whole, bytes_exact, bytes_total}
+use Rattle.sk_batched.proofs.Names.{get-empty}
 use Rattle.sk_batched.proofs.Answering.{capped_small}
 use Rattle.sk_batched.proofs.Moves.{looks_as_before, Spares}
 use Rattle.sk_batched.proofs.Queues.{batch_of, begins, cut_kept, decided_first, new_in_step, new_row, oldest_committed, oldest_failed, requeued, said_less, same_seen, step_taken, taken, word_kept, IsNumbered}
 use Rattle.sk_record.specs.declared.status.Status.TheVariants as status_as
 use Rattle.sk_batched.proofs.Decided.{commits_told, failures_told}
 use Rattle.sk_batched.proofs.Same.{all_same, leads_from, same_machine, same_statuses, Leads}
-use Rattle.sk_speculator.proofs.Law.{runs_whole}
-use Rattle.sk_bytes.proofs.Told.{bytes_exact, bytes_total}
-use Rattle.std.specs.FinMap.{get-empty}
 
 -- ---- a step that looks at one key more
 module _ {K V W F : Type 0} (look : K → Option V) (k : K) where

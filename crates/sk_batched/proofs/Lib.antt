@@ -1,3 +1,4 @@
+pub mod Names
 pub mod Rows
 pub mod Moves
 pub mod Queues

@@ -1,31 +1,16 @@
 -- What a step, a new guess, a commit and a failure leave of a row of guesses that stand alone.
-use Rattle.std.proofs.Common.{◌≡◌, ℕ, ◌+◌, ◌<◌, ◌≤◌, ◌%◌, Bool, true, false, cond, ◌||◌, List, [], ◌∷◌, ◌++◌, length, map, Option, Some, None, Result, Ok, Err, refl, sym, ◌∙◌, ap, subst, arith}
-use Rattle.std.specs.Prelude.{◌==◌, Decides}
-use Rattle.std.specs.List.{list_any, filter}
-use Rattle.std.specs.Ordering.{eq_by_cmp}
-use Rattle.std.proofs.lemmas.Bool.{true≢false, eqb-true, eq-eqb, ne_eqb, or_parts}
-use Rattle.std.proofs.lemmas.List.{append-nil, length-append}
-use Rattle.sk_record.specs.Step.{Effect}
-use Rattle.sk_record.specs.Effects.{is_in, is_marked, written_value}
-use Rattle.sk_record.specs.Run.{marked_effect}
-use Rattle.sk_record.specs.Notes.{Note, has, noted, last_tags, committed, cut, unwound}
-use Rattle.sk_record.specs.UndoState.{Open, UndoState, is_tag, not_struck, numbers, opened, still_open, step_tags}
-use Rattle.sk_record.specs.Merged.{Merges, MergedTakes, MergedCommits}
-use Rattle.sk_record.specs.Machine.{Fails, with_drawn, with_failure, with_status}
-use Rattle.sk_record.specs.declared.status.Status.{Status}
-use Rattle.sk_record.specs.declared.status.Status.TheVariants.{Undecided, Committed as StatusCommitted}
-use Rattle.sk_guesses.specs.Kept.{KeptView, AreStatuses, struck_with}
-use Rattle.sk_guesses.specs.Opens.{open_in}
-use Rattle.sk_deeds.specs.Deed.{Deed, again, effect_of, step_of}
-use Rattle.sk_deeds.proofs.Runs.{performs}
-use Rattle.sk_slots.specs.Slots.{look_at, log_at}
-use Rattle.sk_index.specs.Index.{bytes_cmp}
-use Rattle.sk_index.proofs.Strings.{same_bytes}
-use Rattle.sk_speculator.specs.Calls.{Commits, FailsIn, Takes}
-use Rattle.sk_speculator.specs.Parts.{Parts, machine_of, undo_state_of, IsSame}
-use Rattle.sk_reserved.specs.Keys.{batch_key}
-use Rattle.sk_batched.specs.Batched.{opening}
-use Rattle.sk_batched.specs.InStep.{alone, notes_by, AreInRow, IsRow}
+use Rattle.sk_batched.proofs.Names.{◌≡◌, ℕ, ◌+◌, ◌<◌, ◌≤◌, ◌%◌, Bool, true, false, cond, ◌||◌, List, [], ◌∷◌, ◌++◌}
+use Rattle.sk_batched.proofs.Names.{length, map, Option, Some, None, Result, Ok, Err, refl, sym, ◌∙◌, ap, subst, arith}
+use Rattle.sk_batched.proofs.Names.{◌==◌, list_any, filter, eq_by_cmp, true≢false, eqb-true, eq-eqb, ne_eqb, or_parts}
+use Rattle.sk_batched.proofs.Names.{append-nil, length-append, Effect, is_in, is_marked, written_value, marked_effect}
+use Rattle.sk_batched.proofs.Names.{Note, has, noted, last_tags, committed, cut, unwound, Open, UndoState, is_tag}
+use Rattle.sk_batched.proofs.Names.{not_struck, numbers, opened, still_open, step_tags, Merges, MergedTakes}
+use Rattle.sk_batched.proofs.Names.{MergedCommits, Fails, with_drawn, with_failure, with_status, Status, Undecided}
+use Rattle.sk_batched.proofs.Names.{StatusCommitted, KeptView, AreStatuses, struck_with, open_in, Deed, again}
+use Rattle.sk_batched.proofs.Names.{effect_of, step_of, performs, look_at, log_at, bytes_cmp, same_bytes, Commits}
+use Rattle.sk_batched.proofs.Names.{FailsIn, Takes, Parts, machine_of, undo_state_of, IsSame, batch_key, opening, alone}
+use Rattle.sk_batched.proofs.Names.{notes_by, AreInRow, IsRow}
+use Rattle.std.specs.Prelude.{Decides}
 use Rattle.sk_batched.proofs.Rows.{alone_more, first_committed, first_failed, longer, never_there, none_before, none_left_out, not_again, not_beyond, notes_committed, notes_cut, notes_more, numbers_alone, only_new, strikes_none}
 
 abbrev ok_or : {A B : Type 0} → A → Result A B → A

@@ -1,32 +1,16 @@
 -- The numbers of undecided batches behind each call of the queue, and the row of guesses with them.
-use Rattle.std.proofs.Common.{◌≡◌, ℕ, suc, ◌+◌, ◌*◌, ◌<◌, ◌≤◌, Bool, true, false, cond, ◌&&◌, ◌||◌, List, [], ◌∷◌, ◌++◌, length, map, Option, Some, None, Result, Ok, Err, refl, sym, ◌∙◌, ap, subst, append_assoc, arith}
-use Rattle.std.specs.Prelude.{◌==◌, nat_lt, slice_index_or, if◌then◌else◌}
-use Rattle.std.specs.List.{remove}
-use Rattle.std.proofs.lemmas.Bool.{eq-eqb}
-use Rattle.std.proofs.lemmas.List.{append-nil, length-append, map-append}
-use Rattle.sk_record.specs.Notes.{has}
-use Rattle.sk_record.specs.UndoState.{Open, numbers}
-use Rattle.sk_guesses.specs.Kept.{KeptView, none_drawn, one_drawn, struck_with}
-use Rattle.sk_guesses.specs.Token.{Token}
-use Rattle.sk_slots.specs.Slots.{look_at, log_at}
-use Rattle.sk_index.specs.Index.{bytes_cmp}
-use Rattle.sk_deeds.specs.Deed.{Deed}
-use Rattle.sk_speculator.specs.Calls.{next_of, Commits, FailsIn, Takes}
-use Rattle.sk_speculator.specs.Parts.{Parts, IsSame}
-use Rattle.sk_batches.specs.declared.batch.Stage.{Stage}
-use Rattle.sk_batches.specs.declared.batch.Stage.TheVariants.{Kept, Sent, Synced, Failed, Refused}
-use Rattle.sk_batches.specs.declared.batch.Batch.{Batch}
-use Rattle.sk_batches.specs.declared.queue.Cut.{Cut}
-use Rattle.sk_batches.specs.declared.queue.Decision.{Decision}
+use Rattle.sk_batched.proofs.Names.{◌≡◌, ℕ, suc, ◌+◌, ◌*◌, ◌<◌, ◌≤◌, Bool, true, false, cond, ◌&&◌, ◌||◌, List, [], ◌∷◌}
+use Rattle.sk_batched.proofs.Names.{◌++◌, length, map, Option, Some, None, Result, Ok, Err, refl, sym, ◌∙◌, ap, subst}
+use Rattle.sk_batched.proofs.Names.{append_assoc, arith, ◌==◌, nat_lt, slice_index_or, if◌then◌else◌, remove, eq-eqb}
+use Rattle.sk_batched.proofs.Names.{append-nil, length-append, map-append, has, Open, numbers, KeptView, none_drawn}
+use Rattle.sk_batched.proofs.Names.{one_drawn, struck_with, Token, look_at, log_at, bytes_cmp, Deed, next_of, Commits}
+use Rattle.sk_batched.proofs.Names.{FailsIn, Takes, Parts, IsSame, Stage, Kept, Sent, Synced, Failed, Batch, Cut}
+use Rattle.sk_batched.proofs.Names.{Decision, Refusal, Stopped, NoCut, new_queue, CutPost, WordPost, kept, QueueView}
+use Rattle.sk_batched.proofs.Names.{after_cut, after_take, after_word, awaits, cut_off, decided, decision_of}
+use Rattle.sk_batched.proofs.Names.{is_decided, is_kept, left, open_batch, send, tell, batch_key, opening, alone}
+use Rattle.sk_batched.proofs.Names.{not_yet, open_if, open_numbers, tokens_of, AreInRow, IsInStep, IsRow}
+use Rattle.sk_batches.specs.declared.batch.Stage.TheVariants.{Refused}
 use Rattle.sk_batches.specs.declared.queue.Decision.TheVariants as decision
-use Rattle.sk_batches.specs.declared.refusal.Refusal.{Refusal}
-use Rattle.sk_batches.specs.declared.refusal.Refusal.TheVariants.{Stopped, NoCut}
-use Rattle.sk_batches.specs.Calls.{new_queue, CutPost, WordPost}
-use Rattle.sk_batches.specs.Records.{kept}
-use Rattle.sk_batches.specs.Queue.{QueueView, after_cut, after_take, after_word, awaits, cut_off, decided, decision_of, is_decided, is_kept, left, open_batch, send, tell}
-use Rattle.sk_reserved.specs.Keys.{batch_key}
-use Rattle.sk_batched.specs.Batched.{opening}
-use Rattle.sk_batched.specs.InStep.{alone, not_yet, open_if, open_numbers, tokens_of, AreInRow, IsInStep, IsRow}
 use Rattle.sk_batched.proofs.Rows.{numbers_alone, strikes_none, tokens_more}
 use Rattle.sk_batched.proofs.Moves.{committed_row, drew, failed_row, let_out, stepped, still, Spares}
 

@@ -1,15 +1,10 @@
 -- Rows of numbers, the guesses that stand alone in them, and the notes of their keys.
-use Rattle.std.proofs.Common.{◌≡◌, ℕ, suc, ◌+◌, ◌<◌, ◌≤◌, ◌%◌, Bool, true, false, cond, not, ◌&&◌, ◌||◌, List, [], ◌∷◌, ◌++◌, length, map, Option, None, inl, inr, refl, sym, ◌∙◌, ap, subst, arith}
-use Rattle.std.specs.Prelude.{◌==◌}
-use Rattle.std.specs.List.{filter}
-use Rattle.std.specs.Ordering.{eq_by_cmp}
-use Rattle.std.proofs.lemmas.Bool.{true≢false, eqb-true, eq-eqb, ne_eqb, cases_eq, or_cases, false_from_ne_true}
-use Rattle.std.proofs.lemmas.List.{length-append, map-append}
-use Rattle.sk_record.specs.Notes.{Note, has, without, noted, last_tags, cut, unwound, committed}
-use Rattle.sk_record.specs.UndoState.{Open, numbers, still_open, not_struck}
-use Rattle.sk_record.specs.Merged.{Merges}
-use Rattle.sk_guesses.specs.Kept.{struck_with}
-use Rattle.sk_batched.specs.InStep.{alone, notes_by, tokens_of, AreInRow}
+use Rattle.sk_batched.proofs.Names.{◌≡◌, ℕ, suc, ◌+◌, ◌<◌, ◌≤◌, ◌%◌, Bool, true, false, cond, not, ◌&&◌, ◌||◌, List, []}
+use Rattle.sk_batched.proofs.Names.{◌∷◌, ◌++◌, length, map, Option, None, inl, inr, refl, sym, ◌∙◌, ap, subst, arith}
+use Rattle.sk_batched.proofs.Names.{◌==◌, filter, eq_by_cmp, true≢false, eqb-true, eq-eqb, ne_eqb, cases_eq, or_cases}
+use Rattle.sk_batched.proofs.Names.{false_from_ne_true, length-append, map-append, Note, has, without, noted, last_tags}
+use Rattle.sk_batched.proofs.Names.{cut, unwound, committed, Open, numbers, still_open, not_struck, Merges, struck_with}
+use Rattle.sk_batched.proofs.Names.{alone, notes_by, tokens_of, AreInRow}
 
 -- two numbers less than 128 apart have different keys
 pub apart : (g h : ℕ) → g < h → h < g + 128 → (g % 128 == h % 128) ≡ false

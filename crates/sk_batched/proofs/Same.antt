@@ -1,24 +1,13 @@
 -- From parts that look the same the same moves lead on.
-use Rattle.std.proofs.Common.{◌≡◌, ℕ, false, List, [], ◌∷◌, ◌++◌, Option, Some, None, Ok, inl, inr, refl, sym, ◌∙◌, ap, subst}
-use Rattle.std.specs.Prelude.{◌==◌, ◌⊎◌}
-use Rattle.std.specs.declared.cmp.Ordering.{Ordering}
-use Rattle.sk_record.specs.Notes.{has, without}
-use Rattle.sk_record.specs.Step.{perform}
-use Rattle.sk_record.specs.Run.{System}
-use Rattle.sk_record.specs.Trace.{Event, Taken, Commit, Fail, marks}
-use Rattle.sk_record.specs.UndoState.{Open, numbers, not_struck, still_open}
-use Rattle.sk_record.specs.Machine.{Machine, Fails, with_drawn, with_failure, with_status}
-use Rattle.sk_record.specs.Merged.{MergedCommits, MergedTakes}
-use Rattle.sk_record.specs.declared.status.Status.{Status}
-use Rattle.sk_record.specs.declared.status.Status.TheVariants.{Committed}
-use Rattle.sk_guesses.specs.Kept.{KeptView, AreStatuses, with_struck}
-use Rattle.sk_deeds.specs.Deed.{Deed, Entry, again, effect_of}
-use Rattle.sk_deeds.specs.Told.{Told, told_more}
-use Rattle.sk_slots.specs.Slots.{look_at, log_at}
-use Rattle.sk_outputs.specs.Said.{said_at}
-use Rattle.sk_speculator.specs.Parts.{Parts, machine_of, IsSame}
-use Rattle.sk_speculator.specs.Calls.{drawn_by, next_of, Commits, FailsIn, Forgets, Takes}
-use Rattle.sk_speculator.specs.Law.{Call, Does, Tells, Returns, TakesOut, Hands, Happens, Calls}
+use Rattle.sk_batched.proofs.Names.{◌≡◌, ℕ, false, List, [], ◌∷◌, ◌++◌, Option, Some, None, Ok, inl, inr, refl, sym}
+use Rattle.sk_batched.proofs.Names.{◌∙◌, ap, subst, ◌==◌, ◌⊎◌, Ordering, has, without, perform, System, Event, Taken}
+use Rattle.sk_batched.proofs.Names.{Commit, Fail, marks, Open, numbers, not_struck, still_open, Machine, Fails}
+use Rattle.sk_batched.proofs.Names.{with_drawn, with_failure, with_status, MergedCommits, MergedTakes, Status}
+use Rattle.sk_batched.proofs.Names.{Committed, KeptView, AreStatuses, with_struck, Deed, Entry, again, effect_of, Told}
+use Rattle.sk_batched.proofs.Names.{told_more, look_at, log_at, said_at, Parts, machine_of, IsSame, drawn_by, next_of}
+use Rattle.sk_batched.proofs.Names.{Commits, FailsIn, Forgets, Takes, Does, Tells, Returns, TakesOut, Hands, Happens}
+use Rattle.sk_batched.proofs.Names.{Calls}
+use Rattle.sk_speculator.specs.Law.{Call}
 
 module _ {K V O : Type 0} (R : K → K → Ordering) where
   pub all_same : (a : Parts K V O) → IsSame R a a

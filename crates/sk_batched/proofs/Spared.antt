@@ -1,23 +1,10 @@
 -- A step that names no reserved key writes no key of a batch.
-use Rattle.std.proofs.Common.{◌≡◌, ℕ, Bool, true, false, ◌||◌, List, [], ◌∷◌, map, Option, Some, None, refl, sym, ◌∙◌, ap}
-use Rattle.std.specs.Prelude.{if◌then◌else◌}
-use Rattle.std.specs.List.{list_any}
-use Rattle.std.specs.Global.{Vec}
-use Rattle.std.specs.Vec.{vec_items}
-use Rattle.std.specs.Ordering.{eq_by_cmp}
-use Rattle.std.proofs.lemmas.Bool.{true≢false, or_from, or_parts, false_from_ne_true}
-use Rattle.sk_record.specs.Effects.{is_in}
-use Rattle.sk_index.specs.Index.{bytes_cmp}
-use Rattle.sk_index.proofs.Strings.{same_bytes}
-use Rattle.sk_speculator.specs.WholeStep.{WholeStep}
-use Rattle.sk_bytes.specs.Calls.{has_long_key}
-use Rattle.sk_bytes.specs.Steps.{byte_deed}
+use Rattle.sk_batched.proofs.Names.{◌≡◌, ℕ, Bool, true, false, ◌||◌, List, [], ◌∷◌, map, Option, Some, None, refl, sym}
+use Rattle.sk_batched.proofs.Names.{◌∙◌, ap, if◌then◌else◌, list_any, Vec, vec_items, eq_by_cmp, true≢false, or_from}
+use Rattle.sk_batched.proofs.Names.{or_parts, false_from_ne_true, is_in, bytes_cmp, same_bytes, WholeStep, has_long_key}
+use Rattle.sk_batched.proofs.Names.{byte_deed, LongKey, Reserved, batch_key, is_reserved, has_reserved_key}
+use Rattle.sk_batched.proofs.Names.{is_batch_key, step_refused, in_batch}
 use Rattle.sk_batched.specs.declared.refusal.Refusal.{Refusal}
-use Rattle.sk_batched.specs.declared.refusal.Refusal.TheVariants.{LongKey, Reserved}
-use Rattle.sk_reserved.specs.Keys.{batch_key, is_reserved}
-use Rattle.sk_batched.specs.Keys.{has_reserved_key, is_batch_key}
-use Rattle.sk_batched.specs.Refused.{step_refused}
-use Rattle.sk_batched.specs.Batched.{in_batch}
 use Rattle.sk_batched.proofs.Moves.{Spares}
 
 neither : (a b : Bool) → (if a then Some LongKey else if b then Some Reserved else None) ≡ None → (a ≡ false) × (b ≡ false)

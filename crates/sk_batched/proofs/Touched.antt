@@ -1,13 +1,8 @@
 -- The guesses that keys rest on, one key after another.
-use Rattle.std.proofs.Common.{◌≡◌, ℕ, zero, suc, Bool, true, false, ◌||◌, ◌&&◌, not, List, [], ◌∷◌, ◌++◌, length, drop, take, arith, ◌+◌, ◌<◌, map, Option, refl, sym, ◌∙◌, ap}
-use Rattle.std.specs.Prelude.{◌==◌, slice_index_or}
-use Rattle.std.proofs.Math.Numerals.{suc-eq-add-one}
-use Rattle.std.proofs.Math.Seq.{drop-cons}
-use Rattle.std.specs.List.{list_any}
-use Rattle.std.specs.Global.{Vec}
-use Rattle.std.specs.Vec.{vec_items}
-use Rattle.std.proofs.lemmas.List.Folds.{list_any-append}
-use Rattle.std.proofs.lemmas.Bool.{or_from, or_parts}
+use Rattle.sk_batched.proofs.Names.{◌≡◌, ℕ, zero, suc, Bool, true, false, ◌||◌, ◌&&◌, not, List, [], ◌∷◌, ◌++◌, length}
+use Rattle.sk_batched.proofs.Names.{drop, take, arith, ◌+◌, ◌<◌, map, Option, refl, sym, ◌∙◌, ap, ◌==◌, slice_index_or}
+use Rattle.sk_batched.proofs.Names.{suc-eq-add-one, drop-cons, list_any, Vec, vec_items, list_any-append, or_from}
+use Rattle.sk_batched.proofs.Names.{or_parts}
 
 pub joins : (a e d n : Bool) → ((a || (e && n)) || (d && n)) ≡ (a || ((e || d) && n))
 joins true e d n = refl

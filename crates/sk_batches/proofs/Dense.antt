@@ -1,20 +1,15 @@
 -- Batches stand in the log one behind another, and a cut takes away just those of its frame.
-use Rattle.std.proofs.Common.{◌≡◌, ℕ, ◌+◌, ◌<◌, ◌≤◌, Bool, true, false, cond, ◌||◌, ◌&&◌, List, [], ◌∷◌, ◌++◌, length, map, Option, Some, None, inl, inr, refl, sym, ◌∙◌, ap, subst, arith}
-use Rattle.std.specs.Prelude.{◌⊎◌, ◌==◌, nat_lt, nat_le}
-use Rattle.std.specs.Cmp.{both_ways}
-use Rattle.std.specs.List.{list_any, AllByRecursion, Contains}
-use Rattle.std.proofs.lemmas.Bool.{true≢false, false≢true, and_from, and_left, and_parts, eqb-true, eq-eqb, or_cases, or_from, or_left, or_right, cases_order, leb-true, le-leb, ltb-true, lt-ltb, le-ltb, ne_eqb, false_from_ne_true}
-use Rattle.std.proofs.lemmas.List.{length-append, length-map}
-use Rattle.std.proofs.lemmas.List.Elements.{All-contains, All-from_recursion}
-use Rattle.sk_log.specs.declared.frame.TheConstants.{NUMBER_LIMIT}
-use Rattle.sk_batches.specs.declared.batch.Stage.{Stage}
-use Rattle.sk_batches.specs.declared.batch.Stage.TheVariants.{Kept, Sent, Synced, Failed, Refused}
-use Rattle.sk_batches.specs.declared.batch.Batch.{Batch}
-use Rattle.sk_batches.specs.declared.queue.Cut.{Cut}
-use Rattle.sk_batches.specs.Records.{RecordView, kept}
-use Rattle.sk_batches.specs.Queue.{QueueView, send, tell, awaits, cut_off, first_failed, last_in, is_kept, is_sent, is_failed, is_decided, is_taken, left, past}
-use Rattle.sk_batches.specs.Runs.{Call, Appends, Withdraws, Takes, Syncs, Fails, Decides, Cuts, Stops, Happens, Runs, Story, story_after}
-use Rattle.sk_batches.specs.Dense.{is_off, AreDense, CutsARange, FramesAreDense, IsAtCut, IsBehind, IsBetween, IsRange}
+use Rattle.sk_batches.proofs.Names.{◌≡◌, ℕ, ◌+◌, ◌<◌, ◌≤◌, Bool, true, false, cond, ◌||◌, ◌&&◌, List, [], ◌∷◌, ◌++◌}
+use Rattle.sk_batches.proofs.Names.{length, map, Option, Some, None, inl, inr, refl, sym, ◌∙◌, ap, subst, arith, ◌⊎◌}
+use Rattle.sk_batches.proofs.Names.{◌==◌, nat_lt, nat_le, both_ways, list_any, AllByRecursion, Contains, true≢false}
+use Rattle.sk_batches.proofs.Names.{false≢true, and_from, and_left, and_parts, eqb-true, eq-eqb, or_cases, or_from}
+use Rattle.sk_batches.proofs.Names.{or_left, or_right, cases_order, leb-true, le-leb, ltb-true, lt-ltb, le-ltb, ne_eqb}
+use Rattle.sk_batches.proofs.Names.{false_from_ne_true, length-append, length-map, All-contains, All-from_recursion}
+use Rattle.sk_batches.proofs.Names.{NUMBER_LIMIT, Stage, Kept, Sent, Synced, Failed, Refused, Batch, Cut, RecordView}
+use Rattle.sk_batches.proofs.Names.{kept, QueueView, send, tell, awaits, cut_off, first_failed, last_in, is_kept}
+use Rattle.sk_batches.proofs.Names.{is_sent, is_failed, is_decided, is_taken, left, past, Call, Appends, Withdraws}
+use Rattle.sk_batches.proofs.Names.{Takes, Syncs, Fails, Decides, Cuts, Stops, Happens, Runs, Story, story_after}
+use Rattle.sk_batches.proofs.Names.{is_off, AreDense, CutsARange, FramesAreDense, IsAtCut, IsBehind, IsBetween, IsRange}
 use Rattle.sk_batches.proofs.Order.{cut_number, sent_number, told_number}
 use Rattle.sk_batches.proofs.Synced.{due_cut, else_decided, failed_undecided, failed_unkept, no_cut, not_sent, sent_undecided, sent_unkept}
 

@@ -1,21 +1,13 @@
 -- Passes over lists, one place after the other.
-use Rattle.std.proofs.Common.{◌≡◌, ℕ, zero, suc, ◌+◌, ◌-◌, ◌<◌, ◌≤◌, length, take, drop, true, false, cond, not, List, [], ◌∷◌, ◌++◌, map, Some, None, refl, sym, ◌∙◌, ap, subst, arith, append_assoc}
-use Rattle.std.specs.Prelude.{slice_set, slice_index_or}
-use Rattle.std.proofs.Math.Numerals.{suc-eq-add-one}
-use Rattle.std.proofs.Math.Seq.{drop-cons, drop-append-add, take-append-add, take-append_seam}
-use Rattle.std.proofs.lemmas.List.{append-nil, drop_all, take_all, length-append, length-drop, length-take-le, drop-drop}
-use Rattle.std.specs.Prelude.{◌==◌, nat_lt}
-use Rattle.std.specs.List.{sum_by, remove}
-use Rattle.std.proofs.lemmas.List.{take-append-drop}
-use Rattle.std.proofs.lemmas.List.Sums.{sum_by-append, sum_by-cons}
-use Rattle.std.proofs.lemmas.Bool.{true≢false, eqb-true}
-use Rattle.sk_batches.specs.declared.batch.Stage.{Stage}
-use Rattle.sk_batches.specs.declared.batch.Stage.TheVariants.{Kept, Sent, Synced, Failed, Refused}
-use Rattle.sk_batches.specs.declared.batch.Batch.{Batch}
-use Rattle.sk_batches.specs.declared.queue.Cut.{Cut}
-use Rattle.sk_batches.specs.declared.queue.Decision.{Decision}
-use Rattle.sk_batches.specs.Records.{RecordView, payload, but_last, is_struck, kept}
-use Rattle.sk_batches.specs.Queue.{send, tell, awaits, cut_off, is_kept, is_decided, decided, decision_of, kept_of, kept_records, left}
+use Rattle.sk_batches.proofs.Names.{◌≡◌, ℕ, zero, suc, ◌+◌, ◌-◌, ◌<◌, ◌≤◌, length, take, drop, true, false, cond, not}
+use Rattle.sk_batches.proofs.Names.{List, [], ◌∷◌, ◌++◌, map, Some, None, refl, sym, ◌∙◌, ap, subst, arith}
+use Rattle.sk_batches.proofs.Names.{append_assoc, slice_set, slice_index_or, suc-eq-add-one, drop-cons, drop-append-add}
+use Rattle.sk_batches.proofs.Names.{take-append-add, take-append_seam, append-nil, drop_all, take_all, length-append}
+use Rattle.sk_batches.proofs.Names.{length-drop, length-take-le, drop-drop, ◌==◌, nat_lt, sum_by, remove}
+use Rattle.sk_batches.proofs.Names.{take-append-drop, sum_by-append, sum_by-cons, true≢false, eqb-true, Stage, Kept}
+use Rattle.sk_batches.proofs.Names.{Sent, Synced, Failed, Refused, Batch, Cut, Decision, RecordView, payload, but_last}
+use Rattle.sk_batches.proofs.Names.{is_struck, kept, send, tell, awaits, cut_off, is_kept, is_decided, decided}
+use Rattle.sk_batches.proofs.Names.{decision_of, kept_of, kept_records, left}
 
 module _ {X : Type 0} where
   -- the next, and what is behind it

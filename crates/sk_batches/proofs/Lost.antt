@@ -1,17 +1,11 @@
 -- Each record that was appended is counted once.
-use Rattle.std.proofs.Common.{◌≡◌, ℕ, ◌+◌, ◌-◌, Bool, true, false, not, cond, List, [], ◌∷◌, ◌++◌, length, take, drop, map, refl, sym, ◌∙◌, ap, subst, arith}
-use Rattle.std.specs.Prelude.{◌==◌, nat_lt, count_by}
-use Rattle.std.specs.List.{filter}
-use Rattle.std.proofs.lemmas.List.{take-append-drop}
-use Rattle.std.proofs.lemmas.List.Sums.{sum_by-append}
-use Rattle.std.proofs.lemmas.List.Filters.{sum_by-filter_both}
-use Rattle.sk_batches.specs.declared.batch.Stage.{Stage}
-use Rattle.sk_batches.specs.declared.batch.Stage.TheVariants.{Kept, Sent, Synced, Failed, Refused}
-use Rattle.sk_batches.specs.declared.batch.Batch.{Batch}
-use Rattle.sk_batches.specs.declared.queue.Cut.{Cut}
-use Rattle.sk_batches.specs.Records.{RecordView, is_struck, kept, but_last}
-use Rattle.sk_batches.specs.Queue.{QueueView, send, tell, awaits, cut_off, is_kept, is_decided, left}
-use Rattle.sk_batches.specs.Runs.{Call, Appends, Withdraws, Takes, Syncs, Fails, Decides, Cuts, Stops, Happens, Runs, Story, story_after, with_decided, with_oldest, struck, struck_of, struck_in, records_in, LosesNothing}
+use Rattle.sk_batches.proofs.Names.{◌≡◌, ℕ, ◌+◌, ◌-◌, Bool, true, false, not, cond, List, [], ◌∷◌, ◌++◌, length, take}
+use Rattle.sk_batches.proofs.Names.{drop, map, refl, sym, ◌∙◌, ap, subst, arith, ◌==◌, nat_lt, count_by, filter}
+use Rattle.sk_batches.proofs.Names.{take-append-drop, sum_by-append, sum_by-filter_both, Stage, Kept, Sent, Synced}
+use Rattle.sk_batches.proofs.Names.{Failed, Refused, Batch, Cut, RecordView, is_struck, kept, but_last, QueueView, send}
+use Rattle.sk_batches.proofs.Names.{tell, awaits, cut_off, is_kept, is_decided, left, Call, Appends, Withdraws, Takes}
+use Rattle.sk_batches.proofs.Names.{Syncs, Fails, Decides, Cuts, Stops, Happens, Runs, Story, story_after, with_decided}
+use Rattle.sk_batches.proofs.Names.{with_oldest, struck, struck_of, struck_in, records_in, LosesNothing}
 
 module _ (p : RecordView → Bool) where
   count : List RecordView → ℕ

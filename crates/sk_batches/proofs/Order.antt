@@ -1,13 +1,10 @@
 -- Numbers rise from batch to batch, those that were decided before those that are left.
-use Rattle.std.proofs.Common.{◌≡◌, ℕ, ◌+◌, ◌<◌, true, false, cond, List, [], ◌∷◌, ◌++◌, map, refl, sym, ◌∙◌, ap, subst, append_assoc, arith}
-use Rattle.std.specs.Prelude.{◌==◌, nat_lt}
-use Rattle.sk_batches.specs.declared.batch.Stage.{Stage}
-use Rattle.sk_batches.specs.declared.batch.Stage.TheVariants.{Kept, Sent, Synced, Failed, Refused}
-use Rattle.sk_batches.specs.declared.batch.Batch.{Batch}
-use Rattle.sk_batches.specs.declared.queue.Cut.{Cut}
-use Rattle.sk_batches.specs.Records.{kept}
-use Rattle.sk_batches.specs.Queue.{QueueView, send, tell, awaits, cut_off, is_kept, is_decided, left}
-use Rattle.sk_batches.specs.Runs.{Call, Appends, Withdraws, Takes, Syncs, Fails, Decides, Cuts, Stops, Happens, Runs, Story, story_after, with_decided, with_oldest, Rise, DecidesInOrder}
+use Rattle.sk_batches.proofs.Names.{◌≡◌, ℕ, ◌+◌, ◌<◌, true, false, cond, List, [], ◌∷◌, ◌++◌, map, refl, sym, ◌∙◌, ap}
+use Rattle.sk_batches.proofs.Names.{subst, append_assoc, arith, ◌==◌, nat_lt, Stage, Kept, Sent, Synced, Failed}
+use Rattle.sk_batches.proofs.Names.{Refused, Batch, Cut, kept, QueueView, send, tell, awaits, cut_off, is_kept}
+use Rattle.sk_batches.proofs.Names.{is_decided, left, Call, Appends, Withdraws, Takes, Syncs, Fails, Decides, Cuts}
+use Rattle.sk_batches.proofs.Names.{Stops, Happens, Runs, Story, story_after, with_decided, with_oldest, Rise}
+use Rattle.sk_batches.proofs.Names.{DecidesInOrder}
 
 abbrev pub numbers : List Batch → List ℕ
 numbers bs = map (λ b. b.number) bs

@@ -1,13 +1,7 @@
 -- What a cut leaves for the next frame.
-use Rattle.std.proofs.Common.{◌≡◌, ℕ, true, false, not, cond, List, [], ◌∷◌, ◌++◌, map, refl, sym, ◌∙◌, ap}
-use Rattle.std.specs.Prelude.{◌==◌, nat_lt}
-use Rattle.std.proofs.lemmas.List.Elements.{filter-append}
-use Rattle.sk_batches.specs.declared.batch.Stage.TheVariants.{Kept, Refused}
-use Rattle.sk_batches.specs.declared.batch.Batch.{Batch}
-use Rattle.sk_batches.specs.declared.queue.Cut.{Cut}
-use Rattle.sk_batches.specs.Records.{RecordView, is_struck, kept}
-use Rattle.sk_batches.specs.Queue.{cut_off, kept_of, kept_records}
-use Rattle.sk_batches.specs.Runs.{behind, behind_of, KeepsTheRest}
+use Rattle.sk_batches.proofs.Names.{◌≡◌, ℕ, true, false, not, cond, List, [], ◌∷◌, ◌++◌, map, refl, sym, ◌∙◌, ap, ◌==◌}
+use Rattle.sk_batches.proofs.Names.{nat_lt, filter-append, Kept, Refused, Batch, Cut, RecordView, is_struck, kept}
+use Rattle.sk_batches.proofs.Names.{cut_off, kept_of, kept_records, behind, behind_of, KeepsTheRest}
 
 kept_append : (first last : ℕ) (rs qs : List RecordView) → kept first last (rs ++ qs) ≡ kept first last rs ++ kept first last qs
 kept_append first last rs qs = filter-append (λ r. not (is_struck first last r)) rs qs

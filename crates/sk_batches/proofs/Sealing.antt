@@ -1,18 +1,12 @@
 -- A frame that is sealed in the room that its payload was written into.
-use Rattle.std.proofs.Common.{◌≡◌, ℕ, ◌+◌, ◌-◌, ◌≤◌, true, false, nat_lt, if◌then◌else◌, Some, None, List, [], ◌++◌, length, take, drop, Result, Ok, Err, refl, sym, ap, ◌∙◌, arith}
-use Rattle.std.proofs.lemmas.Bool.Decides.{nat_tests}
-use Rattle.std.specs.Result.{IsErrAnd}
-use Rattle.std.proofs.lemmas.List.{append-nil, append_assoc, drop-drop, length-append, length-drop, length-take-le, take_rest}
-use Rattle.std.proofs.Math.Seq.{drop-append_seam, drop-length, take-append_seam}
-use borrow.Rule.Slice.PartMut.{mid_of, post_of, put_mid, put_same, Post-is}
-use Rattle.sk_log.specs.Frame.{frame}
-use Rattle.sk_batches.specs.declared.frames.Sealed.{Sealed}
-use Rattle.sk_batches.specs.declared.refusal.Refusal.{Refusal}
-use Rattle.sk_batches.specs.declared.refusal.Refusal.TheVariants.{Full, Short}
-use Rattle.sk_batches.specs.Calls.{cause_of, take_refused}
-use Rattle.sk_batches.specs.Frames.{first_cause, frame_refused, next_payload, FramePost}
-use Rattle.sk_batches.specs.Places.{PlacesView, has_room}
-use Rattle.sk_batches.specs.Queue.{QueueView}
+use Rattle.sk_batches.proofs.Names.{◌≡◌, ℕ, ◌+◌, ◌-◌, ◌≤◌, true, false, if◌then◌else◌, Some, None, List, [], ◌++◌}
+use Rattle.sk_batches.proofs.Names.{length, take, drop, Result, Ok, Err, refl, sym, ap, ◌∙◌, arith, nat_tests, IsErrAnd}
+use Rattle.sk_batches.proofs.Names.{append-nil, drop-drop, length-append, length-drop, length-take-le, take_rest}
+use Rattle.sk_batches.proofs.Names.{drop-append_seam, drop-length, take-append_seam, mid_of, post_of, put_mid, put_same}
+use Rattle.sk_batches.proofs.Names.{Post-is, frame, Sealed, Refusal, Full, Short, cause_of, take_refused, first_cause}
+use Rattle.sk_batches.proofs.Names.{frame_refused, next_payload, FramePost, PlacesView, has_room, QueueView}
+use Rattle.std.proofs.Common.{nat_lt}
+use Rattle.std.proofs.lemmas.List.{append_assoc}
 
 -- the room with a payload behind the place of a head
 abbrev pub filled : List ℕ → List ℕ → List ℕ

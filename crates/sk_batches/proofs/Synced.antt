@@ -1,16 +1,13 @@
 -- Each batch stands where its frame is in the log, and what is told as logged stands behind nothing that is not synced.
-use Rattle.std.proofs.Common.{◌≡◌, ltb, ℕ, ◌+◌, ◌<◌, ◌≤◌, Bool, true, false, cond, ◌||◌, ◌&&◌, List, [], ◌∷◌, ◌++◌, map, Option, Some, None, inl, inr, refl, sym, ◌∙◌, ap, subst, arith}
-use Rattle.std.specs.Prelude.{◌⊎◌, ◌==◌, nat_lt}
-use Rattle.std.specs.List.{filter, list_any}
-use Rattle.std.proofs.lemmas.Bool.{true≢false, false≢true, eqb-true, eqb-false, eq-eqb, or_left, or_right, or_cases, ltb-true, ltb-false, lt-ltb}
-use Rattle.sk_batches.specs.declared.batch.Stage.{Stage}
-use Rattle.sk_batches.specs.declared.batch.Stage.TheVariants.{Kept, Sent, Synced, Failed, Refused}
-use Rattle.sk_batches.specs.declared.batch.Batch.{Batch}
-use Rattle.sk_batches.specs.declared.queue.Cut.{Cut}
-use Rattle.sk_batches.specs.Records.{RecordView, kept}
-use Rattle.sk_batches.specs.Queue.{QueueView, send, tell, awaits, cut_off, first_failed, last_in, is_kept, is_sent, is_failed, is_decided, kept_records, left, past}
-use Rattle.sk_batches.specs.Runs.{Call, Appends, Withdraws, Takes, Syncs, Fails, Decides, Cuts, Stops, Happens, Runs, Story, story_after, synced_after, with_decided, with_oldest, has, LogsWhatIsSynced, NoneIsKept}
-use Rattle.sk_log.specs.declared.frame.TheConstants.{NUMBER_LIMIT}
+use Rattle.sk_batches.proofs.Names.{◌≡◌, ltb, ℕ, ◌+◌, ◌<◌, ◌≤◌, Bool, true, false, cond, ◌||◌, ◌&&◌, List, [], ◌∷◌}
+use Rattle.sk_batches.proofs.Names.{◌++◌, map, Option, Some, None, inl, inr, refl, sym, ◌∙◌, ap, subst, arith, ◌⊎◌}
+use Rattle.sk_batches.proofs.Names.{◌==◌, nat_lt, filter, list_any, true≢false, false≢true, eqb-true, eqb-false, eq-eqb}
+use Rattle.sk_batches.proofs.Names.{or_left, or_right, or_cases, ltb-true, ltb-false, lt-ltb, Stage, Kept, Sent, Synced}
+use Rattle.sk_batches.proofs.Names.{Failed, Refused, Batch, Cut, RecordView, kept, QueueView, send, tell, awaits}
+use Rattle.sk_batches.proofs.Names.{cut_off, first_failed, last_in, is_kept, is_sent, is_failed, is_decided}
+use Rattle.sk_batches.proofs.Names.{kept_records, left, past, Call, Appends, Withdraws, Takes, Syncs, Fails, Decides}
+use Rattle.sk_batches.proofs.Names.{Cuts, Stops, Happens, Runs, Story, story_after, synced_after, with_decided}
+use Rattle.sk_batches.proofs.Names.{with_oldest, has, LogsWhatIsSynced, NoneIsKept, NUMBER_LIMIT}
 
 -- ---- tests
 

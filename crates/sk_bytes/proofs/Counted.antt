@@ -1,17 +1,8 @@
 -- The keys that have numbers are just those of which anything is known, each once.
-use Rattle.std.proofs.Common.{◌≡◌, ℕ, true, false, List, [], ◌∷◌, length, Option, Some, None, cond, refl, sym, ap, ◌∙◌}
-use Rattle.std.specs.Prelude.{◌||◌, Bool, is_some}
-use Rattle.std.specs.Ordering.{nat_cmp, eq_by_cmp}
-use Rattle.std.proofs.lemmas.List.{length-map}
-use Rattle.sk_record.specs.Effects.{is_in}
-use Rattle.sk_renamed.specs.Renamed.{at_key}
-use Rattle.sk_slots.specs.Slots.{look_at, log_at}
-use Rattle.sk_index.specs.Index.{Numbered, bytes_cmp, number_of, string_of, AreApart}
-use Rattle.sk_index.proofs.Strings.{some_none}
-use Rattle.sk_speculator.specs.Parts.{Parts}
-use Rattle.sk_bytes.specs.Numbers.{names}
-use Rattle.sk_bytes.specs.Told.{strings_of, told_of, IsTold}
-use Rattle.sk_bytes.specs.Calls.{AreOnce, Counts, HasPlaces}
+use Rattle.sk_bytes.proofs.Names.{◌≡◌, ℕ, true, false, List, [], ◌∷◌, length, Option, Some, None, cond, refl, sym, ap}
+use Rattle.sk_bytes.proofs.Names.{◌∙◌, ◌||◌, Bool, is_some, nat_cmp, eq_by_cmp, length-map, is_in, at_key, look_at}
+use Rattle.sk_bytes.proofs.Names.{log_at, Numbered, bytes_cmp, number_of, string_of, AreApart, some_none, Parts, names}
+use Rattle.sk_bytes.proofs.Names.{strings_of, told_of, IsTold, AreOnce, Counts, HasPlaces}
 use Rattle.sk_bytes.proofs.Told.{log_told, look_told, none_shown}
 use Rattle.sk_bytes.proofs.Fitting.{shown_none}
 use Rattle.sk_bytes.proofs.Undone.{strings_in}

@@ -1,37 +1,17 @@
 -- Numbers come and go: what is told stays.
-use Rattle.std.proofs.Common.{◌≡◌, ◌<◌, ℕ, true, false, List, [], ◌∷◌, ◌++◌, Option, Some, None, Ok, cond, refl, sym, ◌∙◌, ap, subst, inl, inr}
-use Rattle.std.specs.Prelude.{◌==◌, ◌⊎◌, ◌&&◌, ◌||◌, Bool, not, is_none, IfErr, OnErr, Result, Err}
-use Rattle.std.specs.Ordering.{nat_cmp, eq_by_cmp}
-use Rattle.std.specs.Cmp.{nat_cmp_total, unsigned_tied}
-use Rattle.std.specs.FinMap.{entries, nat_cmp-IsAntisymmetric}
-use Rattle.std.specs.Global.{Vec}
-use Rattle.std.proofs.lemmas.Bool.{ne_eqb, or_parts, true≢false}
-use Rattle.std.specs.List.{list_any}
-use Rattle.sk_record.specs.Run.{put}
-use Rattle.sk_record.specs.Effects.{is_in, written_value}
-use Rattle.sk_record.specs.Step.{Effect}
-use Rattle.sk_record.specs.Notes.{Note, has, without, noted, cut, unwound, committed}
-use Rattle.sk_record.specs.Merged.{Merges}
-use Rattle.sk_guesses.specs.Kept.{none_drawn}
-use Rattle.sk_deeds.specs.Deed.{Deed}
-use Rattle.sk_deeds.proofs.Runs.{performs}
-use Rattle.sk_renamed.specs.Renamed.{at_key, AreWrites}
-use Rattle.sk_slots.specs.Slot.{SlotView}
-use Rattle.sk_slots.specs.Slots.{look_at, log_at}
-use Rattle.sk_index.specs.Index.{Numbered, number_of, string_of}
-use Rattle.sk_index.proofs.Strings.{some_none}
-use Rattle.sk_speculator.specs.Parts.{Parts, IsSame}
-use Rattle.sk_speculator.specs.Calls.{Takes, Commits, FailsIn, Forgets, Refuses}
-use Rattle.sk_bytes.specs.Told.{shown, slot_shown, slots_told, told_of, strings_of, AllRest, IsTwoWay, ByteView, Fits, IsTold, UsedBut}
-use Rattle.sk_bytes.specs.Numbers.{LetsGo, Gains, AreNames, names}
-use Rattle.sk_bytes.specs.Calls.{has_long_key, refusal_of, RefusesGuess, RefusesNext, Unchanged}
-use Rattle.sk_bytes.specs.declared.refusal.Refusal.{Refusal}
-use Rattle.sk_bytes.specs.declared.refusal.Refusal.TheVariants.{LongKey, LongValue, TooMany, NoNumber, Memory}
-use Rattle.sk_speculator.specs.WholeStep.{WholeStep}
-use Rattle.sk_speculator.specs.declared.refusal.Refusal.{Refusal as Inner}
+use Rattle.sk_bytes.proofs.Names.{◌≡◌, ◌<◌, ℕ, true, false, List, [], ◌∷◌, ◌++◌, Option, Some, None, Ok, cond, refl}
+use Rattle.sk_bytes.proofs.Names.{sym, ◌∙◌, ap, subst, inl, inr, ◌==◌, ◌⊎◌, ◌&&◌, ◌||◌, Bool, not, is_none, IfErr}
+use Rattle.sk_bytes.proofs.Names.{OnErr, Result, Err, nat_cmp, eq_by_cmp, nat_cmp_total, unsigned_tied, entries}
+use Rattle.sk_bytes.proofs.Names.{nat_cmp-IsAntisymmetric, Vec, ne_eqb, or_parts, true≢false, list_any, put, is_in}
+use Rattle.sk_bytes.proofs.Names.{written_value, Effect, Note, has, without, noted, cut, unwound, committed, Merges}
+use Rattle.sk_bytes.proofs.Names.{none_drawn, Deed, performs, at_key, AreWrites, SlotView, look_at, log_at, Numbered}
+use Rattle.sk_bytes.proofs.Names.{number_of, string_of, some_none, Parts, IsSame, Takes, Commits, FailsIn, Forgets}
+use Rattle.sk_bytes.proofs.Names.{Refuses, shown, slot_shown, slots_told, told_of, strings_of, AllRest, IsTwoWay}
+use Rattle.sk_bytes.proofs.Names.{ByteView, Fits, IsTold, UsedBut, LetsGo, Gains, AreNames, names, has_long_key}
+use Rattle.sk_bytes.proofs.Names.{refusal_of, RefusesGuess, RefusesNext, Unchanged, Refusal, LongKey, LongValue}
+use Rattle.sk_bytes.proofs.Names.{TooMany, NoNumber, Memory, WholeStep, Inner, Ordering, whole_committed, whole_failed}
+use Rattle.sk_bytes.proofs.Names.{whole_first, whole_forgotten, whole_same, whole_taken}
 use Rattle.sk_speculator.specs.declared.refusal.Refusal.TheVariants as inner
-use Rattle.std.specs.declared.cmp.Ordering.{Ordering}
-use Rattle.sk_speculator.proofs.Afterwards.{whole_committed, whole_failed, whole_first, whole_forgotten, whole_same, whole_taken}
 use Rattle.sk_bytes.proofs.Told.{none_shown, same_told, some_same}
 use Rattle.sk_bytes.proofs.Rests.{taken_rest, committed_rest, cut_rest}
 

@@ -1,24 +1,14 @@
 -- Numbers that go and come one after another, and a step that is handed over with them.
-use Rattle.std.proofs.Common.{◌≡◌, ℕ, zero, suc, ◌<◌, ◌≤◌, ◌+◌, arith, true, false, List, [], ◌∷◌, ◌++◌, map, length, get_or, take, Option, Some, None, cond, refl, sym, ◌∙◌, ap, subst, inl, inr}
-use Rattle.std.specs.Prelude.{◌==◌, ◌⊎◌, ◌&&◌, ◌||◌, Bool, Result, Ok, Err, IfOk, IfSome, nat_lt, not, is_none, is_some, slice_get, slice_set}
-use Rattle.std.specs.Ordering.{nat_cmp, eq_by_cmp}
-use Rattle.std.specs.Cmp.{unsigned_tied}
-use Rattle.std.specs.Option.{option_map}
-use Rattle.std.specs.Vec.{vec_items}
-use Rattle.std.specs.Global.{Vec}
-use Rattle.std.proofs.lemmas.Bool.{eqb-true, eqb-false, eq-eqb, ltb-true, ltb-false, ne_eqb, or_left, or_right, or_cases, true≢false, false≢true}
-use Rattle.std.proofs.lemmas.List.Folds.{list_any-append}
-use Rattle.sk_record.specs.Effects.{is_in}
-use Rattle.sk_record.specs.Notes.{Note, last_tags}
-use Rattle.sk_renamed.specs.Renamed.{at_key, keys_of, AreWrites}
-use Rattle.sk_slots.specs.Slot.{SlotView}
-use Rattle.sk_slots.specs.Slots.{look_at}
-use Rattle.sk_index.specs.Index.{Numbered, number_of, string_of, Adds, Removes}
-use Rattle.std.specs.List.{list_any}
-use Rattle.sk_speculator.proofs.Writing.{take_all, take_next}
-use Rattle.sk_index.proofs.Strings.{some_none, same_bytes}
-use Rattle.sk_bytes.specs.Told.{shown, slot_shown, AllRest, IsTwoWay}
-use Rattle.sk_bytes.specs.Numbers.{LetsGo, Gains, AreNames, names, exchanged}
+use Rattle.sk_bytes.proofs.Names.{◌≡◌, ℕ, zero, suc, ◌<◌, ◌≤◌, ◌+◌, arith, true, false, List, [], ◌∷◌, ◌++◌, map}
+use Rattle.sk_bytes.proofs.Names.{length, get_or, take, Option, Some, None, cond, refl, sym, ◌∙◌, ap, subst, inl, inr}
+use Rattle.sk_bytes.proofs.Names.{◌==◌, ◌⊎◌, ◌&&◌, ◌||◌, Bool, Result, Err, IfOk, IfSome, nat_lt, not, is_none, is_some}
+use Rattle.sk_bytes.proofs.Names.{slice_get, slice_set, nat_cmp, eq_by_cmp, unsigned_tied, option_map, vec_items, Vec}
+use Rattle.sk_bytes.proofs.Names.{eqb-true, eqb-false, eq-eqb, ltb-true, ltb-false, ne_eqb, or_left, or_right, or_cases}
+use Rattle.sk_bytes.proofs.Names.{true≢false, false≢true, list_any-append, is_in, Note, last_tags, at_key, keys_of}
+use Rattle.sk_bytes.proofs.Names.{AreWrites, SlotView, look_at, Numbered, number_of, string_of, Adds, Removes, list_any}
+use Rattle.sk_bytes.proofs.Names.{take_all, take_next, some_none, same_bytes, shown, slot_shown, AllRest, IsTwoWay}
+use Rattle.sk_bytes.proofs.Names.{LetsGo, Gains, AreNames, names, exchanged}
+use Rattle.std.specs.Prelude.{Ok}
 use Rattle.sk_bytes.proofs.Told.{two_way_more, two_way_less}
 
 -- ---- numbers go

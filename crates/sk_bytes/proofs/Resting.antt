@@ -1,26 +1,13 @@
 -- The strings of the numbers that rest on a guess.
-use Rattle.std.proofs.Common.{◌≡◌, ℕ, ◌<◌, true, false, ◌&&◌, List, [], ◌∷◌, length, map, Option, Some, None, cond, refl, sym, ◌∙◌, ap, arith}
-use Rattle.std.specs.Prelude.{◌==◌, ◌||◌, Bool, is_some, slice_get}
-use Rattle.std.specs.Cmp.{unsigned_tied}
-use Rattle.std.specs.List.{AllByRecursion, filter}
+use Rattle.sk_bytes.proofs.Names.{◌≡◌, ℕ, ◌<◌, true, false, List, [], ◌∷◌, length, map, Option, Some, None, cond, refl}
+use Rattle.sk_bytes.proofs.Names.{sym, ◌∙◌, ap, arith, ◌==◌, ◌||◌, Bool, is_some, slice_get, unsigned_tied}
+use Rattle.sk_bytes.proofs.Names.{AllByRecursion, filter, nat_cmp, Less, eq-eqb, ne_eqb, true≢false}
+use Rattle.sk_bytes.proofs.Names.{IsStrictlySortedBy-filter, is_in, has, last_tags, tags_at, has_filter, above}
+use Rattle.sk_bytes.proofs.Names.{same_rising, eqb_turned, at_key, log_at, Numbered, bytes_cmp, number_of, numbers_in}
+use Rattle.sk_bytes.proofs.Names.{string_of, Parts, undo_state_of, names, strings_of, told_of, with_string, ByteView}
+use Rattle.sk_bytes.proofs.Names.{Fits, resting_on}
+use Rattle.std.proofs.Common.{◌&&◌}
 use Rattle.std.specs.List.Sorted.{IsStrictlySortedBy}
-use Rattle.std.specs.Ordering.{nat_cmp}
-use Rattle.std.specs.declared.cmp.Ordering.TheVariants.{Less}
-use Rattle.std.proofs.lemmas.Bool.{eq-eqb, ne_eqb, true≢false}
-use Rattle.std.proofs.lemmas.List.Kept.{IsStrictlySortedBy-filter}
-use Rattle.sk_record.specs.Effects.{is_in}
-use Rattle.sk_record.specs.Notes.{has, last_tags}
-use Rattle.sk_record.specs.UndoState.{tags_at}
-use Rattle.sk_record.proofs.Machine.{has_filter}
-use Rattle.sk_record.proofs.Rising.{above, same_rising}
-use Rattle.sk_record.proofs.Sound.{eqb_turned}
-use Rattle.sk_renamed.specs.Renamed.{at_key}
-use Rattle.sk_slots.specs.Slots.{log_at}
-use Rattle.sk_index.specs.Index.{Numbered, bytes_cmp, number_of, numbers_in, string_of}
-use Rattle.sk_speculator.specs.Parts.{Parts, undo_state_of}
-use Rattle.sk_bytes.specs.Numbers.{names}
-use Rattle.sk_bytes.specs.Told.{strings_of, told_of, with_string, ByteView, Fits}
-use Rattle.sk_bytes.specs.Calls.{resting_on}
 use Rattle.sk_bytes.proofs.Told.{log_told}
 use Rattle.sk_bytes.proofs.Fitting.{bare}
 use Rattle.sk_bytes.proofs.Undone.{strings_at, strings_length, AllHeld}

@@ -1,9 +1,6 @@
 -- Each note of a log rests on something, whatever a step, a commit or a failure makes of it.
-use Rattle.std.proofs.Common.{◌≡◌, ℕ, true, false, List, [], ◌∷◌, ◌++◌, Option, cond, refl, sym, ap, ◌∙◌, inl, inr}
-use Rattle.std.specs.Prelude.{Bool}
-use Rattle.sk_record.specs.Notes.{Note, has, without, noted, last_tags, cut, committed}
-use Rattle.sk_record.specs.Merged.{Merges}
-use Rattle.sk_bytes.specs.Told.{AllRest}
+use Rattle.sk_bytes.proofs.Names.{◌≡◌, ℕ, true, false, List, [], ◌∷◌, ◌++◌, Option, cond, refl, sym, ap, ◌∙◌, inl, inr}
+use Rattle.sk_bytes.proofs.Names.{Bool, Note, has, without, noted, last_tags, cut, committed, Merges, AllRest}
 
 module _ {V : Type 0} where
   noted_rest : (wrote : Bool) (tags : List ℕ) (v : Option V) (rest : List (Note V)) → AllRest rest → AllRest (noted wrote tags v rest)

@@ -1,11 +1,7 @@
 -- A step that is handed over, and handed back.
-use Rattle.std.proofs.Common.{◌≡◌, ℕ, List, map, length, Option, None, sym, ap, ◌∙◌, subst}
-use Rattle.std.specs.Global.{Vec}
-use Rattle.std.specs.Vec.{vec_items}
-use Rattle.sk_renamed.specs.Renamed.{keys_of, AreWrites, IsDeed}
-use Rattle.sk_speculator.specs.WholeStep.{WholeStep}
-use Rattle.sk_bytes.specs.Numbers.{exchanged, names, AreNames}
-use Rattle.sk_bytes.specs.Steps.{byte_deed, deed_in, IsAsItWas, IsHandedOver, Swaps}
+use Rattle.sk_bytes.proofs.Names.{◌≡◌, ℕ, List, map, length, Option, None, sym, ap, ◌∙◌, subst, Vec, vec_items, keys_of}
+use Rattle.sk_bytes.proofs.Names.{AreWrites, IsDeed, WholeStep, exchanged, names, AreNames, byte_deed, deed_in}
+use Rattle.sk_bytes.proofs.Names.{IsAsItWas, IsHandedOver, Swaps}
 use Rattle.sk_bytes.proofs.Moves.{exchanged_back, exchanged_length, exchanged_names, map_length, names_length, writes_named}
 
 module _ {V O : Type 0} (step left : WholeStep (Vec ℕ) V O) (numbered told : WholeStep ℕ V O) where

@@ -1,30 +1,16 @@
 -- The machine of what is told is the machine inside, under the names of its keys.
-use Rattle.std.proofs.Common.{◌≡◌, ℕ, true, false, List, [], ◌∷◌, Option, Some, None, cond, refl, sym, ◌∙◌, ap, subst}
-use Rattle.std.specs.Prelude.{◌==◌}
-use Rattle.std.specs.Cmp.{IsTotalOrder, unsigned_tied}
-use Rattle.std.specs.Cmp.Lexicographic.{nat_list_cmp_total}
-use Rattle.std.specs.FinMap.{FinMap, IsAntisymmetric, entries, get, get-entries, get-from_entries, get-insert, get-remove, get-empty, same_map, nat_cmp-IsAntisymmetric, slice_cmp-IsAntisymmetric}
-use Rattle.std.specs.Ordering.{nat_cmp, eq_by_cmp}
-use Rattle.std.proofs.lemmas.Bool.{eqb-true, eqb-false, eq-eqb, ne_eqb}
-use Rattle.sk_record.specs.Run.{put}
-use Rattle.sk_record.specs.Notes.{Note}
-use Rattle.sk_record.specs.Machine.{Fails, with_drawn, with_status, with_failure}
-use Rattle.sk_record.specs.Merged.{MergedTakes, MergedCommits}
-use Rattle.sk_record.specs.declared.status.Status.{Status}
+use Rattle.sk_bytes.proofs.Names.{◌≡◌, ℕ, true, false, List, [], ◌∷◌, Option, Some, None, cond, refl, sym, ◌∙◌, ap}
+use Rattle.sk_bytes.proofs.Names.{subst, ◌==◌, IsTotalOrder, unsigned_tied, nat_list_cmp_total, FinMap, IsAntisymmetric}
+use Rattle.sk_bytes.proofs.Names.{entries, get, get-entries, get-from_entries, get-insert, get-remove, get-empty}
+use Rattle.sk_bytes.proofs.Names.{same_map, nat_cmp-IsAntisymmetric, slice_cmp-IsAntisymmetric, nat_cmp, eq_by_cmp}
+use Rattle.sk_bytes.proofs.Names.{eqb-true, eqb-false, eq-eqb, ne_eqb, put, Note, Fails, with_drawn, with_status}
+use Rattle.sk_bytes.proofs.Names.{with_failure, MergedTakes, MergedCommits, Status, Deed, again, at_key, renamed}
+use Rattle.sk_bytes.proofs.Names.{KeepsApart, IsDeed, SlotView, found, slot_in, look_at, log_at, Numbered, bytes_cmp}
+use Rattle.sk_bytes.proofs.Names.{number_of, string_of, Adds, Removes, same_bytes, same_list, some_none, made_by, Parts}
+use Rattle.sk_bytes.proofs.Names.{machine_of, Takes, Commits, FailsIn, Forgets, WholeStep, made_whole, deed_in, shown}
+use Rattle.sk_bytes.proofs.Names.{slot_shown, slots_told, told_of, IsTwoWay}
 use Rattle.sk_record.specs.declared.status.Status.TheVariants.{Committed}
-use Rattle.sk_deeds.specs.Deed.{Deed, again}
-use Rattle.sk_renamed.specs.Renamed.{at_key, renamed, KeepsApart, IsDeed}
 use Rattle.sk_renamed.proofs.Renaming as renaming
-use Rattle.sk_slots.specs.Slot.{SlotView}
-use Rattle.sk_slots.specs.Slots.{found, slot_in, look_at, log_at}
-use Rattle.sk_index.specs.Index.{Numbered, bytes_cmp, number_of, string_of, Adds, Removes}
-use Rattle.sk_index.proofs.Strings.{same_bytes, same_list, some_none}
-use Rattle.sk_speculator.specs.Parts.{made_by, Parts, machine_of}
-use Rattle.sk_speculator.specs.Calls.{Takes, Commits, FailsIn, Forgets}
-use Rattle.sk_speculator.specs.WholeStep.{WholeStep}
-use Rattle.sk_speculator.proofs.Writing.{made_whole}
-use Rattle.sk_bytes.specs.Steps.{deed_in}
-use Rattle.sk_bytes.specs.Told.{shown, slot_shown, slots_told, told_of, IsTwoWay}
 
 pub bytes_total : IsTotalOrder bytes_cmp
 bytes_total = nat_list_cmp_total

@@ -1,25 +1,13 @@
 -- What a failure took back is told by strings, and what a decision did.
-use Rattle.std.proofs.Common.{◌≡◌, ℕ, zero, suc, true, false, List, [], ◌∷◌, length, Option, Some, None, Ok, refl, sym, ◌∙◌, ap, subst}
-use Rattle.std.specs.Prelude.{◌||◌, slice_get}
-use Rattle.std.specs.Ordering.{nat_cmp, eq_by_cmp}
-use Rattle.std.specs.Cmp.{unsigned_tied}
-use Rattle.std.proofs.lemmas.Bool.{eq-eqb, ne_eqb, or_left, or_right}
-use Rattle.sk_record.specs.Effects.{is_in}
-use Rattle.sk_record.specs.Notes.{has, last_tags}
-use Rattle.sk_guesses.specs.Token.{Token}
-use Rattle.sk_renamed.specs.Renamed.{at_key}
-use Rattle.sk_slots.specs.Slots.{log_at}
-use Rattle.sk_index.specs.Index.{Numbered, bytes_cmp, number_of, string_of}
-use Rattle.sk_index.proofs.Strings.{some_none}
-use Rattle.sk_speculator.specs.Parts.{Parts}
-use Rattle.sk_speculator.specs.Calls.{Commits, FailsIn, Forgets, TookBack}
+use Rattle.sk_bytes.proofs.Names.{◌≡◌, ℕ, zero, suc, true, false, List, [], ◌∷◌, length, Option, Some, None, Ok, refl}
+use Rattle.sk_bytes.proofs.Names.{sym, ◌∙◌, ap, subst, ◌||◌, slice_get, nat_cmp, eq_by_cmp, unsigned_tied, eq-eqb}
+use Rattle.sk_bytes.proofs.Names.{ne_eqb, or_left, or_right, is_in, has, last_tags, Token, at_key, log_at, Numbered}
+use Rattle.sk_bytes.proofs.Names.{bytes_cmp, number_of, string_of, some_none, Parts, Commits, FailsIn, Forgets}
+use Rattle.sk_bytes.proofs.Names.{TookBack, Committed, Undone, told_of, strings_of, with_string, ByteView, Fits}
+use Rattle.sk_bytes.proofs.Names.{IsTwoWay, CommitPost, TellsUndone}
 use Rattle.sk_speculator.specs.Calls as inner
-use Rattle.sk_speculator.specs.declared.decided.Committed.{Committed}
 use Rattle.sk_speculator.specs.declared.decided.Committed.TheVariants as commit
 use Rattle.sk_speculator.specs.declared.decided.Failed.TheVariants as failure
-use Rattle.sk_speculator.specs.declared.decided.Undone.{Undone}
-use Rattle.sk_bytes.specs.Told.{told_of, strings_of, with_string, ByteView, Fits, IsTwoWay}
-use Rattle.sk_bytes.specs.Calls.{CommitPost, TellsUndone}
 use Rattle.sk_bytes.proofs.Told.{commits_told, fails_told, forgets_told, keeps_apart, log_told}
 use Rattle.sk_bytes.proofs.Fitting.{bare, fits_committed, fits_forgot}
 

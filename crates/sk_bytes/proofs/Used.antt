@@ -1,29 +1,14 @@
 -- No number is kept for nothing, whatever a step, a commit or a failure makes of the kernel inside.
-use Rattle.std.proofs.Common.{◌≡◌, ℕ, true, false, List, [], ◌∷◌, ◌++◌, Option, None, cond, refl, sym, ◌∙◌, ap, subst, inl, inr}
-use Rattle.std.specs.Prelude.{◌⊎◌, ◌&&◌, Bool, not, is_none, Result, Ok, Err, IfOk}
-use Rattle.std.specs.Ordering.{nat_cmp}
-use Rattle.std.specs.Cmp.{nat_cmp_total}
-use Rattle.std.specs.FinMap.{nat_cmp-IsAntisymmetric}
-use Rattle.std.specs.Global.{Vec}
-use Rattle.std.proofs.lemmas.Bool.{or_parts, true≢false, false≢true}
-use Rattle.sk_record.specs.Effects.{is_in}
-use Rattle.sk_record.specs.Notes.{Note, has, without, noted, last_tags, committed, unwound}
-use Rattle.sk_record.specs.Merged.{Merges}
-use Rattle.sk_guesses.specs.Token.{Token}
-use Rattle.sk_guesses.proofs.Listed.{carries, none_carried, uncut}
-use Rattle.sk_deeds.specs.Deed.{Deed}
-use Rattle.sk_slots.specs.Slot.{SlotView}
-use Rattle.sk_slots.specs.Slots.{look_at, log_at}
-use Rattle.sk_index.specs.Index.{Numbered, string_of}
-use Rattle.sk_speculator.specs.Parts.{Parts, IsSame}
-use Rattle.sk_speculator.specs.Calls.{Takes, Commits, FailsIn, Forgets, TookBack}
+use Rattle.sk_bytes.proofs.Names.{◌≡◌, ℕ, true, false, List, [], ◌∷◌, ◌++◌, Option, None, cond, refl, sym, ◌∙◌, ap}
+use Rattle.sk_bytes.proofs.Names.{subst, inl, inr, ◌⊎◌, ◌&&◌, Bool, not, is_none, Result, Err, IfOk, nat_cmp}
+use Rattle.sk_bytes.proofs.Names.{nat_cmp_total, nat_cmp-IsAntisymmetric, Vec, or_parts, true≢false, false≢true, is_in}
+use Rattle.sk_bytes.proofs.Names.{Note, has, without, noted, last_tags, committed, unwound, Merges, Token, carries}
+use Rattle.sk_bytes.proofs.Names.{none_carried, uncut, Deed, SlotView, look_at, log_at, Numbered, string_of, Parts}
+use Rattle.sk_bytes.proofs.Names.{IsSame, Takes, Commits, FailsIn, Forgets, TookBack, Committed, Undone, grows}
+use Rattle.sk_bytes.proofs.Names.{slot_shown, AllRest, Fits, UsedBut, listed, names, Gains, LetsGo, ListsAbsent}
+use Rattle.std.specs.Prelude.{Ok}
 use Rattle.sk_speculator.specs.Calls as inner
-use Rattle.sk_speculator.specs.declared.decided.Committed.{Committed}
 use Rattle.sk_speculator.specs.declared.decided.Committed.TheVariants as commit
-use Rattle.sk_speculator.specs.declared.decided.Undone.{Undone}
-use Rattle.sk_speculator.proofs.Afterwards.{grows}
-use Rattle.sk_bytes.specs.Told.{slot_shown, AllRest, Fits, UsedBut}
-use Rattle.sk_bytes.specs.Numbers.{listed, names, Gains, LetsGo, ListsAbsent}
 use Rattle.sk_bytes.proofs.Told.{none_shown}
 use Rattle.sk_bytes.proofs.Rests.{lightened_rest}
 use Rattle.sk_bytes.proofs.Fitting.{shown_none, shown_same, unwritten, writes_it}

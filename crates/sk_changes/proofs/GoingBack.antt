@@ -1,7 +1,6 @@
 -- Going back over one more undo: it comes first, by induction on the undos before it.
-use Rattle.std.specs.Prelude.{◌≡◌, List, [], ◌∷◌, ◌++◌}
-use Rattle.std.proofs.Common.{refl, sym, ap, subst}
-use Rattle.sk_changes.specs.Back.{back, CanGoBack}
+use Rattle.sk_changes.proofs.Names.{List, [], ◌∷◌, ◌++◌, refl, sym, ap, subst, back, CanGoBack}
+use Rattle.std.specs.Prelude.{◌≡◌}
 
 module _ {V U : Type 0} (undone : V → U → V) where
   -- one more at the end is undone first

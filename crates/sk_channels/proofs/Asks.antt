@@ -1,27 +1,11 @@
 -- What requests ask for, one after another.
-use Rattle.std.proofs.Common.{◌≡◌, ◌≢◌, ℕ, Bool, true, false, List, [], ◌∷◌, ◌++◌, map, Option, Some, None, Result, Ok, Err, refl, sym, ◌∙◌, ap, subst}
-use Rattle.std.proofs.lemmas.Bool.{false≢true}
-use Rattle.std.specs.Prelude.{is_none}
-use Rattle.std.specs.declared.alloc.AllocError.{AllocError}
-use Rattle.sk_requests.specs.declared.fault.Fault.{Fault}
-use Rattle.sk_commands.specs.declared.command.Command.{Command}
-use Rattle.sk_commands.specs.declared.command.Order.{Order}
-use Rattle.sk_commands.specs.declared.command.Order.TheVariants.{Run, Multi, Exec, Discard}
-use Rattle.sk_commands.specs.declared.fault.Fault.{Fault as Said}
-use Rattle.sk_commands.specs.declared.fault.Fault.TheVariants.{Unknown}
-use Rattle.sk_commands.specs.declared.name.Name.{Name}
-use Rattle.sk_commands.specs.declared.reply.Reply.TheVariants.{Error, Text}
-use Rattle.sk_commands.specs.declared.session.Queue.{Queue}
-use Rattle.sk_commands.specs.declared.work.Work.{Work}
-use Rattle.sk_commands.specs.declared.work.Work.TheVariants.{Say}
-use Rattle.sk_commands.specs.Names.{name_of}
-use Rattle.sk_commands.specs.Parsing.{order_named, order_of}
-use Rattle.sk_commands.specs.Session.{executes, refuses, turn, Takes, Turn}
-use Rattle.sk_channels.specs.declared.rejection.Rejection.{Rejection}
+use Rattle.sk_channels.proofs.Names.{◌≡◌, ◌≢◌, ℕ, Bool, true, false, List, [], ◌∷◌, ◌++◌, map, Option, Some, None}
+use Rattle.sk_channels.proofs.Names.{Result, Ok, Err, refl, sym, ◌∙◌, ap, subst, false≢true, is_none, AllocError, Fault}
+use Rattle.sk_channels.proofs.Names.{Command, Order, Run, Multi, Exec, Discard, Said, Unknown, Name, Error, Text, Queue}
+use Rattle.sk_channels.proofs.Names.{Work, Say, name_of, order_named, order_of, executes, refuses, turn, Takes, Turn}
+use Rattle.sk_channels.proofs.Names.{Rejection, Ask, Do, Reject, Requests, is_for_host, is_hosts, spoilt_queue}
+use Rattle.sk_channels.proofs.Names.{with_words, IsUnqueued, Asks, AskInTurn, ComesTo, asks_of, untold, HadMemory}
 use Rattle.sk_channels.specs.declared.rejection.Rejection.TheVariants as rejections
-use Rattle.sk_channels.specs.declared.inlet.Ask.{Ask}
-use Rattle.sk_channels.specs.declared.inlet.Ask.TheVariants.{Do, Reject}
-use Rattle.sk_channels.specs.Asking.{Requests, is_for_host, is_hosts, spoilt_queue, with_words, IsUnqueued, Asks, AskInTurn, ComesTo, asks_of, untold, HadMemory}
 
 pub unqueued : (old : Option Queue) (words : List (List ℕ)) (e : AllocError) (new : Option Queue)
     → Takes old (order_of words) (Err e) new → IsUnqueued old new

@@ -1,27 +1,12 @@
 -- Streams that were cut in different ways.
-use Rattle.std.proofs.Common.{◌≡◌, ◌≢◌, ℕ, ◌+◌, Bool, true, false, List, [], ◌∷◌, ◌++◌, drop, get_or, map, Option, Some, None, refl, sym, ◌∙◌, ap, subst, inl, inr}
-use Rattle.std.specs.Prelude.{◌⊎◌}
-use Rattle.std.proofs.lemmas.Bool.{true≢false}
-use Rattle.std.proofs.lemmas.List.{map-append}
-use Rattle.sk_requests.specs.declared.fault.Fault.{Fault}
-use Rattle.sk_requests.specs.declared.limits.Limits.{Limits}
-use Rattle.sk_requests.specs.Faults.{HasFault}
-use Rattle.sk_requests.specs.Stream.{IsPart}
-use Rattle.sk_requests.proofs.Apart.{one_fault}
-use Rattle.sk_requests.proofs.Arrays.{fault_is_final}
-use Rattle.sk_requests.proofs.Streams.{parts_are_none, read_once}
+use Rattle.sk_channels.proofs.Names.{◌≡◌, ◌≢◌, ℕ, ◌+◌, Bool, true, false, List, [], ◌∷◌, ◌++◌, drop, get_or, map}
+use Rattle.sk_channels.proofs.Names.{Option, Some, None, refl, sym, ◌∙◌, ap, subst, inl, inr, ◌⊎◌, true≢false}
+use Rattle.sk_channels.proofs.Names.{map-append, Fault, Limits, HasFault, IsPart, one_fault, fault_is_final}
+use Rattle.sk_channels.proofs.Names.{parts_are_none, read_once, Ask, Unknown, Error, Text, Queue, Say, Channel, Do}
+use Rattle.sk_channels.proofs.Names.{Reject, Inlet, Requests, with_words, asks_of, untold, AskInTurn, HadMemory}
+use Rattle.sk_channels.proofs.Names.{with_posed, IsOpen, IsClosed, IsHosts, HasHeard, with_ask, AsksAreSaid}
+use Rattle.sk_channels.proofs.Names.{CutsDontMatter, TicketsInOrder}
 use Rattle.sk_channels.specs.declared.rejection.Rejection.TheVariants as rejections
-use Rattle.sk_channels.specs.declared.inlet.Ask.{Ask}
-use Rattle.sk_commands.specs.declared.fault.Fault.TheVariants.{Unknown}
-use Rattle.sk_commands.specs.declared.reply.Reply.TheVariants.{Error, Text}
-use Rattle.sk_commands.specs.declared.session.Queue.{Queue}
-use Rattle.sk_commands.specs.declared.work.Work.TheVariants.{Say}
-use Rattle.sk_channels.specs.declared.channel.Channel.{Channel}
-use Rattle.sk_channels.specs.declared.inlet.Ask.TheVariants.{Do, Reject}
-use Rattle.sk_channels.specs.declared.inlet.Inlet.{Inlet}
-use Rattle.sk_channels.specs.Asking.{Requests, with_words, asks_of, untold, AskInTurn, HadMemory}
-use Rattle.sk_channels.specs.Hearing.{with_posed, IsOpen, IsClosed, IsHosts, HasHeard}
-use Rattle.sk_channels.specs.Laws.{with_ask, AsksAreSaid, CutsDontMatter, TicketsInOrder}
 use Rattle.sk_channels.proofs.Asks.{asks_are, had_before, had_more, text_on}
 use Rattle.sk_channels.proofs.Heard.{opened, closed_one}
 

@@ -1,24 +1,13 @@
 -- What was heard, with more bytes.
-use Rattle.std.proofs.Common.{◌≡◌, ℕ, ◌+◌, ◌<◌, ◌≤◌, Bool, true, false, is_some, List, [], ◌∷◌, ◌++◌, length, take, Option, Some, None, refl, sym, ◌∙◌, ap, subst, arith, length-append, append_assoc}
-use Rattle.std.proofs.lemmas.Bool.{false≢true}
-use Rattle.std.proofs.lemmas.List.{append-nil, take_all}
-use Rattle.sk_requests.specs.declared.fault.Fault.{Fault}
-use Rattle.sk_requests.specs.declared.limits.Limits.{Limits}
-use Rattle.sk_requests.specs.declared.reader.Found.{Found}
+use Rattle.sk_channels.proofs.Names.{◌≡◌, ℕ, ◌+◌, ◌<◌, ◌≤◌, Bool, true, false, is_some, List, [], ◌∷◌, ◌++◌, length}
+use Rattle.sk_channels.proofs.Names.{take, Option, Some, None, refl, sym, ◌∙◌, ap, subst, arith, length-append}
+use Rattle.sk_channels.proofs.Names.{append_assoc, false≢true, append-nil, take_all, Fault, Limits, Found, HasFault}
+use Rattle.sk_channels.proofs.Names.{words_of, HasRead, HasFound, Splits, go_on, Ask, Text, Say, Do, Reject, Asked}
+use Rattle.sk_channels.proofs.Names.{Inlet, Requests, is_for_host, is_hosts, with_words, AskInTurn, ComesTo, with_posed}
+use Rattle.sk_channels.proofs.Names.{IsAsked, IsHosts, IsOpen, IsClosed, IsHeard, HasHeard, HasHeardOn, IsGiven}
+use Rattle.sk_channels.proofs.Names.{WordsAsk, Finds}
 use Rattle.sk_requests.specs.declared.reader.Found.TheVariants as finds
-use Rattle.sk_requests.specs.Faults.{HasFault}
-use Rattle.sk_requests.specs.Reading.{words_of}
-use Rattle.sk_requests.specs.Stream.{HasRead, HasFound, Splits}
-use Rattle.sk_requests.proofs.Streams.{go_on}
 use Rattle.sk_channels.specs.declared.rejection.Rejection.TheVariants as rejections
-use Rattle.sk_channels.specs.declared.inlet.Ask.{Ask}
-use Rattle.sk_commands.specs.declared.reply.Reply.TheVariants.{Text}
-use Rattle.sk_commands.specs.declared.work.Work.TheVariants.{Say}
-use Rattle.sk_channels.specs.declared.inlet.Ask.TheVariants.{Do, Reject}
-use Rattle.sk_channels.specs.declared.inlet.Asked.{Asked}
-use Rattle.sk_channels.specs.declared.inlet.Inlet.{Inlet}
-use Rattle.sk_channels.specs.Asking.{Requests, is_for_host, is_hosts, with_words, AskInTurn, ComesTo}
-use Rattle.sk_channels.specs.Hearing.{with_posed, IsAsked, IsHosts, IsOpen, IsClosed, IsHeard, HasHeard, HasHeardOn, IsGiven, WordsAsk, Finds}
 use Rattle.sk_channels.proofs.Asks.{ask_on, words_more, none_more, empty_more, text_on}
 
 pub opened : (limits : Limits) (asked : List Ask) (stream : List ℕ) (inlet : Inlet) → inlet.closed ≡ false

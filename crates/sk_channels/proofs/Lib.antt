@@ -1,3 +1,4 @@
+pub mod Names
 pub mod Asks
 pub mod Cuts
 pub mod Heard

@@ -1,16 +1,8 @@
 -- What a channel was told, and what it asked for.
-use Rattle.std.proofs.Common.{ℕ, ◌+◌, ◌-◌, ◌<◌, ◌≤◌, List, [], ◌∷◌, ◌++◌, length, Option, Some, None, Result, Ok, Err, arith, length-append}
-use Rattle.std.proofs.lemmas.List.{length-replicate}
-use Rattle.sk_requests.specs.declared.limits.Limits.{Limits}
-use Rattle.sk_channels.specs.declared.refusal.Refusal.{Refusal}
-use Rattle.sk_channels.specs.declared.refusal.Refusal.TheVariants.{NoTicket, Full, Memory}
-use Rattle.sk_channels.specs.declared.inlet.Ask.{Ask}
-use Rattle.sk_channels.specs.declared.inlet.Inlet.{Inlet}
-use Rattle.sk_channels.specs.declared.outlet.Outlet.{Outlet}
-use Rattle.sk_channels.specs.declared.channel.Channel.{Channel}
-use Rattle.sk_channels.specs.Hearing.{HasHeard}
-use Rattle.sk_channels.specs.Telling.{Told, refused_up_to, HasTold, Tells, Refuses}
-use Rattle.sk_channels.specs.Serving.{HasServed, ReplyPost, RefusePost}
+use Rattle.sk_channels.proofs.Names.{ℕ, ◌+◌, ◌-◌, ◌<◌, ◌≤◌, List, [], ◌∷◌, ◌++◌, length, Option, Some, None, Result, Ok}
+use Rattle.sk_channels.proofs.Names.{Err, arith, length-append, length-replicate, Limits, Refusal, NoTicket, Full}
+use Rattle.sk_channels.proofs.Names.{Memory, Ask, Inlet, Outlet, Channel, HasHeard, Told, refused_up_to, HasTold, Tells}
+use Rattle.sk_channels.proofs.Names.{Refuses, HasServed, ReplyPost, RefusePost}
 
 -- More tickets were told something, or none.
 served_on : (limits : Limits) (asked : List Ask) (stream : List ℕ) (told more : Told) (handed : List ℕ) (old : Channel)

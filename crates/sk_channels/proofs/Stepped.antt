@@ -1,16 +1,11 @@
 -- What was fed, step by step.
-use Rattle.std.proofs.Common.{◌≡◌, ℕ, ◌+◌, ◌-◌, ◌<◌, ◌≤◌, Bool, true, false, List, ◌++◌, length, take, drop, Option, Some, None, Ok, Err, refl, sym, ◌∙◌, ap, subst, inl, inr, arith, append_assoc}
-use Rattle.std.proofs.lemmas.List.{append-nil, length-drop, take-append-drop, take-take, drop-take, drop-drop, drop_all}
-use Rattle.std.proofs.lemmas.Bool.{cases_lt, iff_false, true≢false}
-use Rattle.std.specs.Prelude.{◌↔◌, ◌||◌, IsTrue, is_some}
-use Rattle.sk_channels.specs.declared.inlet.Asked.{Asked}
-use Rattle.sk_requests.specs.declared.limits.Limits.{Limits}
-use Rattle.sk_channels.specs.declared.refusal.Refusal.{Refusal}
-use Rattle.sk_channels.specs.declared.refusal.Refusal.TheVariants.{NoTicket, Full, Memory}
-use Rattle.sk_channels.specs.declared.inlet.Ask.{Ask}
-use Rattle.sk_channels.specs.declared.inlet.Fed.{Fed}
-use Rattle.sk_channels.specs.declared.inlet.Inlet.{Inlet}
-use Rattle.sk_channels.specs.Hearing.{only_posed, HasHeard, HasHeardOn, Feeds}
+use Rattle.sk_channels.proofs.Names.{◌≡◌, ℕ, ◌+◌, ◌-◌, ◌<◌, ◌≤◌, Bool, true, false, List, ◌++◌, length, take, drop}
+use Rattle.sk_channels.proofs.Names.{Option, Some, None, Ok, Err, refl, sym, ◌∙◌, ap, subst, inl, inr, arith}
+use Rattle.sk_channels.proofs.Names.{append_assoc, append-nil, length-drop, take-append-drop, take-take, drop-take}
+use Rattle.sk_channels.proofs.Names.{drop-drop, drop_all, cases_lt, iff_false, true≢false, ◌↔◌, ◌||◌, IsTrue, Asked}
+use Rattle.sk_channels.proofs.Names.{Limits, Refusal, NoTicket, Full, Memory, Ask, Fed, Inlet, only_posed, HasHeard}
+use Rattle.sk_channels.proofs.Names.{HasHeardOn, Feeds}
+use Rattle.std.specs.Prelude.{is_some}
 
 -- how many bytes came, where these are left
 abbrev pub gone : List ℕ → List ℕ → ℕ

@@ -1,10 +1,8 @@
 -- What tickets were told, with more of them.
-use Rattle.std.proofs.Common.{◌≡◌, ℕ, ◌+◌, ◌-◌, ◌≤◌, List, [], ◌∷◌, ◌++◌, length, Option, Some, None, sym, ◌∙◌, ap, arith, length-append, append_assoc}
-use Rattle.std.specs.Prelude.{flat_map}
-use Rattle.std.proofs.lemmas.List.{append-nil, length-replicate, flat_map_more, replicate_more}
-use Rattle.std.proofs.lemmas.Grind.{flat_map-append}
-use Rattle.sk_channels.specs.Telling.{Told, told_text, refused, refused_up_to, HasTold}
-use Rattle.sk_channels.specs.declared.outlet.Outlet.{Outlet}
+use Rattle.sk_channels.proofs.Names.{◌≡◌, ℕ, ◌+◌, ◌-◌, ◌≤◌, List, [], ◌∷◌, ◌++◌, length, Option, Some, None, sym, ◌∙◌}
+use Rattle.sk_channels.proofs.Names.{ap, arith, length-append, append_assoc, flat_map, append-nil, length-replicate}
+use Rattle.sk_channels.proofs.Names.{flat_map_more, replicate_more, flat_map-append, Told, told_text, refused}
+use Rattle.sk_channels.proofs.Names.{refused_up_to, HasTold, Outlet}
 
 pub one_more_refused : (n : ℕ) → flat_map told_text (refused n) ++ told_text None ≡ flat_map told_text (refused (n + 1))
 one_more_refused n = flat_map_more told_text [] (refused n) None

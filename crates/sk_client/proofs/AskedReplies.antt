@@ -1,21 +1,14 @@
 -- The step of an asked request is accepted, told of a world's calls.
-use Rattle.std.proofs.Common.{◌≡◌, ℕ, Bool, true, false, cond, List, [], ◌∷◌, length, Option, Some, None, Ok, Err, refl, sym, ◌∙◌, ap, subst}
-use Rattle.sk_record.specs.Notes.{has}
-use Rattle.sk_script.specs.declared.instruction.Input.{Input}
+use Rattle.sk_client.proofs.Names.{◌≡◌, ℕ, Bool, true, false, cond, List, [], ◌∷◌, length, Option, Some, None, Ok, Err}
+use Rattle.sk_client.proofs.Names.{refl, sym, ◌∙◌, ap, subst, has, Input, KernelView, record_at, last_guess}
+use Rattle.sk_client.proofs.Names.{undecided_at, step_refused, with_event, Answer, Reply, TakesStep, StepsAreTaken}
+use Rattle.sk_client.proofs.Names.{ForgottenAreDropped, DeskView, entry, is_void, input_of, stepped, answered, given_to}
+use Rattle.sk_client.proofs.Names.{given, decision_answer, step_answer, given_answer, Exchanges, Leads, Begins}
+use Rattle.sk_client.proofs.Names.{WorldView, IsJoined, Replies, PendingRequest, Given, WorldEvent}
 use Rattle.sk_trace.specs.declared.event.Event.TheVariants.{Step}
-use Rattle.sk_kernel.specs.Kernel.{KernelView, record_at, last_guess, undecided_at, step_refused, with_event}
-use Rattle.sk_server.specs.declared.reply.Answer.{Answer}
 use Rattle.sk_server.specs.declared.reply.Answer.TheVariants as answers
-use Rattle.sk_server.specs.declared.reply.Reply.{Reply}
-use Rattle.sk_client.specs.AskedSteps.{TakesStep, StepsAreTaken, ForgottenAreDropped}
-use Rattle.sk_client.specs.Desk.{DeskView, entry, is_void, input_of, stepped, answered, given_to, given, decision_answer, step_answer, answer_to, given_answer}
-use Rattle.sk_client.specs.Exchanges.{Exchanges, Leads}
-use Rattle.sk_client.specs.Ready.{Begins}
-use Rattle.sk_client.specs.WorldView.{WorldView, IsJoined, Replies}
-use Rattle.sk_client.specs.declared.pending.PendingRequest.{PendingRequest}
-use Rattle.sk_client.specs.declared.desk.Given.{Given}
+use Rattle.sk_client.specs.Desk.{answer_to}
 use Rattle.sk_client.specs.declared.desk.Given.TheVariants as gives
-use Rattle.sk_client.specs.declared.world.WorldEvent.{WorldEvent}
 use Rattle.sk_client.specs.declared.world.WorldAnswer.TheVariants as told
 use Rattle.sk_client.specs.declared.world.Cause.TheVariants as causes
 use Rattle.sk_client.proofs.First.{first_world, reached}

@@ -1,63 +1,31 @@
 -- A kernel that was booted is such after each of its calls, in whatever epoch.
-use Rattle.std.proofs.Common.{◌≡◌, ℕ, zero, suc, ◌+◌, ◌≤◌, ◌<◌, length, true, List, [], ◌∷◌, ◌++◌, Some, None, Result, Ok, Err, inl, inr, refl, sym, ◌∙◌, ap, subst, arith, append_assoc}
-use Rattle.std.specs.Prelude.{nat_lt, replicate}
-use Rattle.std.specs.List.{Contains}
-use Rattle.std.specs.Ordering.{eq_by_cmp}
-use Rattle.std.proofs.lemmas.Bool.{true≢false, ltb-false}
-use Rattle.std.proofs.lemmas.List.{append-nil, length-append, length-replicate}
-use Rattle.std.proofs.lemmas.List.Elements.{Contains-append_cases}
-use Rattle.sk_record.specs.Notes.{has, noted}
-use Rattle.sk_record.specs.Epoch.{status_in, StatusOr}
-use Rattle.sk_record.specs.Machine.{Machine, machine_after}
-use Rattle.sk_record.specs.Merged.{MergedStands, HandsIn, alone_tags, with_value}
-use Rattle.sk_record.specs.Trace.{Event as Happens, Taken, IsDrawn, undecided_of}
-use Rattle.sk_record.proofs.MachineRuns.{machine_stands}
-use Rattle.sk_record.proofs.Merged.{all_kept}
-use Rattle.sk_ids.specs.Entity.{entity_cmp}
-use Rattle.sk_ids.specs.declared.entity.Entity.{Entity}
-use Rattle.sk_ids.specs.declared.entity.Entity.TheVariants.{Proc}
-use Rattle.sk_ids.proofs.Entities.{entity_total, entity_exact}
-use Rattle.sk_record.specs.declared.status.Status.TheVariants.{Undecided}
-use Rattle.sk_record.proofs.Sound.{sound_first}
-use Rattle.sk_guesses.proofs.Statuses.{nothing_in}
-use Rattle.sk_guesses.specs.Token.{Token}
-use Rattle.sk_script.specs.Boot.{BootView}
-use Rattle.sk_script.specs.declared.instruction.Input.{Input}
+use Rattle.sk_client.proofs.Names.{◌≡◌, ℕ, zero, suc, ◌+◌, ◌≤◌, ◌<◌, length, true, List, [], ◌∷◌, ◌++◌, Some, None}
+use Rattle.sk_client.proofs.Names.{Result, Ok, Err, inl, inr, refl, sym, ◌∙◌, ap, subst, arith, nat_lt, replicate}
+use Rattle.sk_client.proofs.Names.{Contains, eq_by_cmp, true≢false, ltb-false, append-nil, length-append}
+use Rattle.sk_client.proofs.Names.{length-replicate, Contains-append_cases, has, noted, status_in, StatusOr, Machine}
+use Rattle.sk_client.proofs.Names.{machine_after, MergedStands, HandsIn, alone_tags, with_value, Happens, Taken}
+use Rattle.sk_client.proofs.Names.{IsDrawn, undecided_of, machine_stands, all_kept, entity_cmp, Entity, Proc}
+use Rattle.sk_client.proofs.Names.{entity_total, entity_exact, Undecided, sound_first, nothing_in, Token, BootView}
+use Rattle.sk_client.proofs.Names.{Input, LeaseView, after_private, start_of, EntityState, TerminalMap, EntryView}
+use Rattle.sk_client.proofs.Names.{TraceView, plain, Saying, alone_reads, refusal_of, Refusal, TraceFull, KernelView}
+use Rattle.sk_client.proofs.Names.{booted, events_of, record_at, undecided_at, HasStatus, next_guess, room, effect_at}
+use Rattle.sk_client.proofs.Names.{or_else, state_at, no_room, step_misfit, trace_full, step_refused, guess_misfits}
+use Rattle.sk_client.proofs.Names.{too_many, guess_refused, with_event, StepPost, GuessPost, CommitPost, FailPost}
+use Rattle.sk_client.proofs.Names.{IsNextEpoch, EpochPost, IsAsLent, HandInPost, TakesIn, alone_step, alone_entry}
+use Rattle.sk_client.proofs.Names.{with_steps, HandIn, NoPlaces, Memory, EpochRefusal, Outcome, Stranger, FailRefusal}
+use Rattle.sk_client.proofs.Names.{HasSoundTrace, images_more, no_step, stands_handed, IsNumbered, entry, WasBooted}
+use Rattle.std.proofs.Common.{append_assoc}
 use Rattle.sk_script.specs.declared.instruction.Input.TheVariants as inputs
-use Rattle.sk_script.specs.Lease.{LeaseView, after_private}
-use Rattle.sk_store.specs.Start.{start_of}
-use Rattle.sk_store.specs.declared.entity_state.EntityState.{EntityState}
 use Rattle.sk_store.specs.declared.entity_state.EntityState.TheVariants as stored
-use Rattle.sk_terminal.specs.Terminals.{TerminalMap}
-use Rattle.sk_trace.specs.Entry.{EntryView}
-use Rattle.sk_trace.specs.Trace.{TraceView}
 use Rattle.sk_trace.specs.declared.event.Event.{Event}
 use Rattle.sk_trace.specs.declared.event.Event.TheVariants as events
-use Rattle.sk_plain.specs.Act.{plain, Saying}
-use Rattle.sk_plain.specs.Leased.{alone_reads}
-use Rattle.sk_plain.specs.Planned.{refusal_of}
-use Rattle.sk_plain.specs.declared.refusal.Refusal.{Refusal}
-use Rattle.sk_plain.specs.declared.refusal.Refusal.TheVariants.{TraceFull}
-use Rattle.sk_kernel.specs.Kernel.{KernelView, booted, events_of, record_at, undecided_at, HasStatus, next_guess, room, effect_at, or_else, state_at, no_room, step_misfit, trace_full, step_refused, guess_misfits, too_many, guess_refused, with_event}
-use Rattle.sk_kernel.specs.Calls.{StepPost, GuessPost, CommitPost, FailPost, IsNextEpoch, EpochPost}
-use Rattle.sk_kernel.specs.HandIn.{IsAsLent, HandInPost, TakesIn, alone_step, alone_entry, with_steps}
-use Rattle.sk_kernel.specs.declared.hand_in.HandIn.{HandIn}
-use Rattle.sk_kernel.specs.declared.hand_in.HandIn.TheVariants.{Stale, TraceFull as NoPlaces, Memory}
-use Rattle.sk_kernel.specs.declared.kernel.EpochRefusal.{EpochRefusal}
+use Rattle.sk_kernel.specs.declared.hand_in.HandIn.TheVariants.{Stale}
 use Rattle.sk_kernel.specs.declared.kernel.EpochRefusal.TheVariants as epoch_refusals
-use Rattle.sk_kernel.specs.declared.kernel.Outcome.{Outcome}
 use Rattle.sk_kernel.specs.declared.kernel.Outcome.TheVariants as outcomes
-use Rattle.sk_kernel.specs.declared.kernel.Stranger.{Stranger}
-use Rattle.sk_kernel.specs.declared.kernel.FailRefusal.{FailRefusal}
 use Rattle.sk_kernel.specs.declared.kernel.FailRefusal.TheVariants as refusals
-use Rattle.sk_kernel.specs.Laws.{HasSoundTrace}
-use Rattle.sk_kernel.proofs.HandedIn.{images_more, no_step, stands_handed}
 use Rattle.sk_kernel.proofs.Undecided.{undecided_is}
 use Rattle.sk_client.proofs.Each.{cons_cases, no_member}
 use Rattle.sk_client.proofs.PlaceFacts.{used, opens_taken, used_step, used_guess, used_commit, step_sound, guess_sound, commit_sound, fail_sound, used_fail}
-use Rattle.sk_client.specs.Table.{IsNumbered}
-use Rattle.sk_client.specs.Desk.{entry}
-use Rattle.sk_client.specs.Ready.{WasBooted}
 use Rattle.sk_client.proofs.Runs.{plain_tidy}
 use Rattle.sk_client.proofs.Tidy.{tidy_start}
 use Rattle.sk_client.proofs.DeskFacts.{Did, none_first, none_later, none_test, ok_of}

@@ -1,33 +1,12 @@
 -- The kernel of a desk, each of whose entries has why it is there, over a table of instructions;
 -- and what the table has to say.
-use Rattle.std.specs.Prelude.{◌≡◌, ◌⊎◌, ℕ, suc, Option, zero, Bool, ◌&&◌, ◌||◌, not, nat_le, List, [], ◌∷◌, map, Some, None, Ok, if◌then◌else◌}
-use Rattle.sk_script.specs.declared.instruction.Input.{Input}
-use Rattle.sk_script.specs.declared.instruction.Input.TheVariants.{Good}
-use Rattle.sk_server.specs.declared.request.Ask.{Ask}
-use Rattle.sk_server.specs.declared.request.Ask.TheVariants.{Get, Check, Store}
-use Rattle.sk_server.specs.declared.reply.Answer.{Answer}
-use Rattle.sk_client.specs.declared.pending.PendingRequest.{PendingRequest}
-use Rattle.std.specs.List.{filter, list_any, Contains}
-use Rattle.std.specs.Cmp.{IsTotalOrder}
-use Rattle.std.specs.declared.cmp.Ordering.{Ordering}
-use Rattle.std.specs.FinMap.{FinMap, IsAntisymmetric}
-use Rattle.sk_record.specs.Step.{Step, Effect}
-use Rattle.sk_record.specs.Effects.{is_in, dirt}
-use Rattle.sk_record.specs.Run.{System, outcome, run, effects}
-use Rattle.sk_record.specs.Notes.{has}
-use Rattle.sk_record.specs.Trace.{Event, record_of, undecided_of}
-use Rattle.sk_record.proofs.Sound.{is_commit}
-use Rattle.sk_objects.specs.Content.{ContentView}
-use Rattle.sk_plain.specs.declared.refusal.Refusal.{Refusal}
-use Rattle.sk_client.specs.Desk.{name_of}
-use Rattle.sk_client.specs.Table.{Bytes, copy_of}
-use Rattle.sk_ids.specs.Entity.{entity_cmp}
-use Rattle.sk_ids.specs.declared.entity.Entity.{Entity}
-use Rattle.sk_ids.specs.declared.entity.Entity.TheVariants.{Proc, Copy}
-use Rattle.sk_objects.specs.declared.content.TheConstants.{LAST_VERSION}
-use Rattle.sk_store.specs.declared.entity_state.EntityState.{EntityState}
-use Rattle.sk_trace.specs.Entry.{EntryView}
-use Rattle.sk_plain.specs.Act.{Scripts, Saying, act}
+use Rattle.sk_client.proofs.Names.{◌⊎◌, nat_le, if◌then◌else◌, Input, Good, Ask, Get, Check, Store, Answer}
+use Rattle.sk_client.proofs.Names.{PendingRequest, filter, list_any, Contains, IsTotalOrder, Ordering, FinMap}
+use Rattle.sk_client.proofs.Names.{IsAntisymmetric, Step, Effect, is_in, dirt, System, outcome, run, effects, has}
+use Rattle.sk_client.proofs.Names.{Event, record_of, undecided_of, is_commit, ContentView, Refusal, name_of, Bytes}
+use Rattle.sk_client.proofs.Names.{copy_of, entity_cmp, Entity, Proc, Copy, LAST_VERSION, EntityState, EntryView}
+use Rattle.sk_client.proofs.Names.{Scripts, Saying, act}
+use Rattle.std.specs.Prelude.{◌≡◌, ℕ, suc, Option, zero, Bool, ◌&&◌, ◌||◌, not, List, [], ◌∷◌, map, Some, None, Ok}
 
 -- why an entry is in the record, which no step looks at: it was there when the world began; it is a turn that asked
 -- nothing of the server; it belongs to a request

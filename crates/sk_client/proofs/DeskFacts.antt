@@ -1,65 +1,30 @@
 -- What the definitions of a desk come to; and what it lends, from what its kernel would lend.
-use Rattle.std.proofs.Common.{Bor, drop, get_or, ◌≡◌, ℕ, ◌+◌, ◌-◌, ◌<◌, ◌≤◌, Bool, true, false, not, ◌&&◌, ◌||◌, cond, List, [], ◌∷◌, ◌++◌, length, Option, Some, None, Result, Ok, Err, inl, inr, refl, sym, ◌∙◌, ap, subst, arith}
-use Rattle.std.specs.Prelude.{◌↔◌, ◌==◌, nat_lt, IfOk}
-use Rattle.std.specs.declared.alloc.AllocError.{AllocError}
-use Rattle.std.specs.Ordering.{nat_cmp}
-use Rattle.std.specs.Cmp.{both_ways}
-use Rattle.std.specs.List.{filter, list_any}
-use Rattle.std.specs.List.Sorted.{IsStrictlySortedBy}
-use Rattle.std.proofs.lemmas.Bool.{false_from_ne_true, le-ltb, or_cases}
-use Rattle.sk_record.proofs.UndoStates.{and_both}
-use Rattle.std.proofs.lemmas.List.{length-append, append_assoc, append-nil, drop_more}
-use Rattle.std.proofs.lemmas.List.Kept.{IsStrictlySortedBy-filter}
-use Rattle.std.proofs.lemmas.List.Elements.{filter-append}
-use Rattle.std.specs.FinMap.{get}
-use Rattle.sk_record.specs.Notes.{has}
-use Rattle.sk_record.specs.Step.{Effect}
-use Rattle.sk_record.specs.Trace.{StatusIs, marks}
-use Rattle.sk_record.specs.declared.status.Status.{Status}
-use Rattle.sk_record.specs.declared.status.Status.TheVariants.{Undecided, Committed}
-use Rattle.sk_record.proofs.Sound.{is_commit, has_commit, undecided_is as is_undecided}
-use Rattle.sk_record.proofs.Statuses.{one_status}
-use Rattle.sk_record.proofs.Machine.{has_filter}
-use Rattle.sk_record.proofs.Rising.{same_rising}
-use Rattle.sk_server.specs.declared.reply.Answer.{Answer}
-use Rattle.sk_server.specs.declared.reply.Reply.{Reply}
+use Rattle.sk_client.proofs.Names.{Bor, drop, get_or, ◌≡◌, ℕ, ◌+◌, ◌-◌, ◌<◌, ◌≤◌, Bool, true, false, not, ◌&&◌, ◌||◌}
+use Rattle.sk_client.proofs.Names.{cond, List, [], ◌∷◌, ◌++◌, length, Option, Some, None, Result, Ok, Err, inl, inr}
+use Rattle.sk_client.proofs.Names.{refl, sym, ◌∙◌, ap, subst, arith, ◌↔◌, ◌==◌, nat_lt, IfOk, AllocError, nat_cmp}
+use Rattle.sk_client.proofs.Names.{both_ways, filter, list_any, IsStrictlySortedBy, false_from_ne_true, le-ltb}
+use Rattle.sk_client.proofs.Names.{or_cases, and_both, length-append, append_assoc, append-nil, drop_more}
+use Rattle.sk_client.proofs.Names.{IsStrictlySortedBy-filter, filter-append, get, has, Effect, StatusIs, marks, Status}
+use Rattle.sk_client.proofs.Names.{Undecided, Committed, is_commit, has_commit, is_undecided, one_status, has_filter}
+use Rattle.sk_client.proofs.Names.{same_rising, Answer, Reply, Input, Entity, Proc, CopyOf, Value, EntityState, plain}
+use Rattle.sk_client.proofs.Names.{Saying, image, Shows, IsReply, refusal_of, NoneAdded, reply_adds, Refusal, Blocked}
+use Rattle.sk_client.proofs.Names.{TraceFull, KernelView, HasStatus, events_of, tags_at, undecided_at, room, state_at}
+use Rattle.sk_client.proofs.Names.{effect_at, crowded, no_room, or_else, trace_full, step_misfit, step_refused}
+use Rattle.sk_client.proofs.Names.{guess_refused, guess_misfits, too_many, next_guess, with_event, HasSoundTrace}
+use Rattle.sk_client.proofs.Names.{StatusOr, beyond, undecided_sorted, PendingRequest, commits, HolderView, DecidesPost}
+use Rattle.sk_client.proofs.Names.{Outcome, buffer_of, KeptAnswer, guesses_of, IsTidy, DeskView, pending, is_asked}
+use Rattle.sk_client.proofs.Names.{asked_count, no_place, rule_refused, rests_of, is_lost, lost_by, guess_refused_at}
+use Rattle.sk_client.proofs.Names.{no_number, kept_for, entry, input_of, decided, given_to, given, asks_for, LeaseView}
+use Rattle.sk_client.proofs.Names.{Lends, lease_of, blocked_why, unless_asked, desk_lease}
 use Rattle.sk_server.specs.declared.reply.Answer.TheVariants as answers
-use Rattle.sk_script.specs.declared.instruction.Input.{Input}
 use Rattle.sk_script.specs.declared.instruction.Input.TheVariants as inputs
-use Rattle.sk_ids.specs.declared.entity.Entity.{Entity}
-use Rattle.sk_ids.specs.declared.entity.Entity.TheVariants.{Proc, Copy as CopyOf}
-use Rattle.sk_objects.specs.declared.value.Value.{Value}
-use Rattle.sk_store.specs.declared.entity_state.EntityState.{EntityState}
 use Rattle.sk_store.specs.declared.entity_state.EntityState.TheVariants as stored
 use Rattle.sk_trace.specs.declared.event.Event.{Event}
 use Rattle.sk_trace.specs.declared.event.Event.TheVariants as events
-use Rattle.sk_plain.specs.Act.{plain, Saying}
-use Rattle.sk_plain.specs.Replay.{image}
-use Rattle.sk_plain.specs.View.{Shows}
 use Rattle.sk_plain.specs.declared.view.View.TheVariants as views
-use Rattle.sk_plain.specs.Planned.{IsReply, refusal_of}
-use Rattle.sk_plain.proofs.Adds.{NoneAdded, reply_adds}
-use Rattle.sk_plain.specs.declared.refusal.Refusal.{Refusal}
-use Rattle.sk_plain.specs.declared.refusal.Refusal.TheVariants.{Blocked, TraceFull}
-use Rattle.sk_kernel.specs.Kernel.{KernelView, HasStatus, events_of, tags_at, undecided_at, room, state_at, effect_at, crowded, no_room, or_else, trace_full, step_misfit, step_refused, guess_refused, guess_misfits, too_many, next_guess, with_event}
-use Rattle.sk_kernel.specs.Laws.{HasSoundTrace}
-use Rattle.sk_record.specs.Epoch.{StatusOr}
-use Rattle.sk_record.proofs.Epoch.{beyond}
-use Rattle.sk_kernel.proofs.Undecided.{undecided_sorted}
-use Rattle.sk_client.specs.declared.pending.PendingRequest.{PendingRequest}
 use Rattle.sk_client.specs.declared.rule.Rule.TheVariants as rules
-use Rattle.sk_holder.specs.Tokens.{commits}
-use Rattle.sk_holder.specs.Holder.{HolderView, DecidesPost}
-use Rattle.sk_kernel.specs.declared.kernel.Outcome.{Outcome}
 use Rattle.sk_kernel.specs.declared.kernel.Outcome.TheVariants as outcomes
-use Rattle.sk_client.specs.Table.{buffer_of}
 use Rattle.sk_client.proofs.Each.{any_map, any_same}
-use Rattle.sk_client.specs.declared.pending.KeptAnswer.{KeptAnswer}
-use Rattle.sk_client.specs.DeskInvariant.{guesses_of, IsTidy}
-use Rattle.sk_client.specs.Desk.{DeskView, pending, is_asked, asked_count, no_place, rule_refused, rests_of, is_lost, lost_by, guess_refused_at, no_number, kept_for, entry, input_of, decided, given_to, given, asks_for}
-use Rattle.sk_script.specs.Lease.{LeaseView}
-use Rattle.sk_plain.specs.Leased.{Lends, lease_of}
-use Rattle.sk_client.specs.Leasing.{blocked_why, unless_asked, desk_lease}
 
 -- ---- what is done, or refused
 

@@ -1,13 +1,11 @@
 -- Parts of two lists side by side, and membership.
-use Rattle.std.proofs.Common.{◌≡◌, ℕ, Bool, true, false, cond, List, [], ◌∷◌, ◌++◌, inl, inr, refl, sym, ◌∙◌, ap, subst, arith, zero, suc, ◌≤◌, length, slice_get, Some}
-use Rattle.std.specs.Prelude.{◌⊎◌, ◌==◌, ◌||◌, map}
-use Rattle.std.specs.List.{list_any, Contains, filter}
-use Rattle.std.proofs.lemmas.Bool.{or_parts, or_left, or_right, or_cases, true≢false, eq-eqb, eqb-true, cases_Bool}
-use Rattle.std.proofs.lemmas.List.Folds.{list_any-append}
-use Rattle.std.proofs.lemmas.List.Elements.{Contains-push_cases, Contains-append_cases, Contains-append_left, Contains-append_right}
-use Rattle.sk_record.specs.Effects.{keep}
-use Rattle.sk_record.specs.Notes.{has}
-use Rattle.sk_client.specs.AcceptedStores.{paired}
+use Rattle.sk_client.proofs.Names.{◌≡◌, ℕ, Bool, true, false, cond, List, [], ◌∷◌, ◌++◌, inl, inr, refl, sym, ◌∙◌, ap}
+use Rattle.sk_client.proofs.Names.{subst, arith, zero, suc, ◌≤◌, length, Some, ◌⊎◌, ◌==◌, list_any, Contains, filter}
+use Rattle.sk_client.proofs.Names.{or_parts, or_left, or_right, or_cases, true≢false, eq-eqb, eqb-true, cases_Bool}
+use Rattle.sk_client.proofs.Names.{list_any-append, Contains-push_cases, Contains-append_cases, Contains-append_left}
+use Rattle.sk_client.proofs.Names.{Contains-append_right, keep, has, paired}
+use Rattle.std.proofs.Common.{slice_get}
+use Rattle.std.specs.Prelude.{◌||◌, map}
 
 abbrev pub Each : {A B : Type 0} → (A → B → Type 0) → List A → List B → Type 0
 Each X [] ys = Unit {0}

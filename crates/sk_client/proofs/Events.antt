@@ -1,34 +1,20 @@
 -- What holds of a world stays so: by each event of its kernel, by a question, by an answer of the server, by a reply that is given.
-use Rattle.std.proofs.Common.{◌≡◌, ℕ, ◌≤◌, ◌<◌, true, false, not, ◌&&◌, List, [], ◌∷◌, ◌++◌, Option, Some, None, Ok, inl, inr, refl, sym, ◌∙◌, ap, subst, suc, Bool, cond, le_trans, arith}
-use Rattle.std.specs.Prelude.{◌⊎◌, is_ok, ◌==◌, nat_le}
-use Rattle.std.specs.List.{list_any, Contains}
-use Rattle.std.specs.FinMap.{FinMap, get}
-use Rattle.std.proofs.lemmas.Bool.{or_from, true≢false, false_from_ne_true, cases_Bool, eqb-true, or_cases, cases_eq, leb-true, leb-false}
-use Rattle.std.proofs.lemmas.List.Elements.{Contains-push_cases, Contains-append_left, Contains-push}
-use Rattle.std.proofs.lemmas.List.Folds.{list_any-append}
-use Rattle.sk_record.specs.Step.{Effect}
-use Rattle.sk_record.specs.Effects.{hit, dirt}
-use Rattle.sk_record.specs.Run.{outcome, marked_effect, run, effects}
-use Rattle.sk_record.specs.Strike.{struck, strike}
-use Rattle.sk_record.specs.Notes.{has}
-use Rattle.sk_record.specs.Trace.{Event, Taken, Commit, Fail, HasEntry, IsSound, record_of, undecided_of, no_record, all_recorded}
-use Rattle.sk_record.proofs.Machine.{own_dirt, has_filter}
-use Rattle.sk_record.proofs.UndoStates.{and_both}
-use Rattle.sk_record.proofs.Sound.{record_more, sound_taken, sound_commit, sound_fail, drawn_more, undecided_is, fresh_from, entries_are, has_commit, is_commit, has_entry}
-use Rattle.sk_script.specs.declared.instruction.Input.{Input}
-use Rattle.sk_script.specs.declared.instruction.Input.TheVariants.{Good}
-use Rattle.sk_server.specs.declared.reply.Answer.TheVariants.{Yes, Dropped}
-use Rattle.sk_client.specs.declared.pending.PendingRequest.{PendingRequest}
+use Rattle.sk_client.proofs.Names.{◌≡◌, ℕ, ◌≤◌, ◌<◌, true, false, not, ◌&&◌, List, [], ◌∷◌, ◌++◌, Option, Some, None}
+use Rattle.sk_client.proofs.Names.{Ok, inl, inr, refl, sym, ◌∙◌, ap, subst, suc, Bool, cond, le_trans, arith, ◌⊎◌}
+use Rattle.sk_client.proofs.Names.{is_ok, ◌==◌, nat_le, list_any, Contains, FinMap, get, or_from, true≢false}
+use Rattle.sk_client.proofs.Names.{false_from_ne_true, cases_Bool, eqb-true, or_cases, cases_eq, leb-true, leb-false}
+use Rattle.sk_client.proofs.Names.{Contains-push_cases, Contains-append_left, Contains-push, list_any-append, Effect}
+use Rattle.sk_client.proofs.Names.{hit, dirt, outcome, marked_effect, run, effects, struck, strike, has, Event, Taken}
+use Rattle.sk_client.proofs.Names.{Commit, Fail, HasEntry, IsSound, record_of, undecided_of, no_record, all_recorded}
+use Rattle.sk_client.proofs.Names.{own_dirt, has_filter, and_both, record_more, sound_taken, sound_commit, sound_fail}
+use Rattle.sk_client.proofs.Names.{drawn_more, undecided_is, fresh_from, entries_are, has_commit, is_commit, has_entry}
+use Rattle.sk_client.proofs.Names.{Input, Good, Yes, Dropped, PendingRequest, name_of, sent, input_of, Store, Answer}
+use Rattle.sk_client.proofs.Names.{remembered, Bytes}
 use Rattle.sk_client.proofs.CausedWorld.{For, Caused, Served, Table, kernel, is_lost, least, rests_of, Sets, IsTable, Takes}
-use Rattle.sk_client.specs.Desk.{name_of, sent, input_of}
 use Rattle.sk_client.proofs.Each.{survives, at_number, at_same, at_other, cons_first, cons_later, pairs_push}
 use Rattle.sk_client.proofs.TraceFacts.{has_mark, open_taken, open_commit, open_fail, failed_shut, legal_of, entry_drawn, open_entry}
 use Rattle.sk_client.proofs.Records.{Quiet, entries_taken, entries_failed, ready_taken, ready_failed, lost_more, ready_kept, not_true, tags_of_step}
 use Rattle.sk_client.proofs.Invariant.{never_dropped, Allowed, RestsOnRefused, Entries, Void, tag_at, Ready, HasStep, Invariant, counted, Queue, IsServed, Guesses, ReadyFor, is_accepted, queue_fewer, queue_le, queue_push, remembers_push, still_remembered}
-use Rattle.sk_server.specs.declared.request.Ask.TheVariants.{Store}
-use Rattle.sk_server.specs.declared.reply.Answer.{Answer}
-use Rattle.sk_server.specs.Server.{remembered}
-use Rattle.sk_client.specs.Table.{Bytes}
 
 pub no_guess : (o : Option ℕ) (g : ℕ) → o ≡ None → o ≡ Some g → ⊥
 no_guess o g none some = let same : None ≡ Some g = sym none ∙ some in cc

@@ -1,34 +1,14 @@
 -- Where a world begins, and what its requests' steps are.
-use Rattle.std.proofs.Common.{◌≡◌, ℕ, zero, suc, ◌+◌, ◌≤◌, length, true, false, List, [], ◌∷◌, ◌++◌, map, Some, None, inl, inr, refl, sym, ◌∙◌, ap, subst, arith}
-use Rattle.std.specs.Prelude.{◌⊎◌, slice_get}
-use Rattle.std.specs.List.{Contains, fold}
-use Rattle.std.specs.FinMap.{FinMap}
-use Rattle.std.proofs.lemmas.Bool.{true≢false}
-use Rattle.std.proofs.lemmas.List.{length-map, map-append}
-use Rattle.std.proofs.lemmas.List.Elements.{Contains-append_left, Contains-push_cases}
-use Rattle.sk_record.specs.Effects.{MarkedEffect}
-use Rattle.sk_record.specs.Run.{System, outcome, after, marked_effect, effects, IsLegal}
-use Rattle.sk_record.specs.Notes.{has}
-use Rattle.sk_record.specs.Strike.{strike, struck}
-use Rattle.sk_record.specs.Trace.{Event as Happens, Taken, Commit, Fail, StatusIs, IsAllowed, IsDrawn, IsSound, record_of, record_after, undecided_of}
-use Rattle.sk_record.specs.declared.status.Status.TheVariants.{Undecided, Committed, Failed}
+use Rattle.sk_client.proofs.Names.{◌≡◌, ℕ, zero, suc, ◌+◌, ◌≤◌, length, true, false, List, [], ◌∷◌, ◌++◌, map, Some}
+use Rattle.sk_client.proofs.Names.{None, inl, inr, refl, sym, ◌∙◌, ap, subst, arith, ◌⊎◌, slice_get, Contains, fold}
+use Rattle.sk_client.proofs.Names.{FinMap, true≢false, length-map, map-append, Contains-append_left}
+use Rattle.sk_client.proofs.Names.{Contains-push_cases, MarkedEffect, System, outcome, after, marked_effect, effects}
+use Rattle.sk_client.proofs.Names.{IsLegal, has, strike, struck, Happens, Taken, Commit, Fail, StatusIs, IsAllowed}
+use Rattle.sk_client.proofs.Names.{IsDrawn, IsSound, record_of, record_after, undecided_of, Undecided, Committed}
+use Rattle.sk_client.proofs.Names.{Failed, Good, EntryView, plain, KernelView, events_of, record_at, last_guess}
+use Rattle.sk_client.proofs.Names.{below_next, ServerView, LAST_REQUEST, Get, Yes, paired, opened_at, Exchanges, Leads}
+use Rattle.sk_client.proofs.Names.{IsReady, WorldView, joined, PendingRequest, WorldEvent}
 use Rattle.sk_record.proofs.Laws.{one_status}
-use Rattle.sk_script.specs.declared.instruction.Input.TheVariants.{Good}
-use Rattle.sk_trace.specs.Entry.{EntryView}
-use Rattle.sk_plain.specs.Act.{plain}
-use Rattle.sk_kernel.specs.Kernel.{KernelView, events_of, record_at, last_guess}
-use Rattle.sk_kernel.proofs.Lawful.{below_next}
-use Rattle.sk_server.specs.Server.{ServerView}
-use Rattle.sk_server.specs.declared.server.TheConstants.{LAST_REQUEST}
-use Rattle.sk_server.specs.declared.request.Ask.TheVariants.{Get}
-use Rattle.sk_server.specs.declared.reply.Answer.TheVariants.{Yes}
-use Rattle.sk_client.specs.AcceptedStores.{paired}
-use Rattle.sk_client.specs.Desk.{opened_at}
-use Rattle.sk_client.specs.Exchanges.{Exchanges, Leads}
-use Rattle.sk_client.specs.Ready.{IsReady}
-use Rattle.sk_client.specs.WorldView.{WorldView, joined}
-use Rattle.sk_client.specs.declared.pending.PendingRequest.{PendingRequest}
-use Rattle.sk_client.specs.declared.world.WorldEvent.{WorldEvent}
 use Rattle.sk_client.proofs.Labels.{bare_event, labelled, is_bare}
 use Rattle.sk_client.proofs.CausedWorld.{Before, For, Caused, Served, kernel, undecided, bare, table}
 use Rattle.sk_client.proofs.Each.{Each, no_member, cons_first, cons_later, cons_cases, contains_at, at_end, kept_was}

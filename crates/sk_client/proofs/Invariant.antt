@@ -1,32 +1,15 @@
 -- What holds of a world after every list of events; and how the requests that wait change, and the
 -- refused guesses that the server remembers.
-use Rattle.std.proofs.Common.{◌≡◌, ℕ, suc, ◌≤◌, ◌<◌, Bool, true, false, not, ◌||◌, List, [], ◌∷◌, Option, Some, None, ◌&&◌, ◌++◌, inl, inr, sym, ◌∙◌, ap, subst, arith}
-use Rattle.std.specs.Prelude.{◌⊎◌, ◌==◌, nat_le}
-use Rattle.std.specs.List.{Contains, list_any}
-use Rattle.std.specs.FinMap.{FinMap, get}
-use Rattle.sk_record.specs.Effects.{is_in, dirt}
-use Rattle.sk_record.specs.Run.{run, effects}
-use Rattle.sk_record.specs.Strike.{struck}
-use Rattle.sk_record.specs.Notes.{has}
-use Rattle.sk_record.specs.Trace.{Event, Fail, HasEntry, IsDrawn, IsSound, record_of, undecided_of}
-use Rattle.sk_script.specs.declared.instruction.Input.{Input}
-use Rattle.sk_script.specs.declared.instruction.Input.TheVariants.{Good, Fresh, Stale}
-use Rattle.sk_objects.specs.Content.{ContentView}
-use Rattle.sk_server.specs.declared.request.Ask.{Ask}
-use Rattle.sk_server.specs.declared.request.Ask.TheVariants.{Get, Check, Store}
-use Rattle.sk_server.specs.declared.reply.Answer.TheVariants.{Yes, Dropped, No, Copy}
-use Rattle.sk_client.specs.declared.pending.PendingRequest.{PendingRequest}
+use Rattle.sk_client.proofs.Names.{◌≡◌, ℕ, suc, ◌≤◌, ◌<◌, Bool, true, false, not, ◌||◌, List, [], ◌∷◌, Option, Some}
+use Rattle.sk_client.proofs.Names.{None, ◌&&◌, ◌++◌, inl, inr, sym, ◌∙◌, ap, subst, arith, ◌⊎◌, ◌==◌, nat_le, Contains}
+use Rattle.sk_client.proofs.Names.{list_any, FinMap, get, is_in, dirt, run, effects, struck, has, Event, Fail, HasEntry}
+use Rattle.sk_client.proofs.Names.{IsDrawn, IsSound, record_of, undecided_of, Input, Good, Fresh, Stale, ContentView}
+use Rattle.sk_client.proofs.Names.{Ask, Get, Check, Store, Yes, Dropped, No, PendingRequest, name_of, sent, input_of}
+use Rattle.sk_client.proofs.Names.{Bytes, Answer, true≢false, eqb-true, le-leb, Contains-push_cases, has_filter, any_at}
+use Rattle.sk_client.proofs.Names.{any_from, remembered, is_dropped}
+use Rattle.sk_server.specs.declared.reply.Answer.TheVariants.{Copy}
 use Rattle.sk_client.proofs.CausedWorld.{For, Caused, Served, Table, kernel, is_lost, Takes, Sets}
-use Rattle.sk_client.specs.Desk.{name_of, sent, input_of}
 use Rattle.sk_client.proofs.Each.{Each, Pairs, no_member}
-use Rattle.sk_client.specs.Table.{Bytes}
-use Rattle.sk_server.specs.declared.reply.Answer.{Answer}
-use Rattle.std.proofs.lemmas.Bool.{true≢false, eqb-true, le-leb}
-use Rattle.std.proofs.lemmas.List.Elements.{Contains-push_cases}
-use Rattle.sk_record.proofs.Machine.{has_filter}
-use Rattle.sk_record.proofs.UndoStates.{any_at}
-use Rattle.sk_record.proofs.Sound.{any_from}
-use Rattle.sk_server.specs.Server.{remembered, is_dropped}
 
 abbrev pub is_accepted : Answer → Bool
 is_accepted Yes = true

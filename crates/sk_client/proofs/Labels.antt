@@ -1,13 +1,8 @@
 -- Entries that carry more than a kernel looks at, as a cause: it changes nothing.
-use Rattle.std.specs.FinMap.{FinMap}
-use Rattle.sk_record.specs.Run.{System, run, effects, outcome, after, marked_effect}
-use Rattle.sk_record.specs.Trace.{Event, Taken, Commit, Fail, record_of, undecided_of, Record, recorded, all_recorded, no_record, still_marked, marks}
-use Rattle.std.proofs.Common.{◌≡◌, ℕ, Bool, true, false, List, [], ◌∷◌, ◌++◌, map, refl, sym, ◌∙◌, ap}
-use Rattle.std.specs.List.{filter}
-use Rattle.std.proofs.lemmas.List.{map-append}
-use Rattle.sk_record.specs.Effects.{keep, hits}
-use Rattle.sk_record.specs.Strike.{struck, strike}
-use Rattle.sk_record.proofs.Sound.{entries_are}
+use Rattle.sk_client.proofs.Names.{FinMap, System, run, effects, outcome, after, marked_effect, Event, Taken, Commit}
+use Rattle.sk_client.proofs.Names.{Fail, record_of, undecided_of, Record, recorded, all_recorded, no_record}
+use Rattle.sk_client.proofs.Names.{still_marked, marks, ◌≡◌, ℕ, Bool, true, false, List, [], ◌∷◌, ◌++◌, map, refl, sym}
+use Rattle.sk_client.proofs.Names.{◌∙◌, ap, filter, map-append, keep, hits, struck, strike, entries_are}
 
 module _ {A N : Type 0} (bare : A → N) where
   -- the event without labels

@@ -1,3 +1,4 @@
+pub mod Names
 pub mod Tidy
 pub mod Rows
 pub mod Runs

@@ -1,31 +1,16 @@
 -- What an event makes of a kernel's trace: its places, and that it is sound.
-use Rattle.std.proofs.Common.{◌≡◌, ℕ, suc, ◌+◌, ◌≤◌, ◌<◌, length, Bool, true, false, cond, not, ◌&&◌, List, [], ◌∷◌, ◌++◌, Some, None, Ok, inl, inr, refl, sym, ◌∙◌, ap, subst, arith}
-use Rattle.std.specs.Prelude.{◌==◌, is_ok}
-use Rattle.std.specs.List.{filter}
-use Rattle.std.specs.FinMap.{FinMap}
-use Rattle.std.proofs.lemmas.Bool.{or_cases, true≢false, eqb-true, cases_Bool, eq-eqb}
-use Rattle.std.proofs.lemmas.List.{length-append, map-append}
-use Rattle.sk_record.specs.Run.{System, effects}
-use Rattle.sk_record.specs.Strike.{strike}
-use Rattle.sk_record.specs.Notes.{has}
-use Rattle.sk_record.specs.Trace.{Event, Taken, Commit, Fail, IsDrawn, IsSound, StatusIs, Record, no_record, all_recorded, still_marked, marks, undecided_of}
-use Rattle.sk_record.proofs.Tidy.{recorded_more}
-use Rattle.sk_record.proofs.Machine.{has_filter}
+use Rattle.sk_client.proofs.Names.{◌≡◌, ℕ, suc, ◌+◌, ◌≤◌, ◌<◌, length, Bool, true, false, cond, not, ◌&&◌, List, []}
+use Rattle.sk_client.proofs.Names.{◌∷◌, ◌++◌, Some, None, Ok, inl, inr, refl, sym, ◌∙◌, ap, subst, arith, ◌==◌, is_ok}
+use Rattle.sk_client.proofs.Names.{filter, FinMap, or_cases, true≢false, eqb-true, cases_Bool, eq-eqb, length-append}
+use Rattle.sk_client.proofs.Names.{map-append, System, effects, strike, has, Event, Taken, Commit, Fail, IsDrawn}
+use Rattle.sk_client.proofs.Names.{IsSound, StatusIs, Record, no_record, all_recorded, still_marked, marks}
+use Rattle.sk_client.proofs.Names.{undecided_of, recorded_more, has_filter, Input, Logged, plain, image, entity_total}
+use Rattle.sk_client.proofs.Names.{entity_exact, Undecided, sound_taken, sound_commit, sound_fail, undecided_is}
+use Rattle.sk_client.proofs.Names.{KernelView, events_of, undecided_at, next_guess, effect_at, with_event}
+use Rattle.sk_client.proofs.Names.{HasSoundTrace, below_next, epoch_step, epoch_guess, epoch_commit, epoch_fail, entry}
 use Rattle.sk_client.proofs.TraceFacts.{failed_shut}
-use Rattle.sk_script.specs.declared.instruction.Input.{Input}
-use Rattle.sk_trace.specs.declared.event.Event.{Event as Logged}
 use Rattle.sk_trace.specs.declared.event.Event.TheVariants as events
-use Rattle.sk_plain.specs.Act.{plain}
-use Rattle.sk_plain.specs.Replay.{image}
-use Rattle.sk_ids.proofs.Entities.{entity_total, entity_exact}
-use Rattle.sk_record.specs.declared.status.Status.TheVariants.{Undecided}
-use Rattle.sk_record.proofs.Sound.{sound_taken, sound_commit, sound_fail, undecided_is}
-use Rattle.sk_kernel.specs.Kernel.{KernelView, events_of, undecided_at, next_guess, effect_at, with_event}
-use Rattle.sk_kernel.specs.Laws.{HasSoundTrace}
-use Rattle.sk_kernel.proofs.Lawful.{below_next}
-use Rattle.sk_kernel.proofs.Further.{epoch_step, epoch_guess, epoch_commit, epoch_fail}
 use Rattle.sk_client.proofs.DeskFacts.{Did}
-use Rattle.sk_client.specs.Desk.{entry}
 
 pub length_filter : (p : ℕ → Bool) (xs : List ℕ) → length (filter p xs) ≤ length xs
 length_filter p [] = omega arith

@@ -1,12 +1,11 @@
 -- What is seen of a desk's requests in their queue, and how it changes.
-use Rattle.std.proofs.Common.{take, drop, get_or, set, ◌≡◌, ℕ, suc, ◌+◌, ◌-◌, ◌<◌, ◌≤◌, Bool, true, false, cond, List, [], ◌∷◌, ◌++◌, All, length, Option, refl, sym, ◌∙◌, ap, subst, arith}
-use Rattle.std.specs.List.{filter, list_any}
-use Rattle.std.proofs.lemmas.List.{take-append-drop, length-append, length-map, length-set, map-set, set-get_or, drop-append-le, drop-map, drop_more, take_more, drop-set-lt, get_or-map}
-use Rattle.std.proofs.lemmas.List.Elements.{All-push, All-head, All-tail}
-use Rattle.sk_client.specs.declared.pending.PendingRequest.{PendingRequest}
-use Rattle.sk_client.specs.declared.requests.Queued.{Queued}
+use Rattle.sk_client.proofs.Names.{take, drop, get_or, set, ◌≡◌, ℕ, suc, ◌+◌, ◌-◌, ◌<◌, ◌≤◌, Bool, true, false, cond}
+use Rattle.sk_client.proofs.Names.{List, [], ◌∷◌, ◌++◌, length, Option, refl, sym, ◌∙◌, ap, subst, arith, filter}
+use Rattle.sk_client.proofs.Names.{list_any, take-append-drop, length-append, length-map, length-set, map-set}
+use Rattle.sk_client.proofs.Names.{set-get_or, drop-append-le, drop-map, drop_more, take_more, drop-set-lt, get_or-map}
+use Rattle.sk_client.proofs.Names.{All-push, All-head, All-tail, PendingRequest, Queued, requests_in, IsWhole, IsQueue}
+use Rattle.std.proofs.Common.{All}
 use Rattle.sk_client.proofs.Each.{any_map}
-use Rattle.sk_client.specs.Requests.{requests_in, IsWhole, IsQueue}
 
 -- ---- all of them
 

@@ -1,32 +1,16 @@
 -- The record of a world through steps, commits and failures.
-use Rattle.std.proofs.Common.{◌≡◌, ℕ, ◌<◌, Bool, true, false, not, ◌&&◌, ◌||◌, List, [], ◌∷◌, ◌++◌, map, Option, Some, Ok, inl, inr, refl, sym, ◌∙◌, ap, subst}
-use Rattle.std.specs.Prelude.{◌⊎◌}
-use Rattle.std.specs.List.{list_any, Contains}
-use Rattle.std.specs.FinMap.{FinMap, get}
-use Rattle.std.proofs.lemmas.Bool.{or_parts, or_left, or_right, or_cases, or_from, true≢false, false_from_ne_true}
-use Rattle.std.proofs.lemmas.List.Elements.{Contains-push_cases, Contains-append_cases}
-use Rattle.std.proofs.lemmas.List.Folds.{list_any-append}
-use Rattle.sk_record.specs.Step.{Effect}
-use Rattle.sk_record.specs.Effects.{is_in, hit, dirt, touches}
-use Rattle.sk_record.specs.Run.{outcome, marked_effect, run, effects, IsLegal}
-use Rattle.sk_record.specs.Strike.{struck, strike}
-use Rattle.sk_record.specs.Notes.{has}
-use Rattle.sk_record.specs.Trace.{Event, undecided_of, still_marked}
-use Rattle.sk_record.proofs.Struck.{footprint}
-use Rattle.sk_record.proofs.Machine.{unmarked_hits}
-use Rattle.sk_record.proofs.UndoStates.{and_both}
-use Rattle.sk_record.proofs.Sound.{any_from, mark_is, is_commit}
-use Rattle.sk_script.specs.declared.instruction.Input.{Input}
-use Rattle.sk_script.specs.declared.instruction.Input.TheVariants.{Good, Fresh, Stale}
-use Rattle.sk_server.specs.declared.request.Ask.{Ask}
-use Rattle.sk_server.specs.declared.request.Ask.TheVariants.{Get, Check, Store}
-use Rattle.sk_client.specs.declared.pending.PendingRequest.{PendingRequest}
+use Rattle.sk_client.proofs.Names.{◌≡◌, ℕ, ◌<◌, Bool, true, false, not, ◌&&◌, ◌||◌, List, [], ◌∷◌, ◌++◌, map, Option}
+use Rattle.sk_client.proofs.Names.{Some, Ok, inl, inr, refl, sym, ◌∙◌, ap, subst, ◌⊎◌, list_any, Contains, FinMap, get}
+use Rattle.sk_client.proofs.Names.{or_parts, or_left, or_right, or_cases, or_from, true≢false, false_from_ne_true}
+use Rattle.sk_client.proofs.Names.{Contains-push_cases, Contains-append_cases, list_any-append, Effect, is_in, hit}
+use Rattle.sk_client.proofs.Names.{dirt, touches, outcome, marked_effect, run, effects, IsLegal, struck, strike, has}
+use Rattle.sk_client.proofs.Names.{Event, undecided_of, still_marked, footprint, unmarked_hits, and_both, any_from}
+use Rattle.sk_client.proofs.Names.{mark_is, is_commit, Input, Good, Fresh, Stale, Ask, Get, Check, Store}
+use Rattle.sk_client.proofs.Names.{PendingRequest, name_of, Bytes}
 use Rattle.sk_client.proofs.CausedWorld.{For, Caused, Table, kernel, own, is_lost, Takes, Sets, IsTable, IsEither}
-use Rattle.sk_client.specs.Desk.{name_of}
 use Rattle.sk_client.proofs.Each.{each_none, kept_was}
 use Rattle.sk_client.proofs.TraceFacts.{each_effects_more, each_hits_more, each_effects_left, each_hits_left, value_taken, dirt_taken, value_left, dirt_left}
 use Rattle.sk_client.proofs.Invariant.{Allowed, Entries, Ready, ReadyFor, tag_at}
-use Rattle.sk_client.specs.Table.{Bytes}
 
 pub not_true : (b : Bool) → not b ≡ true → b ≡ false
 not_true true h = absurd (true≢false (sym h))

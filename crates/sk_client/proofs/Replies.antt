@@ -1,19 +1,12 @@
 -- The replies of a world: each has the number of its request, and they are given in the order in which they were made.
-use Rattle.std.proofs.Common.{◌≡◌, ℕ, List, [], ◌∷◌, ◌++◌, map, Option, Some, None, Result, Ok, Err, inl, inr, refl, sym, ◌∙◌, ap, subst, append_assoc}
-use Rattle.std.specs.List.{Contains}
-use Rattle.std.proofs.lemmas.List.{append-nil, map-append}
-use Rattle.std.proofs.lemmas.List.Elements.{Contains-append_cases}
-use Rattle.sk_server.specs.declared.request.Request.{Request as Sent}
-use Rattle.sk_server.specs.declared.reply.Reply.{Reply}
-use Rattle.sk_client.specs.Exchanges.{Exchanges, with_reply, exchange, exchanged, Leads}
-use Rattle.sk_client.specs.Table.{Bytes}
-use Rattle.sk_client.specs.WorldView.{WorldView, taken_by, reply_to, served, Serves, Replies, Turns, EditsFile, EventPost}
-use Rattle.sk_client.specs.declared.pending.PendingRequest.{PendingRequest}
-use Rattle.sk_client.specs.declared.world.WorldEvent.{WorldEvent}
+use Rattle.sk_client.proofs.Names.{◌≡◌, ℕ, List, [], ◌∷◌, ◌++◌, map, Option, Some, None, Result, Ok, Err, inl, inr}
+use Rattle.sk_client.proofs.Names.{refl, sym, ◌∙◌, ap, subst, Contains, append-nil, map-append, Contains-append_cases}
+use Rattle.sk_client.proofs.Names.{Sent, Reply, Exchanges, with_reply, exchange, exchanged, Leads, Bytes, WorldView}
+use Rattle.sk_client.proofs.Names.{taken_by, reply_to, served, Serves, Replies, Turns, EditsFile, EventPost}
+use Rattle.sk_client.proofs.Names.{PendingRequest, WorldEvent, WorldAnswer, Cause}
+use Rattle.std.proofs.Common.{append_assoc}
 use Rattle.sk_client.specs.declared.world.WorldEvent.TheVariants as events
-use Rattle.sk_client.specs.declared.world.WorldAnswer.{WorldAnswer}
 use Rattle.sk_client.specs.declared.world.WorldAnswer.TheVariants as answers
-use Rattle.sk_client.specs.declared.world.Cause.{Cause}
 use Rattle.sk_client.specs.declared.world.Cause.TheVariants as causes
 use Rattle.sk_client.proofs.Each.{cons_cases, no_member}
 

@@ -1,23 +1,14 @@
 -- What holds of a world's requests beside the invariant: kept answers, request numbers, the request of each entry, and commits.
-use Rattle.std.proofs.Common.{◌≡◌, ℕ, suc, ◌≤◌, ◌<◌, Bool, true, false, List, [], ◌∷◌, ◌++◌, map, Some, None, inl, inr, refl, sym, ◌∙◌, ap, subst, arith, le_trans, append_assoc, slice_get}
-use Rattle.std.specs.Prelude.{◌⊎◌}
-use Rattle.std.specs.List.{Contains}
-use Rattle.std.specs.FinMap.{FinMap}
-use Rattle.std.proofs.lemmas.List.Elements.{Contains-push_cases, Contains-append_left, Contains-append_right, Contains-push}
-use Rattle.sk_record.specs.Effects.{keep}
-use Rattle.sk_record.specs.Strike.{struck}
-use Rattle.sk_record.specs.Trace.{Event, Taken, Commit, Fail, record_of}
-use Rattle.sk_record.proofs.Sound.{record_more}
-use Rattle.sk_script.specs.declared.instruction.Input.TheVariants.{Good}
-use Rattle.sk_server.specs.declared.reply.Answer.{Answer}
-use Rattle.sk_server.specs.declared.reply.Answer.TheVariants.{Yes}
-use Rattle.sk_client.specs.declared.pending.PendingRequest.{PendingRequest}
+use Rattle.sk_client.proofs.Names.{◌≡◌, ℕ, suc, ◌≤◌, ◌<◌, Bool, true, false, List, [], ◌∷◌, ◌++◌, map, Some, None, inl}
+use Rattle.sk_client.proofs.Names.{inr, refl, sym, ◌∙◌, ap, subst, arith, le_trans, ◌⊎◌, Contains, FinMap}
+use Rattle.sk_client.proofs.Names.{Contains-push_cases, Contains-append_left, Contains-append_right, Contains-push}
+use Rattle.sk_client.proofs.Names.{keep, struck, Event, Taken, Commit, Fail, record_of, record_more, Good, Answer, Yes}
+use Rattle.sk_client.proofs.Names.{PendingRequest, input_of, KeptAnswer}
+use Rattle.std.proofs.Common.{append_assoc, slice_get}
 use Rattle.sk_client.proofs.CausedWorld.{Before, Own, For, Caused, Served, Table, kernel}
 use Rattle.sk_client.proofs.SeenWorld.{World, all_served, all_waiting, entries_of}
 use Rattle.sk_client.proofs.Each.{Pairs, pairs_push, cons_first, cons_later, cons_cases, no_member, kept_was, at_push, at_kept}
 use Rattle.sk_client.proofs.Events.{no_guess}
-use Rattle.sk_client.specs.Desk.{input_of}
-use Rattle.sk_client.specs.declared.pending.KeptAnswer.{KeptAnswer}
 
 -- ---- request numbers
 abbrev pub Rising : List PendingRequest → Type 0

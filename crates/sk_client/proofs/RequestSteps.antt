@@ -1,29 +1,17 @@
 -- The steps of requests in a record: those of accepted stores stand, each at a place of its own; and the steps that count and the
 -- accepted requests whose reply was given are one for one. No request has two replies. Told of a world's calls.
-use Rattle.std.proofs.Common.{◌≡◌, ℕ, suc, ◌+◌, ◌<◌, List, [], ◌∷◌, ◌++◌, map, length, Option, Some, inl, inr, refl, sym, ◌∙◌, ap, subst, arith, zero, Bool, true, false, cond, None, Ok, IsSome, ◌≤◌}
-use Rattle.std.specs.List.{Contains}
-use Rattle.std.proofs.lemmas.List.Elements.{Contains-append_left, Contains-append_cases, Contains-append_right}
-use Rattle.sk_record.specs.Effects.{MarkedEffect}
-use Rattle.sk_record.specs.Run.{effects}
-use Rattle.sk_ids.specs.declared.entity.Entity.{Entity}
-use Rattle.sk_ids.specs.declared.entity.Entity.TheVariants.{Copy as CopyOf}
-use Rattle.sk_script.specs.declared.instruction.Input.TheVariants.{Good}
-use Rattle.sk_store.specs.declared.entity_state.EntityState.{EntityState}
-use Rattle.sk_plain.specs.Act.{Saying}
-use Rattle.sk_kernel.specs.Kernel.{KernelView, record_at, undecided_at, last_guess}
-use Rattle.sk_server.specs.Server.{ServerView}
-use Rattle.sk_server.specs.declared.request.Request.{Request as Sent}
-use Rattle.sk_server.specs.declared.request.Ask.TheVariants.{Store}
-use Rattle.sk_server.specs.declared.reply.Answer.TheVariants.{Yes}
-use Rattle.sk_server.specs.declared.reply.Reply.{Reply}
-use Rattle.sk_client.specs.AcceptedStores.{paired, StandsIn, IsDue, StoresStand, StoresStood, StandsAt, DueStore, StandApart, steps_at}
-use Rattle.sk_client.specs.Desk.{DeskView, opened, opened_at, pending, input_of}
-use Rattle.sk_client.specs.Exchanges.{Exchanges, Leads}
-use Rattle.sk_client.specs.Ready.{WasBooted, IsReady, Begins}
-use Rattle.sk_client.specs.Table.{Bytes, copy_of}
-use Rattle.sk_client.specs.WorldView.{WorldView, joined}
-use Rattle.sk_client.specs.declared.pending.PendingRequest.{PendingRequest}
-use Rattle.sk_client.specs.declared.world.WorldEvent.{WorldEvent}
+use Rattle.sk_client.proofs.Names.{◌≡◌, ℕ, suc, ◌+◌, ◌<◌, List, [], ◌∷◌, ◌++◌, map, length, Option, Some, inl, inr}
+use Rattle.sk_client.proofs.Names.{refl, sym, ◌∙◌, ap, subst, arith, zero, Bool, true, false, cond, None, Ok, IsSome}
+use Rattle.sk_client.proofs.Names.{◌≤◌, Contains, Contains-append_left, Contains-append_cases, Contains-append_right}
+use Rattle.sk_client.proofs.Names.{MarkedEffect, effects, Entity, CopyOf, Good, EntityState, Saying, KernelView}
+use Rattle.sk_client.proofs.Names.{record_at, undecided_at, last_guess, ServerView, Sent, Store, Yes, Reply, paired}
+use Rattle.sk_client.proofs.Names.{StandsIn, IsDue, StoresStand, StoresStood, StandsAt, DueStore, StandApart, steps_at}
+use Rattle.sk_client.proofs.Names.{DeskView, opened, opened_at, pending, input_of, Exchanges, Leads, WasBooted, IsReady}
+use Rattle.sk_client.proofs.Names.{Begins, Bytes, copy_of, WorldView, joined, PendingRequest, WorldEvent, ◌==◌}
+use Rattle.sk_client.proofs.Names.{slice_get, option_map, true≢false, false_from_ne_true, eqb-true, eq-eqb}
+use Rattle.sk_client.proofs.Names.{slice_get-map, Happens, Taken, Commit, Fail, ScriptMap, EntryView, Ask}
+use Rattle.sk_client.proofs.Names.{PlacesAreKept, CountsAt, DoesAsked, IsGiven, Replied, IsStepOf, StepsAreReplied}
+use Rattle.sk_client.proofs.Names.{AreRepliedOnce, Input, TerminalMap, TraceView, DeskEpochPost}
 use Rattle.sk_client.proofs.CausedWorld.{Caused, Served, kernel, bare, table, Cause, Before, Own, For, Sets}
 use Rattle.sk_client.proofs.Events.{same_request}
 use Rattle.sk_client.proofs.Each.{cons_cases, cons_first, cons_later, no_member, contains_at, each_at, place_at}
@@ -31,20 +19,7 @@ use Rattle.sk_client.proofs.First.{out_of_map, first_world, reached, world_of, l
 use Rattle.sk_client.proofs.RequestFacts.{in_map, map_front, Once, Rising, rising_apart, rising_same}
 use Rattle.sk_client.proofs.SeenWorld.{entries_seen, steps_seen, Traced, World, all_served, entries_of, law_served, answered_there, answered_here, all_waiting, unanswered}
 use Rattle.sk_client.proofs.Worlds.{All, Reached}
-use Rattle.std.specs.Prelude.{◌==◌, slice_get}
-use Rattle.std.specs.Option.{option_map}
-use Rattle.std.proofs.lemmas.Bool.{true≢false, false_from_ne_true, eqb-true, eq-eqb}
-use Rattle.std.proofs.lemmas.Option.{slice_get-map}
-use Rattle.sk_record.specs.Trace.{Event as Happens, Taken, Commit, Fail}
-use Rattle.sk_script.specs.Scripts.{ScriptMap}
-use Rattle.sk_trace.specs.Entry.{EntryView}
-use Rattle.sk_server.specs.declared.request.Ask.{Ask}
 use Rattle.sk_server.specs.declared.request.Ask.TheVariants as asks
-use Rattle.sk_client.specs.Replied.{PlacesAreKept, Counts as CountsAt, DoesAsked, IsGiven, Replied, IsStepOf, StepsAreReplied, AreRepliedOnce}
-use Rattle.sk_script.specs.declared.instruction.Input.{Input}
-use Rattle.sk_terminal.specs.Terminals.{TerminalMap}
-use Rattle.sk_trace.specs.Trace.{TraceView}
-use Rattle.sk_client.specs.DeskCalls.{DeskEpochPost}
 use Rattle.sk_client.proofs.Booted.{begins_anew}
 use Rattle.sk_client.proofs.Replies.{hands_on}
 use Rattle.sk_client.proofs.WorldFacts.{no_requests}

@@ -1,47 +1,26 @@
 -- What a step can end with; and what every row of the table writes: the process, and beside it an
 -- entity that is no process, or a child and what it is born with.
-use Rattle.std.proofs.Common.{◌≡◌, ℕ, suc, ◌+◌, Bool, true, false, cond, ◌&&◌, List, [], ◌∷◌, map, Option, Some, None, inl, inr, refl, sym, ◌∙◌, subst, arith, Result, Ok, Err}
-use Rattle.std.specs.Prelude.{◌⊎◌, ◌==◌, nat_lt, nat_le, length}
-use Rattle.std.specs.List.{Contains}
-use Rattle.std.specs.FinMap.{get}
-use Rattle.std.proofs.lemmas.Bool.{leb-true}
-use Rattle.sk_record.specs.Step.{Ask, Refuse, Done, Step, Effect, perform, with_read}
-use Rattle.sk_record.specs.Run.{put, put_all}
-use Rattle.sk_record.proofs.UndoStates.{and_both}
-use Rattle.sk_ids.specs.declared.text.TheConstants.{TEXT_LIMIT}
-use Rattle.sk_ids.specs.declared.pid.ObjId.{ObjId}
-use Rattle.sk_ids.specs.declared.entity.Entity.{Entity}
-use Rattle.sk_ids.specs.declared.entity.Entity.TheVariants.{Proc, Sig, Exit, Obj, Link, Copy}
-use Rattle.sk_objects.specs.Content.{ContentView}
-use Rattle.sk_objects.specs.declared.signals.TheConstants.{LAST_SIGNAL}
-use Rattle.sk_objects.specs.declared.value.Kind.{Kind}
+use Rattle.sk_client.proofs.Names.{◌≡◌, ℕ, suc, ◌+◌, Bool, true, false, cond, ◌&&◌, List, [], ◌∷◌, map, Option, Some}
+use Rattle.sk_client.proofs.Names.{None, inl, inr, refl, sym, ◌∙◌, subst, arith, Result, Ok, Err, ◌⊎◌, ◌==◌, nat_lt}
+use Rattle.sk_client.proofs.Names.{nat_le, Contains, get, leb-true, Refuse, Done, Step, Effect, perform, with_read, put}
+use Rattle.sk_client.proofs.Names.{put_all, and_both, TEXT_LIMIT, ObjId, Entity, Proc, Sig, Exit, Obj, Link, Copy}
+use Rattle.sk_client.proofs.Names.{ContentView, LAST_SIGNAL, Kind, PipeView, PIPE_LIMIT, Value, Process, Instruction}
+use Rattle.sk_client.proofs.Names.{Input, held, private_step, State, EntityState, Refusal, Again, StepTree, object_in}
+use Rattle.sk_client.proofs.Names.{number_in, number_to, who_in, failed, alone, with_write, with_removal, on_object}
+use Rattle.sk_client.proofs.Names.{on_number, on_file, made, no_directory, unless_error, on_directory, target_at, named}
+use Rattle.sk_client.proofs.Names.{link_to, linking, unlink_from, on_pipe, put_in, take_none, LEVEL_FOUR, LAST_CHILD}
+use Rattle.sk_client.proofs.Names.{next_child, forked, parent_of, born, fork, signalled, kill, waited, wait, returned}
+use Rattle.sk_client.proofs.Names.{from_copy, over_copy, good, fresh, stale, row, private_or, does, handled}
+use Rattle.sk_client.proofs.Names.{with_signals, with_input, keeps_step, IsTidyState}
+use Rattle.std.specs.Prelude.{length}
+use Rattle.sk_record.specs.Step.{Ask}
 use Rattle.sk_objects.specs.declared.value.Kind.TheVariants as kinds
-use Rattle.sk_objects.specs.Pipe.{PipeView}
-use Rattle.sk_objects.specs.declared.pipe.TheConstants.{PIPE_LIMIT}
-use Rattle.sk_objects.specs.declared.value.Value.{Value}
 use Rattle.sk_objects.specs.declared.value.Value.TheVariants as values
-use Rattle.sk_script.specs.declared.process.Process.{Process}
-use Rattle.sk_script.specs.declared.instruction.Instruction.{Instruction}
 use Rattle.sk_script.specs.declared.instruction.Instruction.TheVariants as does_
-use Rattle.sk_script.specs.declared.instruction.Input.{Input}
 use Rattle.sk_script.specs.declared.instruction.Input.TheVariants as inputs
-use Rattle.sk_script.specs.Registers.{held}
-use Rattle.sk_script.specs.Private.{private_step}
-use Rattle.sk_store.specs.State.{State}
-use Rattle.sk_store.specs.declared.entity_state.EntityState.{EntityState}
 use Rattle.sk_store.specs.declared.entity_state.EntityState.TheVariants as stored
-use Rattle.sk_plain.specs.declared.refusal.Refusal.{Refusal}
-use Rattle.sk_plain.specs.declared.refusal.Errno.TheVariants.{Again}
-use Rattle.sk_plain.specs.Rows.{StepTree, Saying, object_in, number_in, number_to, who_in, failed, alone, with_write, with_removal, on_object, on_number}
-use Rattle.sk_plain.specs.Files.{on_file, made}
-use Rattle.sk_plain.specs.Names.{no_directory, unless_error, on_directory, target_at, named, link_to, linking, unlink_from}
-use Rattle.sk_plain.specs.Pipes.{on_pipe, put_in, take_none}
-use Rattle.sk_plain.specs.Processes.{LEVEL_FOUR, LAST_CHILD, next_child, forked, parent_of, born, fork, signalled, kill, waited, wait, returned}
-use Rattle.sk_plain.specs.Replies.{from_copy, over_copy, good, fresh, stale}
-use Rattle.sk_plain.specs.Act.{row, private_or, does, handled, with_signals, with_input}
-use Rattle.sk_plain.proofs.Alone.{keeps_step}
+use Rattle.sk_plain.specs.Rows.{Saying}
 use Rattle.sk_client.proofs.Each.{cons_cases, no_member}
-use Rattle.sk_client.specs.Ready.{IsTidyState}
 use Rattle.sk_client.proofs.Tidy.{elsewhere, IsPlace, IsNextChild, tidy_own, tidy_place, tidy_copy, tidy_birth}
 
 module _ {E V W F : Type 0} (P : List (E × Option V) → Type 0) where

@@ -1,31 +1,19 @@
 -- A step that is taken keeps a tidy state, and so does a run; and what a process does next, and
 -- what that says of the process.
-use Rattle.std.proofs.Common.{◌≡◌, ℕ, Bool, true, false, cond, List, [], ◌∷◌, map, Option, Some, None, Result, Ok, Err, refl, subst, sym, ◌∙◌, ap}
-use Rattle.std.specs.FinMap.{get}
-use Rattle.sk_record.specs.Step.{Effect, Refuse, perform, with_read}
-use Rattle.sk_record.specs.Run.{outcome, after, run}
-use Rattle.sk_ids.specs.declared.entity.Entity.{Entity}
-use Rattle.sk_ids.specs.declared.entity.Entity.TheVariants.{Proc, Sig}
-use Rattle.sk_objects.specs.declared.value.Value.{Value}
-use Rattle.sk_script.specs.declared.process.Process.{Process}
-use Rattle.sk_script.specs.declared.instruction.Instruction.{Instruction}
-use Rattle.sk_script.specs.declared.instruction.Input.{Input}
-use Rattle.sk_store.specs.State.{State}
-use Rattle.sk_store.specs.declared.entity_state.EntityState.{EntityState}
+use Rattle.sk_client.proofs.Names.{◌≡◌, ℕ, Bool, true, false, cond, List, [], ◌∷◌, map, Option, Some, None, Result, Ok}
+use Rattle.sk_client.proofs.Names.{Err, refl, subst, sym, ◌∙◌, ap, get, Effect, Refuse, perform, with_read, outcome}
+use Rattle.sk_client.proofs.Names.{after, run, Entity, Proc, Sig, Value, Process, Instruction, Input, State}
+use Rattle.sk_client.proofs.Names.{EntityState, Refusal, NoProcess, Ended, Scripts, Saying, act, plain, goes_on}
+use Rattle.sk_client.proofs.Names.{with_input, instruction_of, EntryView, IsTidyState, Next, Signal, Fetch, Private}
+use Rattle.sk_client.proofs.Names.{Waits, Other, is_due, is_private, waits, next_instruction, next_going, next_at}
+use Rattle.sk_client.proofs.Names.{next_of, Bytes}
 use Rattle.sk_store.specs.declared.entity_state.EntityState.TheVariants as stored
-use Rattle.sk_plain.specs.declared.refusal.Refusal.{Refusal}
-use Rattle.sk_plain.specs.declared.refusal.Refusal.TheVariants.{NoProcess, Ended}
-use Rattle.sk_plain.specs.Act.{Scripts, Saying, StepTree, act, plain, goes_on, with_input, instruction_of}
+use Rattle.sk_plain.specs.Act.{StepTree}
 use Rattle.sk_client.proofs.CausedWorld.{Caused, kernel, table, bare}
 use Rattle.sk_client.proofs.Labels.{run_bare}
-use Rattle.sk_trace.specs.Entry.{EntryView}
-use Rattle.sk_client.specs.Ready.{IsTidyState}
 use Rattle.sk_client.proofs.Rows.{Keeps, CanWrite, ends_of, input_fine, written_so}
 use Rattle.sk_script.specs.declared.instruction.Instruction.TheVariants as does_
-use Rattle.sk_plain.specs.declared.next.Next.{Next}
-use Rattle.sk_plain.specs.declared.next.Next.TheVariants.{Signal, Fetch, Store, Private, Waits, Other}
-use Rattle.sk_plain.specs.Next.{is_due, is_private, waits, next_instruction, next_going, next_at, next_of}
-use Rattle.sk_client.specs.Table.{Bytes}
+use Rattle.sk_plain.specs.declared.next.Next.TheVariants.{Store}
 
 -- the instruction that a process is at
 abbrev pub next_in : Scripts → Process → Option Instruction

@@ -1,21 +1,11 @@
 -- Every event of a world keeps all that holds of it.
-use Rattle.std.proofs.Common.{◌≡◌, ℕ, List, [], ◌∷◌, ◌++◌, Option, Some, None, Result, Ok, Err, refl, sym, ◌∙◌, ap, subst}
-use Rattle.std.proofs.lemmas.List.{append-nil, append_assoc}
-use Rattle.sk_server.specs.Files.{written}
-use Rattle.sk_server.specs.Server.{ServerView}
-use Rattle.sk_server.specs.Calls.{Edits}
-use Rattle.sk_server.specs.declared.request.Request.{Request as Sent}
-use Rattle.sk_server.specs.declared.reply.Reply.{Reply}
-use Rattle.sk_client.specs.Desk.{DeskView}
-use Rattle.sk_client.specs.Exchanges.{Exchanges, with_reply, exchange, exchanged, Leads}
-use Rattle.sk_client.specs.Table.{Bytes}
-use Rattle.sk_client.specs.WorldView.{WorldView, taken_by, taken_from, reply_to, served, Serves, Replies, Turns, EditsFile, EventPost, IsNext, IsJoined}
-use Rattle.sk_client.specs.declared.pending.PendingRequest.{PendingRequest}
-use Rattle.sk_client.specs.declared.world.WorldEvent.{WorldEvent}
+use Rattle.sk_client.proofs.Names.{◌≡◌, ℕ, List, [], ◌∷◌, ◌++◌, Option, Some, None, Result, Ok, Err, refl, sym, ◌∙◌, ap}
+use Rattle.sk_client.proofs.Names.{subst, append-nil, append_assoc, written, ServerView, Edits, Sent, Reply, DeskView}
+use Rattle.sk_client.proofs.Names.{Exchanges, with_reply, exchange, exchanged, Leads, Bytes, WorldView, taken_by}
+use Rattle.sk_client.proofs.Names.{taken_from, reply_to, served, Serves, Replies, Turns, EditsFile, EventPost, IsNext}
+use Rattle.sk_client.proofs.Names.{IsJoined, PendingRequest, WorldEvent, WorldAnswer, Cause}
 use Rattle.sk_client.specs.declared.world.WorldEvent.TheVariants as events
-use Rattle.sk_client.specs.declared.world.WorldAnswer.{WorldAnswer}
 use Rattle.sk_client.specs.declared.world.WorldAnswer.TheVariants as answers
-use Rattle.sk_client.specs.declared.world.Cause.{Cause}
 use Rattle.sk_client.specs.declared.world.Cause.TheVariants as causes
 use Rattle.sk_client.proofs.SeenReply.{reply_keeps}
 use Rattle.sk_client.proofs.SeenServe.{taken_keeps, serve_keeps}

@@ -1,28 +1,16 @@
 -- A reply keeps all that holds of a world, and the step of an asked request is accepted.
-use Rattle.std.proofs.Common.{◌≡◌, ℕ, suc, ◌+◌, ◌≤◌, true, false, cond, not, ◌&&◌, List, [], ◌∷◌, ◌++◌, map, length, Option, Some, None, Ok, inl, inr, refl, sym, ◌∙◌, ap, subst, arith}
-use Rattle.std.specs.Prelude.{◌⊎◌, is_none}
-use Rattle.std.specs.List.{filter, list_any, Contains}
-use Rattle.std.proofs.lemmas.Bool.{true≢false, cases_Bool, false_from_ne_true, le-ltb}
-use Rattle.std.proofs.lemmas.List.{append_assoc}
-use Rattle.std.proofs.lemmas.List.Elements.{Contains-append_right, Contains-push}
-use Rattle.sk_record.specs.Notes.{has}
-use Rattle.sk_record.specs.Trace.{Event, Taken, Commit, Fail, record_of}
-use Rattle.sk_record.proofs.Sound.{has_commit, is_commit, record_more}
-use Rattle.sk_script.specs.declared.instruction.Input.{Input}
-use Rattle.sk_script.specs.declared.instruction.Input.TheVariants.{Good}
+use Rattle.sk_client.proofs.Names.{◌≡◌, ℕ, suc, ◌+◌, ◌≤◌, true, false, cond, not, ◌&&◌, List, [], ◌∷◌, ◌++◌, map}
+use Rattle.sk_client.proofs.Names.{length, Option, Some, None, Ok, inl, inr, refl, sym, ◌∙◌, ap, subst, arith, ◌⊎◌}
+use Rattle.sk_client.proofs.Names.{is_none, filter, list_any, Contains, true≢false, cases_Bool, false_from_ne_true}
+use Rattle.sk_client.proofs.Names.{le-ltb, append_assoc, Contains-append_right, Contains-push, has, Event, Taken}
+use Rattle.sk_client.proofs.Names.{Commit, Fail, record_of, has_commit, is_commit, record_more, Input, Good, refusal_of}
+use Rattle.sk_client.proofs.Names.{Refusal, TraceFull, KernelView, undecided_at, last_guess, room, effect_at, or_else}
+use Rattle.sk_client.proofs.Names.{trace_full, step_refused, with_event, Answer, Yes, No, Dropped, Reply, name_of}
+use Rattle.sk_client.proofs.Names.{DeskView, is_asked, asked_count, kept_after, answer_kept, entry, fits_ask, decided}
+use Rattle.sk_client.proofs.Names.{input_of, stepped, answered, given_to, given, is_void, Exchanges, WorldView}
+use Rattle.sk_client.proofs.Names.{KeptAnswer, PendingRequest, IsTidyState}
 use Rattle.sk_trace.specs.declared.event.Event.TheVariants as events
-use Rattle.sk_plain.specs.Planned.{refusal_of}
-use Rattle.sk_plain.specs.declared.refusal.Refusal.{Refusal}
-use Rattle.sk_plain.specs.declared.refusal.Refusal.TheVariants.{TraceFull}
-use Rattle.sk_kernel.specs.Kernel.{KernelView, undecided_at, last_guess, room, effect_at, or_else, trace_full, step_refused, with_event}
-use Rattle.sk_server.specs.declared.reply.Answer.{Answer}
-use Rattle.sk_server.specs.declared.reply.Answer.TheVariants.{Yes, No, Copy, Dropped}
-use Rattle.sk_server.specs.declared.reply.Reply.{Reply}
-use Rattle.sk_client.specs.Desk.{name_of, DeskView, is_asked, asked_count, kept_after, answer_kept, entry, fits_ask, decided, input_of, stepped, answered, given_to, given, is_void}
-use Rattle.sk_client.specs.Exchanges.{Exchanges}
-use Rattle.sk_client.specs.WorldView.{WorldView}
-use Rattle.sk_client.specs.declared.pending.KeptAnswer.{KeptAnswer}
-use Rattle.sk_client.specs.declared.pending.PendingRequest.{PendingRequest}
+use Rattle.sk_server.specs.declared.reply.Answer.TheVariants.{Copy}
 use Rattle.sk_client.proofs.CausedWorld.{Caused, For, Served, kernel, state, undecided, asked_entry, is_lost, is_void as law_void, table, Takes, Sets}
 use Rattle.sk_client.proofs.DeskFacts.{reply_free, given_reply}
 use Rattle.sk_client.proofs.Each.{cons_first}
@@ -33,7 +21,6 @@ use Rattle.sk_client.proofs.Records.{tags_of_step}
 use Rattle.sk_client.proofs.RequestFacts.{RequestFacts, NoGood, facts_none, facts_commit, facts_fail, facts_step}
 use Rattle.sk_client.proofs.SeenWorld.{Traced, does_seen, undecided_seen, void_seen, last_more, traced_step, traced_commit, traced_fail, World, law_served, unanswered, answered_there, answered_here}
 use Rattle.sk_client.proofs.Table.{is_table}
-use Rattle.sk_client.specs.Ready.{IsTidyState}
 use Rattle.sk_client.proofs.WorldFacts.{Oldest}
 use Rattle.sk_client.proofs.Worlds.{IsFor, AreFor, not_copied, takes_by, keeps_input, never_good, good_open, not_void, Reached, reached_by}
 

@@ -1,16 +1,9 @@
 -- The server's answer keeps all that holds of a world.
-use Rattle.std.proofs.Common.{◌≡◌, ℕ, suc, ◌+◌, ◌≤◌, not, List, [], ◌∷◌, ◌++◌, map, Option, Some, None, inl, inr, true, false, refl, sym, ◌∙◌, ap, subst, arith}
-use Rattle.std.proofs.lemmas.Bool.{cases_eq}
-use Rattle.std.proofs.lemmas.List.{append_assoc, map-append}
-use Rattle.sk_record.specs.Notes.{has}
-use Rattle.sk_kernel.specs.Kernel.{last_guess}
-use Rattle.sk_server.specs.Server.{refused_by, listed, remembered, answer_to}
-use Rattle.sk_server.specs.declared.request.Request.{Request as Sent}
-use Rattle.sk_server.specs.declared.reply.Reply.{Reply}
-use Rattle.sk_client.specs.Desk.{pending, sent, asked_count, first_taken}
-use Rattle.sk_client.specs.Exchanges.{Exchanges}
-use Rattle.sk_client.specs.WorldView.{WorldView, taken_by, taken_from, reply_to, served, AreReplies}
-use Rattle.sk_client.specs.declared.pending.PendingRequest.{PendingRequest}
+use Rattle.sk_client.proofs.Names.{◌≡◌, ℕ, suc, ◌+◌, ◌≤◌, not, List, [], ◌∷◌, ◌++◌, map, Option, Some, None, inl, inr}
+use Rattle.sk_client.proofs.Names.{true, false, refl, sym, ◌∙◌, ap, subst, arith, cases_eq, append_assoc, map-append}
+use Rattle.sk_client.proofs.Names.{has, last_guess, refused_by, listed, remembered, answer_to, Sent, Reply, pending}
+use Rattle.sk_client.proofs.Names.{sent, asked_count, first_taken, Exchanges, WorldView, taken_by, taken_from, reply_to}
+use Rattle.sk_client.proofs.Names.{served, AreReplies, PendingRequest}
 use Rattle.sk_client.proofs.CausedWorld.{Served, table}
 use Rattle.sk_client.proofs.Each.{at_number, at_same, at_other, has_left, has_right}
 use Rattle.sk_client.proofs.Invariant.{counted, Invariant, is_accepted}

@@ -1,34 +1,19 @@
 -- A turn keeps all that holds of a world.
-use Rattle.std.proofs.Common.{◌≡◌, ℕ, suc, ◌+◌, ◌-◌, ◌≤◌, ◌<◌, Bool, true, false, ◌&&◌, cond, List, [], ◌∷◌, ◌++◌, Option, Some, None, Result, Ok, Err, refl, sym, ◌∙◌, ap, subst, arith}
-use Rattle.std.specs.Prelude.{nat_lt, is_some}
-use Rattle.std.specs.FinMap.{get}
-use Rattle.std.proofs.lemmas.Bool.{ltb-false, ltb-true}
-use Rattle.std.proofs.lemmas.List.{append_assoc}
-use Rattle.sk_record.specs.Trace.{Taken, record_of}
-use Rattle.sk_ids.specs.declared.entity.Entity.TheVariants.{Proc, Copy as CopyOf}
-use Rattle.sk_objects.specs.declared.content.TheConstants.{LAST_VERSION}
-use Rattle.sk_script.specs.declared.instruction.Input.{Input}
+use Rattle.sk_client.proofs.Names.{◌≡◌, ℕ, suc, ◌+◌, ◌-◌, ◌≤◌, ◌<◌, Bool, true, false, ◌&&◌, cond, List, [], ◌∷◌, ◌++◌}
+use Rattle.sk_client.proofs.Names.{Option, Some, None, Result, Ok, Err, refl, sym, ◌∙◌, ap, subst, arith, nat_lt}
+use Rattle.sk_client.proofs.Names.{is_some, get, ltb-false, ltb-true, append_assoc, Taken, record_of, Proc, CopyOf}
+use Rattle.sk_client.proofs.Names.{LAST_VERSION, Input, State, next_of, refusal_of, Next, Refusal, Blocked, TraceFull}
+use Rattle.sk_client.proofs.Names.{KernelView, state_at, next_guess, last_guess, room, effect_at, or_else, is_other}
+use Rattle.sk_client.proofs.Names.{or_full, no_room, step_misfit, guess_misfits, too_many, with_event, Ask, name_of}
+use Rattle.sk_client.proofs.Names.{DeskView, pending, asked_count, asks_for, asks_on, kept_for, fetch_rule, store_rule}
+use Rattle.sk_client.proofs.Names.{unless_kept, cached, buffer, rule_next, rule_of, no_place, no_number, entry}
+use Rattle.sk_client.proofs.Names.{rule_refused, request_of, turned, RulePost, ByRule, TurnPost, Exchanges, Bytes}
+use Rattle.sk_client.proofs.Names.{version_of, buffer_of, WorldView, PendingRequest, Rule, Told}
 use Rattle.sk_script.specs.declared.instruction.Input.TheVariants as inputs
-use Rattle.sk_store.specs.State.{State}
 use Rattle.sk_trace.specs.declared.event.Event.TheVariants as events
-use Rattle.sk_plain.specs.Next.{next_of}
-use Rattle.sk_plain.specs.Planned.{refusal_of}
-use Rattle.sk_plain.specs.declared.next.Next.{Next}
 use Rattle.sk_plain.specs.declared.next.Next.TheVariants as nexts
-use Rattle.sk_plain.specs.declared.refusal.Refusal.{Refusal}
-use Rattle.sk_plain.specs.declared.refusal.Refusal.TheVariants.{Blocked, TraceFull}
-use Rattle.sk_kernel.specs.Kernel.{KernelView, state_at, next_guess, last_guess, room, effect_at, or_else, is_other, or_full, no_room, step_misfit, guess_misfits, too_many, with_event}
-use Rattle.sk_server.specs.declared.request.Ask.{Ask}
 use Rattle.sk_server.specs.declared.request.Ask.TheVariants as asks
-use Rattle.sk_client.specs.Desk.{name_of, DeskView, pending, asked_count, asks_for, asks_on, kept_for, fetch_rule, store_rule, unless_kept, cached, buffer, rule_next, rule_of, no_place, no_number, entry, rule_refused, request_of, turned}
-use Rattle.sk_client.specs.DeskCalls.{RulePost, ByRule, TurnPost}
-use Rattle.sk_client.specs.Exchanges.{Exchanges}
-use Rattle.sk_client.specs.Table.{Bytes, version_of, buffer_of}
-use Rattle.sk_client.specs.WorldView.{WorldView}
-use Rattle.sk_client.specs.declared.pending.PendingRequest.{PendingRequest}
-use Rattle.sk_client.specs.declared.rule.Rule.{Rule}
 use Rattle.sk_client.specs.declared.rule.Rule.TheVariants as rules
-use Rattle.sk_client.specs.declared.desk.Turn.{Turn as Told}
 use Rattle.sk_client.proofs.CausedWorld.{Caused, For, kernel, state, own, or_zero, table, Takes}
 use Rattle.sk_client.proofs.DeskFacts.{asked_more, none_first, none_later, none_test, ok_of}
 use Rattle.sk_client.proofs.Invariant.{Invariant, ReadyFor}

@@ -1,51 +1,26 @@
 -- A world as its callers see it, with what the laws know of it besides. What the laws compute of
 -- a kernel's trace, whose entries have causes, is what its callers compute.
-use Rattle.std.proofs.Common.{◌≡◌, ℕ, suc, ◌≤◌, Bool, true, false, not, ◌&&◌, ◌||◌, cond, List, [], ◌∷◌, ◌++◌, map, get_or, Option, Some, None, Ok, refl, sym, ◌∙◌, ap, arith}
-use Rattle.std.specs.Prelude.{◌==◌, nat_le, length}
-use Rattle.std.specs.FinMap.{get}
-use Rattle.std.specs.Ordering.{nat_cmp}
-use Rattle.std.specs.List.{filter, list_any}
+use Rattle.sk_client.proofs.Names.{◌≡◌, ℕ, suc, ◌≤◌, Bool, true, false, not, ◌&&◌, ◌||◌, cond, List, [], ◌∷◌, ◌++◌, map}
+use Rattle.sk_client.proofs.Names.{get_or, Option, Some, None, Ok, refl, sym, ◌∙◌, ap, arith, ◌==◌, nat_le, get}
+use Rattle.sk_client.proofs.Names.{nat_cmp, filter, list_any, eq-eqb, or_left, or_right, le-leb, map-append}
+use Rattle.sk_client.proofs.Names.{fold-append, and-true, perform, is_in, dirt, outcome, run, effects, has, Happens}
+use Rattle.sk_client.proofs.Names.{Taken, Commit, Fail, record_of, undecided_of, all_recorded, no_record, has_filter}
+use Rattle.sk_client.proofs.Names.{above, entries_are, is_commit, is_undecided, entity_cmp, Entity, Proc, CopyOf, Input}
+use Rattle.sk_client.proofs.Names.{act, plain, image, KernelView, events_of, record_at, state_at, tags_at, undecided_at}
+use Rattle.sk_client.proofs.Names.{last_guess, next_guess, number_after, settled, effect_at, with_event, HasSoundTrace}
+use Rattle.sk_client.proofs.Names.{undecided_sorted, below_next, entry, rests_of, is_lost, is_void, Bytes}
+use Rattle.sk_client.proofs.Names.{PendingRequest, EntryView, Sent, Ask, Answer, Reply, WorldView}
+use Rattle.std.specs.Prelude.{length}
 use Rattle.std.specs.List.Sorted.{IsStrictlySortedBy}
-use Rattle.std.proofs.lemmas.Bool.{eq-eqb, or_left, or_right, le-leb}
-use Rattle.std.proofs.lemmas.List.{map-append}
-use Rattle.std.proofs.lemmas.List.Sums.{fold-append}
-use Rattle.std.proofs.Math.Bool.{and-true}
-use Rattle.sk_record.specs.Step.{perform}
-use Rattle.sk_record.specs.Effects.{is_in, dirt}
-use Rattle.sk_record.specs.Run.{outcome, run, effects}
-use Rattle.sk_record.specs.Notes.{has}
-use Rattle.sk_record.specs.Trace.{Event as Happens, Taken, Commit, Fail, record_of, undecided_of, all_recorded, no_record}
-use Rattle.sk_record.proofs.Machine.{has_filter}
-use Rattle.sk_record.proofs.Rising.{above}
-use Rattle.sk_record.proofs.Sound.{entries_are, is_commit, undecided_is as is_undecided}
-use Rattle.sk_ids.specs.Entity.{entity_cmp}
-use Rattle.sk_ids.specs.declared.entity.Entity.{Entity}
-use Rattle.sk_ids.specs.declared.entity.Entity.TheVariants.{Proc, Copy as CopyOf}
-use Rattle.sk_script.specs.declared.instruction.Input.{Input}
 use Rattle.sk_script.specs.declared.instruction.Input.TheVariants as inputs
 use Rattle.sk_trace.specs.declared.event.Event.{Event}
 use Rattle.sk_trace.specs.declared.event.Event.TheVariants as events
-use Rattle.sk_plain.specs.Act.{act, plain}
-use Rattle.sk_plain.specs.Replay.{image}
-use Rattle.sk_kernel.specs.Kernel.{KernelView, events_of, record_at, state_at, tags_at, undecided_at, last_guess, next_guess, number_after, settled, effect_at, with_event}
-use Rattle.sk_kernel.specs.Laws.{HasSoundTrace}
-use Rattle.sk_kernel.proofs.Undecided.{undecided_sorted}
-use Rattle.sk_kernel.proofs.Lawful.{below_next}
-use Rattle.sk_client.specs.Desk.{entry, rests_of, is_lost, is_void}
-use Rattle.sk_client.specs.Table.{Bytes}
-use Rattle.sk_client.specs.declared.pending.PendingRequest.{PendingRequest}
 use Rattle.sk_client.proofs.Labels.{bare_event, is_bare}
 use Rattle.sk_client.proofs.CausedWorld.{Caused, kernel, state, undecided, own, is_tag, rests_of as law_rests, is_lost as law_lost, is_void as law_void, least, bare, table, Before, Served}
 use Rattle.sk_client.proofs.DeskFacts.{Did, committed_is}
 use Rattle.sk_client.proofs.Each.{any_map, any_same}
 use Rattle.sk_client.proofs.PlaceFacts.{step_sound, guess_sound, commit_sound, fail_sound}
 use Rattle.sk_client.proofs.TraceFacts.{entry_drawn}
-use Rattle.sk_trace.specs.Entry.{EntryView}
-use Rattle.sk_server.specs.declared.request.Request.{Request as Sent}
-use Rattle.sk_server.specs.declared.request.Ask.{Ask}
-use Rattle.sk_server.specs.declared.reply.Answer.{Answer}
-use Rattle.sk_server.specs.declared.reply.Reply.{Reply}
-use Rattle.sk_client.specs.WorldView.{WorldView}
 
 -- the oldest requests have the replies that are on their way
 abbrev pub law_served : List PendingRequest → List Reply → List Served

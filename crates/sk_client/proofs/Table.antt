@@ -1,41 +1,23 @@
 -- The kernel's table is one: what the laws of worlds ask of a table holds of it, from the start of
 -- every boot on, by the steps of a fetch and of a store with each input.
-use Rattle.std.proofs.Common.{◌≡◌, ℕ, false, List, map, Some, None, Ok, IsSome, inl, inr, refl, sym, ◌∙◌, ap, subst, suc, ◌+◌, ◌<◌, true, cond, [], ◌∷◌, Option, arith}
-use Rattle.std.specs.Prelude.{◌⊎◌, nat_lt}
-use Rattle.std.specs.List.{Contains}
-use Rattle.std.specs.FinMap.{get}
-use Rattle.sk_record.specs.Run.{outcome, run}
-use Rattle.sk_ids.specs.declared.entity.Entity.TheVariants.{Proc, Copy}
-use Rattle.sk_ids.proofs.Entities.{entity_total, entity_exact}
-use Rattle.sk_script.specs.declared.process.Process.{Process}
-use Rattle.sk_script.specs.declared.instruction.Instruction.{Instruction}
+use Rattle.sk_client.proofs.Names.{◌≡◌, ℕ, false, List, map, Some, None, Ok, IsSome, inl, inr, refl, sym, ◌∙◌, ap}
+use Rattle.sk_client.proofs.Names.{subst, suc, ◌+◌, ◌<◌, true, cond, [], ◌∷◌, Option, arith, ◌⊎◌, nat_lt, Contains, get}
+use Rattle.sk_client.proofs.Names.{outcome, run, Proc, Copy, entity_total, entity_exact, Process, Instruction, State}
+use Rattle.sk_client.proofs.Names.{Scripts, act, with_input, Input, Bytes, buffer_of, copy_of, version_of, IsTidyState}
+use Rattle.sk_client.proofs.Names.{IsCopy, lt-ltb, Refuse, perform, with_read, Entity, ContentView, LAST_VERSION}
+use Rattle.sk_client.proofs.Names.{EntityState, Mismatch, StaleCopy, failed, with_write, fetched, from_copy, over_copy}
+use Rattle.sk_client.proofs.Names.{Good, Fresh, Stale, Get, Check, Store}
 use Rattle.sk_script.specs.declared.instruction.Instruction.TheVariants as does_
-use Rattle.sk_store.specs.State.{State}
 use Rattle.sk_store.specs.declared.entity_state.EntityState.TheVariants as stored
-use Rattle.sk_plain.specs.Act.{Scripts, act, with_input}
 use Rattle.sk_plain.specs.declared.next.Next.TheVariants as nexts
-use Rattle.sk_script.specs.declared.instruction.Input.{Input}
 use Rattle.sk_client.proofs.CausedWorld.{Caused, kernel, own, table, IsTable, or_zero, Takes, IsEither}
 use Rattle.sk_script.specs.declared.instruction.Input.TheVariants as inputs
 use Rattle.sk_client.proofs.DeskFacts.{Did}
-use Rattle.sk_client.specs.Table.{Bytes, buffer_of, copy_of, version_of}
-use Rattle.sk_client.specs.Ready.{IsTidyState, IsCopy}
 use Rattle.sk_client.proofs.Tidy.{IsNextChild, unborn}
 use Rattle.sk_client.proofs.Rows.{IsOf, CanWrite, one_of_two, only_one}
 use Rattle.sk_client.proofs.Runs.{next_in, found, run_tidy, IsAt, IsFree, next_turn, store_at, turn_at, steps_on}
-use Rattle.std.proofs.lemmas.Bool.{lt-ltb}
-use Rattle.sk_record.specs.Step.{Refuse, perform, with_read}
-use Rattle.sk_ids.specs.declared.entity.Entity.{Entity}
-use Rattle.sk_objects.specs.Content.{ContentView}
-use Rattle.sk_objects.specs.declared.content.TheConstants.{LAST_VERSION}
 use Rattle.sk_objects.specs.declared.value.Value.TheVariants as values
-use Rattle.sk_store.specs.declared.entity_state.EntityState.{EntityState}
-use Rattle.sk_plain.specs.declared.refusal.Refusal.TheVariants.{Mismatch}
-use Rattle.sk_plain.specs.declared.refusal.Errno.TheVariants.{StaleCopy}
-use Rattle.sk_plain.specs.Rows.{answered, failed, with_write}
-use Rattle.sk_plain.specs.Replies.{fetched, from_copy, over_copy}
-use Rattle.sk_script.specs.declared.instruction.Input.TheVariants.{Good, Fresh, Stale}
-use Rattle.sk_server.specs.declared.request.Ask.TheVariants.{Get, Check, Store}
+use Rattle.sk_plain.specs.Rows.{answered}
 use Rattle.sk_client.proofs.Each.{cons_first}
 
 pub steps_so : (scripts : Scripts) (s : State) (pid : ℕ) (i : Instruction) (x : Input) (is : IsAt scripts s pid i)

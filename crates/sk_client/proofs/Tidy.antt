@@ -1,33 +1,16 @@
 -- What holds of every state that a kernel comes to, from the start of a boot on: a process that is
 -- there has a number from 1 on, a child is counted by its parent, and a cached copy is one.
-use Rattle.std.proofs.Common.{◌≡◌, ℕ, ◌+◌, ◌*◌, ◌/◌, ◌%◌, ◌≤◌, ◌<◌, Bool, true, false, cond, List, [], Option, Some, None, IsSome, inl, inr, refl, sym, ◌∙◌, ap, subst, arith, ◌∷◌}
-use Rattle.std.specs.Prelude.{◌⊎◌, All}
-use Rattle.std.specs.FinMap.{get, empty, get-empty}
-use Rattle.std.specs.Ordering.{eq_by_cmp}
-use Rattle.std.specs.Cmp.{eq_by_cmp_equiv, Equal-is}
-use Rattle.std.proofs.lemmas.Bool.{cases_eq, false≢true}
-use Rattle.std.proofs.lemmas.Nat.{div-mul-add, mod-mul-add}
-use Rattle.sk_record.specs.Run.{put}
-use Rattle.sk_record.proofs.Sets.{get-put}
-use Rattle.sk_ids.specs.Entity.{entity_cmp}
-use Rattle.sk_ids.specs.declared.entity.Entity.{Entity}
-use Rattle.sk_ids.specs.declared.entity.Entity.TheVariants.{Proc, Sig, Exit, Obj, Link, Copy}
-use Rattle.sk_ids.proofs.Entities.{entity_total, entity_exact}
-use Rattle.sk_objects.specs.Content.{ContentView}
+use Rattle.sk_client.proofs.Names.{◌≡◌, ℕ, ◌+◌, ◌*◌, ◌/◌, ◌%◌, ◌≤◌, ◌<◌, Bool, true, false, cond, List, [], Option}
+use Rattle.sk_client.proofs.Names.{Some, None, IsSome, inl, inr, refl, sym, ◌∙◌, ap, subst, arith, ◌∷◌, ◌⊎◌, All, get}
+use Rattle.sk_client.proofs.Names.{empty, get-empty, eq_by_cmp, eq_by_cmp_equiv, Equal-is, cases_eq, false≢true}
+use Rattle.sk_client.proofs.Names.{div-mul-add, mod-mul-add, put, get-put, entity_cmp, Entity, Proc, Sig, Exit, Obj}
+use Rattle.sk_client.proofs.Names.{Link, Copy, entity_total, entity_exact, ContentView, Process, State, EntityState}
+use Rattle.sk_client.proofs.Names.{LAST_CHILD, next_child, All-head, All-tail, BootView, root, beginning, BootObject}
+use Rattle.sk_client.proofs.Names.{BootProcess, boot_object, first_value, with_objects, with_links, with_process}
+use Rattle.sk_client.proofs.Names.{with_processes, with_copies, with_root, start_of, HasNumber, IsNumbered, IsPlaced}
+use Rattle.sk_client.proofs.Names.{IsCopy, IsTidyState}
 use Rattle.sk_objects.specs.declared.value.Value.TheVariants as values
-use Rattle.sk_script.specs.declared.process.Process.{Process}
-use Rattle.sk_store.specs.State.{State}
-use Rattle.sk_store.specs.declared.entity_state.EntityState.{EntityState}
 use Rattle.sk_store.specs.declared.entity_state.EntityState.TheVariants as stored
-use Rattle.sk_plain.specs.Processes.{LAST_CHILD, next_child}
-use Rattle.std.proofs.lemmas.List.Elements.{All-head, All-tail}
-use Rattle.sk_script.specs.Boot.{BootView}
-use Rattle.sk_script.specs.Process.{root, beginning}
-use Rattle.sk_script.specs.declared.boot.BootObject.{BootObject}
-use Rattle.sk_script.specs.declared.boot.BootProcess.{BootProcess}
-use Rattle.sk_store.specs.Start.{boot_object, first_value, with_objects, with_links, with_process, with_processes, with_copies, with_root, start_of}
-use Rattle.sk_client.specs.Table.{HasNumber, IsNumbered}
-use Rattle.sk_client.specs.Ready.{IsPlaced, IsCopy, IsTidyState}
 
 -- ---- reads after a write
 

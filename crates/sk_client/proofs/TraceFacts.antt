@@ -1,25 +1,15 @@
 -- What the events of a sound trace do to its record, its open guesses, tags and values, over any kernel.
-use Rattle.std.proofs.Common.{◌≡◌, ℕ, Bool, true, false, not, List, [], ◌∷◌, ◌++◌, map, Option, Some, None, Ok, inl, inr, refl, sym, ◌∙◌, ap, subst}
-use Rattle.std.specs.Prelude.{◌⊎◌, ◌==◌, slice_get}
-use Rattle.std.specs.List.{Contains}
-use Rattle.std.specs.Cmp.{IsTotalOrder}
-use Rattle.std.specs.FinMap.{FinMap, get, IsAntisymmetric}
-use Rattle.std.proofs.lemmas.Bool.{or_left, or_cases, true≢false, eq-eqb, eqb-true, true_from_ne_false, false_from_ne_true}
-use Rattle.std.proofs.lemmas.List.Elements.{Contains-push}
-use Rattle.sk_record.specs.Step.{Effect}
-use Rattle.sk_record.specs.Effects.{MarkedEffect, is_in, hit, hits, dirt, dirtied, place}
-use Rattle.sk_record.specs.Run.{System, outcome, after, marked_effect, run, IsLegal, effects}
-use Rattle.sk_record.specs.Strike.{struck, strike}
-use Rattle.sk_record.specs.Notes.{has}
-use Rattle.sk_record.specs.Trace.{Event, Taken, Commit, Fail, HasEntry, IsDrawn, IsSound, record_of, marks, still_marked, Record, no_record, all_recorded, undecided_of}
-use Rattle.sk_record.proofs.Chains.{slice_get-keep, in_from, dirt_is}
-use Rattle.sk_record.proofs.Sets.{get-put_all_other}
-use Rattle.sk_record.proofs.Later.{dirtied_other}
-use Rattle.sk_record.proofs.Struck.{struck_runs, later, later_dep}
-use Rattle.sk_record.proofs.Machine.{nil_right, has_filter}
-use Rattle.sk_record.proofs.UndoStates.{and_both}
-use Rattle.sk_record.proofs.Tidy.{recorded_more}
-use Rattle.sk_record.proofs.Sound.{undecided_is, tests, has_entry, is_drawn, marked_is}
+use Rattle.sk_client.proofs.Names.{◌≡◌, ℕ, Bool, true, false, not, List, [], ◌∷◌, ◌++◌, map, Option, Some, None, Ok}
+use Rattle.sk_client.proofs.Names.{inl, inr, refl, sym, ◌∙◌, ap, subst, ◌⊎◌, ◌==◌, slice_get, Contains, IsTotalOrder}
+use Rattle.sk_client.proofs.Names.{FinMap, get, IsAntisymmetric, or_left, or_cases, true≢false, eq-eqb, eqb-true}
+use Rattle.sk_client.proofs.Names.{true_from_ne_false, false_from_ne_true, Contains-push, Effect, MarkedEffect, is_in}
+use Rattle.sk_client.proofs.Names.{hit, hits, dirt, dirtied, place, System, outcome, after, marked_effect, run, IsLegal}
+use Rattle.sk_client.proofs.Names.{effects, struck, strike, has, Event, Taken, Commit, Fail, HasEntry, IsDrawn, IsSound}
+use Rattle.sk_client.proofs.Names.{record_of, marks, still_marked, Record, no_record, all_recorded, undecided_of}
+use Rattle.sk_client.proofs.Names.{slice_get-keep, in_from, dirt_is, get-put_all_other, dirtied_other, struck_runs}
+use Rattle.sk_client.proofs.Names.{later, later_dep, nil_right, has_filter, and_both, recorded_more, undecided_is}
+use Rattle.sk_client.proofs.Names.{has_entry, is_drawn, marked_is}
+use Rattle.sk_record.proofs.Sound.{tests}
 use Rattle.sk_client.proofs.Each.{Each, each_keep, has_from}
 
 pub mark_has : (m : Option ℕ) (y : ℕ) → has y (marks m) ≡ true → m ≡ Some y

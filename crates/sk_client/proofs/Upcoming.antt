@@ -1,31 +1,18 @@
 -- What an event of a world appends was foreseen.
-use Rattle.std.proofs.Common.{◌≡◌, ℕ, true, false, cond, List, [], ◌∷◌, Option, Some, None, Result, Ok, Err, option_map, refl, sym, ap, subst, ◌∙◌}
-use Rattle.sk_record.specs.Notes.{has}
-use Rattle.sk_script.specs.declared.instruction.Input.{Input}
+use Rattle.sk_client.proofs.Names.{◌≡◌, ℕ, true, false, cond, List, [], ◌∷◌, Option, Some, None, Result, Ok, Err, refl}
+use Rattle.sk_client.proofs.Names.{sym, ap, subst, ◌∙◌, has, Input, Refusal, KernelView, next_guess, undecided_at}
+use Rattle.sk_client.proofs.Names.{step_refused, appended, IsForeseen, unchanged_foreseen, appended_foreseen, Request}
+use Rattle.sk_client.proofs.Names.{Reply, Answer, Yes, PendingRequest, Rule, Turn, WorldEvent, WorldAnswer, Cause}
+use Rattle.sk_client.proofs.Names.{DeskView, rule, turned, given, given_to, decided, answered, stepped, entry, input_of}
+use Rattle.sk_client.proofs.Names.{is_void, ByRule, WorldView, EventPost, Turns, Serves, Replies, EditsFile, taken_by}
+use Rattle.sk_client.proofs.Names.{upcoming, turn_step, reply_step, first_reply_step}
+use Rattle.std.proofs.Common.{option_map}
 use Rattle.sk_script.specs.declared.instruction.Input.TheVariants as inputs
-use Rattle.sk_plain.specs.declared.refusal.Refusal.{Refusal}
 use Rattle.sk_trace.specs.declared.event.Event.TheVariants as trace
-use Rattle.sk_kernel.specs.Kernel.{KernelView, next_guess, undecided_at, step_refused}
-use Rattle.sk_kernel.specs.Footprint.{appended, IsForeseen}
-use Rattle.sk_kernel.proofs.Appended.{unchanged_foreseen, appended_foreseen}
-use Rattle.sk_server.specs.declared.request.Request.{Request}
-use Rattle.sk_server.specs.declared.reply.Reply.{Reply}
-use Rattle.sk_server.specs.declared.reply.Answer.{Answer}
-use Rattle.sk_server.specs.declared.reply.Answer.TheVariants.{Yes}
-use Rattle.sk_client.specs.declared.pending.PendingRequest.{PendingRequest}
-use Rattle.sk_client.specs.declared.rule.Rule.{Rule}
 use Rattle.sk_client.specs.declared.rule.Rule.TheVariants as rules
-use Rattle.sk_client.specs.declared.desk.Turn.{Turn}
-use Rattle.sk_client.specs.declared.world.WorldEvent.{WorldEvent}
 use Rattle.sk_client.specs.declared.world.WorldEvent.TheVariants as events
-use Rattle.sk_client.specs.declared.world.WorldAnswer.{WorldAnswer}
 use Rattle.sk_client.specs.declared.world.WorldAnswer.TheVariants as answers
-use Rattle.sk_client.specs.declared.world.Cause.{Cause}
 use Rattle.sk_client.specs.declared.world.Cause.TheVariants as causes
-use Rattle.sk_client.specs.Desk.{DeskView, rule, turned, given, given_to, decided, answered, stepped, entry, input_of, is_void}
-use Rattle.sk_client.specs.DeskCalls.{ByRule}
-use Rattle.sk_client.specs.WorldView.{WorldView, EventPost, Turns, Serves, Replies, EditsFile, taken_by}
-use Rattle.sk_client.specs.Upcoming.{upcoming, turn_step, reply_step, first_reply_step}
 use Rattle.sk_client.proofs.WorldFacts.{taken_same}
 
 -- ---- a turn

@@ -1,17 +1,9 @@
 -- A new epoch of a world's desk leaves it joined with the server.
-use Rattle.std.proofs.Common.{◌≡◌, ◌+◌, List, [], ◌∷◌, ◌++◌, length, Option, Some, None, Result, Ok, Err, refl, sym, ◌∙◌, ap, subst}
-use Rattle.sk_terminal.specs.Terminals.{TerminalMap}
-use Rattle.sk_trace.specs.Trace.{TraceView}
-use Rattle.sk_kernel.specs.declared.kernel.EpochRefusal.{EpochRefusal}
+use Rattle.sk_client.proofs.Names.{◌≡◌, ◌+◌, List, [], ◌∷◌, ◌++◌, length, Option, Some, None, Result, Ok, Err, refl}
+use Rattle.sk_client.proofs.Names.{sym, ◌∙◌, ap, subst, TerminalMap, TraceView, EpochRefusal, KernelView, Request}
+use Rattle.sk_client.proofs.Names.{Reply, ServerView, PendingRequest, DeskView, opened_at, DeskEpochPost, WorldView}
+use Rattle.sk_client.proofs.Names.{AreReplies, IsJoined, WorldEpochPost}
 use Rattle.sk_kernel.specs.declared.kernel.EpochRefusal.TheVariants as epoch_refusals
-use Rattle.sk_kernel.specs.Kernel.{KernelView}
-use Rattle.sk_server.specs.declared.request.Request.{Request}
-use Rattle.sk_server.specs.declared.reply.Reply.{Reply}
-use Rattle.sk_server.specs.Server.{ServerView}
-use Rattle.sk_client.specs.declared.pending.PendingRequest.{PendingRequest}
-use Rattle.sk_client.specs.Desk.{DeskView, opened_at}
-use Rattle.sk_client.specs.DeskCalls.{DeskEpochPost}
-use Rattle.sk_client.specs.WorldView.{WorldView, AreReplies, IsJoined, WorldEpochPost}
 
 none_front : (xs ys : List PendingRequest) → xs ++ ys ≡ [] → xs ≡ []
 none_front [] ys h = refl

@@ -1,32 +1,18 @@
 -- What holds of a world's parts, behind each of its events.
-use Rattle.std.proofs.Common.{◌≡◌, ℕ, ◌+◌, ◌-◌, ◌<◌, ◌≤◌, get_or, true, false, not, cond, List, [], ◌∷◌, ◌++◌, length, Option, Some, None, Result, Ok, Err, refl, sym, ◌∙◌, ap, subst, arith}
-use Rattle.std.specs.Prelude.{◌==◌, nat_lt, is_some}
-use Rattle.std.proofs.lemmas.Bool.{true≢false, eqb-true, ltb-false, ltb-true}
-use Rattle.std.proofs.lemmas.List.{length-append, get_or_at}
-use Rattle.sk_record.specs.Notes.{has}
-use Rattle.sk_record.proofs.UndoStates.{and_both}
-use Rattle.sk_objects.specs.declared.content.TheConstants.{LAST_VERSION}
-use Rattle.sk_script.specs.declared.instruction.Input.{Input}
+use Rattle.sk_client.proofs.Names.{◌≡◌, ℕ, ◌+◌, ◌-◌, ◌<◌, ◌≤◌, get_or, true, false, not, cond, List, [], ◌∷◌, ◌++◌}
+use Rattle.sk_client.proofs.Names.{length, Option, Some, None, Result, Ok, Err, refl, sym, ◌∙◌, ap, subst, arith, ◌==◌}
+use Rattle.sk_client.proofs.Names.{nat_lt, is_some, true≢false, eqb-true, ltb-false, ltb-true, length-append, get_or_at}
+use Rattle.sk_client.proofs.Names.{has, and_both, LAST_VERSION, Input, Refusal, TooMany, or_else, undecided_at}
+use Rattle.sk_client.proofs.Names.{effect_at, guess_misfits, too_many, next_guess, Request, Ask, Get, Check, Store}
+use Rattle.sk_client.proofs.Names.{Reply, Answer, Yes, No, Dropped, LAST_REQUEST, FileMap, file_of, is_fitting}
+use Rattle.sk_client.proofs.Names.{ServerView, is_dropped, remembered, judged, answer_to, PendingRequest, Rule, Turn}
+use Rattle.sk_client.proofs.Names.{DeskView, entry, sent, first_sent, first_taken, fits_ask, no_number, no_place}
+use Rattle.sk_client.proofs.Names.{guess_refused_at, rule, turned, request_of, given, given_to, stepped_for, decided}
+use Rattle.sk_client.proofs.Names.{input_of, is_void, ByRule, TurnPost, WorldView, Numbered, AreReplies, IsNext}
+use Rattle.sk_client.proofs.Names.{IsJoined, reply_to, served, taken_from, taken_by, ServesNext}
 use Rattle.sk_script.specs.declared.instruction.Input.TheVariants as inputs
-use Rattle.sk_plain.specs.declared.refusal.Refusal.{Refusal}
-use Rattle.sk_plain.specs.declared.refusal.Refusal.TheVariants.{TooMany}
-use Rattle.sk_kernel.specs.Kernel.{or_else, undecided_at, effect_at, guess_misfits, too_many, next_guess}
-use Rattle.sk_server.specs.declared.request.Request.{Request}
-use Rattle.sk_server.specs.declared.request.Ask.{Ask}
-use Rattle.sk_server.specs.declared.request.Ask.TheVariants.{Get, Check, Store}
-use Rattle.sk_server.specs.declared.reply.Reply.{Reply}
-use Rattle.sk_server.specs.declared.reply.Answer.{Answer}
-use Rattle.sk_server.specs.declared.reply.Answer.TheVariants.{Yes, No, Dropped}
-use Rattle.sk_server.specs.declared.server.TheConstants.{LAST_REQUEST}
-use Rattle.sk_server.specs.Files.{FileMap, file_of, is_fitting}
-use Rattle.sk_server.specs.Server.{ServerView, is_dropped, remembered, judged, answer_to, answered}
-use Rattle.sk_client.specs.declared.pending.PendingRequest.{PendingRequest}
-use Rattle.sk_client.specs.declared.rule.Rule.{Rule}
+use Rattle.sk_server.specs.Server.{answered}
 use Rattle.sk_client.specs.declared.rule.Rule.TheVariants as rules
-use Rattle.sk_client.specs.declared.desk.Turn.{Turn}
-use Rattle.sk_client.specs.Desk.{DeskView, entry, sent, first_sent, first_taken, fits_ask, no_number, no_place, guess_refused_at, rule, turned, request_of, given, given_to, answered as stepped_for, decided, input_of, is_void}
-use Rattle.sk_client.specs.DeskCalls.{ByRule, TurnPost}
-use Rattle.sk_client.specs.WorldView.{WorldView, Numbered, AreReplies, IsNext, IsJoined, reply_to, served, taken_from, taken_by, ServesNext}
 use Rattle.sk_client.proofs.DeskFacts.{none_first, none_later, none_test}
 
 -- ---- one request more

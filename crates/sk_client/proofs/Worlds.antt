@@ -1,40 +1,18 @@
 -- A world that some events lead to, with all that is shown to hold of it after every event.
-use Rattle.std.proofs.Common.{◌≡◌, ℕ, suc, ◌≤◌, ◌<◌, true, false, cond, not, ◌&&◌, List, [], ◌∷◌, ◌++◌, map, Option, Some, None, Result, Ok, inl, inr, refl, sym, ◌∙◌, ap, subst, arith}
-use Rattle.std.specs.Prelude.{◌==◌, ◌||◌, is_none, bytes_eq}
-use Rattle.std.specs.List.{Contains}
-use Rattle.std.specs.FinMap.{FinMap}
-use Rattle.std.proofs.lemmas.Bool.{true≢false, cases_Bool, leb-true, eq-eqb}
-use Rattle.std.proofs.lemmas.List.Elements.{Contains-push_cases}
-use Rattle.std.proofs.lemmas.Slice.Eq.{bytes_eq-Decides}
-use Rattle.sk_record.specs.Run.{outcome}
-use Rattle.sk_record.specs.Notes.{has}
-use Rattle.sk_record.specs.Trace.{Event, record_of}
-use Rattle.sk_record.proofs.UndoStates.{and_both, any_at}
-use Rattle.sk_record.proofs.Sound.{undecided_is, has_commit, any_from}
-use Rattle.sk_objects.specs.Content.{ContentView}
-use Rattle.sk_objects.specs.declared.content.TheConstants.{LAST_VERSION}
-use Rattle.sk_script.specs.declared.instruction.Input.{Input}
-use Rattle.sk_script.specs.declared.instruction.Input.TheVariants.{Good, Fresh, Stale}
+use Rattle.sk_client.proofs.Names.{◌≡◌, ℕ, suc, ◌≤◌, ◌<◌, true, false, cond, not, ◌&&◌, List, [], ◌∷◌, ◌++◌, map}
+use Rattle.sk_client.proofs.Names.{Option, Some, None, Result, Ok, inl, inr, refl, sym, ◌∙◌, ap, subst, arith, ◌==◌}
+use Rattle.sk_client.proofs.Names.{is_none, bytes_eq, Contains, FinMap, true≢false, cases_Bool, leb-true, eq-eqb}
+use Rattle.sk_client.proofs.Names.{Contains-push_cases, bytes_eq-Decides, outcome, has, Event, record_of, and_both}
+use Rattle.sk_client.proofs.Names.{any_at, undecided_is, has_commit, any_from, ContentView, LAST_VERSION, Input, Good}
+use Rattle.sk_client.proofs.Names.{Fresh, Stale, State, Scripts, Next, Refusal, last_guess, is_fitting, ServerView}
+use Rattle.sk_client.proofs.Names.{refused_by, listed, remembered, is_dropped, judged, answer_to, Ask, Get, Check}
+use Rattle.sk_client.proofs.Names.{Store, Answer, Yes, No, Dropped, pending, name_of, sent, kept_for, forgotten}
+use Rattle.sk_client.proofs.Names.{kept_after, answer_kept, asks_for, asks_on, fits_ask, input_of, Exchanges}
+use Rattle.sk_client.proofs.Names.{PlacesAreKept, Bytes, WorldView, KeptAnswer, PendingRequest, IsTidyState}
+use Rattle.std.specs.Prelude.{◌||◌}
 use Rattle.sk_script.specs.declared.instruction.Input.TheVariants as inputs
-use Rattle.sk_store.specs.State.{State}
-use Rattle.sk_plain.specs.Act.{Scripts}
-use Rattle.sk_plain.specs.declared.next.Next.{Next}
 use Rattle.sk_plain.specs.declared.next.Next.TheVariants as nexts
-use Rattle.sk_plain.specs.declared.refusal.Refusal.{Refusal}
-use Rattle.sk_kernel.specs.Kernel.{last_guess}
-use Rattle.sk_server.specs.Files.{is_fitting}
-use Rattle.sk_server.specs.Server.{ServerView, refused_by, listed, remembered, is_dropped, judged, answer_to}
-use Rattle.sk_server.specs.declared.request.Ask.{Ask}
-use Rattle.sk_server.specs.declared.request.Ask.TheVariants.{Get, Check, Store}
-use Rattle.sk_server.specs.declared.reply.Answer.{Answer}
-use Rattle.sk_server.specs.declared.reply.Answer.TheVariants.{Yes, No, Copy, Dropped}
-use Rattle.sk_client.specs.Desk.{pending, name_of, sent, kept_for, forgotten, kept_after, answer_kept, asks_for, asks_on, fits_ask, input_of}
-use Rattle.sk_client.specs.Exchanges.{Exchanges}
-use Rattle.sk_client.specs.Replied.{PlacesAreKept}
-use Rattle.sk_client.specs.Table.{Bytes}
-use Rattle.sk_client.specs.WorldView.{WorldView}
-use Rattle.sk_client.specs.declared.pending.KeptAnswer.{KeptAnswer}
-use Rattle.sk_client.specs.declared.pending.PendingRequest.{PendingRequest}
+use Rattle.sk_server.specs.declared.reply.Answer.TheVariants.{Copy}
 use Rattle.sk_client.proofs.CausedWorld.{Caused, Served, Table, kernel, own, is_lost, is_void, state, undecided, table, Takes}
 use Rattle.sk_client.proofs.Each.{cons_first, cons_later, filter_was}
 use Rattle.sk_client.proofs.Records.{Quiet, not_true}
@@ -43,7 +21,6 @@ use Rattle.sk_client.proofs.RequestFacts.{RequestFacts, NoGood}
 use Rattle.sk_client.proofs.SeenWorld.{Traced, World, all_served, all_waiting, law_served, unanswered, answered_there, answered_here}
 use Rattle.sk_client.proofs.Table.{is_table, owns, copies}
 use Rattle.sk_client.proofs.Runs.{next_turn}
-use Rattle.sk_client.specs.Ready.{IsTidyState}
 use Rattle.sk_client.proofs.DeskFacts.{Did}
 use Rattle.sk_client.proofs.WorldFacts.{Fitting, answer_suits}
 

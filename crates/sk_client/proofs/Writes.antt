@@ -1,24 +1,14 @@
 -- The server's files after any list of a world's events.
-use Rattle.std.proofs.Common.{◌≡◌, ℕ, List, [], ◌∷◌, ◌++◌, Option, Some, None, Result, Ok, Err, refl, sym, ◌∙◌, ap, subst}
-use Rattle.std.proofs.lemmas.List.{append_assoc}
-use Rattle.std.proofs.lemmas.List.Elements.{filter-append}
-use Rattle.std.proofs.lemmas.List.Sums.{fold-append}
-use Rattle.sk_server.specs.Files.{FileMap, written}
-use Rattle.sk_server.specs.Server.{ServerView, answer_to, files_after}
-use Rattle.sk_server.specs.declared.request.Request.{Request as Sent}
-use Rattle.sk_server.specs.declared.request.Ask.{Ask}
+use Rattle.sk_client.proofs.Names.{◌≡◌, ℕ, List, [], ◌∷◌, ◌++◌, Option, Some, None, Result, Ok, Err, refl, sym, ◌∙◌, ap}
+use Rattle.sk_client.proofs.Names.{subst, append_assoc, filter-append, fold-append, FileMap, written, ServerView}
+use Rattle.sk_client.proofs.Names.{answer_to, files_after, Sent, Ask, Answer, Reply, Exchanges, with_reply, exchange}
+use Rattle.sk_client.proofs.Names.{exchanged, Leads, Write, is_store, store_of, stores_of, written_by, writes_of}
+use Rattle.sk_client.proofs.Names.{all_written, AllFit, AreWritten, WorldView, taken_by, reply_to, served, Serves}
+use Rattle.sk_client.proofs.Names.{Replies, Turns, EditsFile, EventPost, WorldEvent, WorldAnswer, Cause}
 use Rattle.sk_server.specs.declared.request.Ask.TheVariants as asks
-use Rattle.sk_server.specs.declared.reply.Answer.{Answer}
 use Rattle.sk_server.specs.declared.reply.Answer.TheVariants as answers
-use Rattle.sk_server.specs.declared.reply.Reply.{Reply}
-use Rattle.sk_client.specs.Exchanges.{Exchanges, with_reply, exchange, exchanged, Leads}
-use Rattle.sk_client.specs.Writes.{Write, is_store, store_of, stores_of, written_by, writes_of, all_written, AllFit, AreWritten}
-use Rattle.sk_client.specs.WorldView.{WorldView, taken_by, reply_to, served, Serves, Replies, Turns, EditsFile, EventPost}
-use Rattle.sk_client.specs.declared.world.WorldEvent.{WorldEvent}
 use Rattle.sk_client.specs.declared.world.WorldEvent.TheVariants as events
-use Rattle.sk_client.specs.declared.world.WorldAnswer.{WorldAnswer}
 use Rattle.sk_client.specs.declared.world.WorldAnswer.TheVariants as told
-use Rattle.sk_client.specs.declared.world.Cause.{Cause}
 use Rattle.sk_client.specs.declared.world.Cause.TheVariants as causes
 use Rattle.sk_client.proofs.WorldFacts.{Fitting, answer_suits, taken_same}
 

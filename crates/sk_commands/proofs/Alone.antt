@@ -1,12 +1,9 @@
 -- What keys are known changes nothing for what is not told of all.
-use Rattle.std.proofs.Common.{◌≡◌, ℕ, false, List, [], ◌∷◌, refl, ap, ◌∙◌}
-use Rattle.std.specs.List.{list_any}
-use Rattle.sk_commands.specs.declared.command.Command.{Command}
-use Rattle.sk_commands.specs.declared.work.Work.{Work}
+use Rattle.sk_commands.proofs.Names.{◌≡◌, ℕ, false, List, [], ◌∷◌, refl, ap, ◌∙◌, list_any, Command, Work}
+use Rattle.sk_commands.proofs.Names.{is_told_of_all, outcome, Have, after, answered, comes_to, each, followed}
+use Rattle.sk_commands.proofs.Names.{known_after, wants_all}
 use Rattle.sk_commands.specs.declared.work.Work.TheVariants as works
 use Rattle.sk_commands.specs.declared.work.Answer.TheVariants as answers
-use Rattle.sk_commands.specs.Table.{is_told_of_all, outcome, Have}
-use Rattle.sk_commands.specs.Work.{after, answered, comes_to, each, followed, known_after, wants_all}
 use Rattle.sk_commands.proofs.Queued.{alone}
 use Rattle.sk_commands.proofs.Unwritten.{neither}
 

@@ -1,26 +1,17 @@
 -- A step, where keys have what they have: what it asks for is all that it needs.
-use Rattle.std.proofs.Common.{◌≡◌, ℕ, ◌+◌, Bool, true, false, ◌&&◌, not, List, [], ◌∷◌, ◌++◌, map, filter, flat_map, length, count_by, fold, is_some, bytes_eq, cond, Option, Some, None, Result, Ok, if◌then◌else◌, refl, sym, ap, ◌∙◌}
-use Rattle.std.specs.Ordering.{nat_cmp}
-use Rattle.std.specs.Cmp.Lexicographic.{slice_cmp}
-use Rattle.std.specs.FinMap.Entries.{by_order}
-use Rattle.std.specs.declared.cmp.Ordering.{Ordering}
-use Rattle.std.specs.declared.cmp.Ordering.TheVariants.{Less, Equal, Greater}
-use Rattle.std.proofs.lemmas.Slice.Eq.{bytes_eq-Decides}
-use Rattle.sk_record.specs.Step.{perform, with_read, Effect}
-use Rattle.sk_deeds.specs.Deed.{effect_of}
-use Rattle.sk_commands.specs.declared.command.When.{When}
+use Rattle.sk_commands.proofs.Names.{◌≡◌, ℕ, ◌+◌, Bool, true, false, ◌&&◌, not, List, [], ◌∷◌, ◌++◌, map, filter}
+use Rattle.sk_commands.proofs.Names.{flat_map, length, count_by, fold, is_some, bytes_eq, cond, Option, Some, None}
+use Rattle.sk_commands.proofs.Names.{Result, Ok, if◌then◌else◌, refl, sym, ap, ◌∙◌, nat_cmp, slice_cmp, by_order}
+use Rattle.sk_commands.proofs.Names.{Ordering, Less, Equal, Greater, bytes_eq-Decides, perform, with_read, Effect}
+use Rattle.sk_commands.proofs.Names.{effect_of, When, Command, Get, Set, Del, Exists, Add, Append, StrLen, MGet, MSet}
+use Rattle.sk_commands.proofs.Names.{DbSize, KeysWith, FlushAll, Ping, Echo, Wrong, Reply, Array, Work, Answer, added}
+use Rattle.sk_commands.proofs.Names.{asks, begins_with, bytes_of, counts, deleted, flushed, is_among, joined, number_at}
+use Rattle.sk_commands.proofs.Names.{outcome, replies, shown, there, with_key, is_seen, may_set, set, set_reply, Have}
+use Rattle.sk_commands.proofs.Names.{Outcome, Written, after, answered, comes_to, each, followed, known_after, looks_at}
+use Rattle.sk_commands.proofs.Names.{with_known, with_value, act, asking_for, deed}
 use Rattle.sk_commands.specs.declared.command.When.TheVariants as when
-use Rattle.sk_commands.specs.declared.command.Command.{Command}
-use Rattle.sk_commands.specs.declared.command.Command.TheVariants.{Get, Set, Del, Exists, Add, Append, StrLen, MGet, MSet, DbSize, KeysWith, FlushAll, Ping, Echo, Wrong}
-use Rattle.sk_commands.specs.declared.reply.Reply.{Reply}
-use Rattle.sk_commands.specs.declared.reply.Reply.TheVariants.{Array}
-use Rattle.sk_commands.specs.declared.work.Work.{Work}
 use Rattle.sk_commands.specs.declared.work.Work.TheVariants as works
-use Rattle.sk_commands.specs.declared.work.Answer.{Answer}
 use Rattle.sk_commands.specs.declared.work.Answer.TheVariants as answers
-use Rattle.sk_commands.specs.Table.{added, asks, begins_with, bytes_of, counts, deleted, flushed, is_among, joined, number_at, outcome, replies, shown, there, with_key, is_seen, may_set, set, set_reply, Have, Outcome, Written}
-use Rattle.sk_commands.specs.Work.{after, answered, comes_to, each, followed, known_after, looks_at, with_known, with_value}
-use Rattle.sk_commands.specs.Law.{act, asking_for, deed}
 
 -- keys have the same in both
 abbrev AreAlike : List (List ℕ) → Have → Have → Type 0

@@ -1,7 +1,5 @@
 -- Words that stand one behind the other.
-use Rattle.std.proofs.Common.{◌≡◌, ℕ, List, [], ◌∷◌, ◌++◌, refl, sym, ap, ◌∙◌}
-use Rattle.std.proofs.lemmas.List.{append_assoc}
-use Rattle.sk_requests.specs.Request.{bulk, bulks}
+use Rattle.sk_commands.proofs.Names.{◌≡◌, ℕ, List, [], ◌∷◌, ◌++◌, refl, sym, ap, ◌∙◌, append_assoc, bulk, bulks}
 
 pub bulks_append : (vs ws : List (List ℕ)) → bulks (vs ++ ws) ≡ bulks vs ++ bulks ws
 bulks_append [] ws = refl

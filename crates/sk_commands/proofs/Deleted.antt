@@ -1,13 +1,10 @@
 -- What a loop that makes keys absent has written so far.
-use Rattle.std.proofs.Common.{◌≡◌, ℕ, suc, ◌+◌, ◌-◌, Bool, true, false, ◌&&◌, not, List, [], ◌∷◌, ◌++◌, length, drop, map, is_some, bytes_eq, Option, Some, None, if◌then◌else◌, refl, sym, ap, subst, ◌∙◌, take, is_err, OnErr, Result, Ok, Err, arith}
-use Rattle.std.specs.Global.{Vec}
-use Rattle.std.specs.Vec.{vec_items}
-use Rattle.std.specs.Option.{option_copied}
-use Rattle.std.specs.Borrow.{Bor}
-use Rattle.std.proofs.lemmas.List.{append-nil, append_assoc, length-append, length-map, take-map}
-use Rattle.std.proofs.Math.Seq.{drop-append_seam, take-append_seam}
-use Rattle.std.specs.List.{list_any}
-use Rattle.sk_commands.specs.Table.{Have, is_among, one_more, removals, told, with_key}
+use Rattle.sk_commands.proofs.Names.{◌≡◌, ℕ, suc, ◌+◌, ◌-◌, Bool, true, false, ◌&&◌, not, List, [], ◌∷◌, ◌++◌, length}
+use Rattle.sk_commands.proofs.Names.{drop, map, is_some, bytes_eq, Option, Some, None, if◌then◌else◌, refl, sym, ap}
+use Rattle.sk_commands.proofs.Names.{subst, ◌∙◌, take, is_err, OnErr, Result, Ok, Err, arith, Vec, vec_items}
+use Rattle.sk_commands.proofs.Names.{option_copied, Bor, append-nil, append_assoc, length-append, length-map, take-map}
+use Rattle.sk_commands.proofs.Names.{drop-append_seam, take-append_seam, list_any, Have, is_among, one_more, removals}
+use Rattle.sk_commands.proofs.Names.{told, with_key}
 
 abbrev Kept : Type 0
 Kept = List (Vec ℕ × Option (List ℕ))

@@ -1,17 +1,10 @@
 -- What is no decimal text of an integer, and what is.
-use Rattle.std.proofs.Common.{◌≡◌, ℕ, ◌^◌, ◌<◌, Bool, true, false, ◌&&◌, ℤ, pos, negsuc, List, Option, Some, None, Result, Ok, Err, if◌then◌else◌, bytes_eq, nat_lt, refl, sym, ap, subst, ◌∙◌, FitsSigned, w64, arith}
-use Rattle.std.specs.Prelude.{IfNone}
-use Rattle.std.specs.Result.{result_ok}
-use Rattle.std.specs.Option.{SomeIff}
-use Rattle.std.specs.Fmt.{signed_decimal}
-use Rattle.std.specs.Str.{IsUtf8}
-use Rattle.std.specs.Str.Parse.{signed_digits_value, ParsesSigned}
-use Rattle.std.proofs.lemmas.Bool.Decides.{nat_tests}
-use Rattle.std.proofs.lemmas.Str.{IsUtf8-from_ascii}
-use Rattle.std.proofs.lemmas.Fmt.{IsAscii-signed, parse-signed_decimal}
-use Rattle.std.proofs.lemmas.Slice.Eq.{bytes_eq-Decides}
-use Rattle.sk_commands.specs.Numbers.{fits, fitting, said_as, number_of, IsNoNumber}
-use lib.Signed.{mag}
+use Rattle.sk_commands.proofs.Names.{◌≡◌, ℕ, ◌^◌, ◌<◌, Bool, true, false, ◌&&◌, ℤ, pos, negsuc, List, Option, Some}
+use Rattle.sk_commands.proofs.Names.{None, Result, Ok, Err, if◌then◌else◌, bytes_eq, nat_lt, refl, sym, ap, subst, ◌∙◌}
+use Rattle.sk_commands.proofs.Names.{FitsSigned, w64, arith, IfNone, result_ok, SomeIff, signed_decimal, IsUtf8}
+use Rattle.sk_commands.proofs.Names.{signed_digits_value, ParsesSigned, nat_tests, IsUtf8-from_ascii, IsAscii-signed}
+use Rattle.sk_commands.proofs.Names.{parse-signed_decimal, bytes_eq-Decides, fits, fitting, said_as, IsNoNumber, mag}
+use Rattle.sk_commands.specs.Numbers.{number_of}
 
 below : (n m : ℕ) → nat_lt n m ≡ true → n < m
 below n m h = grind (arith, nat_tests)

@@ -1,9 +1,6 @@
 -- Keys that get what stands behind them, pair by pair.
-use Rattle.std.proofs.Common.{◌≡◌, ℕ, List, [], ◌∷◌, ◌++◌, length, map, Option, Some, refl, sym, ap, ◌∙◌, arith}
-use Rattle.std.specs.Global.{Vec}
-use Rattle.std.specs.Vec.{vec_items}
-use Rattle.std.proofs.lemmas.List.{append_assoc, append-nil}
-use Rattle.sk_commands.specs.Table.{pairs_of, told, Written}
+use Rattle.sk_commands.proofs.Names.{◌≡◌, ℕ, List, [], ◌∷◌, ◌++◌, length, map, Option, Some, refl, sym, ap, ◌∙◌, arith}
+use Rattle.sk_commands.proofs.Names.{Vec, vec_items, append_assoc, append-nil, pairs_of, told, Written}
 use Rattle.sk_commands.proofs.Deleted.{told_append}
 
 -- one pair more is written

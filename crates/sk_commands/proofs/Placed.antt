@@ -1,15 +1,8 @@
 -- The place of a key among keys, key by key.
-use Rattle.std.proofs.Common.{◌≡◌, ℕ, ◌+◌, ◌<◌, ◌≤◌, List, [], ◌∷◌, ◌++◌, length, map, take, drop, get_or, refl, sym, ap, ◌∙◌, arith}
-use Rattle.std.specs.Prelude.{insert}
-use Rattle.std.specs.Ordering.{nat_cmp}
-use Rattle.std.specs.Cmp.Lexicographic.{slice_cmp}
-use Rattle.std.specs.FinMap.Entries.{by_order}
-use Rattle.std.specs.Global.{Vec}
-use Rattle.std.specs.Vec.{vec_items}
-use Rattle.std.specs.declared.cmp.Ordering.{Ordering}
-use Rattle.std.specs.declared.cmp.Ordering.TheVariants.{Less, Equal, Greater}
-use Rattle.std.proofs.lemmas.List.{append_assoc, drop_all, drop_more, take_all, take_more, take-append-drop}
-use Rattle.sk_commands.specs.Work.{with_known}
+use Rattle.sk_commands.proofs.Names.{◌≡◌, ℕ, ◌+◌, ◌<◌, ◌≤◌, List, [], ◌∷◌, ◌++◌, length, map, take, drop, get_or, refl}
+use Rattle.sk_commands.proofs.Names.{sym, ap, ◌∙◌, arith, insert, nat_cmp, slice_cmp, by_order, Vec, vec_items}
+use Rattle.sk_commands.proofs.Names.{Ordering, Less, Equal, Greater, append_assoc, drop_all, drop_more, take_all}
+use Rattle.sk_commands.proofs.Names.{take_more, take-append-drop, with_known}
 
 -- A key stands behind the first of these.
 abbrev pub IsBehind : List ℕ → List (Vec ℕ) → ℕ → Type 0

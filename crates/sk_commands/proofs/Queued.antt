@@ -1,12 +1,9 @@
 -- Commands of a queue, one after another.
-use Rattle.std.proofs.Common.{◌≡◌, ℕ, true, false, List, [], ◌∷◌, ◌++◌, Option, bytes_eq, if◌then◌else◌, refl, sym, ap, ◌∙◌}
-use Rattle.std.specs.Global.{Vec}
-use Rattle.std.proofs.lemmas.List.{append_assoc}
-use Rattle.sk_commands.specs.declared.command.Command.{Command}
-use Rattle.sk_commands.specs.declared.command.Command.TheVariants.{Get, Set, Del, Exists, Add, Append, StrLen, MGet, MSet, DbSize, KeysWith, FlushAll, Ping, Echo, Wrong}
-use Rattle.sk_commands.specs.declared.reply.Reply.{Reply}
-use Rattle.sk_commands.specs.Table.{asks, is_told_of_all, outcome, told, Have, Outcome, Written}
-use Rattle.sk_commands.specs.Work.{after, each, known_after, with_known, with_value}
+use Rattle.sk_commands.proofs.Names.{◌≡◌, ℕ, true, false, List, [], ◌∷◌, ◌++◌, Option, bytes_eq, if◌then◌else◌, refl}
+use Rattle.sk_commands.proofs.Names.{sym, ap, ◌∙◌, Vec, append_assoc, Command, Get, Set, Del, Exists, Add, Append}
+use Rattle.sk_commands.proofs.Names.{StrLen, MGet, MSet, DbSize, KeysWith, FlushAll, Ping, Echo, Wrong, Reply, asks}
+use Rattle.sk_commands.proofs.Names.{is_told_of_all, outcome, told, Have, Outcome, Written, after, each, known_after}
+use Rattle.sk_commands.proofs.Names.{with_known, with_value}
 use Rattle.sk_commands.proofs.Deleted.{told_append}
 
 -- what keys are known changes nothing for a command that is not told of all

@@ -1,27 +1,20 @@
 -- The words that say a command say it again.
-use Rattle.std.proofs.Common.{◌≡◌, ℕ, ◌+◌, ◌-◌, ◌%◌, ◌==◌, ◌^◌, ◌<◌, Bool, true, false, not, ◌&&◌, ℤ, pos, negsuc, neg_ℤ, List, [], ◌∷◌, ◌++◌, length, take, slice_index, Option, Some, None, Result, Ok, Err, if◌then◌else◌, bytes_eq, nat_lt, refl, sym, ap, subst, ◌∙◌, FitsSigned, w64, arith}
-use Rattle.std.specs.Fmt.{signed_decimal}
-use Rattle.std.specs.List.{list_any}
-use Rattle.std.specs.Str.Parse.{signed_digits_value, ParsesSigned}
-use Rattle.std.proofs.lemmas.Fmt.{decimal_nonempty, parse-signed_decimal, signed_decimal_injective}
-use Rattle.std.proofs.lemmas.Slice.Eq.{bytes_eq-Decides}
-use Rattle.std.proofs.lemmas.List.{length-append}
-use Rattle.std.proofs.Math.Seq.{get_or-append_seam, take-append_seam}
-use Rattle.sk_commands.specs.Names.{name_of, text_of}
-use Rattle.sk_commands.specs.Numbers.{fits, fitting, number_of, said_as, IsNoNumber}
-use Rattle.sk_commands.specs.Parsing.{add_of, exchanged, front, is_of_prefix, is_special, matching, order_for, order_named, order_of, pairs_for, plainly, runs, set_of, subtract_by, subtract_of, with_options}
-use Rattle.sk_commands.specs.Requests.{least, words_for}
-use Rattle.sk_commands.specs.declared.name.Name.{Name}
+use Rattle.sk_commands.proofs.Names.{◌≡◌, ℕ, ◌+◌, ◌-◌, ◌%◌, ◌==◌, ◌^◌, ◌<◌, Bool, true, false, not, ◌&&◌, ℤ, pos}
+use Rattle.sk_commands.proofs.Names.{negsuc, neg_ℤ, List, [], ◌∷◌, ◌++◌, length, take, slice_index, Option, Some, None}
+use Rattle.sk_commands.proofs.Names.{Result, Ok, Err, if◌then◌else◌, bytes_eq, nat_lt, refl, sym, ap, subst, ◌∙◌}
+use Rattle.sk_commands.proofs.Names.{FitsSigned, w64, arith, signed_decimal, list_any, signed_digits_value}
+use Rattle.sk_commands.proofs.Names.{ParsesSigned, decimal_nonempty, parse-signed_decimal, signed_decimal_injective}
+use Rattle.sk_commands.proofs.Names.{bytes_eq-Decides, length-append, get_or-append_seam, take-append_seam, text_of}
+use Rattle.sk_commands.proofs.Names.{fits, fitting, said_as, IsNoNumber, add_of, exchanged, front, is_of_prefix}
+use Rattle.sk_commands.proofs.Names.{is_special, matching, order_for, order_named, order_of, pairs_for, plainly, runs}
+use Rattle.sk_commands.proofs.Names.{set_of, subtract_by, subtract_of, with_options, least, words_for, Name, Fault}
+use Rattle.sk_commands.proofs.Names.{Syntax, NotInteger, Overflow, Pattern, When, Options, Command, Get, Set, Del}
+use Rattle.sk_commands.proofs.Names.{Exists, Add, Append, StrLen, MGet, MSet, DbSize, KeysWith, FlushAll, Ping, Echo}
+use Rattle.sk_commands.proofs.Names.{Wrong, Order, Run, Multi, Exec, Discard}
+use Rattle.sk_commands.specs.Names.{name_of}
+use Rattle.sk_commands.specs.Numbers.{number_of}
 use Rattle.sk_commands.specs.declared.name.Name.TheVariants as named
-use Rattle.sk_commands.specs.declared.fault.Fault.{Fault}
-use Rattle.sk_commands.specs.declared.fault.Fault.TheVariants.{Syntax, NotInteger, Overflow, Pattern}
-use Rattle.sk_commands.specs.declared.command.When.{When}
 use Rattle.sk_commands.specs.declared.command.When.TheVariants as when
-use Rattle.sk_commands.specs.declared.command.Options.{Options}
-use Rattle.sk_commands.specs.declared.command.Command.{Command}
-use Rattle.sk_commands.specs.declared.command.Command.TheVariants.{Get, Set, Del, Exists, Add, Append, StrLen, MGet, MSet, DbSize, KeysWith, FlushAll, Ping, Echo, Wrong}
-use Rattle.sk_commands.specs.declared.command.Order.{Order}
-use Rattle.sk_commands.specs.declared.command.Order.TheVariants.{Run, Multi, Exec, Discard}
 use Rattle.sk_commands.proofs.Numbers.{mag_fits, fits_from, no_parse, number_none}
 
 -- each name is read from its text

@@ -1,9 +1,6 @@
 -- What all keys have, key by key.
-use Rattle.std.proofs.Common.{◌≡◌, ℕ, ◌≤◌, List, [], ◌∷◌, length, map, take, refl, ap, ◌∙◌}
-use Rattle.std.specs.Global.{Vec}
-use Rattle.std.specs.Vec.{vec_items}
-use Rattle.std.proofs.lemmas.List.{take_all}
-use Rattle.sk_commands.specs.Table.{Have}
+use Rattle.sk_commands.proofs.Names.{◌≡◌, ℕ, ◌≤◌, List, [], ◌∷◌, length, map, take, refl, ap, ◌∙◌, Vec, vec_items}
+use Rattle.sk_commands.proofs.Names.{take_all, Have}
 
 map_items : (has : Have) (keys : List (Vec ℕ)) → map (λ key. has key.items) keys ≡ map has (map vec_items keys)
 map_items has [] = refl

@@ -1,12 +1,9 @@
 -- What may not write writes nothing.
-use Rattle.std.proofs.Common.{◌≡◌, ◌||◌, ℕ, Bool, true, false, List, [], ◌∷◌, ◌++◌, refl, ap, ◌∙◌}
-use Rattle.std.specs.List.{list_any}
-use Rattle.sk_commands.specs.declared.command.Command.{Command}
-use Rattle.sk_commands.specs.declared.command.Command.TheVariants.{Get, Set, Del, Exists, Add, Append, StrLen, MGet, MSet, DbSize, KeysWith, FlushAll, Ping, Echo, Wrong}
-use Rattle.sk_commands.specs.declared.work.Work.{Work}
+use Rattle.sk_commands.proofs.Names.{◌≡◌, ◌||◌, ℕ, Bool, true, false, List, [], ◌∷◌, ◌++◌, refl, ap, ◌∙◌, list_any}
+use Rattle.sk_commands.proofs.Names.{Command, Get, Set, Del, Exists, Add, Append, StrLen, MGet, MSet, DbSize, KeysWith}
+use Rattle.sk_commands.proofs.Names.{FlushAll, Ping, Echo, Wrong, Work, may_write, outcome, Have, after, comes_to, each}
+use Rattle.sk_commands.proofs.Names.{known_after, may_write_some}
 use Rattle.sk_commands.specs.declared.work.Work.TheVariants as works
-use Rattle.sk_commands.specs.Table.{may_write, outcome, Have}
-use Rattle.sk_commands.specs.Work.{after, comes_to, each, known_after, may_write_some}
 
 pub nothing : (c : Command) (known : List (List ℕ)) (has : Have) → may_write c ≡ false → (outcome known c has).written ≡ []
 nothing (Get key) known has h = refl

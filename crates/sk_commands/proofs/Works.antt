@@ -1,21 +1,11 @@
 -- The requests of works come to these works again.
-use Rattle.std.proofs.Common.{◌≡◌, ℕ, Bool, true, false, List, [], ◌∷◌, ◌++◌, flat_map, map, Option, Some, None, Result, Ok, Err, refl, sym, ap, subst, ◌∙◌}
-use Rattle.std.proofs.lemmas.Grind.{flat_map-append}
-use Rattle.std.proofs.lemmas.List.{append_assoc, append-nil}
-use Rattle.sk_requests.specs.Request.{array}
-use Rattle.sk_requests.specs.Stream.{Splits}
-use Rattle.sk_requests.specs.declared.limits.Limits.{Limits}
-use Rattle.sk_commands.specs.Names.{text_of}
-use Rattle.sk_commands.specs.Parsing.{order_of}
-use Rattle.sk_commands.specs.Session.{executes, turn}
-use Rattle.sk_commands.specs.Requests.{log_text, requests_of, with_work, words_for, work_for, AreAsked, AreSaid, AreWithin, IsAsked, IsReplyOrAsked, IsSaid, WaitsSaid}
+use Rattle.sk_commands.proofs.Names.{◌≡◌, ℕ, Bool, true, false, List, [], ◌∷◌, ◌++◌, flat_map, map, Option, Some, None}
+use Rattle.sk_commands.proofs.Names.{Result, Ok, Err, refl, sym, ap, subst, ◌∙◌, flat_map-append, append_assoc}
+use Rattle.sk_commands.proofs.Names.{append-nil, array, Splits, Limits, text_of, order_of, executes, turn, log_text}
+use Rattle.sk_commands.proofs.Names.{requests_of, with_work, words_for, work_for, AreAsked, AreSaid, AreWithin, IsAsked}
+use Rattle.sk_commands.proofs.Names.{IsReplyOrAsked, IsSaid, WaitsSaid, Fault, Command, Order, Run, Multi, Exec}
+use Rattle.sk_commands.proofs.Names.{Discard, Queue, Work}
 use Rattle.sk_commands.specs.declared.name.Name.TheVariants as named
-use Rattle.sk_commands.specs.declared.fault.Fault.{Fault}
-use Rattle.sk_commands.specs.declared.command.Command.{Command}
-use Rattle.sk_commands.specs.declared.command.Order.{Order}
-use Rattle.sk_commands.specs.declared.command.Order.TheVariants.{Run, Multi, Exec, Discard}
-use Rattle.sk_commands.specs.declared.session.Queue.{Queue}
-use Rattle.sk_commands.specs.declared.work.Work.{Work}
 use Rattle.sk_commands.specs.declared.work.Work.TheVariants as works
 use Rattle.sk_commands.proofs.Said.{said_again, says}
 

@@ -1,22 +1,11 @@
 -- The record along a trace, one event further.
-use Rattle.std.proofs.Common.{◌≡◌, ℕ, zero, suc, ◌+◌, ◌<◌, ◌≤◌, List, [], ◌∷◌, ◌++◌, length, map, take, drop, get_or, Some, refl, sym, ◌∙◌, ap, subst, arith}
-use Rattle.std.specs.Prelude.{max}
-use Rattle.std.proofs.lemmas.List.{take_more}
-use Rattle.sk_record.specs.Notes.{has}
-use Rattle.sk_record.specs.Trace.{Record, Fail, IsSound, all_recorded, no_record, recorded}
-use Rattle.sk_record.proofs.Sound.{entries_are, fresh_from, marked_is, sound_before, undecided_is}
-use Rattle.sk_record.proofs.Texts.{map_append}
-use Rattle.sk_record.proofs.Tidy.{recorded_more}
-use Rattle.sk_trace.specs.Entry.{EntryView}
-use Rattle.sk_trace.specs.declared.event.Event.{Event}
-use Rattle.sk_plain.specs.Act.{plain}
-use Rattle.sk_plain.specs.Replay.{image, is_made}
+use Rattle.sk_counts.proofs.Names.{◌≡◌, ℕ, zero, suc, ◌+◌, ◌<◌, ◌≤◌, List, [], ◌∷◌, ◌++◌, length, map, take, drop}
+use Rattle.sk_counts.proofs.Names.{get_or, Some, refl, sym, ◌∙◌, ap, subst, arith, max, take_more, has, Record, Fail}
+use Rattle.sk_counts.proofs.Names.{IsSound, all_recorded, no_record, recorded, entries_are, fresh_from, marked_is}
+use Rattle.sk_counts.proofs.Names.{sound_before, undecided_is, map_append, recorded_more, EntryView, Event, plain}
+use Rattle.sk_counts.proofs.Names.{image, is_made, HasSoundTrace, Standing, seen, Fits, KernelView, record_at}
+use Rattle.sk_counts.proofs.Names.{most_up_to}
 use Rattle.sk_trace.specs.declared.event.Event.TheVariants as events
-use Rattle.sk_kernel.specs.Laws.{HasSoundTrace}
-use Rattle.sk_plain.specs.declared.standing.Standing.{Standing}
-use Rattle.sk_plain.specs.Standing.{seen, Fits}
-use Rattle.sk_kernel.specs.Kernel.{KernelView, record_at}
-use Rattle.sk_counts.specs.Counts.{most_up_to}
 
 pushed : {A B : Type 0} (f : A → B) (xs : List A) (x : A) → map f (xs ++ x ∷ []) ≡ map f xs ++ f x ∷ []
 pushed f [] x = refl

@@ -1,24 +1,14 @@
 -- A guess is struck where it was made, no event decides it, and the record has its entry no more: the tests say what the status says.
-use Rattle.std.proofs.Common.{◌≡◌, ℕ, ◌<◌, ◌+◌, length, subst, arith, Bool, true, false, not, ◌&&◌, ◌||◌, List, [], ◌∷◌, map, Option, Some, None, inl, inr, refl, sym, ◌∙◌}
-use Rattle.std.specs.Prelude.{◌↔◌, ◌⊎◌}
-use Rattle.std.specs.List.{list_any, Contains}
-use Rattle.std.proofs.lemmas.Bool.{and_from, or_cases, or_from, or_left, or_parts, true≢false, eq-eqb, false_from_ne_true, not_from_false}
-use Rattle.sk_record.specs.Trace.{Event as Happens, Commit, Fail, HasEntry, IsDrawn, StatusIs}
-use Rattle.sk_record.specs.Epoch.{status_in, StatusOr}
-use Rattle.sk_record.proofs.Epoch.{beyond}
-use Rattle.sk_record.specs.declared.status.Status.{Status}
-use Rattle.sk_record.specs.declared.status.Status.TheVariants.{Undecided, Committed, Failed, Struck}
-use Rattle.sk_record.proofs.Sound.{any_from, draws, is_commit, is_fail, has_commit, has_fail, has_entry, is_drawn, marked_is, or_no}
-use Rattle.sk_record.proofs.UndoStates.{any_at}
-use Rattle.sk_script.specs.Scripts.{ScriptMap}
-use Rattle.sk_trace.specs.Entry.{EntryView}
-use Rattle.sk_trace.specs.declared.event.Event.{Event}
+use Rattle.sk_counts.proofs.Names.{◌≡◌, ℕ, ◌<◌, ◌+◌, length, subst, arith, Bool, true, false, not, ◌&&◌, ◌||◌, List, []}
+use Rattle.sk_counts.proofs.Names.{◌∷◌, map, Option, Some, None, inl, inr, refl, sym, ◌∙◌, ◌↔◌, ◌⊎◌, list_any, Contains}
+use Rattle.sk_counts.proofs.Names.{and_from, or_cases, or_from, or_left, or_parts, true≢false, eq-eqb}
+use Rattle.sk_counts.proofs.Names.{false_from_ne_true, not_from_false, Happens, Commit, Fail, HasEntry, IsDrawn}
+use Rattle.sk_counts.proofs.Names.{StatusIs, status_in, StatusOr, beyond, Status, Undecided, Committed, Failed, Struck}
+use Rattle.sk_counts.proofs.Names.{any_from, draws, is_commit, is_fail, has_commit, has_fail, has_entry, is_drawn}
+use Rattle.sk_counts.proofs.Names.{marked_is, or_no, any_at, ScriptMap, EntryView, Event, plain, image, is_made}
+use Rattle.sk_counts.proofs.Names.{KernelView, HasStatus, events_of, record_at, HasSoundTrace, makes, decides}
+use Rattle.sk_counts.proofs.Names.{is_struck, is_struck_status}
 use Rattle.sk_trace.specs.declared.event.Event.TheVariants as events
-use Rattle.sk_plain.specs.Act.{plain}
-use Rattle.sk_plain.specs.Replay.{image, is_made}
-use Rattle.sk_kernel.specs.Kernel.{KernelView, HasStatus, events_of, record_at}
-use Rattle.sk_kernel.specs.Laws.{HasSoundTrace}
-use Rattle.sk_counts.specs.Counts.{makes, decides, is_struck, is_struck_status}
 
 -- a test of events that is one of their images
 same_test : (p : Event → Bool) (q : Happens EntryView → Bool) → ((e : Event) → p e ≡ q (image e)) → (es : List Event) → list_any p es ≡ list_any q (map image es)

@@ -1,34 +1,13 @@
 -- What is found on a disk after a crash.
-use Rattle.std.proofs.Common.{◌≡◌, ◌==◌, ℕ, zero, suc, ◌+◌, ◌-◌, ◌<◌, ◌≤◌, Bool, true, false, List, [], ◌∷◌, ◌++◌, length, map, take, Option, Some, None, inl, inr, if◌then◌else◌, refl, sym, ap, subst, ◌∙◌, arith, length-append}
-use Rattle.std.specs.Prelude.{◌⊎◌}
-use Rattle.std.proofs.lemmas.Bool.{true≢false, eq-eqb}
-use Rattle.std.proofs.lemmas.List.{append-nil, length-map, map-append, take-map}
-use Rattle.sk_log.proofs.Segments.{segments_join}
-use Rattle.sk_batches.specs.declared.queue.Cut.{Cut}
-use Rattle.sk_batches.specs.Queue.{cut_due}
-use Rattle.sk_batches.specs.Records.{payload, RecordView}
-use Rattle.sk_batches.specs.Runs.{has}
-use Rattle.sk_commands.specs.declared.work.Work.{Work}
-use Rattle.sk_plain_store.specs.Plain.{Entries}
-use Rattle.sk_replay.specs.Frames.{payloads_of, SayAll}
-use Rattle.sk_replay.specs.Snapshot.{after_works}
-use Rattle.sk_recovered.specs.declared.frames.Damage.{Damage}
-use Rattle.sk_recovered.specs.declared.heads.Head.{Head}
-use Rattle.sk_recovered.specs.declared.recovered.Found.{Found}
-use Rattle.sk_recovered.specs.Frames.{IsMade}
-use Rattle.sk_recovered.specs.Recovered.{IsFound}
-use Rattle.sk_recovered.specs.Segments.{counted, least, lower, AreRead, Part}
-use Rattle.sk_recovered.proofs.Joined.{counted_joined}
-use Rattle.sk_durable.specs.declared.limits.Limits.{Limits}
-use Rattle.sk_durable.specs.declared.store.Next.{Next}
-use Rattle.sk_durable.specs.Calls.{Call}
-use Rattle.sk_durable.specs.History.{frames, frames_from, synced}
-use Rattle.sk_durable.specs.Laws.{AreSynced, HasDone, IsRecovered}
-use Rattle.sk_durable.specs.Store.{StoreView}
-use Rattle.sk_durable.proofs.Crashes.{crashes_are_recovered, frames_are_logged}
-use Rattle.sk_crashed.specs.Disk.{AreAdded, AreLeft, IsLeft, Stored}
-use Rattle.sk_crashed.specs.Laws.{DisksAreRecovered, IsFront}
-use Rattle.sk_crashed.specs.Written.{begun, end_of, now_in, written_from, Written}
+use Rattle.sk_crashed.proofs.Names.{◌≡◌, ◌==◌, ℕ, zero, suc, ◌+◌, ◌-◌, ◌<◌, ◌≤◌, Bool, true, false, List, [], ◌∷◌, ◌++◌}
+use Rattle.sk_crashed.proofs.Names.{length, map, take, Option, Some, None, inl, inr, if◌then◌else◌, refl, sym, ap}
+use Rattle.sk_crashed.proofs.Names.{subst, ◌∙◌, arith, length-append, ◌⊎◌, true≢false, eq-eqb, append-nil, length-map}
+use Rattle.sk_crashed.proofs.Names.{map-append, take-map, segments_join, Cut, cut_due, payload, RecordView, has, Work}
+use Rattle.sk_crashed.proofs.Names.{Entries, payloads_of, SayAll, after_works, Damage, Head, Found, IsMade, IsFound}
+use Rattle.sk_crashed.proofs.Names.{counted, least, lower, AreRead, Part, counted_joined, Limits, Next, Call, frames}
+use Rattle.sk_crashed.proofs.Names.{frames_from, synced, AreSynced, HasDone, IsRecovered, StoreView}
+use Rattle.sk_crashed.proofs.Names.{crashes_are_recovered, frames_are_logged, AreAdded, AreLeft, IsLeft, Stored}
+use Rattle.sk_crashed.proofs.Names.{DisksAreRecovered, IsFront, begun, end_of, now_in, written_from, Written}
 use Rattle.sk_crashed.proofs.Done.{all_untold, all_within, are_synced, due_within}
 use Rattle.sk_crashed.proofs.Joins.{lower_least, no_payloads, parts_there, read_of, stands, take_none, written_of, AreSeen, IsReadOf, Seen}
 use Rattle.sk_crashed.proofs.Said.{all_said, behind_front, both_logged, cut_said, front_logged, none_logged, of_works, undamaged, AllLogged, AreSaid, IsBehind, Reaches}

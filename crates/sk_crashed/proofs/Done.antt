@@ -1,27 +1,10 @@
 -- What holds of frames and cuts after all that a store did.
-use Rattle.std.proofs.Common.{◌≡◌, ℕ, zero, suc, ◌+◌, ◌-◌, ◌<◌, ◌≤◌, Bool, true, false, List, [], ◌∷◌, ◌++◌, length, map, Option, Some, None, refl, sym, ap, subst, ◌∙◌, arith}
-use Rattle.std.specs.Int.NonZero.{non_zero_u16_get}
-use Rattle.std.specs.List.{list_any}
-use Rattle.std.proofs.lemmas.List.{length-map}
-use Rattle.sk_log.specs.declared.frame.TheConstants.{NUMBER_LIMIT}
-use Rattle.sk_batches.specs.declared.batch.Batch.{Batch}
-use Rattle.sk_batches.specs.declared.queue.Cut.{Cut}
-use Rattle.sk_batches.specs.Queue.{cut_due, first_failed, is_sent}
-use Rattle.sk_batches.specs.Records.{RecordView}
-use Rattle.sk_batches.specs.Runs.{has}
-use Rattle.sk_batches.proofs.Dense.{cut_between}
-use Rattle.sk_batches.proofs.Synced.{due_cut}
-use Rattle.sk_batched.specs.Batched.{capped}
-use Rattle.sk_plain_store.specs.Plain.{Entries}
-use Rattle.sk_durable.specs.declared.limits.Limits.{Limits}
-use Rattle.sk_durable.specs.declared.store.Next.{Next}
-use Rattle.sk_durable.specs.Calls.{Call, Cuts, Does}
-use Rattle.sk_durable.specs.History.{frames, synced}
-use Rattle.sk_durable.specs.Laws.{AreSynced, HasDone}
-use Rattle.sk_durable.specs.Store.{StoreView}
-use Rattle.sk_durable.proofs.Frames.{Marked}
-use Rattle.sk_durable.proofs.Queued.{queue_led, stands_densely}
-use Rattle.sk_durable.proofs.Records.{after_any, in_frames}
+use Rattle.sk_crashed.proofs.Names.{◌≡◌, ℕ, zero, suc, ◌+◌, ◌-◌, ◌<◌, ◌≤◌, Bool, true, false, List, [], ◌∷◌, ◌++◌}
+use Rattle.sk_crashed.proofs.Names.{length, map, Option, Some, None, refl, sym, ap, subst, ◌∙◌, arith, non_zero_u16_get}
+use Rattle.sk_crashed.proofs.Names.{list_any, length-map, NUMBER_LIMIT, Batch, Cut, cut_due, first_failed, is_sent}
+use Rattle.sk_crashed.proofs.Names.{RecordView, has, cut_between, due_cut, capped, Entries, Limits, Next, Call, Cuts}
+use Rattle.sk_crashed.proofs.Names.{Does, frames, synced, AreSynced, HasDone, StoreView, Marked, queue_led}
+use Rattle.sk_crashed.proofs.Names.{stands_densely, after_any, in_frames}
 use Rattle.sk_crashed.proofs.Tried.{within_both}
 use Rattle.sk_crashed.proofs.Untold.{not_next, untold, Untold}
 use Rattle.sk_crashed.proofs.Writing.{AreWithin, IsWithin}

@@ -1,13 +1,11 @@
 -- What is read of segments, some of which have no head yet, is a front part of what stands in them.
-use Rattle.std.proofs.Common.{◌≡◌, ◌==◌, ℕ, zero, suc, ◌+◌, ◌-◌, ◌<◌, ◌≤◌, min, Bool, true, false, nat_lt, List, [], ◌∷◌, ◌++◌, length, map, take, Option, Some, None, inl, inr, if◌then◌else◌, refl, sym, ap, subst, ◌∙◌, arith, length-append}
-use Rattle.std.specs.Prelude.{◌⊎◌, unwrap_or}
-use Rattle.std.proofs.lemmas.Bool.{ltb-false, ltb-true}
-use Rattle.std.proofs.lemmas.List.{append_assoc, append-nil, length-take, length-take-le, take_all}
-use Rattle.sk_log.specs.Crash.{ReadsPrefix}
-use Rattle.sk_log.specs.Segments.{joined, synced_of, SegmentsJoin}
-use Rattle.sk_recovered.specs.Laws.{joined_all, joined_at, least_first, AreBounded, CountedIsJoined}
-use Rattle.sk_recovered.specs.Segments.{below, counted, counting, lower, Part}
-use Rattle.sk_crashed.specs.Written.{end_of, least_of, live, Written}
+use Rattle.sk_crashed.proofs.Names.{◌≡◌, ◌==◌, ℕ, zero, suc, ◌+◌, ◌-◌, ◌<◌, ◌≤◌, min, Bool, true, false, nat_lt, List}
+use Rattle.sk_crashed.proofs.Names.{[], ◌∷◌, ◌++◌, length, map, take, Option, Some, None, inl, inr, if◌then◌else◌, refl}
+use Rattle.sk_crashed.proofs.Names.{sym, ap, subst, ◌∙◌, arith, length-append, ◌⊎◌, unwrap_or, ltb-false, ltb-true}
+use Rattle.sk_crashed.proofs.Names.{append_assoc, append-nil, length-take, length-take-le, take_all, ReadsPrefix}
+use Rattle.sk_crashed.proofs.Names.{joined, synced_of, SegmentsJoin, joined_all, joined_at, least_first, AreBounded}
+use Rattle.sk_crashed.proofs.Names.{CountedIsJoined, below, counted, counting, lower, Part, end_of, least_of, live}
+use Rattle.sk_crashed.proofs.Names.{Written}
 
 -- ---- the lower of two numbers
 

@@ -1,25 +1,12 @@
 -- What is read of earlier segments is what a later life began with.
-use Rattle.std.proofs.Common.{◌≡◌, ◌==◌, ℕ, zero, suc, ◌+◌, ◌-◌, ◌<◌, ◌≤◌, min, Bool, true, false, List, [], ◌∷◌, ◌++◌, length, take, Option, Some, None, refl, sym, ap, subst, ◌∙◌, arith, length-append}
-use Rattle.std.proofs.lemmas.Bool.{eqb-true}
-use Rattle.std.proofs.lemmas.List.{append_assoc, append-nil, length-take}
-use Rattle.sk_commands.specs.declared.work.Work.{Work}
-use Rattle.sk_plain_store.specs.Plain.{Entries}
-use Rattle.sk_replay.specs.Frames.{SayAll}
-use Rattle.sk_replay.specs.Snapshot.{after_works}
-use Rattle.sk_replay.specs.Works.{log_limits, IsRefused, Says}
-use Rattle.sk_replay.proofs.Again.{says_once}
-use Rattle.sk_recovered.specs.declared.frames.Damage.{Damage}
-use Rattle.sk_recovered.specs.declared.heads.Head.{Head}
-use Rattle.sk_recovered.specs.declared.recovered.Found.{Found}
-use Rattle.sk_recovered.specs.Frames.{IsLeft, IsMade}
-use Rattle.sk_recovered.specs.Recovered.{IsFound}
-use Rattle.sk_recovered.specs.Segments.{below, counted, counting, least, lower, AreRead, Part}
-use Rattle.sk_recovered.proofs.Taken.{after_append}
-use Rattle.sk_batches.specs.Queue.{cut_due}
+use Rattle.sk_crashed.proofs.Names.{◌≡◌, ◌==◌, ℕ, zero, suc, ◌+◌, ◌-◌, ◌<◌, ◌≤◌, min, Bool, true, false, List, [], ◌∷◌}
+use Rattle.sk_crashed.proofs.Names.{◌++◌, length, take, Option, Some, None, refl, sym, ap, subst, ◌∙◌, arith}
+use Rattle.sk_crashed.proofs.Names.{length-append, eqb-true, append_assoc, append-nil, length-take, Work, Entries}
+use Rattle.sk_crashed.proofs.Names.{SayAll, after_works, log_limits, IsRefused, Says, says_once, Damage, Head, Found}
+use Rattle.sk_crashed.proofs.Names.{IsMade, IsFound, below, counted, counting, least, lower, AreRead, Part}
+use Rattle.sk_crashed.proofs.Names.{after_append, cut_due, AreLeft, AreKept, LivesAreRecovered, begun, written}
+use Rattle.sk_recovered.specs.Frames.{IsLeft}
 use Rattle.sk_durable.specs.History.{synced as synced_of}
-use Rattle.sk_crashed.specs.Disk.{AreLeft}
-use Rattle.sk_crashed.specs.Laws.{AreKept, LivesAreRecovered}
-use Rattle.sk_crashed.specs.Written.{begun, written}
 use Rattle.sk_crashed.proofs.Disks.{heads_from, recovered}
 use Rattle.sk_crashed.proofs.Done.{are_synced}
 use Rattle.sk_crashed.proofs.Joins.{below_as, lower_least, lower_less, lower_min, lower_twice}

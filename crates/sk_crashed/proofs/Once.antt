@@ -1,8 +1,9 @@
 -- The frames of a log are read in one way.
-use Rattle.std.proofs.Common.{◌≡◌, ℕ, zero, suc, ◌+◌, ◌-◌, ◌*◌, ◌/◌, ◌%◌, ◌<◌, ◌≤◌, ◌^◌, List, [], ◌∷◌, ◌++◌, length, take, drop, sum, refl, sym, ◌∙◌, ap, subst, arith, length-append}
-use Rattle.std.proofs.lemmas.List.{append_assoc, append-nil, drop_at, take_at}
-use Rattle.sk_log.specs.Frame.{digits, frame, front, head, head_of, Ends}
-use Rattle.sk_log.specs.Log.{log, AreFrames, IsLog}
+use Rattle.sk_crashed.proofs.Names.{◌≡◌, ℕ, zero, suc, ◌+◌, ◌-◌, ◌*◌, ◌/◌, ◌%◌, ◌<◌, ◌≤◌, ◌^◌, List, [], ◌∷◌, ◌++◌}
+use Rattle.sk_crashed.proofs.Names.{length, take, drop, sum, refl, sym, ◌∙◌, ap, subst, arith, length-append}
+use Rattle.sk_crashed.proofs.Names.{append_assoc, append-nil, drop_at, take_at, frame, front, head, Ends, log}
+use Rattle.sk_crashed.proofs.Names.{AreFrames, IsLog}
+use Rattle.sk_log.specs.Frame.{digits, head_of}
 
 -- ---- how long a frame is
 

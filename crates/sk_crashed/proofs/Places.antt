@@ -1,22 +1,12 @@
 -- Each frame is to be written just behind those before it.
-use Rattle.std.proofs.Common.{◌≡◌, ◌==◌, ℕ, ◌+◌, ◌-◌, ◌<◌, ◌≤◌, ◌^◌, Bool, true, false, cond, List, [], ◌∷◌, ◌++◌, length, Option, Some, None, inl, inr, if◌then◌else◌, refl, sym, ap, subst, ◌∙◌, arith}
-use Rattle.std.specs.Prelude.{◌⊎◌, nat_le}
-use Rattle.std.proofs.lemmas.Bool.{true≢false, eq-eqb, eqb-true}
-use Rattle.sk_log.specs.Log.{log}
-use Rattle.sk_batches.specs.Frames.{next_payload}
-use Rattle.sk_batches.specs.Places.{next_segment, PlacesView}
-use Rattle.sk_batches.specs.Queue.{next_records}
-use Rattle.sk_batches.specs.Records.{payload, RecordView}
-use Rattle.sk_batches.specs.declared.frames.Sealed.{Sealed}
-use Rattle.sk_plain_store.specs.Plain.{Entries}
-use Rattle.sk_durable.specs.declared.limits.Limits.{Limits}
-use Rattle.sk_durable.specs.declared.store.Next.{Next}
-use Rattle.sk_durable.specs.Calls.{Call, Connects, HangsUp, Frees, Hears, Carries, Declines, Tells, Drops, Refuses, Hands, Draws, Sends, Turns, Learns, Cuts, Stops, Decides, Rests, Does}
-use Rattle.sk_durable.specs.Laws.{HasDone}
-use Rattle.sk_durable.specs.Store.{StoreView}
-use Rattle.sk_durable.proofs.Records.{after_any}
-use Rattle.sk_crashed.specs.Laws.{FramesAreBehind, IsFront, PlacesAreBehind}
-use Rattle.sk_crashed.specs.Written.{begun, cut_at, end_of, now_in, turned, with_frame, written_by, Written}
+use Rattle.sk_crashed.proofs.Names.{◌≡◌, ◌==◌, ℕ, ◌+◌, ◌-◌, ◌<◌, ◌≤◌, ◌^◌, Bool, true, false, cond, List, [], ◌∷◌, ◌++◌}
+use Rattle.sk_crashed.proofs.Names.{length, Option, Some, None, inl, inr, if◌then◌else◌, refl, sym, ap, subst, ◌∙◌}
+use Rattle.sk_crashed.proofs.Names.{arith, ◌⊎◌, nat_le, true≢false, eq-eqb, eqb-true, log, next_payload, next_segment}
+use Rattle.sk_crashed.proofs.Names.{PlacesView, next_records, payload, RecordView, Sealed, Entries, Limits, Next, Call}
+use Rattle.sk_crashed.proofs.Names.{Connects, HangsUp, Frees, Hears, Carries, Declines, Tells, Drops, Refuses, Hands}
+use Rattle.sk_crashed.proofs.Names.{Draws, Sends, Turns, Learns, Cuts, Stops, Decides, Rests, Does, HasDone, StoreView}
+use Rattle.sk_crashed.proofs.Names.{after_any, FramesAreBehind, IsFront, PlacesAreBehind, begun, cut_at, end_of, now_in}
+use Rattle.sk_crashed.proofs.Names.{turned, with_frame, written_by, Written}
 use Rattle.sk_crashed.proofs.Disks.{is_begun, no_records}
 use Rattle.sk_crashed.proofs.Done.{all_within, next_frame}
 use Rattle.sk_crashed.proofs.Once.{length_log}

@@ -1,18 +1,10 @@
 -- A payload that says works is not refused.
-use Rattle.std.proofs.Common.{◌≡◌, ℕ, true, List, [], ◌∷◌, ◌++◌, map, take, drop, Option, Some, None, is_some, refl, sym, ap, subst, ◌∙◌}
-use Rattle.std.proofs.lemmas.List.{take-append-drop}
-use Rattle.sk_requests.specs.Stream.{Splits}
+use Rattle.sk_crashed.proofs.Names.{◌≡◌, ℕ, true, List, [], ◌∷◌, ◌++◌, map, take, drop, Option, Some, None, is_some}
+use Rattle.sk_crashed.proofs.Names.{refl, sym, ap, subst, ◌∙◌, take-append-drop, Splits, go_on, order_of, turn, Fault}
+use Rattle.sk_crashed.proofs.Names.{Queue, Work, fault_in, queue_after, AreTaken, IsRefused, Says, Refusal, aligned}
+use Rattle.sk_crashed.proofs.Names.{no_fault, no_part, none_large, same_requests}
 use Rattle.sk_requests.specs.declared.limits.Limits.{Limits}
-use Rattle.sk_requests.proofs.Streams.{go_on}
-use Rattle.sk_commands.specs.Parsing.{order_of}
-use Rattle.sk_commands.specs.Session.{turn}
-use Rattle.sk_commands.specs.declared.fault.Fault.{Fault}
-use Rattle.sk_commands.specs.declared.session.Queue.{Queue}
-use Rattle.sk_commands.specs.declared.work.Work.{Work}
-use Rattle.sk_replay.specs.Works.{fault_in, queue_after, AreTaken, IsRefused, Says}
-use Rattle.sk_replay.specs.declared.refusal.Refusal.{Refusal}
 use Rattle.sk_replay.specs.declared.refusal.Refusal.TheVariants as refusals
-use Rattle.sk_replay.proofs.Told.{aligned, no_fault, no_part, none_large, same_requests}
 
 taken_front : (queue : Option Queue) (xs ys : List (List (List ℕ))) → AreTaken queue (xs ++ ys) → AreTaken queue xs
 taken_front queue [] ys taken = tt

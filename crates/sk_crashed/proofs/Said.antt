@@ -1,16 +1,10 @@
 -- What is carried out of frames that were logged.
-use Rattle.std.proofs.Common.{◌≡◌, ℕ, Err, zero, suc, ◌+◌, ◌-◌, ◌<◌, ◌≤◌, List, [], ◌∷◌, ◌++◌, flat_map, length, map, take, Option, Some, None, inl, inr, refl, sym, ap, subst, ◌∙◌, arith, length-append}
-use Rattle.std.specs.Prelude.{◌⊎◌}
-use Rattle.std.specs.List.{AllByRecursion}
-use Rattle.std.proofs.lemmas.List.{append_assoc, append-nil, length-take, length-take-le, take-append-le, take_all, take-take}
-use Rattle.sk_commands.specs.Requests.{log_text, requests_of, AreAsked, AreWithin}
-use Rattle.sk_commands.specs.declared.work.Work.{Work}
-use Rattle.sk_plain_store.specs.Plain.{Entries}
-use Rattle.sk_replay.specs.Frames.{payloads_of, AreLogged, SayAll}
-use Rattle.sk_replay.specs.Works.{log_limits, Says}
-use Rattle.sk_replay.proofs.Again.{read_as, says_again}
-use Rattle.sk_recovered.specs.Frames.{IsMade}
-use Rattle.sk_recovered.specs.declared.frames.Damage.{Damage}
+use Rattle.sk_crashed.proofs.Names.{◌≡◌, ℕ, Err, zero, suc, ◌+◌, ◌-◌, ◌<◌, ◌≤◌, List, [], ◌∷◌, ◌++◌, flat_map, length}
+use Rattle.sk_crashed.proofs.Names.{map, take, Option, Some, None, inl, inr, refl, sym, ap, subst, ◌∙◌, arith}
+use Rattle.sk_crashed.proofs.Names.{length-append, ◌⊎◌, AllByRecursion, append_assoc, append-nil, length-take}
+use Rattle.sk_crashed.proofs.Names.{length-take-le, take-append-le, take_all, take-take, log_text, requests_of}
+use Rattle.sk_crashed.proofs.Names.{AreAsked, AreWithin, Work, Entries, payloads_of, AreLogged, SayAll, log_limits}
+use Rattle.sk_crashed.proofs.Names.{Says, read_as, says_again, IsMade, Damage}
 use Rattle.sk_crashed.proofs.Writing.{order}
 
 -- ---- payloads that were logged

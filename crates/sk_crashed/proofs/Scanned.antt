@@ -1,17 +1,9 @@
 -- What is read of the segments of a disk is a front part of what was written in each.
-use Rattle.std.proofs.Common.{◌≡◌, ◌==◌, ℕ, zero, suc, ◌+◌, ◌-◌, ◌<◌, ◌≤◌, Bool, true, false, List, [], ◌∷◌, ◌++◌, length, map, Option, Some, None, inl, inr, refl, sym, ap, subst, ◌∙◌, arith}
-use Rattle.std.specs.Prelude.{◌⊎◌}
-use Rattle.std.proofs.lemmas.List.{append_assoc, append-nil}
-use Rattle.sk_log.specs.Crash.{Crashed, ReadsPrefix}
-use Rattle.sk_log.specs.Front.{BeginsAs}
-use Rattle.sk_log.specs.Log.{IsLog}
-use Rattle.sk_log.proofs.Crash.{crash_keeps_prefix}
-use Rattle.sk_batches.specs.Runs.{has}
-use Rattle.sk_batches.specs.declared.queue.Cut.{Cut}
-use Rattle.sk_recovered.specs.declared.heads.Head.{Head}
-use Rattle.sk_recovered.specs.Segments.{least, lower, AreRead, Part, TellsFirst}
-use Rattle.sk_crashed.specs.Disk.{AreAdded, AreLeft, AreTried, Stored}
-use Rattle.sk_crashed.specs.Written.{cut_at, end_of, least_of, live, run, synced_in, Written}
+use Rattle.sk_crashed.proofs.Names.{◌≡◌, ◌==◌, ℕ, zero, suc, ◌+◌, ◌-◌, ◌<◌, ◌≤◌, Bool, true, false, List, [], ◌∷◌, ◌++◌}
+use Rattle.sk_crashed.proofs.Names.{length, map, Option, Some, None, inl, inr, refl, sym, ap, subst, ◌∙◌, arith, ◌⊎◌}
+use Rattle.sk_crashed.proofs.Names.{append_assoc, append-nil, Crashed, ReadsPrefix, BeginsAs, IsLog, crash_keeps_prefix}
+use Rattle.sk_crashed.proofs.Names.{has, Cut, Head, least, lower, AreRead, Part, TellsFirst, AreAdded, AreLeft}
+use Rattle.sk_crashed.proofs.Names.{AreTried, Stored, cut_at, end_of, least_of, live, run, synced_in, Written}
 use Rattle.sk_crashed.proofs.Joins.{least_there, lower_least, lower_min, part_there, parts_there, written_of, AreSeen, Seen}
 use Rattle.sk_crashed.proofs.Writing.{run_far, AreFollowing}
 

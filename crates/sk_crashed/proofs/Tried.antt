@@ -1,11 +1,8 @@
 -- Where a cut is tried all is written as if it was made.
-use Rattle.std.proofs.Common.{◌≡◌, ℕ, zero, suc, ◌+◌, ◌-◌, ◌<◌, ◌≤◌, List, [], ◌∷◌, ◌++◌, length, take, refl, sym, ap, ◌∙◌, arith, length-append}
-use Rattle.std.proofs.lemmas.List.{append_assoc, length-take, length-take-le, take_at}
-use Rattle.sk_batches.specs.Records.{payload, RecordView}
-use Rattle.sk_batches.specs.declared.queue.Cut.{Cut}
-use Rattle.sk_durable.specs.Calls.{Call, Cuts, Sends, Turns}
-use Rattle.sk_durable.specs.History.{frames_by, frames_from}
-use Rattle.sk_crashed.specs.Written.{cut_at, end_of, left_by, now_in, turned, with_frame, written_by, written_from, Written}
+use Rattle.sk_crashed.proofs.Names.{◌≡◌, ℕ, zero, suc, ◌+◌, ◌-◌, ◌<◌, ◌≤◌, List, [], ◌∷◌, ◌++◌, length, take, refl, sym}
+use Rattle.sk_crashed.proofs.Names.{ap, ◌∙◌, arith, length-append, append_assoc, length-take, length-take-le, take_at}
+use Rattle.sk_crashed.proofs.Names.{payload, RecordView, Cut, Call, Cuts, Sends, Turns, frames_by, frames_from, cut_at}
+use Rattle.sk_crashed.proofs.Names.{end_of, left_by, now_in, turned, with_frame, written_by, written_from, Written}
 use Rattle.sk_crashed.proofs.Scanned.{last_of, tried_from}
 use Rattle.sk_crashed.proofs.Writing.{AreWithin}
 

@@ -1,20 +1,16 @@
 -- No frame that may still be cut off was told as synced, nor one that was not taken.
-use Rattle.std.proofs.Common.{◌≡◌, ℕ, ◌+◌, ◌<◌, ◌≤◌, Bool, true, false, cond, ◌||◌, ◌&&◌, List, [], ◌∷◌, ◌++◌, map, Option, Some, None, inl, inr, refl, sym, ◌∙◌, ap, subst, arith}
-use Rattle.std.specs.Prelude.{◌⊎◌, ◌==◌, nat_lt}
-use Rattle.std.specs.List.{filter, list_any, AllByRecursion}
-use Rattle.std.proofs.lemmas.Bool.{true≢false, false≢true, and_from, eqb-true, eq-eqb, false_from_ne_true, lt-ltb, ltb-true, or_cases, or_right}
-use Rattle.sk_log.specs.declared.frame.TheConstants.{NUMBER_LIMIT}
-use Rattle.sk_batches.specs.declared.batch.Stage.{Stage}
-use Rattle.sk_batches.specs.declared.batch.Stage.TheVariants.{Kept, Sent, Synced, Failed, Refused}
-use Rattle.sk_batches.specs.declared.batch.Batch.{Batch}
-use Rattle.sk_batches.specs.declared.queue.Cut.{Cut}
-use Rattle.sk_batches.specs.Calls.{new_queue}
-use Rattle.sk_batches.specs.Dense.{AreDense, IsBehind}
-use Rattle.sk_batches.specs.Queue.{awaits, cut_due, cut_off, first_failed, is_decided, is_failed, is_kept, is_sent, last_in, left, past, send, tell, QueueView}
-use Rattle.sk_batches.specs.Records.{kept}
-use Rattle.sk_batches.specs.Runs.{has, no_story, story_after, Appends, Call, Cuts, Decides, Fails, Happens, Runs, Stops, Story, Syncs, Takes, Withdraws}
-use Rattle.sk_batches.proofs.Dense.{all_both, all_mapped, all_of, all_pushed, cut_between, frames_are_dense}
-use Rattle.sk_batches.proofs.Synced.{decided_synced, due_cut, failed_unkept, no_cut, sent_unkept}
+use Rattle.sk_crashed.proofs.Names.{◌≡◌, ℕ, ◌+◌, ◌<◌, ◌≤◌, Bool, true, false, cond, ◌||◌, ◌&&◌, List, [], ◌∷◌, ◌++◌}
+use Rattle.sk_crashed.proofs.Names.{map, Option, Some, None, inl, inr, refl, sym, ◌∙◌, ap, subst, arith, ◌⊎◌, filter}
+use Rattle.sk_crashed.proofs.Names.{list_any, AllByRecursion, true≢false, false≢true, and_from, eqb-true, eq-eqb}
+use Rattle.sk_crashed.proofs.Names.{false_from_ne_true, lt-ltb, ltb-true, or_cases, or_right, NUMBER_LIMIT, Stage, Kept}
+use Rattle.sk_crashed.proofs.Names.{Sent, Synced, Failed, Refused, Batch, Cut, new_queue, AreDense, IsBehind, awaits}
+use Rattle.sk_crashed.proofs.Names.{cut_due, cut_off, first_failed, is_decided, is_failed, is_kept, is_sent, last_in}
+use Rattle.sk_crashed.proofs.Names.{left, past, send, tell, QueueView, kept, has, no_story, story_after, Appends, Fails}
+use Rattle.sk_crashed.proofs.Names.{Happens, Runs, Story, Syncs, Takes, Withdraws, all_both, all_mapped, all_of}
+use Rattle.sk_crashed.proofs.Names.{all_pushed, cut_between, frames_are_dense, decided_synced, due_cut, failed_unkept}
+use Rattle.sk_crashed.proofs.Names.{no_cut, sent_unkept}
+use Rattle.std.specs.Prelude.{◌==◌, nat_lt}
+use Rattle.sk_batches.specs.Runs.{Call, Cuts, Decides, Stops}
 
 -- ---- batches that are in flight or failed
 

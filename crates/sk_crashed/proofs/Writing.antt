@@ -1,14 +1,11 @@
 -- What calls write in segments stands there as the frames of the log.
-use Rattle.std.proofs.Common.{◌≡◌, ◌==◌, ℕ, zero, suc, ◌+◌, ◌-◌, ◌<◌, ◌≤◌, min, Bool, true, false, nat_lt, List, [], ◌∷◌, ◌++◌, length, map, take, Option, Some, None, inl, inr, if◌then◌else◌, refl, sym, ap, subst, ◌∙◌, arith, length-append}
-use Rattle.std.specs.Prelude.{◌⊎◌, unwrap_or}
-use Rattle.std.proofs.lemmas.Bool.{ltb-false, ltb-true}
-use Rattle.std.proofs.lemmas.List.{append_assoc, append-nil, length-map, length-take, map-append, take-map, take-take, take_all}
-use Rattle.sk_batches.specs.Records.{payload, RecordView}
-use Rattle.sk_batches.specs.Runs.{has}
-use Rattle.sk_recovered.specs.Segments.{lower}
-use Rattle.sk_durable.specs.Calls.{Call, Cuts, Sends, Turns}
-use Rattle.sk_durable.specs.History.{frames_by, frames_from}
-use Rattle.sk_crashed.specs.Written.{cut_at, end_of, least_of, left_by, now_in, run, turned, with_frame, written_by, written_from, Written}
+use Rattle.sk_crashed.proofs.Names.{◌≡◌, ◌==◌, ℕ, zero, suc, ◌+◌, ◌-◌, ◌<◌, ◌≤◌, min, Bool, true, false, nat_lt, List}
+use Rattle.sk_crashed.proofs.Names.{[], ◌∷◌, ◌++◌, length, map, take, Option, Some, None, inl, inr, if◌then◌else◌, refl}
+use Rattle.sk_crashed.proofs.Names.{sym, ap, subst, ◌∙◌, arith, length-append, ◌⊎◌, unwrap_or, ltb-false, ltb-true}
+use Rattle.sk_crashed.proofs.Names.{append_assoc, append-nil, length-map, length-take, map-append, take-map, take-take}
+use Rattle.sk_crashed.proofs.Names.{take_all, payload, RecordView, has, lower, Call, Cuts, Sends, Turns, frames_by}
+use Rattle.sk_crashed.proofs.Names.{frames_from, cut_at, end_of, least_of, left_by, now_in, run, turned, with_frame}
+use Rattle.sk_crashed.proofs.Names.{written_by, written_from, Written}
 use Rattle.sk_crashed.proofs.Joins.{lower_least, lower_min, stands, stands_at}
 
 pub order : (a b : ℕ) → (b ≤ a) ⊎ (a < b)

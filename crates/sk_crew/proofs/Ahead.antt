@@ -1,30 +1,16 @@
 -- What is handed in before a turn is a lease of no more instructions than the worker was to run.
-use Rattle.std.specs.Prelude.{◌≡◌, ◌<◌, ◌≤◌, ◌+◌, ◌==◌, ◌&&◌, nat_lt, ℕ, zero, suc, Bool, true, false, List, Option, Some, None, IfSome, Result, Ok, Err, slice_get, option_and_then, if◌then◌else◌}
-use Rattle.std.proofs.Common.{inl, inr, arith, refl, sym, ap, ◌∙◌, subst}
+use Rattle.sk_crew.proofs.Names.{◌<◌, ◌≤◌, ◌+◌, ◌==◌, ◌&&◌, nat_lt, ℕ, zero, suc, Bool, true, false, List, Option, Some}
+use Rattle.sk_crew.proofs.Names.{None, IfSome, Result, Ok, Err, slice_get, option_and_then, if◌then◌else◌, inl, inr}
+use Rattle.sk_crew.proofs.Names.{arith, refl, sym, ap, ◌∙◌, subst, Proc, Process, Instruction, LeaseView, LAST_COUNT}
+use Rattle.sk_crew.proofs.Names.{leased, counted, advanced, ran, private_next, script_at, EntityState, Scripts, Lends}
+use Rattle.sk_crew.proofs.Names.{lent_at, Refusal, state_at, HandIn, DeskView, pending, asks_for, unless_asked}
+use Rattle.sk_crew.proofs.Names.{desk_lease, HandedIn, WorkerView, Told, HandInTold, AnyTold, IsLentAny, IsLeaseOf}
+use Rattle.sk_crew.proofs.Names.{Rounds, due, next, after, IsLent, IsLentFor, IsLentNext, HasRun, RunsAhead}
+use Rattle.std.specs.Prelude.{◌≡◌}
 use Rattle.std.specs.FinMap as map
-use Rattle.sk_ids.specs.declared.entity.Entity.TheVariants.{Proc}
-use Rattle.sk_script.specs.declared.process.Process.{Process}
-use Rattle.sk_script.specs.declared.instruction.Instruction.{Instruction}
-use Rattle.sk_script.specs.Lease.{LeaseView, LAST_COUNT, leased, counted, advanced, ran}
-use Rattle.sk_script.specs.Private.{private_next}
-use Rattle.sk_script.specs.Scripts.{script_at}
-use Rattle.sk_store.specs.declared.entity_state.EntityState.{EntityState}
 use Rattle.sk_store.specs.declared.entity_state.EntityState.TheVariants as stored
-use Rattle.sk_plain.specs.Act.{Scripts}
-use Rattle.sk_plain.specs.Leased.{Lends, lent_at}
-use Rattle.sk_plain.specs.declared.refusal.Refusal.{Refusal}
 use Rattle.sk_plain.specs.declared.refusal.Refusal.TheVariants as refusals
-use Rattle.sk_kernel.specs.Kernel.{state_at}
-use Rattle.sk_kernel.specs.declared.hand_in.HandIn.{HandIn}
-use Rattle.sk_client.specs.Desk.{DeskView, pending, asks_for}
-use Rattle.sk_client.specs.Leasing.{unless_asked, desk_lease}
 use Rattle.sk_workers.specs.declared.entry.DeskCall.TheVariants as calls
-use Rattle.sk_workers.specs.declared.entry.Answered.TheVariants.{HandedIn}
-use Rattle.sk_workers.specs.Views.{WorkerView}
-use Rattle.sk_workers.specs.History.{Told, HandInTold, AnyTold, IsLentAny, IsLeaseOf}
-use Rattle.sk_crew.specs.declared.rounds.Rounds.{Rounds}
-use Rattle.sk_crew.specs.Rounds.{due, next, after}
-use Rattle.sk_crew.specs.Ahead.{IsLent, IsLentFor, IsLentNext, HasRun, RunsAhead}
 
 -- ---- the count of a lease that ran
 

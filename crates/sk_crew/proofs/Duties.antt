@@ -1,34 +1,17 @@
 -- Each call of a worker is its own to make.
-use Rattle.std.specs.Prelude.{◌≡◌, ◌⊎◌, ◌<◌, ◌≤◌, ℕ, zero, suc, ◌+◌, List, [], ◌∷◌, ◌++◌, length, take, Result, Some, slice_get}
-use Rattle.std.proofs.Common.{inl, inr, refl, sym, ap, ◌∙◌, subst, arith}
-use Rattle.std.specs.List.{Contains}
-use Rattle.std.proofs.lemmas.List.Sums.{sum_by-append}
-use Rattle.std.proofs.lemmas.List.Elements.{Contains-push, Contains-push_cases, Contains-append_left, Contains-append_right, Contains-append_cases}
-use Rattle.std.proofs.lemmas.Option.{slice_get-get_or}
-use Rattle.std.proofs.lemmas.List.{take-append-drop, map-append, append_assoc, append-nil}
-use Rattle.std.specs.Prelude.{drop}
-use Rattle.sk_kernel.specs.Kernel.{KernelView}
-use Rattle.sk_kernel.specs.Opening.{OpeningView, opening_of}
-use Rattle.sk_client.specs.Desk.{DeskView, opened_at}
-use Rattle.sk_workers.specs.declared.entry.DeskCall.{DeskCall}
+use Rattle.sk_crew.proofs.Names.{◌⊎◌, ◌<◌, ◌≤◌, ℕ, zero, suc, ◌+◌, List, [], ◌∷◌, ◌++◌, length, take, Result, Some}
+use Rattle.sk_crew.proofs.Names.{slice_get, inl, inr, refl, sym, ap, ◌∙◌, subst, arith, Contains, sum_by-append}
+use Rattle.sk_crew.proofs.Names.{Contains-push, Contains-push_cases, Contains-append_left, Contains-append_right}
+use Rattle.sk_crew.proofs.Names.{Contains-append_cases, slice_get-get_or, take-append-drop, map-append, append_assoc}
+use Rattle.sk_crew.proofs.Names.{append-nil, drop, KernelView, OpeningView, opening_of, DeskView, opened_at, DeskCall}
+use Rattle.sk_crew.proofs.Names.{Answered, Turned, Receipt, HistoryEntry, WorkerView, SharedView, Runs, Told, TurnTold}
+use Rattle.sk_crew.proofs.Names.{AreFresh, made, entry, receipt, numbers, begins_turn, IsClosed, CrewFault, Memory}
+use Rattle.sk_crew.proofs.Names.{Close, start_of, IsCrewed, IsRefused, HasCause, Rounds, Refusal, Turn, RunsAhead}
+use Rattle.sk_crew.proofs.Names.{TakesTurn, CrewPlan, IsOf, turn_count, turns_of, AllEnded, IsOver, TookTurns}
+use Rattle.sk_crew.proofs.Names.{processes_of, IsDuty, KeepsTo, AllKeepTo, AllTookTurns, IsReply, OnlyReplies, IsNew}
+use Rattle.sk_crew.proofs.Names.{AreNew, WorksOn, LeadsOn, AllWorkOn, AreNumbered}
+use Rattle.std.specs.Prelude.{◌≡◌}
 use Rattle.sk_workers.specs.declared.entry.DeskCall.TheVariants as calls
-use Rattle.sk_workers.specs.declared.entry.Answered.{Answered}
-use Rattle.sk_workers.specs.declared.entry.Answered.TheVariants.{Turned}
-use Rattle.sk_workers.specs.declared.entry.Receipt.{Receipt}
-use Rattle.sk_workers.specs.declared.entry.HistoryEntry.{HistoryEntry}
-use Rattle.sk_workers.specs.Views.{WorkerView, SharedView}
-use Rattle.sk_workers.specs.History.{Runs, Told, TurnTold, AreFresh, fresh as made, entry, receipt}
-use Rattle.sk_workers.specs.Closing.{numbers, begins_turn, IsClosed}
-use Rattle.sk_crew.specs.declared.crew.CrewFault.{CrewFault}
-use Rattle.sk_crew.specs.declared.crew.CrewFault.TheVariants.{Memory, Close}
-use Rattle.sk_crew.specs.Crewed.{start_of, IsCrewed, IsRefused, HasCause}
-use Rattle.sk_crew.specs.declared.rounds.Rounds.{Rounds}
-use Rattle.sk_plain.specs.declared.refusal.Refusal.{Refusal}
-use Rattle.sk_client.specs.declared.desk.Turn.{Turn}
-use Rattle.sk_crew.specs.Ahead.{RunsAhead, TakesTurn}
-use Rattle.sk_crew.specs.declared.crew.CrewPlan.{CrewPlan}
-use Rattle.sk_crew.specs.Turns.{IsOf, turn_count, turns_of, AllEnded, IsOver, TookTurns}
-use Rattle.sk_crew.specs.Duties.{processes_of, IsDuty, KeepsTo, AllKeepTo, AllTookTurns, IsReply, OnlyReplies, IsNew, AreNew, WorksOn, LeadsOn, AllWorkOn, AreNumbered}
 use Rattle.sk_crew.proofs.Turns.{Goes, HasBegun, ends_more, count_of}
 
 -- ---- receipts

@@ -1,3 +1,4 @@
+pub mod Names
 mod Ahead
 mod Turns
 mod Served

@@ -1,12 +1,7 @@
 -- What a server answers, one request after another.
-use Rattle.std.specs.Prelude.{◌≡◌, List, [], ◌∷◌, ◌++◌, Result, Ok, Err}
-use Rattle.std.proofs.Common.{refl, sym, subst}
-use Rattle.sk_server.specs.declared.request.Request.{Request}
-use Rattle.sk_server.specs.declared.reply.Reply.{Reply}
-use Rattle.sk_server.specs.declared.server.ServerRefusal.{ServerRefusal}
-use Rattle.sk_server.specs.Server.{ServerView}
-use Rattle.sk_server.specs.Calls.{Answers}
-use Rattle.sk_crew.specs.Served.{AnswersAll, IsServed}
+use Rattle.sk_crew.proofs.Names.{List, [], ◌∷◌, ◌++◌, Result, Ok, Err, refl, sym, subst, Request, Reply, ServerRefusal}
+use Rattle.sk_crew.proofs.Names.{ServerView, Answers, AnswersAll, IsServed}
+use Rattle.std.specs.Prelude.{◌≡◌}
 
 pub not_served : (s t : ServerView) → t ≡ s → IsServed s t
 not_served s t same = ([], same)

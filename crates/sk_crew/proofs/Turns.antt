@@ -1,30 +1,16 @@
 -- A worker in its rounds: how many turns it began, and whether each turn of a round was answered `Ended`.
-use Rattle.std.specs.Prelude.{◌≡◌, ◌⊎◌, ◌<◌, ◌≤◌, ℕ, zero, suc, ◌+◌, ◌*◌, ◌^◌, Bool, true, false, ◌&&◌, nat_lt, nat_le, List, [], ◌∷◌, ◌++◌, length, Result, Ok, Err, Some, None, slice_get, option_and_then, if◌then◌else◌}
-use Rattle.std.proofs.Common.{inl, inr, refl, sym, ap, ◌∙◌, subst, arith}
-use Rattle.std.specs.List.{Contains, sum_by}
-use native.Mathlib.Numerals.{unary_clauses}
-use Rattle.std.proofs.Math.Nat.{lt_of_mul-lt-mul_left}
-use Rattle.std.proofs.lemmas.Bool.{ltb-true, ltb-false, leb-true, leb-false}
-use Rattle.std.proofs.lemmas.List.Sums.{sum_by-append}
-use Rattle.std.proofs.lemmas.List.Elements.{Contains-push, Contains-push_cases, Contains-append_left, Contains-append_cases}
-use Rattle.std.proofs.lemmas.List.{append_assoc, append-nil}
-use Rattle.std.proofs.lemmas.Option.{slice_get_within}
-use Rattle.sk_plain.specs.declared.refusal.Refusal.{Refusal}
+use Rattle.sk_crew.proofs.Names.{◌⊎◌, ◌<◌, ◌≤◌, ℕ, zero, suc, ◌+◌, ◌*◌, ◌^◌, Bool, true, false, ◌&&◌, nat_lt, nat_le}
+use Rattle.sk_crew.proofs.Names.{List, [], ◌∷◌, ◌++◌, length, Result, Ok, Err, Some, None, slice_get, option_and_then}
+use Rattle.sk_crew.proofs.Names.{if◌then◌else◌, inl, inr, refl, sym, ap, ◌∙◌, subst, arith, Contains, sum_by}
+use Rattle.sk_crew.proofs.Names.{unary_clauses, lt_of_mul-lt-mul_left, ltb-true, ltb-false, leb-true, leb-false}
+use Rattle.sk_crew.proofs.Names.{sum_by-append, Contains-push, Contains-push_cases, Contains-append_left}
+use Rattle.sk_crew.proofs.Names.{Contains-append_cases, append_assoc, append-nil, slice_get_within, Refusal, HandIn}
+use Rattle.sk_crew.proofs.Names.{Turn, DeskCall, Answered, Turned, HandedIn, Receipt, WorkerView, Told, TurnTold, made}
+use Rattle.sk_crew.proofs.Names.{entry, receipt, begins_turn, next_turn, Rounds, fresh, due, after, is_ended, RunsAhead}
+use Rattle.sk_crew.proofs.Names.{TakesTurn, IsOf, turn_count, turns_of, HasTurn, AllEnded, IsOver, TookTurns}
+use Rattle.std.specs.Prelude.{◌≡◌}
 use Rattle.sk_plain.specs.declared.refusal.Refusal.TheVariants as refusals
-use Rattle.sk_kernel.specs.declared.hand_in.HandIn.{HandIn}
-use Rattle.sk_client.specs.declared.desk.Turn.{Turn}
-use Rattle.sk_workers.specs.declared.entry.DeskCall.{DeskCall}
 use Rattle.sk_workers.specs.declared.entry.DeskCall.TheVariants as calls
-use Rattle.sk_workers.specs.declared.entry.Answered.{Answered}
-use Rattle.sk_workers.specs.declared.entry.Answered.TheVariants.{Turned, HandedIn}
-use Rattle.sk_workers.specs.declared.entry.Receipt.{Receipt}
-use Rattle.sk_workers.specs.Views.{WorkerView}
-use Rattle.sk_workers.specs.History.{Told, TurnTold, fresh as made, entry, receipt}
-use Rattle.sk_workers.specs.Closing.{begins_turn, next_turn}
-use Rattle.sk_crew.specs.declared.rounds.Rounds.{Rounds}
-use Rattle.sk_crew.specs.Rounds.{fresh, due, after, is_ended}
-use Rattle.sk_crew.specs.Ahead.{RunsAhead, TakesTurn}
-use Rattle.sk_crew.specs.Turns.{IsOf, turn_count, turns_of, HasTurn, AllEnded, IsOver, TookTurns}
 
 -- ---- receipts of a round
 

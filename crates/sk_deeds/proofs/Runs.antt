@@ -1,24 +1,14 @@
 -- Each move of the machine is an event of the step function's trace.
-use Rattle.std.proofs.Common.{◌≡◌, ℕ, ◌<◌, ◌≤◌, true, false, ltb, List, [], ◌∷◌, ◌++◌, map, Option, Some, None, Ok, Err, refl, sym, ◌∙◌, ap, subst, append_assoc, arith}
-use Rattle.std.specs.Prelude.{◌==◌, Result, if◌then◌else◌, cond}
-use Rattle.std.specs.FinMap.{FinMap, get, IsAntisymmetric}
-use Rattle.std.specs.Cmp.{IsTotalOrder}
-use Rattle.std.proofs.lemmas.Bool.{ltb-true, ltb-false}
-use Rattle.std.proofs.lemmas.List.{append-nil}
-use Rattle.sk_record.specs.Step.{Step, Done, Effect, perform, with_read}
-use Rattle.sk_record.specs.Effects.{is_in, writes}
-use Rattle.sk_record.specs.Run.{System, marked_effect}
-use Rattle.sk_record.specs.Release.{said_by}
-use Rattle.sk_record.specs.Trace.{Event, Taken, Commit, Fail, IsDrawn, IsAllowed, StatusIs}
-use Rattle.sk_record.specs.UndoState.{step_tags}
-use Rattle.sk_record.specs.declared.status.Status.TheVariants.{Undecided}
-use Rattle.sk_record.specs.Machine.{Machine, Fails, IsPlainRun, machine_at_start}
-use Rattle.sk_record.specs.Merged.{MergedTakes, MergedCommits, MergedStands, Merges}
+use Rattle.sk_deeds.proofs.Names.{◌≡◌, ℕ, ◌<◌, ◌≤◌, true, false, ltb, List, [], ◌∷◌, ◌++◌, map, Option, Some, None, Ok}
+use Rattle.sk_deeds.proofs.Names.{Err, refl, sym, ◌∙◌, ap, subst, append_assoc, arith, ◌==◌, Result, if◌then◌else◌}
+use Rattle.sk_deeds.proofs.Names.{cond, FinMap, get, IsAntisymmetric, IsTotalOrder, ltb-true, ltb-false, append-nil}
+use Rattle.sk_deeds.proofs.Names.{Step, Done, Effect, perform, with_read, is_in, writes, System, marked_effect, said_by}
+use Rattle.sk_deeds.proofs.Names.{Event, Taken, Commit, Fail, IsDrawn, IsAllowed, StatusIs, step_tags, Undecided}
+use Rattle.sk_deeds.proofs.Names.{Machine, Fails, IsPlainRun, machine_at_start, MergedTakes, MergedCommits}
+use Rattle.sk_deeds.proofs.Names.{MergedStands, Merges, one_status, Deed, Entry, asking, step_of, effect_of, again}
+use Rattle.sk_deeds.proofs.Names.{IsNext, Steps, Moves, Goes, Starts, RunsAsPlain}
 use Rattle.sk_record.proofs.Merged as merged
 use Rattle.sk_record.proofs.MachineRuns as whole
-use Rattle.sk_record.proofs.Statuses.{one_status}
-use Rattle.sk_deeds.specs.Deed.{Deed, Entry, asking, step_of, effect_of, again}
-use Rattle.sk_deeds.specs.Moves.{IsNext, Steps, Moves, Goes, Starts, RunsAsPlain}
 
 module _ {K V O : Type 0} where
   -- what was taken does again what it did

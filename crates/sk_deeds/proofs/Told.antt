@@ -1,20 +1,12 @@
 -- What was taken out stands before what is there, whatever is done.
-use Rattle.std.proofs.Common.{◌≡◌, ℕ, true, false, not, cond, List, [], ◌∷◌, ◌++◌, map, Option, Some, None, Ok, refl, sym, ◌∙◌, ap, subst, append_assoc}
-use Rattle.std.specs.Prelude.{◌==◌}
-use Rattle.std.specs.FinMap.{FinMap, IsAntisymmetric}
-use Rattle.std.specs.Cmp.{IsTotalOrder}
-use Rattle.std.proofs.lemmas.Bool.{eqb-true}
-use Rattle.std.proofs.lemmas.List.{append-nil}
-use Rattle.sk_record.specs.Run.{System, marked_effect}
-use Rattle.sk_record.specs.Release.{said_by}
-use Rattle.sk_record.specs.Notes.{has, without}
-use Rattle.sk_record.specs.Trace.{Event, Taken, Commit, Fail}
-use Rattle.sk_record.specs.UndoState.{step_tags}
-use Rattle.sk_record.specs.Machine.{Machine, Tagged, Fails, lightened, not_dropped}
-use Rattle.sk_record.specs.Merged.{MergedTakes, MergedCommits, MergedStands, Merges}
+use Rattle.sk_deeds.proofs.Names.{◌≡◌, ℕ, true, false, not, List, [], ◌∷◌, ◌++◌, map, Option, Some, None, Ok, refl, sym}
+use Rattle.sk_deeds.proofs.Names.{◌∙◌, ap, subst, append_assoc, ◌==◌, FinMap, IsAntisymmetric, IsTotalOrder, eqb-true}
+use Rattle.sk_deeds.proofs.Names.{append-nil, System, marked_effect, said_by, has, without, Event, Taken, Commit, Fail}
+use Rattle.sk_deeds.proofs.Names.{step_tags, Machine, Tagged, Fails, lightened, not_dropped, MergedTakes, MergedCommits}
+use Rattle.sk_deeds.proofs.Names.{MergedStands, Merges, Steps, Moves, Starts, Call, Does, Tells, Told, told_more}
+use Rattle.sk_deeds.proofs.Names.{untagged, with_told, TakenOut, moves_of, Calls, TellsAsPlain}
+use Rattle.std.proofs.Common.{cond}
 use Rattle.sk_record.proofs.Merged as merged
-use Rattle.sk_deeds.specs.Moves.{Steps, Moves, Starts}
-use Rattle.sk_deeds.specs.Told.{Call, Does, Tells, Told, told_more, untagged, with_told, TakenOut, moves_of, Calls, TellsAsPlain}
 use Rattle.sk_deeds.proofs.Runs.{one, first}
 
 lightened_past : {O : Type 0} (g : ℕ) (ws : List (ℕ × O)) (xs : List (Tagged (ℕ × O))) → untagged ws ++ lightened g xs ≡ lightened g (untagged ws ++ xs)

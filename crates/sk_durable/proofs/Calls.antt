@@ -1,50 +1,23 @@
 -- What the calls come to that bring bytes in, and those that connect and hang up.
-use Rattle.std.proofs.Common.{is_some, true≢false, IfSome, ◌≡◌, ◌<◌, ◌≤◌, ◌+◌, ◌-◌, ◌^◌, ◌||◌, ◌&&◌, cond, unwrap_or, ⊎_elim, ℕ, Bool, true, false, List, [], ◌∷◌, ◌++◌, length, take, Option, Some, None, Result, Ok, Err, flat_map, inl, inr, refl, sym, ◌∙◌, ap, subst}
-use Rattle.std.specs.List.{list_any}
-use Rattle.std.specs.Prelude.{◌==◌, ◌⊎◌, nat_lt}
-use Rattle.std.specs.Result.{is_err}
-use Rattle.std.proofs.lemmas.List.{append-nil}
-use Rattle.std.proofs.lemmas.List.Folds.{list_any-append}
-use Rattle.sk_record.specs.Effects.{is_marked}
-use Rattle.sk_record.specs.Notes.{has}
-use Rattle.sk_record.specs.Trace.{marks}
-use Rattle.sk_record.specs.UndoState.{tags_at}
-use Rattle.sk_index.specs.Index.{bytes_cmp}
-use Rattle.sk_speculator.specs.Law.{TakesOut}
-use Rattle.sk_speculator.specs.Parts.{undo_state_of}
-use Rattle.sk_batched.specs.Batched.{Stays}
-use Rattle.sk_requests.specs.declared.limits.Limits.{Limits as Requests}
-use Rattle.sk_commands.specs.declared.work.Answer.{Answer}
-use Rattle.sk_commands.specs.declared.work.Work.{Work}
-use Rattle.sk_commands.specs.Texts.{answer_text}
-use Rattle.sk_commands.specs.Work.{comes_to}
-use Rattle.sk_served.specs.Names.{names_reserved}
-use Rattle.sk_served.specs.Served.{Asked}
-use Rattle.sk_channels.specs.declared.channel.Channel.{Channel}
-use Rattle.sk_channels.specs.declared.inlet.Ask.{Ask}
-use Rattle.sk_channels.specs.declared.inlet.Ask.TheVariants.{Do}
-use Rattle.sk_channels.specs.declared.inlet.Asked.{Asked as OneAsked}
-use Rattle.sk_channels.specs.declared.inlet.Fed.{Fed as FedBytes}
+use Rattle.sk_durable.proofs.Names.{is_some, ◌≡◌, ◌<◌, ◌≤◌, ◌+◌, ◌-◌, ◌^◌, ◌||◌, ◌&&◌, cond, ⊎_elim, ℕ, Bool, true}
+use Rattle.sk_durable.proofs.Names.{false, List, [], ◌∷◌, ◌++◌, length, take, Option, Some, None, Result, Ok, Err}
+use Rattle.sk_durable.proofs.Names.{flat_map, inl, inr, refl, sym, ◌∙◌, ap, subst, list_any, ◌==◌, ◌⊎◌, nat_lt, is_err}
+use Rattle.sk_durable.proofs.Names.{append-nil, list_any-append, is_marked, has, marks, tags_at, bytes_cmp, TakesOut}
+use Rattle.sk_durable.proofs.Names.{undo_state_of, Stays, Requests, Answer, Work, answer_text, comes_to, names_reserved}
+use Rattle.sk_durable.proofs.Names.{Asked, Channel, Ask, Do, OneAsked, FedBytes, Channels, only_posed, posed_ticket}
+use Rattle.sk_durable.proofs.Names.{Feeds, HasServed, HasServedOn, channel_at, place_at, with_channel, Told, Refusal}
+use Rattle.sk_durable.proofs.Names.{NotDone, LongKey, Stopped, Full, TooMany, Memory, End, Asker, error, long_key_words}
+use Rattle.sk_durable.proofs.Names.{told_work, work_of, channel_refused, against, ahead_of, asked_by, batch_for}
+use Rattle.sk_durable.proofs.Names.{deed_now, has_now, touched, Batches, CarryPost, IsNotDone, IsTold, KnowsIfTold}
+use Rattle.sk_durable.proofs.Names.{asked_for, came, first_answer, Becomes, Goes, HasPast, HavePasts, Past, StoreView}
+use Rattle.sk_durable.proofs.Names.{AsksFor, Call, Does, Draws, Drops, Rests, IsDone, IsFor, LeavesIt, Serves, drops}
+use Rattle.sk_durable.proofs.Names.{end_of, is_posed, AnswerPost, has_refused, FreesIfLast, HasNoneReady, LetGoPost}
+use Rattle.sk_durable.proofs.Names.{MayFeed, PosedPost, TakePost, TellPost, TryPost}
+use Rattle.std.proofs.Common.{true≢false, IfSome, unwrap_or}
 use Rattle.sk_channels.specs.declared.refusal.Refusal.{Refusal as Refused}
 use Rattle.sk_channels.specs.declared.refusal.Refusal.TheVariants as channels
-use Rattle.sk_channels.specs.declared.table.Channels.{Channels}
-use Rattle.sk_channels.specs.Hearing.{only_posed, posed_ticket}
-use Rattle.sk_channels.specs.Serving.{FeedPost as Feeds, HasServed, HasServedOn}
-use Rattle.sk_channels.specs.Table.{channel_at, place_at, with_channel}
-use Rattle.sk_channels.specs.Telling.{Told}
-use Rattle.sk_durable.specs.declared.refusal.Refusal.{Refusal}
 use Rattle.sk_durable.specs.declared.refusal.Refusal.TheVariants as refusals
-use Rattle.sk_durable.specs.declared.refusal.NotDone.{NotDone}
-use Rattle.sk_durable.specs.declared.refusal.NotDone.TheVariants.{LongKey, Stopped, Full, TooMany, Memory}
-use Rattle.sk_durable.specs.declared.store.End.{End}
 use Rattle.sk_durable.specs.declared.store.End.TheVariants as ends
-use Rattle.sk_durable.specs.declared.works.Asker.{Asker}
-use Rattle.sk_durable.specs.Asked.{error, long_key_words, told_work, work_of}
-use Rattle.sk_durable.specs.Refused.{channel_refused}
-use Rattle.sk_durable.specs.Works.{against, ahead_of, asked_by, batch_for, deed_now, has_now, touched, Batches, CarryPost, IsNotDone, IsTold, KnowsIfTold}
-use Rattle.sk_durable.specs.Store.{asked_for, came, first_answer, Becomes, Goes, HasPast, HavePasts, Past, StoreView}
-use Rattle.sk_durable.specs.Calls.{AsksFor, Call, Does, Draws, Drops, Rests, IsDone, IsFor, LeavesIt, Serves}
-use Rattle.sk_durable.specs.Posts.{drops, end_of, is_posed, AnswerPost, has_refused, FreesIfLast, HasNoneReady, LetGoPost, MayFeed, PosedPost, TakePost, TellPost, TryPost}
 use Rattle.sk_durable.proofs.Ways.{nothing_came, now_there}
 
 -- ---- calls, one after another

@@ -1,31 +1,13 @@
 -- A command that is carried out, told to the machine of records.
-use Rattle.std.proofs.Common.{◌≡◌, ℕ, Bool, true, false, cond, ◌||◌, List, [], ◌∷◌, ◌++◌, map, Option, Some, None, refl, sym, ◌∙◌, ap, subst}
-use Rattle.std.specs.Prelude.{◌==◌}
-use Rattle.std.specs.List.{list_any}
-use Rattle.std.specs.Ordering.{eq_by_cmp}
-use Rattle.std.proofs.lemmas.Bool.{true≢false, or_parts, false_from_ne_true}
-use Rattle.std.proofs.lemmas.List.{append-nil}
-use Rattle.std.proofs.lemmas.List.Folds.{list_any-append}
-use Rattle.sk_record.specs.Effects.{is_marked}
-use Rattle.sk_record.specs.Notes.{has, last_tags}
-use Rattle.sk_record.specs.Trace.{Taken}
-use Rattle.sk_record.specs.UndoState.{tags_at}
-use Rattle.sk_record.specs.declared.status.Status.{Status}
-use Rattle.sk_index.specs.Index.{bytes_cmp}
-use Rattle.sk_index.proofs.Strings.{same_bytes}
-use Rattle.sk_speculator.specs.Parts.{undo_state_of}
-use Rattle.sk_batched.specs.Batched.{in_batch, is_touched, Draws}
-use Rattle.sk_batched.specs.InStep.{open_numbers}
-use Rattle.sk_reserved.specs.Keys.{batch_key, is_reserved}
-use Rattle.sk_batched.proofs.Law.{spares_named}
-use Rattle.sk_batched.proofs.Moves.{looks_as_before}
-use Rattle.sk_commands.specs.declared.work.Answer.{Answer}
-use Rattle.sk_commands.specs.Work.{comes_to, looks_at, may_write_some}
-use Rattle.sk_served.specs.Calls.{IsProper, Out}
-use Rattle.sk_served.specs.Names.{names_reserved}
-use Rattle.sk_served.specs.Served.{batch_keys, deed, Asked, Runs}
-use Rattle.sk_durable.specs.Works.{deed_now, has_now, touched, Batches, CarriesOut, IsTold, Kernel, KnowsIfTold, TakenIn}
-use Rattle.sk_durable.specs.Store.{StoreView}
+use Rattle.sk_durable.proofs.Names.{◌≡◌, ℕ, Bool, true, false, cond, ◌||◌, List, [], ◌∷◌, ◌++◌, map, Option, Some, None}
+use Rattle.sk_durable.proofs.Names.{refl, sym, ◌∙◌, ap, subst, ◌==◌, list_any, eq_by_cmp, true≢false, or_parts}
+use Rattle.sk_durable.proofs.Names.{false_from_ne_true, append-nil, list_any-append, is_marked, has, last_tags, Taken}
+use Rattle.sk_durable.proofs.Names.{tags_at, Status, bytes_cmp, same_bytes, undo_state_of, in_batch, is_touched}
+use Rattle.sk_durable.proofs.Names.{open_numbers, batch_key, is_reserved, spares_named, looks_as_before, Answer}
+use Rattle.sk_durable.proofs.Names.{comes_to, looks_at, may_write_some, IsProper, Out, names_reserved, batch_keys, deed}
+use Rattle.sk_durable.proofs.Names.{Asked, Runs, deed_now, has_now, touched, Batches, CarriesOut, IsTold, Kernel}
+use Rattle.sk_durable.proofs.Names.{KnowsIfTold, TakenIn, StoreView}
+use Rattle.sk_batched.specs.Batched.{Draws}
 use Rattle.sk_durable.proofs.Inside.{drawn, drawn_store, kept_as, stepped}
 use Rattle.sk_durable.proofs.Machines.{Agree, led_on, machine, InStep, Led}
 use Rattle.sk_durable.proofs.Tagged.{tags_drawn, tags_of_batch}

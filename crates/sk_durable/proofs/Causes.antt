@@ -1,38 +1,20 @@
 -- Why work is not carried out is why its step is not taken.
-use Rattle.std.proofs.Common.{◌≡◌, ℕ, Bool, true, false, cond, ◌||◌, List, [], ◌∷◌, length, Option, Some, None, Result, Ok, Err, inl, inr, ⊎_elim, refl, sym, ap, ◌∙◌, subst}
-use Rattle.std.specs.Prelude.{nat_lt, IfSome, OnErr, OnOk}
-use Rattle.std.specs.List.{list_any}
-use Rattle.std.specs.Option.{option_map, option_or}
-use Rattle.std.specs.Result.{IsErr, IsErrAnd}
-use Rattle.sk_record.specs.Machine.{released}
-use Rattle.sk_outputs.specs.Said.{said_at}
-use Rattle.sk_speculator.specs.Calls.{Takes}
-use Rattle.sk_speculator.specs.Law.{TakesOut}
-use Rattle.sk_index.specs.Index.{bytes_cmp}
-use Rattle.sk_deeds.specs.Deed.{Deed}
-use Rattle.sk_bytes.specs.declared.bytes.TheConstants.{KEY_LIMIT}
-use Rattle.sk_bytes.specs.Calls.{has_long_key}
-use Rattle.sk_bytes.specs.Steps.{byte_deed}
-use Rattle.sk_batches.specs.Calls.{append_refused}
-use Rattle.sk_batches.specs.declared.refusal.Refusal.{Refusal as Queued}
+use Rattle.sk_durable.proofs.Names.{◌≡◌, ℕ, Bool, true, false, cond, ◌||◌, List, [], ◌∷◌, length, Option, Some, None}
+use Rattle.sk_durable.proofs.Names.{Result, Ok, Err, inl, inr, ⊎_elim, refl, sym, ap, ◌∙◌, subst, nat_lt, IfSome, OnErr}
+use Rattle.sk_durable.proofs.Names.{OnOk, list_any, option_map, option_or, IsErr, IsErrAnd, released, said_at, Takes}
+use Rattle.sk_durable.proofs.Names.{TakesOut, bytes_cmp, Deed, KEY_LIMIT, has_long_key, byte_deed, append_refused}
+use Rattle.sk_durable.proofs.Names.{Queued, Reserved, is_full, log_refused, LogPost, Stays, is_reserved}
+use Rattle.sk_durable.proofs.Names.{has_reserved_key, refusal_of, step_refused, any_touched, Work, Answer, log_text}
+use Rattle.sk_durable.proofs.Names.{may_write_some, Asked, NotDone, Asker, against, asked_by, ahead_in, deed_now}
+use Rattle.sk_durable.proofs.Names.{names_wrong, touched, Batches, CarryPost, IsAhead, IsHanded, IsNotDone, KnowsIfTold}
+use Rattle.sk_durable.proofs.Names.{LetsOut, TakenIn, TakesAlone, WorkStep}
 use Rattle.sk_batched.specs.declared.refusal.Refusal.{Refusal}
-use Rattle.sk_batched.specs.declared.refusal.Refusal.TheVariants.{LongKey, Reserved, Stopped, Full, TooMany, Memory}
-use Rattle.sk_batched.specs.Batched.{is_full, log_refused, LogPost, Logs, Stays, TakePost}
-use Rattle.sk_reserved.specs.Keys.{is_reserved}
-use Rattle.sk_batched.specs.Keys.{has_reserved_key}
-use Rattle.sk_batched.specs.Refused.{refusal_of, step_refused}
-use Rattle.sk_batched.proofs.Touched.{any_touched}
-use Rattle.sk_commands.specs.declared.work.Work.{Work}
-use Rattle.sk_commands.specs.declared.work.Answer.{Answer}
-use Rattle.sk_commands.specs.Requests.{log_text}
-use Rattle.sk_commands.specs.Work.{may_write_some}
-use Rattle.sk_served.specs.Served.{Asked}
-use Rattle.sk_durable.specs.declared.refusal.NotDone.{NotDone}
+use Rattle.sk_batched.specs.declared.refusal.Refusal.TheVariants.{LongKey, Stopped, Full, TooMany, Memory}
+use Rattle.sk_batched.specs.Batched.{Logs, TakePost}
 use Rattle.sk_durable.specs.declared.refusal.NotDone.TheVariants as undone
-use Rattle.sk_durable.specs.declared.works.Asker.{Asker}
 use Rattle.sk_durable.specs.Refused as told
 use Rattle.sk_durable.specs.Works as works
-use Rattle.sk_durable.specs.Works.{against, asked_by, ahead_in, deed_now, names_wrong, touched, Batches, CarryPost, IsAhead, IsHanded, IsNotDone, KnowsIfTold, LetsOut, RestorePost, TakenIn, TakesAlone, WorkStep}
+use Rattle.sk_durable.specs.Works.{RestorePost}
 
 abbrev Done : Type 0
 Done = Deed (List ℕ) (List ℕ) (ℕ × Answer)

@@ -1,30 +1,14 @@
 -- A ticket was told its command's answer, or that nothing of it was done; a channel let go of just what may go out.
-use Rattle.std.proofs.Common.{◌≡◌, ℕ, ◌+◌, ◌<◌, ◌≤◌, true, false, not, List, [], ◌∷◌, length, Some, None, inl, inr, refl, sym, ◌∙◌, ap, subst, arith}
-use Rattle.std.specs.Prelude.{◌==◌, ◌⊎◌, nat_lt, slice_get}
-use Rattle.std.specs.List.{filter, Contains}
-use Rattle.std.proofs.lemmas.Bool.{and_parts, eq-eqb, eqb-true, ltb-false, or_left, true≢false}
-use Rattle.std.proofs.lemmas.List.Elements.{Contains-append_left, Contains-append_right, Contains-append_cases}
-use Rattle.std.proofs.lemmas.Option.{slice_get_within}
-use Rattle.sk_record.specs.Machine.{released, released_if}
-use Rattle.sk_record.specs.Notes.{has}
-use Rattle.sk_record.proofs.Machine.{has_filter}
-use Rattle.sk_guesses.specs.Opens.{open_in}
-use Rattle.sk_record.specs.UndoState.{numbers}
-use Rattle.sk_outputs.specs.Said.{first_of}
-use Rattle.sk_rests.specs.Laws.{IsSaid}
-use Rattle.sk_rests.specs.Logged.{is_struck, resting_among, said_to}
-use Rattle.sk_channels.specs.declared.channel.Channel.{Channel}
-use Rattle.sk_channels.specs.Table.{channel_at}
-use Rattle.sk_commands.specs.declared.work.Answer.{Answer}
-use Rattle.sk_plain_store.specs.Plain.{Entries}
-use Rattle.sk_served.specs.Served.{served}
-use Rattle.sk_durable.specs.declared.limits.Limits.{Limits}
-use Rattle.sk_durable.specs.declared.store.Next.{Next}
-use Rattle.sk_durable.specs.Store.{first_answer, has_refusals, StoreView}
-use Rattle.sk_durable.specs.Calls.{Call}
-use Rattle.sk_durable.specs.Posts.{HasNoneReady}
-use Rattle.sk_durable.specs.History.{carried_from, failed, past, stands_on, Command}
-use Rattle.sk_durable.specs.Laws.{ChannelsLetGoJustWhatMay, HasDone, IsAnswered, IsGone, IsLogged, IsToldRight, LetsGoJustWhatMay, TicketsAreToldRight, Waits}
+use Rattle.sk_durable.proofs.Names.{◌≡◌, ℕ, ◌+◌, ◌<◌, ◌≤◌, true, false, not, List, [], ◌∷◌, length, Some, None, inl}
+use Rattle.sk_durable.proofs.Names.{inr, refl, sym, ◌∙◌, ap, subst, arith, ◌==◌, ◌⊎◌, nat_lt, slice_get, filter}
+use Rattle.sk_durable.proofs.Names.{Contains, and_parts, eq-eqb, eqb-true, ltb-false, or_left, true≢false}
+use Rattle.sk_durable.proofs.Names.{Contains-append_left, Contains-append_right, Contains-append_cases}
+use Rattle.sk_durable.proofs.Names.{slice_get_within, released, released_if, has, has_filter, open_in, numbers}
+use Rattle.sk_durable.proofs.Names.{first_of, IsSaid, is_struck, resting_among, said_to, Channel, channel_at, Answer}
+use Rattle.sk_durable.proofs.Names.{Entries, served, Limits, Next, first_answer, has_refusals, StoreView, Call}
+use Rattle.sk_durable.proofs.Names.{HasNoneReady, carried_from, failed, past, stands_on, Command}
+use Rattle.sk_durable.proofs.Names.{ChannelsLetGoJustWhatMay, HasDone, IsAnswered, IsGone, IsLogged, IsToldRight}
+use Rattle.sk_durable.proofs.Names.{LetsGoJustWhatMay, TicketsAreToldRight, Waits}
 use Rattle.sk_durable.proofs.Machines.{Machine}
 use Rattle.sk_durable.proofs.Plain.{led, logged_is}
 use Rattle.sk_durable.proofs.Pasts.{taken, Said}

@@ -1,35 +1,15 @@
 -- What each channel was asked for and told, along all that a store did.
-use Rattle.std.proofs.Common.{◌≡◌, ℕ, ◌+◌, ◌-◌, ◌<◌, ◌≤◌, true, false, cond, List, [], ◌∷◌, ◌++◌, length, Some, None, inl, inr, refl, sym, ◌∙◌, ap, subst, arith, append_assoc, length-append}
-use Rattle.std.specs.Prelude.{◌⊎◌, slice_get}
-use Rattle.std.specs.List.{filter, Contains}
-use Rattle.std.proofs.lemmas.Bool.{eq-eqb}
-use Rattle.std.proofs.lemmas.List.{append-nil, length-map}
-use Rattle.std.proofs.lemmas.List.Elements.{Contains-append_right, Contains-append_cases}
-use Rattle.sk_record.specs.Notes.{has}
-use Rattle.sk_record.specs.Release.{said_by}
-use Rattle.sk_record.specs.UndoState.{numbers}
-use Rattle.sk_outputs.specs.Said.{first_of, said_at}
-use Rattle.sk_rests.specs.Laws.{IsSaid}
-use Rattle.sk_rests.specs.Logged.{failed_in, kept, resting_among, said_to}
-use Rattle.sk_rests.proofs.Lists.{failed_more, kept_more}
-use Rattle.sk_requests.specs.declared.limits.Limits.{Limits as Requests}
-use Rattle.sk_channels.specs.declared.channel.Channel.{Channel}
-use Rattle.sk_channels.specs.declared.inlet.Ask.{Ask}
-use Rattle.sk_channels.specs.Table.{channel_at, channel_of, place_at}
-use Rattle.sk_channels.specs.Telling.{refused}
-use Rattle.sk_commands.specs.declared.work.Answer.{Answer}
-use Rattle.sk_commands.specs.declared.work.Work.{Work}
-use Rattle.sk_commands.specs.Texts.{answer_text}
-use Rattle.sk_plain_store.specs.Plain.{Entries}
-use Rattle.sk_served.specs.Served.{served, Asked, Runs}
-use Rattle.sk_durable.specs.declared.limits.Limits.{Limits}
-use Rattle.sk_durable.specs.declared.store.Next.{Next}
-use Rattle.sk_durable.specs.Asked.{error, long_key_words, work_of}
-use Rattle.sk_durable.specs.Works.{Batches}
-use Rattle.sk_durable.specs.Store.{asked_for, bound, first_answer, no_past, was_refused, was_told, Goes, HasPast, Past, StoreView}
-use Rattle.sk_durable.specs.Calls.{Call, Connects, Does, MayBeTold, Serves}
-use Rattle.sk_durable.specs.History.{carried, carried_after, carried_by, carried_from, decided, failed, past, past_after, stands, Command}
-use Rattle.sk_durable.specs.Laws.{HasDone}
+use Rattle.sk_durable.proofs.Names.{◌≡◌, ℕ, ◌+◌, ◌-◌, ◌<◌, ◌≤◌, true, false, cond, List, [], ◌∷◌, ◌++◌, length, Some}
+use Rattle.sk_durable.proofs.Names.{None, inl, inr, refl, sym, ◌∙◌, ap, subst, arith, append_assoc, length-append, ◌⊎◌}
+use Rattle.sk_durable.proofs.Names.{slice_get, filter, Contains, eq-eqb, append-nil, length-map, Contains-append_right}
+use Rattle.sk_durable.proofs.Names.{Contains-append_cases, has, said_by, numbers, first_of, said_at, IsSaid, failed_in}
+use Rattle.sk_durable.proofs.Names.{kept, resting_among, said_to, failed_more, kept_more, Requests, Channel, Ask}
+use Rattle.sk_durable.proofs.Names.{channel_at, channel_of, place_at, refused, Answer, Work, answer_text, Entries}
+use Rattle.sk_durable.proofs.Names.{served, Asked, Runs, Limits, Next, error, long_key_words, work_of, Batches}
+use Rattle.sk_durable.proofs.Names.{asked_for, bound, first_answer, no_past, was_refused, was_told, Goes, HasPast, Past}
+use Rattle.sk_durable.proofs.Names.{StoreView, Call, Connects, Does, MayBeTold, Serves, carried, carried_after}
+use Rattle.sk_durable.proofs.Names.{carried_by, carried_from, decided, failed, past, past_after, stands, Command}
+use Rattle.sk_durable.proofs.Names.{HasDone}
 use Rattle.sk_durable.proofs.Machines.{Machine}
 use Rattle.sk_durable.proofs.Served.{carried_behind, decided_behind, outs_from, serves_behind}
 use Rattle.sk_durable.proofs.Pasts.{was_there, by_call, carried_push, carried_reset, connects, connects_is, freed, never_push, outs_behind, outs_grow, past_push, past_reset, same_limits, silent, taken, taken_after, taken_push, taken_reset, Said}

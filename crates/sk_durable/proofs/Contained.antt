@@ -1,8 +1,7 @@
 -- What is in lists that are made of others.
-use Rattle.std.proofs.Common.{◌≡◌, zero, suc, ◌+◌, ◌<◌, Bool, true, false, cond, List, [], ◌∷◌, flat_map, length, map, inl, inr, refl, sym, ◌∙◌, ap, subst, arith}
-use Rattle.std.specs.Prelude.{◌⊎◌}
-use Rattle.std.specs.List.{filter, Contains}
-use Rattle.std.proofs.lemmas.List.Elements.{Contains-append_cases}
+use Rattle.sk_durable.proofs.Names.{◌≡◌, zero, suc, ◌+◌, ◌<◌, Bool, true, false, cond, List, [], ◌∷◌, flat_map, length}
+use Rattle.sk_durable.proofs.Names.{map, inl, inr, refl, sym, ◌∙◌, ap, subst, arith, ◌⊎◌, filter, Contains}
+use Rattle.sk_durable.proofs.Names.{Contains-append_cases}
 
 pub first_or_later : {A : Type 0} (y : A) (ys : List A) (x : A) → Contains (y ∷ ys) x → (y ≡ x) ⊎ Contains ys x
 first_or_later y ys x (zero, lt, is) = inl is

@@ -1,50 +1,22 @@
 -- What a crash leaves is read as the first of the logged commands.
-use Rattle.std.proofs.Common.{◌≡◌, ℕ, ◌+◌, ◌-◌, ◌^◌, ◌<◌, Bool, true, false, cond, ◌&&◌, List, [], ◌∷◌, ◌++◌, length, map, take, zero, suc, Option, Some, None, inl, inr, refl, sym, ◌∙◌, ap, subst, arith}
-use Rattle.std.specs.Prelude.{is_some, nat_lt, nat_le}
-use Rattle.std.specs.List.{Contains}
-use Rattle.std.specs.Option.{option_or}
-use Rattle.std.proofs.lemmas.Bool.{false≢true, ltb-true}
-use Rattle.std.proofs.lemmas.List.Elements.{Contains-append_cases, Contains-push_cases, Contains-push}
-use Rattle.sk_rests.specs.Logged.{kept}
-use Rattle.sk_batches.specs.declared.refusal.Refusal.{Refusal as Why}
+use Rattle.sk_durable.proofs.Names.{◌≡◌, ℕ, ◌+◌, ◌-◌, ◌^◌, ◌<◌, Bool, true, false, cond, ◌&&◌, List, [], ◌∷◌, ◌++◌}
+use Rattle.sk_durable.proofs.Names.{length, map, take, zero, suc, Option, Some, None, inl, inr, refl, sym, ◌∙◌, ap}
+use Rattle.sk_durable.proofs.Names.{subst, arith, nat_lt, nat_le, Contains, option_or, false≢true, ltb-true}
+use Rattle.sk_durable.proofs.Names.{Contains-append_cases, Contains-push_cases, Contains-push, kept, Why, take_refused}
+use Rattle.sk_durable.proofs.Names.{first_cause, frame_refused, next_payload, has_room, PlacesView, next_records}
+use Rattle.sk_durable.proofs.Names.{QueueView, payload, RecordView, is_full, Channel, Ask, Do, Reject, Inlet, Rejection}
+use Rattle.sk_durable.proofs.Names.{is_hosts, with_words, AskInTurn, Asks, ComesTo, IsHeard, Text, Queue, Answer, Work}
+use Rattle.sk_durable.proofs.Names.{Say, One, Each, IsAsked, IsReplyOrAsked, WaitsSaid, may_write_some, what_is_said}
+use Rattle.sk_durable.proofs.Names.{ReaderLimits, Entries, payloads_of, AreLogged, names_reserved, entries_after, Asked}
+use Rattle.sk_durable.proofs.Names.{Runs, Limits, Next, Asker, error, reserved_words, work_of, Batches, asked_for}
+use Rattle.sk_durable.proofs.Names.{HasPast, Past, StoreView, Call, Carries, Cuts, Sends, Does, IsFor, carried}
+use Rattle.sk_durable.proofs.Names.{carried_by, cut_off, decided, failed, frames, frames_by, is_logged, logged, past}
+use Rattle.sk_durable.proofs.Names.{synced, Command, CrashesAreRecovered, HasDone}
+use Rattle.std.specs.Prelude.{is_some}
 use Rattle.sk_batches.specs.declared.refusal.Refusal.TheVariants as why
-use Rattle.sk_batches.specs.Calls.{take_refused}
-use Rattle.sk_batches.specs.Frames.{first_cause, frame_refused, next_payload}
-use Rattle.sk_batches.specs.Places.{end_of, has_room, PlacesView}
-use Rattle.sk_batches.specs.Queue.{next_records, QueueView}
-use Rattle.sk_batches.specs.Records.{payload, RecordView}
-use Rattle.sk_batched.specs.Batched.{is_full}
-use Rattle.sk_channels.specs.declared.channel.Channel.{Channel}
-use Rattle.sk_channels.specs.declared.inlet.Ask.{Ask}
-use Rattle.sk_channels.specs.declared.inlet.Ask.TheVariants.{Do, Reject}
-use Rattle.sk_channels.specs.declared.inlet.Inlet.{Inlet}
-use Rattle.sk_channels.specs.declared.rejection.Rejection.{Rejection}
+use Rattle.sk_batches.specs.Places.{end_of}
 use Rattle.sk_channels.specs.declared.rejection.Rejection.TheVariants as rejections
-use Rattle.sk_channels.specs.Asking.{is_hosts, with_words, AskInTurn, Asks, ComesTo, Requests}
-use Rattle.sk_channels.specs.Hearing.{IsHeard}
-use Rattle.sk_commands.specs.declared.reply.Reply.TheVariants.{Text}
-use Rattle.sk_commands.specs.declared.session.Queue.{Queue}
-use Rattle.sk_commands.specs.declared.work.Answer.{Answer}
-use Rattle.sk_commands.specs.declared.work.Work.{Work}
-use Rattle.sk_commands.specs.declared.work.Work.TheVariants.{Say, One, Each}
-use Rattle.sk_commands.specs.Requests.{IsAsked, IsReplyOrAsked, WaitsSaid}
-use Rattle.sk_commands.specs.Work.{may_write_some}
-use Rattle.sk_commands.proofs.Works.{what_is_said}
-use Rattle.sk_requests.specs.declared.limits.Limits.{Limits as ReaderLimits}
-use Rattle.sk_plain_store.specs.Plain.{Entries}
-use Rattle.sk_replay.specs.Frames.{payloads_of, AreLogged}
-use Rattle.sk_served.specs.Names.{names_reserved}
-use Rattle.sk_served.specs.Plain.{entries_after}
-use Rattle.sk_served.specs.Served.{Asked, Runs}
-use Rattle.sk_durable.specs.declared.limits.Limits.{Limits}
-use Rattle.sk_durable.specs.declared.store.Next.{Next}
-use Rattle.sk_durable.specs.declared.works.Asker.{Asker}
-use Rattle.sk_durable.specs.Asked.{error, reserved_words, work_of}
-use Rattle.sk_durable.specs.Works.{Batches}
-use Rattle.sk_durable.specs.Store.{asked_for, HasPast, Past, StoreView}
-use Rattle.sk_durable.specs.Calls.{Call, Carries, Cuts, Sends, Does, IsFor}
-use Rattle.sk_durable.specs.History.{carried, carried_by, cut_off, decided, failed, frames, frames_by, is_logged, logged, past, synced, Command}
-use Rattle.sk_durable.specs.Laws.{CrashesAreRecovered, HasDone}
+use Rattle.sk_channels.specs.Asking.{Requests}
 use Rattle.sk_durable.proofs.Contained.{filter_of_map, first_or_later, nothing_there}
 use Rattle.sk_durable.proofs.Frames.{living}
 use Rattle.sk_durable.proofs.Channels.{has_past}

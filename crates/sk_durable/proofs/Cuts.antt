@@ -1,31 +1,20 @@
 -- What a cut leaves of the log: the frames before it, and for the next frame what doesn't rest on what it takes away.
-use Rattle.std.proofs.Common.{◌≡◌, ℕ, zero, suc, ◌+◌, ◌-◌, ◌<◌, ◌≤◌, Bool, true, false, cond, not, ◌||◌, ◌&&◌, List, [], ◌∷◌, ◌++◌, length, map, take, inl, inr, refl, sym, ◌∙◌, ap, subst, append_assoc, arith}
-use Rattle.std.specs.Prelude.{◌⊎◌, ◌==◌, nat_lt, nat_le, flat_map}
-use Rattle.std.specs.Cmp.{both_ways}
-use Rattle.std.specs.List.{filter, list_any, AllByRecursion, Contains}
-use Rattle.std.proofs.lemmas.Bool.{false≢true, and_from, and_parts, eq-eqb, eqb-true, ne_eqb, or_cases, or_left, or_right, or_from, cases_lt, false_from_ne_true, le-leb, leb-true, lt-leb, lt-ltb, le-ltb}
-use Rattle.std.proofs.lemmas.List.{length-append, length-take-le, map-append, take-map}
-use Rattle.std.proofs.lemmas.List.Elements.{All-contains_itself, All-weaker, filter-append, recursion_from_All}
-use Rattle.std.proofs.lemmas.List.Folds.{Any-from_list_any, list_any-append}
-use Rattle.sk_log.specs.declared.frame.TheConstants.{NUMBER_LIMIT}
-use Rattle.sk_record.specs.Notes.{has}
-use Rattle.sk_record.specs.Trace.{Event}
-use Rattle.sk_rests.specs.Logged.{failed_in, kept as kept_log}
-use Rattle.sk_rests.proofs.Ends.{range_struck}
-use Rattle.sk_batches.specs.declared.batch.Batch.{Batch}
-use Rattle.sk_batches.specs.declared.batch.Stage.{Stage}
-use Rattle.sk_batches.specs.declared.batch.Stage.TheVariants.{Kept, Sent, Synced, Failed, Refused}
-use Rattle.sk_batches.specs.declared.queue.Cut.{Cut}
-use Rattle.sk_batches.specs.Dense.{AreDense, IsAtCut, IsBehind, IsRange}
-use Rattle.sk_batches.specs.Queue.{after_cut, cut_off, is_failed, is_refused, is_sent, is_taken, past, QueueView}
-use Rattle.sk_batches.specs.Records.{is_struck, kept, RecordView}
-use Rattle.sk_batches.specs.Runs.{synced_after}
-use Rattle.sk_batches.proofs.Dense.{all_both, all_of, cut_into, dense_at, of_all, CutInto}
-use Rattle.sk_batches.proofs.Order.{cut_number}
-use Rattle.sk_batches.proofs.Synced.{failed_unkept, stays_below}
-use Rattle.sk_served.specs.Served.{Entry}
-use Rattle.sk_commands.specs.declared.work.Answer.{Answer}
-use Rattle.sk_durable.specs.History.{is_logged, Command}
+use Rattle.sk_durable.proofs.Names.{◌≡◌, ℕ, zero, suc, ◌+◌, ◌-◌, ◌<◌, ◌≤◌, Bool, true, false, cond, not, ◌||◌, ◌&&◌}
+use Rattle.sk_durable.proofs.Names.{List, [], ◌∷◌, ◌++◌, length, map, take, inl, inr, refl, sym, ◌∙◌, ap, subst}
+use Rattle.sk_durable.proofs.Names.{append_assoc, arith, ◌⊎◌, ◌==◌, nat_lt, nat_le, both_ways, filter, list_any}
+use Rattle.sk_durable.proofs.Names.{AllByRecursion, Contains, false≢true, and_from, and_parts, eq-eqb, eqb-true, ne_eqb}
+use Rattle.sk_durable.proofs.Names.{or_cases, or_left, or_right, or_from, cases_lt, false_from_ne_true, le-leb}
+use Rattle.sk_durable.proofs.Names.{leb-true, lt-leb, lt-ltb, le-ltb, length-take-le, map-append, take-map}
+use Rattle.sk_durable.proofs.Names.{All-contains_itself, All-weaker, filter-append, recursion_from_All}
+use Rattle.sk_durable.proofs.Names.{Any-from_list_any, list_any-append, NUMBER_LIMIT, has, Event, failed_in, kept_log}
+use Rattle.sk_durable.proofs.Names.{range_struck, Batch, Stage, Kept, Sent, Synced, Failed, Refused, Cut, AreDense}
+use Rattle.sk_durable.proofs.Names.{IsAtCut, IsBehind, IsRange, after_cut, is_failed, is_refused, is_sent, is_taken}
+use Rattle.sk_durable.proofs.Names.{QueueView, RecordView, synced_after, all_both, all_of, cut_into, dense_at, of_all}
+use Rattle.sk_durable.proofs.Names.{CutInto, cut_number, failed_unkept, stays_below, Entry, Answer, is_logged, Command}
+use Rattle.std.specs.Prelude.{flat_map}
+use Rattle.std.proofs.lemmas.List.{length-append}
+use Rattle.sk_batches.specs.Queue.{cut_off, past}
+use Rattle.sk_batches.specs.Records.{is_struck, kept}
 use Rattle.sk_durable.proofs.Contained.{from_map}
 use Rattle.sk_durable.proofs.Frames.{in_frame, living, marked, next_marked, numbered, off, placed, unsent, AreOf, HasFrames, IsOf, Marked, Placed}
 

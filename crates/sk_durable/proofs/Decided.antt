@@ -1,26 +1,13 @@
 -- A batch is decided, or sent: what that is to the machine of records.
-use Rattle.std.proofs.Common.{◌≡◌, ℕ, true, false, [], ◌∷◌, ◌++◌, Option, Some, refl, sym, ◌∙◌, ap, subst}
-use Rattle.std.specs.Prelude.{slice_index_or}
-use Rattle.std.specs.List.{remove}
-use Rattle.sk_record.specs.Trace.{Commit, Fail}
-use Rattle.sk_record.specs.Machine.{with_failure, with_status}
-use Rattle.sk_record.specs.declared.status.Status.{Status}
+use Rattle.sk_durable.proofs.Names.{◌≡◌, ℕ, true, false, [], ◌∷◌, ◌++◌, Option, Some, refl, sym, ◌∙◌, ap, subst}
+use Rattle.sk_durable.proofs.Names.{slice_index_or, remove, Commit, Fail, with_failure, with_status, Status, Token}
+use Rattle.sk_durable.proofs.Names.{open_is, Moves, bytes_cmp, Commits, FailsIn, after_take, left, Decision, open_if}
+use Rattle.sk_durable.proofs.Names.{tokens_of, IsInStep, batch_of, decided_first, oldest_committed, oldest_failed}
+use Rattle.sk_durable.proofs.Names.{taken, Out, served, Kernel, StoreView}
 use Rattle.sk_record.specs.declared.status.Status.TheVariants as status_as
-use Rattle.sk_guesses.specs.Token.{Token}
-use Rattle.sk_guesses.proofs.Opens.{open_is}
-use Rattle.sk_deeds.specs.Moves.{Moves}
 use Rattle.sk_deeds.specs.Told.{Does}
-use Rattle.sk_index.specs.Index.{bytes_cmp}
-use Rattle.sk_speculator.specs.Calls.{Commits, FailsIn}
-use Rattle.sk_batches.specs.Queue.{after_take, decided, left}
-use Rattle.sk_batches.specs.declared.queue.Decision.{Decision}
+use Rattle.sk_batches.specs.Queue.{decided}
 use Rattle.sk_batches.specs.declared.queue.Decision.TheVariants as decision
-use Rattle.sk_batched.specs.InStep.{open_if, tokens_of, IsInStep}
-use Rattle.sk_batched.proofs.Queues.{batch_of, decided_first, oldest_committed, oldest_failed, taken}
-use Rattle.sk_served.specs.Calls.{Out}
-use Rattle.sk_served.specs.Served.{served}
-use Rattle.sk_durable.specs.Works.{Kernel}
-use Rattle.sk_durable.specs.Store.{StoreView}
 use Rattle.sk_durable.proofs.Machines.{Agree, machine, InStep, Led, Machine}
 
 module _ (told : Out) (a : StoreView) (status : ℕ → Option Status)

@@ -1,18 +1,8 @@
 -- Fewer outputs are left where channels are let go of.
-use Rattle.std.proofs.Common.{◌≡◌, ℕ, zero, suc, ◌+◌, ◌<◌, ◌≤◌, Bool, true, false, cond, List, [], ◌∷◌, length, map, Option, Some, None, refl, sym, ◌∙◌, ap, subst, arith}
-use Rattle.std.specs.Prelude.{◌==◌}
-use Rattle.std.proofs.lemmas.Bool.{eqb-true}
-use Rattle.std.proofs.lemmas.Bool.Decides.{nat_tests}
-use Rattle.std.proofs.lemmas.List.{length-map}
-use Rattle.sk_record.specs.Machine.{Tagged}
-use Rattle.sk_outputs.specs.Said.{said_at}
-use Rattle.sk_speculator.specs.Law.{TakesOut}
-use Rattle.sk_speculator.specs.Parts.{Parts}
-use Rattle.sk_commands.specs.declared.work.Answer.{Answer}
-use Rattle.sk_durable.specs.Works.{Batches}
-use Rattle.sk_durable.specs.Store.{first_answer, StoreView}
-use Rattle.sk_durable.specs.Calls.{Serves}
-use Rattle.sk_durable.specs.Posts.{drops, FreesIfLast, HasNoneReady, LetGoPost}
+use Rattle.sk_durable.proofs.Names.{◌≡◌, ℕ, zero, suc, ◌+◌, ◌<◌, ◌≤◌, Bool, true, false, cond, List, [], ◌∷◌, length}
+use Rattle.sk_durable.proofs.Names.{map, Option, Some, None, refl, sym, ◌∙◌, ap, subst, arith, ◌==◌, eqb-true}
+use Rattle.sk_durable.proofs.Names.{nat_tests, length-map, Tagged, said_at, TakesOut, Parts, Answer, Batches}
+use Rattle.sk_durable.proofs.Names.{first_answer, StoreView, Serves, drops, FreesIfLast, HasNoneReady, LetGoPost}
 
 -- ---- numbers, counted
 

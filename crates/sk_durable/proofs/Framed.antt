@@ -1,22 +1,13 @@
 -- What each call leaves of the frames and of the commands in them.
-use Rattle.std.proofs.Common.{◌≡◌, ℕ, ◌<◌, ◌≤◌, true, false, cond, not, List, [], ◌∷◌, ◌++◌, flat_map, map, inl, inr, refl, sym, ◌∙◌, ap, subst, append_assoc, length-append, arith}
-use Rattle.std.specs.Prelude.{◌⊎◌, ◌==◌}
-use Rattle.std.specs.List.{filter, Contains}
-use Rattle.std.proofs.lemmas.Bool.{true≢false, false≢true}
-use Rattle.std.proofs.lemmas.List.{append-nil, map-append}
-use Rattle.std.proofs.lemmas.List.Concat.{flat_map-append}
-use Rattle.std.proofs.lemmas.List.Elements.{filter-append, All-contains, All-from_recursion, Contains-append_cases, Contains-append_left, Contains-push_cases}
-use Rattle.sk_record.specs.Notes.{has}
-use Rattle.sk_record.specs.Trace.{Commit, Event, Fail, Taken}
-use Rattle.sk_rests.specs.Logged.{failed_in, is_struck, kept}
-use Rattle.sk_batches.specs.declared.batch.Stage.{Stage}
-use Rattle.sk_batches.specs.declared.batch.Stage.TheVariants.{Kept, Sent, Synced, Failed, Refused}
-use Rattle.sk_batches.specs.declared.batch.Batch.{Batch}
-use Rattle.sk_batches.specs.Dense.{AreDense, IsBehind}
-use Rattle.sk_batches.specs.Queue.{after_take, after_word, awaits, is_failed, is_kept, is_refused, is_sent, is_taken, next_records, tell, QueueView}
-use Rattle.sk_batches.specs.Records.{RecordView}
-use Rattle.sk_served.specs.Served.{Entry}
-use Rattle.sk_durable.specs.History.{is_logged, Command}
+use Rattle.sk_durable.proofs.Names.{◌≡◌, ℕ, ◌<◌, ◌≤◌, true, false, cond, not, List, [], ◌∷◌, ◌++◌, flat_map, map, inl}
+use Rattle.sk_durable.proofs.Names.{inr, refl, sym, ◌∙◌, ap, subst, append_assoc, length-append, arith, ◌⊎◌, ◌==◌}
+use Rattle.sk_durable.proofs.Names.{filter, Contains, true≢false, false≢true, append-nil, map-append, flat_map-append}
+use Rattle.sk_durable.proofs.Names.{filter-append, All-contains, All-from_recursion, Contains-append_cases}
+use Rattle.sk_durable.proofs.Names.{Contains-append_left, Contains-push_cases, has, Commit, Event, Fail, Taken}
+use Rattle.sk_durable.proofs.Names.{failed_in, is_struck, kept, Stage, Kept, Sent, Synced, Failed, Refused, Batch}
+use Rattle.sk_durable.proofs.Names.{AreDense, IsBehind, after_take, after_word, awaits, is_failed, is_kept, is_refused}
+use Rattle.sk_durable.proofs.Names.{is_sent, is_taken, next_records, tell, QueueView, RecordView, Entry, is_logged}
+use Rattle.sk_durable.proofs.Names.{Command}
 use Rattle.sk_durable.proofs.Contained.{at_later, from_map, nothing_there}
 use Rattle.sk_durable.proofs.Frames.{in_frame, living, marked, next_marked, off, placed, unsent, AreOf, HasFrames, IsBefore, IsBelow, IsOf, Marked, Placed}
 use Rattle.sk_durable.proofs.Marked.{all_told_placed, all_told_unsent, first_holds, next_unmarked, none_unsent, numbered_push, numbered_within, of_sent, off_sent, off_told, placed_of, placed_sent, sent_number, told_number}

@@ -1,17 +1,9 @@
 -- What the frames of the log have: the logged commands, each where its batch was sent.
-use Rattle.std.specs.Prelude.{◌≡◌, ◌||◌, ◌==◌, ◌+◌, ◌<◌, ◌≤◌, ℕ, true, List, [], ◌∷◌, ◌++◌, flat_map, length, map, Some, if◌then◌else◌}
-use Rattle.std.specs.List.{filter, Contains}
-use Rattle.sk_record.specs.Notes.{has}
-use Rattle.sk_record.specs.Trace.{Commit, Event}
-use Rattle.sk_rests.specs.Logged.{failed_in, kept}
-use Rattle.sk_batches.specs.declared.batch.Batch.{Batch}
-use Rattle.sk_batches.specs.Queue.{is_failed, is_kept, is_refused, is_sent, is_taken, QueueView}
-use Rattle.sk_batches.specs.Records.{RecordView}
-use Rattle.sk_commands.specs.Requests.{log_text}
-use Rattle.sk_served.specs.Served.{Asked, Entry, Runs}
-use Rattle.sk_durable.specs.Store.{StoreView}
-use Rattle.sk_durable.specs.Calls.{Call}
-use Rattle.sk_durable.specs.History.{carried, decided, frames, is_logged, synced, Command}
+use Rattle.sk_durable.proofs.Names.{◌==◌, if◌then◌else◌, filter, Contains, has, Commit, Event, failed_in, kept, Batch}
+use Rattle.sk_durable.proofs.Names.{is_failed, is_kept, is_refused, is_sent, is_taken, QueueView, RecordView, log_text}
+use Rattle.sk_durable.proofs.Names.{Asked, Entry, Runs, StoreView, Call, carried, decided, frames, is_logged, synced}
+use Rattle.sk_durable.proofs.Names.{Command}
+use Rattle.std.specs.Prelude.{◌≡◌, ◌||◌, ◌+◌, ◌<◌, ◌≤◌, ℕ, true, List, [], ◌∷◌, ◌++◌, flat_map, length, map, Some}
 
 -- ---- records, each with the number of its batch, and in frames with that of the frame before that
 

@@ -1,39 +1,16 @@
 -- What a call may do, told to the machine of records: nothing, a guess is drawn, an answer is taken out, a step is taken.
-use Rattle.std.proofs.Common.{◌≡◌, ℕ, Bool, true, false, not, ◌||◌, ◌&&◌, List, [], ◌∷◌, ◌++◌, length, map, Option, Some, None, Ok, inl, inr, refl, sym, ◌∙◌, ap, subst, arith}
-use Rattle.std.specs.Prelude.{◌==◌, nat_le}
-use Rattle.std.specs.List.{list_any}
+use Rattle.sk_durable.proofs.Names.{◌≡◌, ℕ, Bool, true, false, not, ◌||◌, ◌&&◌, List, [], ◌∷◌, ◌++◌, length, map}
+use Rattle.sk_durable.proofs.Names.{Option, Some, None, Ok, inl, inr, refl, sym, ◌∙◌, ap, subst, arith, ◌==◌, nat_le}
+use Rattle.sk_durable.proofs.Names.{list_any, true≢false, leb-false, has, marked_effect, Taken, is_tag, tags_at}
+use Rattle.sk_durable.proofs.Names.{with_drawn, Status, AreStatuses, Token, Deed, effect_of, IsNext, Moves, told_more}
+use Rattle.sk_durable.proofs.Names.{TakenOut, look_at, log_at, bytes_cmp, next_of, Takes, TakesOut, undo_state_of}
+use Rattle.sk_durable.proofs.Names.{IsSame, Parts, is_full, opening, IsStill, Stays, IsInStep, batch_key, Spares}
+use Rattle.sk_durable.proofs.Names.{begins, requeued, said_less, same_seen, step_taken, IsNumbered, all_same}
+use Rattle.sk_durable.proofs.Names.{same_machine, same_statuses, Answer, comes_to, IsProper, Out, deed, served, Asked}
+use Rattle.sk_durable.proofs.Names.{Opens, Runs, acts, has_now, touched, Batches, Kernel, StoreView, Command}
 use Rattle.std.specs.Option.{unwrap_or}
-use Rattle.std.proofs.lemmas.Bool.{true≢false, leb-false}
-use Rattle.sk_record.specs.Notes.{has}
-use Rattle.sk_record.specs.Run.{marked_effect}
-use Rattle.sk_record.specs.Trace.{Taken}
-use Rattle.sk_record.specs.UndoState.{is_tag, tags_at}
-use Rattle.sk_record.specs.Machine.{with_drawn}
-use Rattle.sk_record.specs.declared.status.Status.{Status}
-use Rattle.sk_guesses.specs.Kept.{AreStatuses}
-use Rattle.sk_guesses.specs.Token.{Token}
-use Rattle.sk_deeds.specs.Deed.{Deed, effect_of}
-use Rattle.sk_deeds.specs.Moves.{IsNext, Moves}
-use Rattle.sk_deeds.specs.Told.{told_more, Does, TakenOut, Tells}
-use Rattle.sk_slots.specs.Slots.{look_at, log_at}
-use Rattle.sk_index.specs.Index.{bytes_cmp}
-use Rattle.sk_speculator.specs.Calls.{next_of, Takes}
-use Rattle.sk_speculator.specs.Law.{TakesOut}
-use Rattle.sk_speculator.specs.Parts.{undo_state_of, IsSame, Parts}
-use Rattle.sk_batched.specs.Batched.{is_full, opening, Draws, IsStill, Stays}
-use Rattle.sk_batched.specs.InStep.{IsInStep}
-use Rattle.sk_reserved.specs.Keys.{batch_key}
-use Rattle.sk_batched.proofs.Moves.{Spares}
-use Rattle.sk_batched.proofs.Queues.{begins, requeued, said_less, same_seen, step_taken, IsNumbered}
-use Rattle.sk_batched.proofs.Same.{all_same, same_machine, same_statuses}
-use Rattle.sk_commands.specs.declared.work.Answer.{Answer}
-use Rattle.sk_commands.specs.Work.{comes_to}
-use Rattle.sk_served.specs.Calls.{IsProper, Out}
-use Rattle.sk_served.specs.Served.{deed, served, Asked, Opens, Runs}
-use Rattle.sk_served.proofs.Steps.{acts}
-use Rattle.sk_durable.specs.Works.{has_now, touched, Batches, Kernel}
-use Rattle.sk_durable.specs.Store.{StoreView}
-use Rattle.sk_durable.specs.History.{Command}
+use Rattle.sk_deeds.specs.Told.{Does, Tells}
+use Rattle.sk_batched.specs.Batched.{Draws}
 use Rattle.sk_durable.proofs.Machines.{Agree, machine, InStep, Led, Machine}
 
 abbrev Inner : Type 0

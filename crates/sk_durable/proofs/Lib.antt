@@ -1,3 +1,4 @@
+pub mod Names
 pub mod Ways
 pub mod Calls
 pub mod Fewer

@@ -1,27 +1,16 @@
 -- The keys that have places, listed: each once, and none is left out but those of batches.
-use Rattle.std.proofs.Common.{◌≡◌, ℕ, zero, suc, ◌+◌, ◌<◌, ◌≤◌, Bool, true, false, cond, ◌||◌, List, [], ◌∷◌, ◌++◌, map, length, get_or, Option, Some, None, ◌⊎◌, inl, inr, ⊎_elim, bytes_eq, refl, sym, ap, ◌∙◌, subst, arith}
-use Rattle.std.specs.Global.{Vec}
-use Rattle.std.specs.Vec.{vec_items}
+use Rattle.sk_durable.proofs.Names.{◌≡◌, ℕ, zero, suc, ◌+◌, ◌<◌, ◌≤◌, Bool, true, false, cond, ◌||◌, List, [], ◌∷◌}
+use Rattle.sk_durable.proofs.Names.{◌++◌, map, length, get_or, Option, Some, None, inl, inr, ⊎_elim, bytes_eq, refl}
+use Rattle.sk_durable.proofs.Names.{sym, ap, ◌∙◌, subst, arith, Vec, vec_items, IsPermutation, IsSorted, IsSortedByKey}
+use Rattle.sk_durable.proofs.Names.{IsStrictlySortedBy, is_eq, is_lt, ordering_reverse, Ordering, Less, Equal, Greater}
+use Rattle.sk_durable.proofs.Names.{true≢false, cases_eq, cases_lt, false_from_ne_true, or_left, or_right}
+use Rattle.sk_durable.proofs.Names.{nat_list_eq_equiv, get_or-map, length-map, list_any-append, list_any-IsPermutation}
+use Rattle.sk_durable.proofs.Names.{IsPermutation-map, IsDistinct-push, IsDistinct-IsPermutation, apart_from_distinct}
+use Rattle.sk_durable.proofs.Names.{sorted_from_all_adjacent, is_eq-slice_cmp, bytes_eq-Decides, bytes_cmp, number_of}
+use Rattle.sk_durable.proofs.Names.{string_of, Numbered, HasPlaces, IsTwoWay, bytes_total, is_among, is_reserved}
+use Rattle.sk_durable.proofs.Names.{Kernel, LacksNone}
+use Rattle.std.proofs.Common.{◌⊎◌}
 use Rattle.std.specs.List.{IsDistinct}
-use Rattle.std.specs.List.Sorted.{IsPermutation, IsSorted, IsSortedByKey, IsStrictlySortedBy}
-use Rattle.std.specs.Ordering.{is_eq, is_lt, ordering_reverse}
-use Rattle.std.specs.declared.cmp.Ordering.{Ordering}
-use Rattle.std.specs.declared.cmp.Ordering.TheVariants.{Less, Equal, Greater}
-use Rattle.std.proofs.lemmas.Bool.{true≢false, cases_eq, cases_lt, false_from_ne_true, or_left, or_right}
-use Rattle.std.proofs.lemmas.Cmp.{nat_list_eq_equiv}
-use Rattle.std.proofs.lemmas.List.{get_or-map, length-map}
-use Rattle.std.proofs.lemmas.List.Folds.{list_any-append}
-use Rattle.std.proofs.lemmas.List.Sorted.{list_any-IsPermutation, IsPermutation-map}
-use Rattle.std.proofs.lemmas.Map.Keys.{IsDistinct-push, IsDistinct-IsPermutation, apart_from_distinct, sorted_from_all_adjacent}
-use Rattle.std.proofs.lemmas.Map.Text.{is_eq-slice_cmp}
-use Rattle.std.proofs.lemmas.Slice.Eq.{bytes_eq-Decides}
-use Rattle.sk_index.specs.Index.{bytes_cmp, number_of, string_of, Numbered}
-use Rattle.sk_bytes.specs.Calls.{HasPlaces}
-use Rattle.sk_bytes.specs.Told.{IsTwoWay}
-use Rattle.sk_bytes.proofs.Told.{bytes_total}
-use Rattle.sk_commands.specs.Table.{is_among}
-use Rattle.sk_reserved.specs.Keys.{is_reserved}
-use Rattle.sk_durable.specs.Works.{Kernel, LacksNone}
 
 -- one more, where the place has a key that is no batch's
 abbrev pub more : Option (List ℕ) → List (List ℕ) → List (List ℕ)

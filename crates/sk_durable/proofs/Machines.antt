@@ -1,24 +1,12 @@
 -- Calls of the machine of records, one list behind another, with what is logged of them.
-use Rattle.std.proofs.Common.{◌≡◌, ℕ, Bool, true, false, List, [], ◌∷◌, ◌++◌, Option, None, refl, sym, ◌∙◌, ap, subst, append_assoc}
-use Rattle.std.specs.List.{filter}
-use Rattle.std.proofs.lemmas.List.Elements.{filter-append}
-use Rattle.sk_record.specs.Trace.{Event, Taken, Commit, Fail}
-use Rattle.sk_record.specs.declared.status.Status.{Status}
-use Rattle.sk_guesses.specs.Kept.{AreStatuses}
-use Rattle.sk_guesses.specs.Token.{Token}
-use Rattle.sk_deeds.specs.Told.{moves_of, told_more, Does, Tells}
+use Rattle.sk_durable.proofs.Names.{◌≡◌, ℕ, Bool, true, false, List, [], ◌∷◌, ◌++◌, Option, None, refl, sym, ◌∙◌, ap}
+use Rattle.sk_durable.proofs.Names.{subst, append_assoc, filter, filter-append, Event, Taken, Commit, Fail, Status}
+use Rattle.sk_durable.proofs.Names.{AreStatuses, Token, moves_of, told_more, bytes_cmp, machine_of, IsInStep, Logs}
+use Rattle.sk_durable.proofs.Names.{Answer, Out, StoreCalls, served, Entry, Opens, Runs, Batches, Kernel, StoreView}
+use Rattle.sk_durable.proofs.Names.{Command}
+use Rattle.sk_deeds.specs.Told.{Does, Tells}
 use Rattle.sk_deeds.specs.Told as deeds
-use Rattle.sk_index.specs.Index.{bytes_cmp}
-use Rattle.sk_speculator.specs.Parts.{machine_of}
-use Rattle.sk_batched.specs.InStep.{IsInStep}
-use Rattle.sk_rests.specs.Logged.{Logs}
-use Rattle.sk_commands.specs.declared.work.Answer.{Answer}
-use Rattle.sk_served.specs.Calls.{Out, StoreCalls}
 use Rattle.sk_served.specs.Calls as served_calls
-use Rattle.sk_served.specs.Served.{served, Entry, Opens, Runs}
-use Rattle.sk_durable.specs.Works.{Batches, Kernel}
-use Rattle.sk_durable.specs.Store.{StoreView}
-use Rattle.sk_durable.specs.History.{Command}
 
 abbrev pub Machine : Type 0
 Machine = served_calls.Kernel

@@ -1,17 +1,13 @@
 -- Records of batches in frames, and what a queue's calls make of them.
-use Rattle.std.proofs.Common.{◌≡◌, ℕ, zero, suc, ◌+◌, ◌<◌, ◌≤◌, Bool, true, false, cond, List, [], ◌∷◌, ◌++◌, flat_map, length, map, drop, inl, inr, refl, sym, ◌∙◌, ap, append_assoc, arith}
-use Rattle.std.specs.Prelude.{◌⊎◌, ◌==◌, ◌&&◌}
-use Rattle.std.specs.List.{filter, AllByRecursion, Contains}
-use Rattle.std.proofs.lemmas.Bool.{false≢true}
-use Rattle.std.proofs.lemmas.List.{append-nil, map-append}
-use Rattle.std.proofs.lemmas.List.Concat.{flat_map-append}
-use Rattle.std.proofs.lemmas.List.Elements.{filter-append, Contains-append_cases, Contains-append_left, Contains-append_right, Contains-push_cases}
-use Rattle.sk_batches.specs.declared.batch.Stage.{Stage}
-use Rattle.sk_batches.specs.declared.batch.Stage.TheVariants.{Kept, Sent, Synced, Failed, Refused}
-use Rattle.sk_batches.specs.declared.batch.Batch.{Batch}
-use Rattle.sk_batches.specs.Dense.{AreDense, IsBehind}
-use Rattle.sk_batches.specs.Queue.{after_take, awaits, is_kept, is_refused, is_sent, is_taken, kept_of, kept_records, next_records, open_batch, send, tell, QueueView}
-use Rattle.sk_batches.specs.Records.{RecordView}
+use Rattle.sk_durable.proofs.Names.{◌≡◌, ℕ, zero, suc, ◌+◌, ◌<◌, ◌≤◌, Bool, true, false, cond, List, [], ◌∷◌, ◌++◌}
+use Rattle.sk_durable.proofs.Names.{flat_map, length, map, drop, inl, inr, refl, sym, ◌∙◌, ap, append_assoc, arith, ◌⊎◌}
+use Rattle.sk_durable.proofs.Names.{◌==◌, filter, AllByRecursion, Contains, false≢true, append-nil, map-append}
+use Rattle.sk_durable.proofs.Names.{flat_map-append, filter-append, Contains-append_cases, Contains-append_left}
+use Rattle.sk_durable.proofs.Names.{Contains-append_right, Contains-push_cases, Stage, Kept, Sent, Synced, Failed}
+use Rattle.sk_durable.proofs.Names.{Refused, Batch, AreDense, IsBehind, after_take, awaits, is_kept, is_refused}
+use Rattle.sk_durable.proofs.Names.{is_sent, is_taken, kept_of, kept_records, next_records, open_batch, send, tell}
+use Rattle.sk_durable.proofs.Names.{QueueView, RecordView}
+use Rattle.std.specs.Prelude.{◌&&◌}
 use Rattle.sk_durable.proofs.Contained.{from_map, nothing_there, to_map}
 use Rattle.sk_durable.proofs.Frames.{in_frame, marked, next_marked, numbered, off, placed, unsent, Marked, Placed}
 

@@ -1,30 +1,17 @@
 -- A batch that is told as logged lies in frames that were told as synced, and its frame has all that it logs.
-use Rattle.std.proofs.Common.{◌≡◌, ℕ, suc, ◌+◌, ◌-◌, ◌<◌, ◌≤◌, Bool, true, false, cond, not, List, [], ◌∷◌, ◌++◌, map, Option, Some, None, inl, inr, refl, sym, ◌∙◌, ap, subst, arith}
-use Rattle.std.specs.Prelude.{◌==◌, flat_map, slice_get}
-use Rattle.std.specs.List.{filter, Contains}
-use Rattle.std.specs.Option.{option_map}
-use Rattle.std.proofs.lemmas.Bool.{true≢false, false≢true, eqb-true, or_cases, false_from_ne_true, not_from_false}
-use Rattle.std.proofs.lemmas.List.Elements.{Contains-append_cases, Contains-append_left, Contains-append_right}
-use Rattle.std.proofs.lemmas.List.Folds.{list_any-append}
-use Rattle.std.proofs.lemmas.Option.{slice_get-map}
-use Rattle.sk_record.specs.Notes.{has}
-use Rattle.sk_record.specs.Trace.{Event}
-use Rattle.sk_rests.specs.Logged.{failed_in, is_struck, kept}
-use Rattle.sk_batches.specs.declared.batch.Batch.{Batch}
-use Rattle.sk_batches.specs.declared.batch.Stage.{Stage}
-use Rattle.sk_batches.specs.declared.batch.Stage.TheVariants.{Kept, Sent, Synced, Failed, Refused}
-use Rattle.sk_batches.specs.declared.queue.Decision.{Decision}
+use Rattle.sk_durable.proofs.Names.{◌≡◌, ℕ, suc, ◌+◌, ◌-◌, ◌<◌, ◌≤◌, Bool, true, false, cond, not, List, [], ◌∷◌, ◌++◌}
+use Rattle.sk_durable.proofs.Names.{map, Option, Some, None, inl, inr, refl, sym, ◌∙◌, ap, subst, arith, ◌==◌}
+use Rattle.sk_durable.proofs.Names.{slice_get, filter, Contains, option_map, true≢false, false≢true, eqb-true, or_cases}
+use Rattle.sk_durable.proofs.Names.{false_from_ne_true, not_from_false, Contains-append_cases, Contains-append_left}
+use Rattle.sk_durable.proofs.Names.{Contains-append_right, list_any-append, slice_get-map, has, Event, failed_in}
+use Rattle.sk_durable.proofs.Names.{is_struck, kept, Batch, Stage, Kept, Sent, Synced, Failed, Refused, Decision}
+use Rattle.sk_durable.proofs.Names.{AreDense, IsBehind, decision_of, is_kept, is_refused, is_taken, QueueView}
+use Rattle.sk_durable.proofs.Names.{RecordView, dense_at, of_all, Logged, log_text, Asked, Entry, Opens, Runs, Decides}
+use Rattle.sk_durable.proofs.Names.{Serves, carried, told_decided, frames, is_logged, stands, Command, HasDone}
+use Rattle.sk_durable.proofs.Names.{LoggedIsOnDisk}
+use Rattle.std.specs.Prelude.{flat_map}
 use Rattle.sk_batches.specs.declared.queue.Decision.TheVariants as decision
-use Rattle.sk_batches.specs.Dense.{AreDense, IsBehind}
-use Rattle.sk_batches.specs.Queue.{decided, decision_of, is_kept, is_refused, is_taken, QueueView}
-use Rattle.sk_batches.specs.Records.{RecordView}
-use Rattle.sk_batches.proofs.Dense.{dense_at, of_all}
-use Rattle.sk_batched.specs.declared.batched.Outcome.TheVariants.{Logged}
-use Rattle.sk_commands.specs.Requests.{log_text}
-use Rattle.sk_served.specs.Served.{Asked, Entry, Opens, Runs}
-use Rattle.sk_durable.specs.Calls.{Decides, Serves}
-use Rattle.sk_durable.specs.History.{carried, decided as told_decided, frames, is_logged, stands, Command}
-use Rattle.sk_durable.specs.Laws.{HasDone, LoggedIsOnDisk}
+use Rattle.sk_batches.specs.Queue.{decided}
 use Rattle.sk_durable.proofs.Contained.{at_first, at_later, first_or_later, from_filter, from_flat, from_map, nothing_there, to_filter, to_map}
 use Rattle.sk_durable.proofs.Cuts.{any_has, has_any}
 use Rattle.sk_durable.proofs.Frames.{in_frame, living, marked, next_marked, numbered, off, placed, unsent, AreOf, HasFrames, IsOf, Marked, Placed}

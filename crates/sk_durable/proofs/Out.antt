@@ -1,45 +1,27 @@
 -- What calls on the way out come to, and calls of the log.
-use Rattle.std.proofs.Common.{◌≡◌, ◌≢◌, ℕ, zero, suc, ◌+◌, ◌-◌, ◌<◌, ◌≤◌, ◌^◌, Bool, true, false, List, [], ◌∷◌, ◌++◌, length, map, drop, take, min, Option, Some, None, Result, Ok, Err, refl, sym, ◌∙◌, ap, subst, inl, inr, arith}
-use Rattle.std.specs.Prelude.{◌⊎◌, nat_le, unwrap_or, IfSome, if◌then◌else◌}
-use Rattle.std.specs.Option.{option_map}
+use Rattle.sk_durable.proofs.Names.{◌≡◌, ◌≢◌, ℕ, zero, suc, ◌+◌, ◌-◌, ◌<◌, ◌≤◌, ◌^◌, Bool, true, false, List, [], ◌∷◌}
+use Rattle.sk_durable.proofs.Names.{◌++◌, length, map, drop, take, min, Option, Some, None, Result, Ok, Err, refl, sym}
+use Rattle.sk_durable.proofs.Names.{◌∙◌, ap, subst, inl, inr, arith, ◌⊎◌, nat_le, unwrap_or, IfSome, if◌then◌else◌}
+use Rattle.sk_durable.proofs.Names.{option_map, nat_tests, append-nil, append_cancel_left, map-append, released, Tagged}
+use Rattle.sk_durable.proofs.Names.{said_at, first_of, TakesOut, Parts, WordPost, next_segment, PlacesView, QueueView}
+use Rattle.sk_durable.proofs.Names.{Stage, Synced, Failed, Cut, Queued, Outcome, Channel, Ask, Table, HasServed}
+use Rattle.sk_durable.proofs.Names.{RefusePost, ReplyPost, channel_at, channel_of, is_hung_up, with_channel, Told}
+use Rattle.sk_durable.proofs.Names.{Answer, answer_text, Requests, Refusal, NoChannel, NoTicket, DecisionDue}
+use Rattle.sk_durable.proofs.Names.{channel_refused, Batches, bound, first_answer, has_refusals, was_handed}
+use Rattle.sk_durable.proofs.Names.{was_refused, was_told, Becomes, HasPast, HavePasts, Past, StoreView, Call, Cuts}
+use Rattle.sk_durable.proofs.Names.{Drops, Frees, Hands, Refuses, Stops, Tells, Does, Passes, SameBatches, Serves}
+use Rattle.sk_durable.proofs.Names.{drops, tells, AllLetGo, BringPost, CutPost, DecidePost, FreesIfLast, HandsOver}
+use Rattle.sk_durable.proofs.Names.{HasNoneReady, HoldsTooMany, IsHeldUp, IsReady, IsStray, LearnPost, LetGoPost}
+use Rattle.sk_durable.proofs.Names.{LetsGo, ReadyPost, RefusedPost, StopsThere, Sweeps, TurnPost}
 use Rattle.std.specs.List.{slice_get}
-use Rattle.std.proofs.lemmas.Bool.Decides.{nat_tests}
-use Rattle.std.proofs.lemmas.List.{append-nil, append_cancel_left, map-append}
-use Rattle.sk_record.specs.Machine.{released, Tagged}
-use Rattle.sk_outputs.specs.Said.{said_at, first_of}
-use Rattle.sk_speculator.specs.Law.{TakesOut}
-use Rattle.sk_speculator.specs.Parts.{Parts}
 use Rattle.sk_batches.specs.Calls as queued
-use Rattle.sk_batches.specs.Calls.{WordPost}
 use Rattle.sk_batches.specs.Places as places
-use Rattle.sk_batches.specs.Places.{next_segment, PlacesView}
-use Rattle.sk_batches.specs.Queue.{QueueView}
-use Rattle.sk_batches.specs.declared.batch.Stage.{Stage}
-use Rattle.sk_batches.specs.declared.batch.Stage.TheVariants.{Synced, Failed}
-use Rattle.sk_batches.specs.declared.queue.Cut.{Cut}
-use Rattle.sk_batches.specs.declared.refusal.Refusal.{Refusal as Queued}
 use Rattle.sk_batches.specs.declared.refusal.Refusal.TheVariants as stopping
 use Rattle.sk_batched.specs.Batched as batched
-use Rattle.sk_batched.specs.declared.batched.Outcome.{Outcome}
-use Rattle.sk_channels.specs.declared.channel.Channel.{Channel}
 use Rattle.sk_channels.specs.declared.refusal.Refusal.{Refusal as Channels}
 use Rattle.sk_channels.specs.declared.refusal.Refusal.TheVariants as channels
-use Rattle.sk_channels.specs.declared.inlet.Ask.{Ask}
-use Rattle.sk_channels.specs.declared.table.Channels.{Channels as Table}
-use Rattle.sk_channels.specs.Serving.{HasServed, RefusePost, ReplyPost}
-use Rattle.sk_channels.specs.Table.{channel_at, channel_of, is_hung_up, with_channel}
-use Rattle.sk_channels.specs.Telling.{Told}
-use Rattle.sk_commands.specs.declared.work.Answer.{Answer}
-use Rattle.sk_commands.specs.Texts.{answer_text}
-use Rattle.sk_requests.specs.declared.limits.Limits.{Limits as Requests}
-use Rattle.sk_durable.specs.declared.refusal.Refusal.{Refusal}
-use Rattle.sk_durable.specs.declared.refusal.Refusal.TheVariants.{NoChannel, Full, NoTicket, Memory, DecisionDue}
-use Rattle.sk_durable.specs.Refused.{channel_refused}
-use Rattle.sk_durable.specs.Works.{Batches}
-use Rattle.sk_durable.specs.Store.{bound, first_answer, has_refusals, was_handed, was_refused, was_told, Becomes, HasPast, HavePasts, Past, StoreView}
-use Rattle.sk_durable.specs.Calls.{Call, Cuts, Drops, Frees, Hands, Refuses, Stops, Tells, Does, Passes, SameBatches, Serves}
+use Rattle.sk_durable.specs.declared.refusal.Refusal.TheVariants.{Full, Memory}
 use Rattle.sk_durable.proofs.Ways.{now_there, past_goes}
-use Rattle.sk_durable.specs.Posts.{drops, tells, AllLetGo, BringPost, CutPost, DecidePost, FreesIfLast, HandsOver, HasNoneReady, HoldsTooMany, IsHeldUp, IsReady, IsStray, LearnPost, LetGoPost, LetsGo, ReadyPost, RefusedPost, StopsThere, Sweeps, TurnPost}
 
 -- ---- calls one after another
 

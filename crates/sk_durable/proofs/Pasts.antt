@@ -1,27 +1,17 @@
 -- What each call of a store makes of one channel.
-use Rattle.std.proofs.Common.{◌≡◌, ◌≢◌, ℕ, ◌+◌, ◌<◌, ◌≤◌, Bool, true, false, cond, not, List, [], ◌∷◌, ◌++◌, length, length-append, get_or-set_same, get_or-set_other, Option, Some, None, inl, inr, ⊎_elim, refl, sym, ◌∙◌, ap, subst, append_assoc, arith}
-use Rattle.std.specs.Prelude.{◌==◌, ◌⊎◌, if◌then◌else◌}
-use Rattle.std.proofs.lemmas.Bool.{false≢true, cases_lt, eq-eqb, eqb-true, eqb-false}
-use Rattle.std.proofs.lemmas.List.{append-nil, get_or_past}
-use Rattle.sk_requests.specs.declared.limits.Limits.{Limits as Requests}
-use Rattle.sk_channels.specs.declared.channel.Channel.{Channel}
-use Rattle.sk_channels.specs.declared.inlet.Ask.{Ask}
-use Rattle.sk_channels.specs.declared.table.Channels.{Channels}
-use Rattle.sk_channels.specs.Table.{channel_at, channel_of, hung_up, place_at, released}
-use Rattle.sk_commands.specs.declared.work.Answer.{Answer}
-use Rattle.sk_commands.specs.declared.work.Work.{Work}
-use Rattle.sk_commands.specs.Texts.{answer_text}
-use Rattle.sk_record.specs.Release.{said_by}
-use Rattle.sk_rests.specs.Logged.{is_struck, kept, said_to}
-use Rattle.sk_deeds.specs.Told.{told_more}
-use Rattle.sk_served.specs.Calls.{Out}
-use Rattle.sk_served.specs.Served.{served, Asked, Runs}
-use Rattle.sk_durable.specs.declared.works.Asker.{Asker}
-use Rattle.sk_durable.specs.Asked.{error, long_key_words, work_of}
-use Rattle.sk_durable.specs.Works.{Batches}
-use Rattle.sk_durable.specs.Store.{asked_for, bound, came, first_answer, no_past, was_handed, was_refused, was_told, Becomes, Goes, HasPast, Past, StoreView}
-use Rattle.sk_durable.specs.Calls.{Call, Connects, HangsUp, Frees, Hears, Carries, Declines, Tells, Drops, Refuses, Hands, Draws, Sends, Turns, Learns, Cuts, Stops, Decides, Rests, Does, IsFor, MayBeTold, Passes}
-use Rattle.sk_durable.specs.History.{carried, carried_after, carried_by, carried_from, past, past_after, past_from, Command}
+use Rattle.sk_durable.proofs.Names.{◌≡◌, ◌≢◌, ℕ, ◌+◌, ◌<◌, ◌≤◌, Bool, true, false, cond, not, List, [], ◌∷◌, ◌++◌}
+use Rattle.sk_durable.proofs.Names.{length, length-append, get_or-set_same, get_or-set_other, Option, Some, None, inl}
+use Rattle.sk_durable.proofs.Names.{inr, ⊎_elim, refl, sym, ◌∙◌, ap, subst, append_assoc, arith, ◌==◌, ◌⊎◌}
+use Rattle.sk_durable.proofs.Names.{if◌then◌else◌, false≢true, cases_lt, eq-eqb, eqb-true, eqb-false, append-nil}
+use Rattle.sk_durable.proofs.Names.{get_or_past, Requests, Channel, Ask, Channels, channel_at, channel_of, hung_up}
+use Rattle.sk_durable.proofs.Names.{place_at, Answer, Work, answer_text, said_by, is_struck, kept, said_to, told_more}
+use Rattle.sk_durable.proofs.Names.{Out, served, Asked, Runs, Asker, error, long_key_words, work_of, Batches, asked_for}
+use Rattle.sk_durable.proofs.Names.{bound, came, first_answer, no_past, was_handed, was_refused, was_told, Becomes}
+use Rattle.sk_durable.proofs.Names.{Goes, HasPast, Past, StoreView, Call, Connects, HangsUp, Frees, Hears, Carries}
+use Rattle.sk_durable.proofs.Names.{Declines, Tells, Drops, Refuses, Hands, Draws, Sends, Turns, Learns, Cuts, Stops}
+use Rattle.sk_durable.proofs.Names.{Decides, Rests, Does, IsFor, MayBeTold, Passes, carried, carried_after, carried_by}
+use Rattle.sk_durable.proofs.Names.{carried_from, past, past_after, past_from, Command}
+use Rattle.sk_channels.specs.Table.{released}
 use Rattle.sk_durable.proofs.Served.{outs_by, outs_from}
 use Rattle.sk_durable.proofs.Tickets.{kept_append}
 

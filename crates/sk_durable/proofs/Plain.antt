@@ -1,48 +1,21 @@
 -- What keys have and what was said is as in a plain store that carries out what stands.
-use Rattle.std.proofs.Common.{◌≡◌, ◌↔◌, ◌⊎◌, ℕ, zero, suc, ◌+◌, ◌*◌, Bool, true, false, cond, not, List, [], ◌∷◌, ◌++◌, map, Option, Some, None, inl, inr, refl, sym, ◌∙◌, ap, subst, arith}
-use Rattle.std.specs.Prelude.{◌==◌, T}
-use Rattle.std.specs.Int.NonZero.{non_zero_u16_get}
-use Rattle.std.specs.List.{filter, Contains}
-use Rattle.std.specs.FinMap.{FinMap, from_sorted, get, get-from_sorted}
-use Rattle.std.proofs.lemmas.Bool.{false≢true}
-use Rattle.std.proofs.lemmas.List.{map-append}
-use Rattle.std.proofs.lemmas.List.Elements.{Contains-append_cases, Contains-append_right}
-use Rattle.sk_record.specs.Machine.{Tagged}
-use Rattle.sk_record.specs.Notes.{has}
+use Rattle.sk_durable.proofs.Names.{◌≡◌, ◌↔◌, ℕ, zero, suc, ◌+◌, ◌*◌, Bool, true, false, cond, not, List, [], ◌∷◌, ◌++◌}
+use Rattle.sk_durable.proofs.Names.{map, Option, Some, None, inl, inr, refl, sym, ◌∙◌, ap, subst, arith, ◌==◌, T}
+use Rattle.sk_durable.proofs.Names.{non_zero_u16_get, filter, Contains, FinMap, from_sorted, get, get-from_sorted}
+use Rattle.sk_durable.proofs.Names.{false≢true, map-append, Contains-append_cases, Contains-append_right, Tagged, has}
+use Rattle.sk_durable.proofs.Names.{Commit, Event, Fail, Taken, numbers, KeptView, Starts, moves_of, said_at, bytes_cmp}
+use Rattle.sk_durable.proofs.Names.{bytes_exact, bytes_total, capped, LoggedBatch, IsInStep, IsRow, batch_key}
+use Rattle.sk_durable.proofs.Names.{capped_small, new_in_step, IsAsLogged, failed_in, is_struck, kept, resting_among}
+use Rattle.sk_durable.proofs.Names.{said_to, as_logged, part_is_kept, Answer, held, Entries, Out, HoldsSame}
+use Rattle.sk_durable.proofs.Names.{entries_after, entry_after, replies_to, reply_to, served, Entry, Opens, Runs}
+use Rattle.sk_durable.proofs.Names.{calls_plain, Limits, Next, has_now, StoreView, Call, Decides, carried, decided}
+use Rattle.sk_durable.proofs.Names.{decided_by, entries, failed, stands, Command, says_to, AnswersArePlain, HasDone}
+use Rattle.sk_durable.proofs.Names.{IsLogged, MapIsPlain}
+use Rattle.std.proofs.Common.{◌⊎◌}
 use Rattle.sk_record.specs.Release as releases
-use Rattle.sk_record.specs.Trace.{Commit, Event, Fail, Taken}
-use Rattle.sk_record.specs.UndoState.{numbers}
 use Rattle.sk_record.specs.declared.status.Status.TheVariants as status_as
-use Rattle.sk_guesses.specs.Kept.{KeptView}
-use Rattle.sk_deeds.specs.Moves.{Starts}
-use Rattle.sk_deeds.specs.Told.{moves_of}
-use Rattle.sk_outputs.specs.Said.{said_at}
-use Rattle.sk_index.specs.Index.{bytes_cmp}
-use Rattle.sk_bytes.proofs.Told.{bytes_exact, bytes_total}
-use Rattle.sk_batched.specs.Batched.{capped}
-use Rattle.sk_batched.specs.declared.batched.Outcome.TheVariants.{Logged as LoggedBatch, Refused}
-use Rattle.sk_batched.specs.InStep.{IsInStep, IsRow}
-use Rattle.sk_reserved.specs.Keys.{batch_key}
-use Rattle.sk_batched.proofs.Answering.{capped_small}
-use Rattle.sk_batched.proofs.Queues.{new_in_step}
-use Rattle.sk_rests.specs.Laws.{IsAsLogged}
-use Rattle.sk_rests.specs.Logged.{failed_in, is_struck, kept, resting_among, said_to}
-use Rattle.sk_rests.proofs.Ends.{as_logged}
-use Rattle.sk_rests.proofs.Idle.{part_is_kept}
-use Rattle.sk_commands.specs.declared.work.Answer.{Answer}
-use Rattle.sk_plain_store.specs.Plain.{held, Entries}
-use Rattle.sk_served.specs.Calls.{Out}
-use Rattle.sk_served.specs.Laws.{HoldsSame}
-use Rattle.sk_served.specs.Plain.{entries_after, entry_after, replies_to, reply_to}
-use Rattle.sk_served.specs.Served.{served, Entry, Opens, Runs}
-use Rattle.sk_served.proofs.Called.{calls_plain}
-use Rattle.sk_durable.specs.declared.limits.Limits.{Limits}
-use Rattle.sk_durable.specs.declared.store.Next.{Next}
-use Rattle.sk_durable.specs.Works.{has_now}
-use Rattle.sk_durable.specs.Store.{StoreView}
-use Rattle.sk_durable.specs.Calls.{Call, Decides}
-use Rattle.sk_durable.specs.History.{carried, decided, decided_by, entries, failed, stands, Command}
-use Rattle.sk_durable.specs.Laws.{said_by, said_to as says_to, AnswersArePlain, HasDone, IsLogged, MapIsPlain}
+use Rattle.sk_batched.specs.declared.batched.Outcome.TheVariants.{Refused}
+use Rattle.sk_durable.specs.Laws.{said_by}
 use Rattle.sk_durable.proofs.Machines.{Agree, is_decision, machine, runs_work, InStep, Led, Quiet}
 use Rattle.sk_durable.proofs.Served.{calls, outs_from}
 

@@ -1,45 +1,23 @@
 -- All that a store did, told to its queue.
-use Rattle.std.proofs.Common.{◌≡◌, ℕ, ◌<◌, ◌≤◌, Bool, true, false, List, [], ◌∷◌, ◌++◌, length, Option, Some, None, inl, inr, refl, ◌∙◌, ap, subst}
-use Rattle.std.specs.Prelude.{◌==◌, ◌-◌, nat_le, nat_lt, if◌then◌else◌}
-use Rattle.std.specs.Option.{option_or}
-use Rattle.std.proofs.lemmas.Bool.{leb-false, or_parts}
-use Rattle.sk_log.specs.declared.frame.TheConstants.{NUMBER_LIMIT}
+use Rattle.sk_durable.proofs.Names.{◌≡◌, ℕ, ◌<◌, ◌≤◌, Bool, true, false, List, [], ◌∷◌, ◌++◌, length, Option, Some}
+use Rattle.sk_durable.proofs.Names.{None, inl, inr, refl, ◌∙◌, ap, subst, ◌==◌, nat_le, nat_lt, if◌then◌else◌}
+use Rattle.sk_durable.proofs.Names.{option_or, leb-false, or_parts, NUMBER_LIMIT, Synced, Failed, Why, has_no_number}
+use Rattle.sk_durable.proofs.Names.{is_busy, take_refused, first_cause, frame_refused, is_awaited, next_records}
+use Rattle.sk_durable.proofs.Names.{QueueView, Batch, Cut, new_queue, AreDense, IsRange, cut_due, no_story}
+use Rattle.sk_durable.proofs.Names.{cuts_a_range, frames_are_dense, decided_synced, logs_what_is_synced, payload}
+use Rattle.sk_durable.proofs.Names.{RecordView, story_after, Story, Logged, Work, log_text, may_write_some, Asked}
+use Rattle.sk_durable.proofs.Names.{NotDone, Asker, Batches, IsNotDone, MayDraw, TakenIn, StoreView, Call, Connects}
+use Rattle.sk_durable.proofs.Names.{HangsUp, Frees, Hears, Carries, Declines, Tells, Drops, Refuses, Hands, Draws}
+use Rattle.sk_durable.proofs.Names.{Sends, Turns, Learns, Cuts, Stops, Decides, Rests, Does, Serves, synced, synced_by}
+use Rattle.sk_durable.proofs.Names.{synced_from, HasDone, Limits, Next, Entries, capped, non_zero_u16_get}
+use Rattle.std.specs.Prelude.{◌-◌}
 use Rattle.sk_batches.specs.declared.batch.Stage.TheVariants as stage_as
-use Rattle.sk_batches.specs.declared.batch.Stage.TheVariants.{Synced, Failed}
-use Rattle.sk_batches.specs.declared.refusal.Refusal.{Refusal as Why}
 use Rattle.sk_batches.specs.declared.refusal.Refusal.TheVariants as why
-use Rattle.sk_batches.specs.Calls.{has_no_number, is_busy, take_refused}
-use Rattle.sk_batches.specs.Frames.{first_cause, frame_refused}
-use Rattle.sk_batches.specs.Queue.{is_awaited, next_records, QueueView}
-use Rattle.sk_batches.specs.declared.batch.Batch.{Batch}
-use Rattle.sk_batches.specs.declared.queue.Cut.{Cut}
-use Rattle.sk_batches.specs.Calls.{new_queue}
-use Rattle.sk_batches.specs.Dense.{AreDense, IsRange}
-use Rattle.sk_batches.specs.Queue.{cut_due}
-use Rattle.sk_batches.specs.Runs.{has, no_story}
-use Rattle.sk_batches.proofs.Dense.{cuts_a_range, frames_are_dense}
-use Rattle.sk_batches.proofs.Synced.{decided_synced, logs_what_is_synced}
-use Rattle.sk_batches.specs.Records.{payload, RecordView}
+use Rattle.sk_batches.specs.Runs.{has}
 use Rattle.sk_batches.specs.Runs as queues
-use Rattle.sk_batches.specs.Runs.{story_after, Runs, Story}
-use Rattle.sk_batched.specs.declared.batched.Outcome.TheVariants.{Logged, Refused}
-use Rattle.sk_commands.specs.declared.work.Work.{Work}
-use Rattle.sk_commands.specs.Requests.{log_text}
-use Rattle.sk_commands.specs.Work.{may_write_some}
-use Rattle.sk_served.specs.Served.{Asked}
-use Rattle.sk_durable.specs.declared.refusal.NotDone.{NotDone}
+use Rattle.sk_batches.specs.Runs.{Runs}
+use Rattle.sk_batched.specs.declared.batched.Outcome.TheVariants.{Refused}
 use Rattle.sk_durable.specs.declared.refusal.NotDone.TheVariants as undone
-use Rattle.sk_durable.specs.declared.works.Asker.{Asker}
-use Rattle.sk_durable.specs.Works.{Batches, IsNotDone, MayDraw, TakenIn}
-use Rattle.sk_durable.specs.Store.{StoreView}
-use Rattle.sk_durable.specs.Calls.{Call, Connects, HangsUp, Frees, Hears, Carries, Declines, Tells, Drops, Refuses, Hands, Draws, Sends, Turns, Learns, Cuts, Stops, Decides, Rests, Does, Serves}
-use Rattle.sk_durable.specs.History.{synced, synced_by, synced_from}
-use Rattle.sk_durable.specs.Laws.{HasDone}
-use Rattle.sk_durable.specs.declared.limits.Limits.{Limits}
-use Rattle.sk_durable.specs.declared.store.Next.{Next}
-use Rattle.sk_plain_store.specs.Plain.{Entries}
-use Rattle.sk_batched.specs.Batched.{capped}
-use Rattle.std.specs.Int.NonZero.{non_zero_u16_get}
 
 -- some calls of the queue lead to that of a store, with a story of which these frames were told as synced
 pub record Queued (q : QueueView) (story : Story) (synced : List ℕ) (s : StoreView) : Type 0 where

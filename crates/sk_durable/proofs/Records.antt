@@ -1,37 +1,20 @@
 -- The frames of the log have the logged commands, along all that a store does.
-use Rattle.std.proofs.Common.{◌≡◌, ℕ, ◌≤◌, Bool, true, false, cond, not, ◌||◌, ◌&&◌, List, [], ◌∷◌, ◌++◌, map, Option, Some, None, inl, inr, refl, sym, ◌∙◌, ap, subst, append_assoc}
-use Rattle.std.specs.Prelude.{◌==◌, is_some}
-use Rattle.std.specs.List.{filter, list_any}
-use Rattle.std.proofs.lemmas.Bool.{true≢false, eq-eqb, eqb-true, false_from_ne_true, or_right}
-use Rattle.std.proofs.lemmas.List.{append-nil}
-use Rattle.sk_record.specs.Effects.{is_marked}
-use Rattle.sk_record.specs.Notes.{has}
-use Rattle.sk_record.specs.Trace.{Commit, Fail}
-use Rattle.sk_rests.specs.Logged.{is_struck}
-use Rattle.sk_batches.specs.declared.batch.Batch.{Batch}
-use Rattle.sk_batches.specs.declared.batch.Stage.{Stage}
+use Rattle.sk_durable.proofs.Names.{◌≡◌, ℕ, ◌≤◌, Bool, true, false, cond, not, ◌||◌, ◌&&◌, List, [], ◌∷◌, ◌++◌, map}
+use Rattle.sk_durable.proofs.Names.{Option, Some, None, inl, inr, refl, sym, ◌∙◌, ap, subst, append_assoc, ◌==◌, filter}
+use Rattle.sk_durable.proofs.Names.{list_any, true≢false, eq-eqb, eqb-true, false_from_ne_true, or_right, append-nil}
+use Rattle.sk_durable.proofs.Names.{is_marked, has, Commit, Fail, is_struck, Batch, Stage, after_cut, after_take}
+use Rattle.sk_durable.proofs.Names.{after_word, decided_batch, decision_of, is_decided, is_refused, left, next_records}
+use Rattle.sk_durable.proofs.Names.{QueueView, RecordView, Logged, is_touched, Answer, Work, log_text, may_write_some}
+use Rattle.sk_durable.proofs.Names.{Entries, Asked, Runs, Limits, Next, Asker, NotDone, deed_now, Batches, IsNotDone}
+use Rattle.sk_durable.proofs.Names.{IsTold, MayDraw, TakenIn, StoreView, Call, Connects, HangsUp, Frees, Hears, Carries}
+use Rattle.sk_durable.proofs.Names.{Declines, Tells, Drops, Refuses, Hands, Draws, Sends, Turns, Learns, Cuts, Stops}
+use Rattle.sk_durable.proofs.Names.{Decides, Rests, Does, Serves, carried, carried_by, decided, decided_by, failed}
+use Rattle.sk_durable.proofs.Names.{frames, frames_by, frames_from, synced, synced_by, synced_from, Command, HasDone}
+use Rattle.std.specs.Prelude.{is_some}
 use Rattle.sk_batches.specs.declared.batch.Stage.TheVariants as stage_as
 use Rattle.sk_batches.specs.declared.queue.Decision.TheVariants as decision
-use Rattle.sk_batches.specs.Queue.{after_cut, after_take, after_word, decided as decided_batch, decision_of, is_decided, is_refused, left, next_records, QueueView}
-use Rattle.sk_batches.specs.Records.{RecordView}
-use Rattle.sk_batched.specs.declared.batched.Outcome.TheVariants.{Logged, Refused}
-use Rattle.sk_batched.specs.Batched.{is_touched}
-use Rattle.sk_commands.specs.declared.work.Answer.{Answer}
-use Rattle.sk_commands.specs.declared.work.Work.{Work}
-use Rattle.sk_commands.specs.Requests.{log_text}
-use Rattle.sk_commands.specs.Work.{may_write_some}
-use Rattle.sk_plain_store.specs.Plain.{Entries}
-use Rattle.sk_served.specs.Served.{Asked, Runs}
-use Rattle.sk_durable.specs.declared.limits.Limits.{Limits}
-use Rattle.sk_durable.specs.declared.store.Next.{Next}
-use Rattle.sk_durable.specs.declared.works.Asker.{Asker}
-use Rattle.sk_durable.specs.declared.refusal.NotDone.{NotDone}
+use Rattle.sk_batched.specs.declared.batched.Outcome.TheVariants.{Refused}
 use Rattle.sk_durable.specs.declared.refusal.NotDone.TheVariants as undone
-use Rattle.sk_durable.specs.Works.{deed_now, Batches, IsNotDone, IsTold, MayDraw, TakenIn}
-use Rattle.sk_durable.specs.Store.{StoreView}
-use Rattle.sk_durable.specs.Calls.{Call, Connects, HangsUp, Frees, Hears, Carries, Declines, Tells, Drops, Refuses, Hands, Draws, Sends, Turns, Learns, Cuts, Stops, Decides, Rests, Does, Serves}
-use Rattle.sk_durable.specs.History.{carried, carried_by, decided, decided_by, failed, frames, frames_by, frames_from, synced, synced_by, synced_from, Command}
-use Rattle.sk_durable.specs.Laws.{HasDone}
 use Rattle.sk_durable.proofs.Contained.{at_first}
 use Rattle.sk_durable.proofs.Cuts.{cuts_step}
 use Rattle.sk_durable.proofs.Framed.{no_frames, with_logged, with_logged_batch, with_refused_batch, with_sent, with_stop, with_told, with_unlogged}

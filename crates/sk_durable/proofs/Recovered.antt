@@ -1,30 +1,15 @@
 -- What is read of the first frames is what the first commands do.
-use Rattle.std.proofs.Common.{◌≡◌, ℕ, zero, suc, ◌+◌, ◌^◌, ◌<◌, ◌≤◌, Bool, true, false, not, List, [], ◌∷◌, ◌++◌, flat_map, length, map, take, drop, Option, Some, None, inl, inr, refl, sym, ◌∙◌, ap, subst, append_assoc, arith}
-use Rattle.std.specs.Prelude.{◌==◌}
-use Rattle.std.specs.List.{filter, list_any, Contains}
-use Rattle.std.proofs.lemmas.Bool.{true≢false, false≢true, eq-eqb, eqb-true, false_from_ne_true, or_cases, or_left, or_right}
-use Rattle.std.proofs.lemmas.List.{map-append, take-append-drop, take-map, take_at}
-use Rattle.std.proofs.lemmas.List.Concat.{flat_map-append}
-use Rattle.std.proofs.lemmas.List.Elements.{Contains-append_cases, Contains-append_left, Contains-append_right}
-use Rattle.std.proofs.lemmas.List.Folds.{list_any-append}
-use Rattle.sk_record.specs.Notes.{has}
-use Rattle.sk_record.specs.Trace.{Commit, Event}
-use Rattle.sk_rests.specs.Logged.{failed_in, is_struck, kept}
-use Rattle.sk_batches.specs.declared.batch.Batch.{Batch}
-use Rattle.sk_batches.specs.Queue.{is_refused, QueueView}
-use Rattle.sk_batches.specs.Records.{payload, RecordView}
-use Rattle.sk_commands.specs.declared.reply.Reply.TheVariants.{Null}
-use Rattle.sk_commands.specs.declared.work.Work.{Work}
-use Rattle.sk_commands.specs.declared.work.Work.TheVariants.{Say}
-use Rattle.sk_commands.specs.Requests.{log_text, AreAsked, IsAsked}
-use Rattle.sk_plain_store.specs.Plain.{Entries}
-use Rattle.sk_replay.specs.Frames.{payloads_of, works_in, AreLogged, SayAll}
-use Rattle.sk_replay.specs.Snapshot.{after_work, after_works}
-use Rattle.sk_replay.proofs.Framed.{restore}
-use Rattle.sk_replay.proofs.Short.{short_is_within}
-use Rattle.sk_served.specs.Plain.{entries_after, entry_after}
-use Rattle.sk_served.specs.Served.{Asked, Entry, Opens, Runs}
-use Rattle.sk_durable.specs.History.{is_logged, Command}
+use Rattle.sk_durable.proofs.Names.{◌≡◌, ℕ, zero, suc, ◌+◌, ◌^◌, ◌<◌, ◌≤◌, Bool, true, false, not, List, [], ◌∷◌, ◌++◌}
+use Rattle.sk_durable.proofs.Names.{flat_map, length, map, take, drop, Option, Some, None, inl, inr, refl, sym, ◌∙◌, ap}
+use Rattle.sk_durable.proofs.Names.{subst, append_assoc, arith, ◌==◌, filter, list_any, Contains, true≢false}
+use Rattle.sk_durable.proofs.Names.{false≢true, eq-eqb, eqb-true, false_from_ne_true, or_cases, or_left, or_right}
+use Rattle.sk_durable.proofs.Names.{map-append, take-append-drop, take-map, take_at, flat_map-append}
+use Rattle.sk_durable.proofs.Names.{Contains-append_cases, Contains-append_left, Contains-append_right, list_any-append}
+use Rattle.sk_durable.proofs.Names.{has, Commit, Event, failed_in, is_struck, kept, Batch, is_refused, QueueView}
+use Rattle.sk_durable.proofs.Names.{payload, RecordView, Null, Work, Say, log_text, AreAsked, IsAsked, Entries}
+use Rattle.sk_durable.proofs.Names.{payloads_of, works_in, AreLogged, SayAll, after_work, after_works, restore}
+use Rattle.sk_durable.proofs.Names.{short_is_within, entries_after, entry_after, Asked, Entry, Opens, Runs, is_logged}
+use Rattle.sk_durable.proofs.Names.{Command}
 use Rattle.sk_durable.proofs.Contained.{at_first, at_later, first_or_later, from_filter, from_flat, from_map, nothing_there, to_filter, to_map}
 use Rattle.sk_durable.proofs.Frames.{living, marked, next_marked, off, placed, unsent, AreOf, HasFrames, IsOf, Marked, Placed}
 use Rattle.sk_durable.proofs.Marked.{numbered_behind, placed_of, unsent_of}

@@ -1,47 +1,18 @@
 -- A new store that has carried out work which is in the log already is a new one with what the work leaves.
-use Rattle.std.proofs.Common.{◌≡◌, ℕ, Bool, true, false, cond, List, [], ◌∷◌, ◌++◌, Option, Some, None, Result, Ok, Err, is_some, inl, inr, refl, sym, ap, ◌∙◌, subst}
-use Rattle.std.specs.Prelude.{◌==◌}
-use Rattle.std.specs.List.{filter}
-use Rattle.std.proofs.lemmas.Bool.{eq-eqb, eqb-true, false≢true, true≢false, true_from_ne_false}
-use Rattle.sk_record.specs.Effects.{is_in, MarkedEffect, written_value, writes}
-use Rattle.sk_record.specs.Machine.{released}
-use Rattle.sk_record.specs.Release.{said_by}
-use Rattle.sk_record.specs.Merged.{MergedTakes, Merges}
-use Rattle.sk_record.specs.Notes.{has, noted}
-use Rattle.sk_record.specs.Run.{marked_effect}
-use Rattle.sk_record.specs.Step.{Effect}
-use Rattle.sk_record.specs.UndoState.{is_tag, numbers, step_tags}
-use Rattle.sk_record.specs.declared.status.Status.{Status}
-use Rattle.sk_record.proofs.Merged.{none_left}
-use Rattle.sk_guesses.specs.Kept.{AreStatuses, KeptView}
-use Rattle.sk_deeds.specs.Deed.{again, effect_of, Deed}
-use Rattle.sk_deeds.proofs.Runs.{performs}
-use Rattle.sk_slots.specs.Slots.{look_at, log_at}
-use Rattle.sk_outputs.specs.Said.{said_at, Said}
-use Rattle.sk_index.specs.Index.{bytes_cmp}
-use Rattle.sk_speculator.specs.Calls.{Takes}
-use Rattle.sk_speculator.specs.Parts.{machine_of, undo_state_of, IsSame, Parts}
-use Rattle.sk_batched.specs.Batched.{IsStill}
-use Rattle.sk_batched.proofs.Same.{all_same}
-use Rattle.sk_commands.specs.declared.work.Answer.{Answer}
-use Rattle.sk_commands.specs.declared.work.Work.{Work}
-use Rattle.sk_commands.specs.Table.{is_among, Have, Written}
-use Rattle.sk_commands.specs.Work.{after, comes_to, wants_all, with_value}
-use Rattle.sk_plain_store.specs.Plain.{held, keys_of, Entries}
-use Rattle.sk_plain_store.proofs.Kept.{bytes_same, holds_written, stays_in_order}
-use Rattle.sk_served.specs.Known.{KnowsAll}
-use Rattle.sk_served.specs.Names.{names_reserved}
+use Rattle.sk_durable.proofs.Names.{◌≡◌, ℕ, Bool, true, false, cond, List, [], ◌∷◌, ◌++◌, Option, Some, None, Result}
+use Rattle.sk_durable.proofs.Names.{Ok, Err, is_some, inl, inr, refl, sym, ap, ◌∙◌, subst, ◌==◌, filter, eq-eqb}
+use Rattle.sk_durable.proofs.Names.{eqb-true, false≢true, true≢false, true_from_ne_false, is_in, MarkedEffect}
+use Rattle.sk_durable.proofs.Names.{written_value, writes, released, said_by, MergedTakes, Merges, has, noted}
+use Rattle.sk_durable.proofs.Names.{marked_effect, Effect, is_tag, numbers, step_tags, Status, none_left, AreStatuses}
+use Rattle.sk_durable.proofs.Names.{KeptView, again, effect_of, Deed, performs, look_at, log_at, said_at, Said}
+use Rattle.sk_durable.proofs.Names.{bytes_cmp, Takes, machine_of, undo_state_of, IsSame, Parts, IsStill, all_same}
+use Rattle.sk_durable.proofs.Names.{Answer, Work, is_among, Have, Written, after, comes_to, wants_all, with_value, held}
+use Rattle.sk_durable.proofs.Names.{keys_of, Entries, bytes_same, holds_written, stays_in_order, KnowsAll}
+use Rattle.sk_durable.proofs.Names.{names_reserved, free_after, work_free, alone_work, more_known, store_knows, Limits}
+use Rattle.sk_durable.proofs.Names.{NotDone, Next, Asker, asked_by, deed_now, has_now, Batches, IsNotRestored, Kernel}
+use Rattle.sk_durable.proofs.Names.{KnowsIfTold, LacksNone, LetsOut, Restores, RestorePost, IsNew, StoreView}
 use Rattle.sk_served.specs.Plain.{after_work}
-use Rattle.sk_served.proofs.Free.{free_after, work_free}
-use Rattle.sk_served.proofs.Known.{alone_work, more_known, store_knows}
-use Rattle.sk_durable.specs.declared.limits.Limits.{Limits}
-use Rattle.sk_durable.specs.declared.refusal.NotDone.{NotDone}
-use Rattle.sk_durable.specs.declared.store.Next.{Next}
-use Rattle.sk_durable.specs.declared.works.Asker.{Asker}
 use Rattle.sk_durable.specs.Works as works
-use Rattle.sk_durable.specs.Works.{asked_by, deed_now, has_now, Batches, IsNotRestored, Kernel, KnowsIfTold, LacksNone, LetsOut, Restores}
-use Rattle.sk_durable.specs.Posts.{RestorePost}
-use Rattle.sk_durable.specs.Store.{IsNew, StoreView}
 
 abbrev Told : Type 0
 Told = ℕ × Answer

@@ -1,28 +1,15 @@
 -- All that a store did, told to the machine of records.
-use Rattle.std.proofs.Common.{◌≡◌, ℕ, Bool, true, false, List, [], ◌∷◌, ◌++◌, length, map, Option, Some, None, inl, inr, refl, sym, ap, subst}
-use Rattle.std.specs.Prelude.{if◌then◌else◌}
-use Rattle.std.specs.Option.{option_or}
+use Rattle.sk_durable.proofs.Names.{◌≡◌, ℕ, Bool, true, false, List, [], ◌∷◌, ◌++◌, length, map, Option, Some, None}
+use Rattle.sk_durable.proofs.Names.{inl, inr, refl, sym, ap, subst, if◌then◌else◌, option_or, Status, told_more}
+use Rattle.sk_durable.proofs.Names.{bytes_cmp, IsSame, Queued, frame_refused, is_full, Begins, Logged, cut_kept}
+use Rattle.sk_durable.proofs.Names.{word_kept, IsNumbered, all_same, Work, Out, NotDone, Asker, IsNotDone, Kernel}
+use Rattle.sk_durable.proofs.Names.{MayDraw, StoreView, Call, Connects, HangsUp, Frees, Hears, Carries, Declines, Tells}
+use Rattle.sk_durable.proofs.Names.{Drops, Refuses, Hands, DrawsGuess, Sends, Turns, Learns, Cuts, Stops, Decides}
+use Rattle.sk_durable.proofs.Names.{Rests, Does, Serves, carried, carried_by, decided, decided_by}
 use Rattle.std.proofs.lemmas.Grind.{flat_map-append}
-use Rattle.sk_record.specs.declared.status.Status.{Status}
-use Rattle.sk_deeds.specs.Told.{told_more}
-use Rattle.sk_index.specs.Index.{bytes_cmp}
-use Rattle.sk_speculator.specs.Parts.{IsSame}
-use Rattle.sk_batches.specs.declared.refusal.Refusal.{Refusal as Queued}
 use Rattle.sk_batches.specs.declared.refusal.Refusal.TheVariants as queued
-use Rattle.sk_batches.specs.Frames.{frame_refused}
-use Rattle.sk_batched.specs.Batched.{is_full, Begins}
-use Rattle.sk_batched.specs.declared.batched.Outcome.TheVariants.{Logged, Refused}
-use Rattle.sk_batched.proofs.Queues.{cut_kept, word_kept, IsNumbered}
-use Rattle.sk_batched.proofs.Same.{all_same}
-use Rattle.sk_commands.specs.declared.work.Work.{Work}
-use Rattle.sk_served.specs.Calls.{Out}
-use Rattle.sk_durable.specs.declared.refusal.NotDone.{NotDone}
+use Rattle.sk_batched.specs.declared.batched.Outcome.TheVariants.{Refused}
 use Rattle.sk_durable.specs.declared.refusal.NotDone.TheVariants as undone
-use Rattle.sk_durable.specs.declared.works.Asker.{Asker}
-use Rattle.sk_durable.specs.Works.{IsNotDone, Kernel, MayDraw}
-use Rattle.sk_durable.specs.Store.{StoreView}
-use Rattle.sk_durable.specs.Calls.{Call, Connects, HangsUp, Frees, Hears, Carries, Declines, Tells, Drops, Refuses, Hands, Draws as DrawsGuess, Sends, Turns, Learns, Cuts, Stops, Decides, Rests, Does, Serves}
-use Rattle.sk_durable.specs.History.{carried, carried_by, decided, decided_by}
 use Rattle.sk_durable.proofs.Carried.{carried_out}
 use Rattle.sk_durable.proofs.Decided.{logged, refused, sent}
 use Rattle.sk_durable.proofs.Inside.{drawn, drawn_store, idle, let_out, same, still}

@@ -1,29 +1,10 @@
 -- What commands said to a channel since it was connected: what was taken out of it, and what waits there.
-use Rattle.std.proofs.Common.{◌≡◌, ℕ, true, false, List, [], ◌∷◌, ◌++◌, map, not, cond, refl, sym, ◌∙◌, ap, subst}
-use Rattle.std.specs.Prelude.{◌==◌}
-use Rattle.std.specs.List.{filter, Contains}
-use Rattle.std.proofs.lemmas.Bool.{or_right, false_from_ne_true}
-use Rattle.std.proofs.lemmas.List.{append-nil}
-use Rattle.std.proofs.lemmas.List.Elements.{Contains-append_left, Contains-append_right}
-use Rattle.std.proofs.lemmas.List.Folds.{list_any-append}
-use Rattle.sk_record.specs.Notes.{has}
-use Rattle.sk_record.specs.Release.{said_by}
-use Rattle.sk_record.specs.UndoState.{numbers}
-use Rattle.sk_deeds.specs.Told.{moves_of}
-use Rattle.sk_outputs.specs.Said.{said_at}
-use Rattle.sk_rests.specs.Laws.{IsSaid}
-use Rattle.sk_rests.specs.Logged.{failed_in, is_struck, kept, said_to}
-use Rattle.sk_rests.proofs.Lists.{failed_more, kept_more}
-use Rattle.sk_served.specs.Calls.{Out}
-use Rattle.sk_served.specs.Served.{served}
-use Rattle.sk_plain_store.specs.Plain.{Entries}
-use Rattle.sk_durable.specs.declared.limits.Limits.{Limits}
-use Rattle.sk_durable.specs.declared.store.Next.{Next}
-use Rattle.sk_durable.specs.Store.{StoreView}
-use Rattle.sk_durable.specs.Calls.{Call, Connects, Decides}
-use Rattle.sk_batched.specs.declared.batched.Outcome.TheVariants.{Logged}
-use Rattle.sk_durable.specs.History.{carried, carried_from, decided, failed, stands, stands_on, Command}
-use Rattle.sk_durable.specs.Laws.{HasDone}
+use Rattle.sk_durable.proofs.Names.{◌≡◌, ℕ, true, false, List, [], ◌∷◌, ◌++◌, map, not, cond, refl, sym, ◌∙◌, ap, subst}
+use Rattle.sk_durable.proofs.Names.{◌==◌, filter, Contains, or_right, false_from_ne_true, append-nil}
+use Rattle.sk_durable.proofs.Names.{Contains-append_left, Contains-append_right, list_any-append, has, said_by, numbers}
+use Rattle.sk_durable.proofs.Names.{moves_of, said_at, IsSaid, failed_in, is_struck, kept, said_to, failed_more}
+use Rattle.sk_durable.proofs.Names.{kept_more, Out, served, Entries, Limits, Next, StoreView, Call, Connects, Decides}
+use Rattle.sk_durable.proofs.Names.{Logged, carried, carried_from, decided, failed, stands, stands_on, Command, HasDone}
 use Rattle.sk_durable.proofs.Machines.{machine, runs_work, Machine, Quiet}
 use Rattle.sk_durable.proofs.Served.{carried_behind, decided_behind, outs_from}
 use Rattle.sk_durable.proofs.Plain.{as_log, failed_is, fails_are, led, logged_is}

@@ -1,33 +1,14 @@
 -- A command that is carried out rests on nothing that failed, and on guesses that were drawn alone.
-use Rattle.std.proofs.Common.{◌≡◌, ℕ, ◌<◌, ◌≤◌, Bool, true, false, not, List, [], ◌∷◌, ◌++◌, length, map, Option, Some, None, inl, inr, refl, sym, ◌∙◌, ap, subst, append_assoc, arith}
-use Rattle.std.specs.Prelude.{T}
-use Rattle.std.specs.List.{filter, fold, Contains}
-use Rattle.std.specs.FinMap.{FinMap, from_sorted, get-from_sorted}
-use Rattle.std.proofs.lemmas.Bool.{false≢true}
-use Rattle.std.proofs.lemmas.List.{append-nil, append_cancel_left, length-map, map-append}
-use Rattle.std.proofs.lemmas.List.Elements.{filter-append, Contains-append_right}
-use Rattle.std.proofs.lemmas.List.Sums.{fold-append}
-use Rattle.sk_record.specs.Notes.{has}
-use Rattle.sk_record.specs.Trace.{record_after, record_of, Commit, Event, Fail, Taken}
-use Rattle.sk_record.specs.declared.status.Status.{Status}
+use Rattle.sk_durable.proofs.Names.{◌≡◌, ℕ, ◌<◌, ◌≤◌, Bool, true, false, not, List, [], ◌∷◌, ◌++◌, length, map, Option}
+use Rattle.sk_durable.proofs.Names.{Some, None, inl, inr, refl, sym, ◌∙◌, ap, subst, append_assoc, arith, T, filter}
+use Rattle.sk_durable.proofs.Names.{fold, Contains, FinMap, from_sorted, get-from_sorted, false≢true, append-nil}
+use Rattle.sk_durable.proofs.Names.{append_cancel_left, length-map, map-append, filter-append, Contains-append_right}
+use Rattle.sk_durable.proofs.Names.{fold-append, has, record_after, record_of, Commit, Event, Fail, Taken, Status}
+use Rattle.sk_durable.proofs.Names.{Starts, moves_of, told_more, DoesMove, TellsOut, said_at, bytes_cmp, bytes_exact}
+use Rattle.sk_durable.proofs.Names.{bytes_total, IsAsLogged, failed_in, is_struck, kept, Logs, as_logged, Entries, Out}
+use Rattle.sk_durable.proofs.Names.{served, Entry, Limits, Next, StoreView, Call, Does, carried, carried_by, decided}
+use Rattle.sk_durable.proofs.Names.{decided_by, failed, Command, HasDone}
 use Rattle.sk_record.specs.declared.status.Status.TheVariants as status_as
-use Rattle.sk_deeds.specs.Moves.{Starts}
-use Rattle.sk_deeds.specs.Told.{moves_of, told_more, Does as DoesMove, Tells as TellsOut}
-use Rattle.sk_outputs.specs.Said.{said_at}
-use Rattle.sk_index.specs.Index.{bytes_cmp}
-use Rattle.sk_bytes.proofs.Told.{bytes_exact, bytes_total}
-use Rattle.sk_rests.specs.Laws.{IsAsLogged}
-use Rattle.sk_rests.specs.Logged.{failed_in, is_struck, kept, Logs}
-use Rattle.sk_rests.proofs.Ends.{as_logged}
-use Rattle.sk_plain_store.specs.Plain.{Entries}
-use Rattle.sk_served.specs.Calls.{Out}
-use Rattle.sk_served.specs.Served.{served, Entry}
-use Rattle.sk_durable.specs.declared.limits.Limits.{Limits}
-use Rattle.sk_durable.specs.declared.store.Next.{Next}
-use Rattle.sk_durable.specs.Store.{StoreView}
-use Rattle.sk_durable.specs.Calls.{Call, Does}
-use Rattle.sk_durable.specs.History.{carried, carried_by, decided, decided_by, failed, Command}
-use Rattle.sk_durable.specs.Laws.{HasDone}
 use Rattle.sk_durable.proofs.Contained.{from_filter, none_lost, to_filter}
 use Rattle.sk_durable.proofs.Machines.{is_decision, machine, runs_work, Led, Machine, Move}
 use Rattle.sk_durable.proofs.Plain.{as_log, fails_are, led, outs}

@@ -1,27 +1,10 @@
 -- What keys rest on once the guess of a batch is drawn.
-use Rattle.std.proofs.Common.{◌≡◌, ℕ, true, false, cond, ◌||◌, List, [], ◌∷◌, ◌++◌, map, Option, Some, None, Result, Ok, Err, refl, sym, ◌∙◌, ap}
-use Rattle.std.specs.Prelude.{◌==◌, ◌%◌}
-use Rattle.std.specs.Ordering.{eq_by_cmp}
-use Rattle.std.proofs.lemmas.Bool.{eq-eqb}
-use Rattle.std.proofs.lemmas.List.{append-nil}
-use Rattle.sk_record.specs.Effects.{is_in}
-use Rattle.sk_record.specs.Merged.{MergedTakes}
-use Rattle.sk_record.specs.Notes.{last_tags, noted, Note}
-use Rattle.sk_record.specs.Run.{marked_effect}
-use Rattle.sk_record.specs.Step.{Effect}
-use Rattle.sk_record.specs.UndoState.{step_tags, tags_at}
-use Rattle.sk_record.specs.Machine.{with_drawn}
-use Rattle.sk_record.specs.declared.status.Status.{Status}
-use Rattle.sk_record.proofs.Merged.{same_last}
-use Rattle.sk_guesses.specs.Kept.{AreStatuses}
-use Rattle.sk_deeds.specs.Deed.{again, effect_of}
-use Rattle.sk_slots.specs.Slots.{look_at, log_at}
-use Rattle.sk_index.specs.Index.{bytes_cmp}
-use Rattle.sk_speculator.specs.Calls.{Takes}
-use Rattle.sk_speculator.specs.Parts.{machine_of, undo_state_of, Parts}
-use Rattle.sk_reserved.specs.Keys.{batch_key}
-use Rattle.sk_batched.specs.Batched.{opening}
-use Rattle.sk_batched.specs.InStep.{notes_by, IsRow}
+use Rattle.sk_durable.proofs.Names.{◌≡◌, ℕ, true, false, cond, ◌||◌, List, [], ◌∷◌, ◌++◌, map, Option, Some, None}
+use Rattle.sk_durable.proofs.Names.{Result, Ok, Err, refl, sym, ◌∙◌, ap, ◌==◌, ◌%◌, eq_by_cmp, eq-eqb, append-nil}
+use Rattle.sk_durable.proofs.Names.{is_in, MergedTakes, last_tags, noted, Note, marked_effect, Effect, step_tags}
+use Rattle.sk_durable.proofs.Names.{tags_at, with_drawn, Status, same_last, AreStatuses, again, effect_of, look_at}
+use Rattle.sk_durable.proofs.Names.{log_at, bytes_cmp, Takes, machine_of, undo_state_of, Parts, batch_key, opening}
+use Rattle.sk_durable.proofs.Names.{notes_by, IsRow}
 
 -- a note that rests on one guess
 abbrev one_note : {V : Type 0} → ℕ → Note V

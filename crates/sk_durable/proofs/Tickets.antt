@@ -1,20 +1,11 @@
 -- Outputs of a channel by their tickets, and what tickets were told.
-use Rattle.std.proofs.Common.{◌≡◌, ℕ, zero, suc, ◌+◌, ◌-◌, ◌<◌, ◌≤◌, Bool, true, false, cond, not, List, [], ◌∷◌, ◌++◌, length, map, Option, Some, None, inl, inr, refl, sym, ◌∙◌, ap, subst, arith, append_assoc, length-append}
-use Rattle.std.specs.Prelude.{◌==◌, ◌⊎◌, slice_get}
-use Rattle.std.specs.List.{filter, list_any, Contains}
-use Rattle.std.proofs.lemmas.Bool.{true≢false, or_left, or_right, or_from, eq-eqb}
-use Rattle.std.proofs.lemmas.List.{length-replicate}
-use Rattle.std.proofs.lemmas.List.Elements.{filter-append, Contains-append_left, Contains-append_right, Contains-append_cases}
-use Rattle.std.proofs.lemmas.Option.{slice_get_within}
-use Rattle.sk_record.specs.Machine.{Tagged}
-use Rattle.sk_record.specs.Notes.{has}
-use Rattle.sk_record.specs.Release.{said_by}
-use Rattle.sk_rests.specs.Logged.{is_struck, kept, resting_among, said_to}
-use Rattle.sk_channels.specs.Telling.{refused, refused_up_to, Told}
-use Rattle.sk_commands.specs.declared.work.Answer.{Answer}
-use Rattle.sk_commands.specs.Texts.{answer_text}
-use Rattle.sk_served.specs.Served.{served}
-use Rattle.sk_durable.specs.History.{Command}
+use Rattle.sk_durable.proofs.Names.{◌≡◌, ℕ, zero, suc, ◌+◌, ◌-◌, ◌<◌, ◌≤◌, Bool, true, false, cond, not, List, [], ◌∷◌}
+use Rattle.sk_durable.proofs.Names.{◌++◌, length, map, Option, Some, None, inl, inr, refl, sym, ◌∙◌, ap, subst, arith}
+use Rattle.sk_durable.proofs.Names.{append_assoc, length-append, ◌==◌, ◌⊎◌, slice_get, filter, list_any, Contains}
+use Rattle.sk_durable.proofs.Names.{true≢false, or_left, or_right, or_from, eq-eqb, length-replicate, filter-append}
+use Rattle.sk_durable.proofs.Names.{Contains-append_left, Contains-append_right, Contains-append_cases}
+use Rattle.sk_durable.proofs.Names.{slice_get_within, Tagged, has, said_by, is_struck, kept, resting_among, said_to}
+use Rattle.sk_durable.proofs.Names.{refused, refused_up_to, Told, Answer, answer_text, served, Command}
 
 -- what a command says: a ticket with its answer, to a channel; and what it rests on
 abbrev pub Output : Type 0

@@ -1,14 +1,12 @@
 -- Channels by number, and the pasts that they have.
-use Rattle.std.proofs.Common.{◌≡◌, ◌≢◌, ◌<◌, ℕ, [], append-nil, length, get_or-set_same, get_or-set_other, set, Option, Some, None, ⊎_elim, refl, sym, ◌∙◌, ap, subst}
-use Rattle.std.proofs.lemmas.Bool.{cases_eq, cases_lt}
-use Rattle.std.proofs.lemmas.List.{get_or_past, set-get_or}
-use Rattle.sk_requests.specs.declared.limits.Limits.{Limits as Requests}
-use Rattle.sk_channels.specs.declared.channel.Channel.{Channel}
-use Rattle.sk_channels.specs.declared.table.Channels.{Channels}
-use Rattle.sk_channels.specs.Serving.{HasServed}
+use Rattle.sk_durable.proofs.Names.{◌≡◌, ◌≢◌, ◌<◌, ℕ, [], length, get_or-set_same, get_or-set_other, set, Option, Some}
+use Rattle.sk_durable.proofs.Names.{None, ⊎_elim, refl, sym, ◌∙◌, ap, subst, cases_eq, cases_lt, get_or_past}
+use Rattle.sk_durable.proofs.Names.{set-get_or, Requests, Channel, Channels, HasServed, channel_at, channel_of, hung_up}
+use Rattle.sk_durable.proofs.Names.{place_at, with_channel, KeepsAll, KeepsOthers, came, no_past, Becomes, Goes}
+use Rattle.sk_durable.proofs.Names.{HasPast, HavePasts, Past}
+use Rattle.std.proofs.Common.{append-nil}
 use Rattle.sk_channels.specs.Table as table
-use Rattle.sk_channels.specs.Table.{channel_at, channel_of, hung_up, place_at, released, with_channel, KeepsAll, KeepsOthers}
-use Rattle.sk_durable.specs.Store.{came, no_past, Becomes, Goes, HasPast, HavePasts, Past}
+use Rattle.sk_channels.specs.Table.{released}
 
 -- ---- a channel becomes another
 

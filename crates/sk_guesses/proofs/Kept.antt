@@ -1,26 +1,16 @@
 -- What is kept of guesses after a draw and a decision, and the statuses that agree with it.
-use Rattle.std.proofs.Common.{◌≡◌, ◌≢◌, ℕ, suc, ◌<◌, ◌≤◌, ◌+◌, length, length-append, Bool, true, false, cond, not, ◌||◌, ◌&&◌, List, [], ◌∷◌, ◌++◌, map, Option, Some, None, inl, inr, refl, sym, ◌∙◌, ap, subst, append_assoc, arith}
-use Rattle.std.specs.Prelude.{◌==◌, nat_lt, Result, Ok, Err}
-use Rattle.std.specs.List.{AllByRecursion, filter, prefix_len}
+use Rattle.sk_guesses.proofs.Names.{◌≡◌, ◌≢◌, ℕ, suc, ◌<◌, ◌≤◌, ◌+◌, length, length-append, Bool, true, false, cond}
+use Rattle.sk_guesses.proofs.Names.{not, ◌||◌, ◌&&◌, List, [], ◌∷◌, ◌++◌, map, Option, Some, None, inl, inr, refl, sym}
+use Rattle.sk_guesses.proofs.Names.{◌∙◌, ap, subst, append_assoc, arith, ◌==◌, nat_lt, Ok, Err, AllByRecursion, filter}
+use Rattle.sk_guesses.proofs.Names.{prefix_len, nat_cmp, true≢false, eqb-true, or_left, or_right, or_cases, length-map}
+use Rattle.sk_guesses.proofs.Names.{map-append, list_any-append, IsStrictlySortedBy-filter, LAST_GUESS, has, without}
+use Rattle.sk_guesses.proofs.Names.{rests_on, with_drawn, with_failure, with_status, Open, numbers, not_struck}
+use Rattle.sk_guesses.proofs.Names.{still_open, Status, Undecided, Committed, Failed, Struck, has_filter, and_both}
+use Rattle.sk_guesses.proofs.Names.{KeptView, AreKept, AreStatuses, forgotten, known, one_drawn, struck_with}
+use Rattle.sk_guesses.proofs.Names.{with_struck, OpenGuess, after_commit, but, not_resting, open_in, opens_of}
+use Rattle.sk_guesses.proofs.Names.{without_tag, Listing, Token, Redeemed}
+use Rattle.std.specs.Prelude.{Result}
 use Rattle.std.specs.List.Sorted.{IsStrictlySortedBy}
-use Rattle.std.specs.Ordering.{nat_cmp}
-use Rattle.std.proofs.lemmas.Bool.{true≢false, eqb-true, or_left, or_right, or_cases}
-use Rattle.std.proofs.lemmas.List.{length-map, map-append}
-use Rattle.std.proofs.lemmas.List.Folds.{list_any-append}
-use Rattle.std.proofs.lemmas.List.Kept.{IsStrictlySortedBy-filter}
-use Rattle.sk_ids.specs.declared.guess.TheConstants.{LAST_GUESS}
-use Rattle.sk_record.specs.Notes.{has, without}
-use Rattle.sk_record.specs.Machine.{rests_on, with_drawn, with_failure, with_status}
-use Rattle.sk_record.specs.UndoState.{Open, numbers, not_struck, still_open}
-use Rattle.sk_record.specs.declared.status.Status.{Status}
-use Rattle.sk_record.specs.declared.status.Status.TheVariants.{Undecided, Committed, Failed, Struck}
-use Rattle.sk_record.proofs.Machine.{has_filter}
-use Rattle.sk_record.proofs.UndoStates.{and_both}
-use Rattle.sk_guesses.specs.Kept.{KeptView, AreKept, AreStatuses, forgotten, known, one_drawn, struck_with, with_struck}
-use Rattle.sk_guesses.specs.Opens.{OpenGuess, after_commit, but, not_resting, open_in, opens_of, without_tag}
-use Rattle.sk_guesses.specs.Room.{Listing}
-use Rattle.sk_guesses.specs.Token.{Token}
-use Rattle.sk_guesses.specs.declared.guess.Redeemed.{Redeemed}
 use Rattle.sk_guesses.specs.declared.guess.Redeemed.TheVariants as redeemed_as
 use Rattle.sk_guesses.proofs.Opens.{guess_of, named, but_named, same_named, named_more, turned, all_kept, own_left, own_more, own_same, still_rises, none_named, unless, more_rises, or_one, open_is, resting_named, is_other}
 

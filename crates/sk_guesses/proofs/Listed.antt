@@ -1,24 +1,13 @@
 -- What the lists of dependents have, after writes and decisions.
-use Rattle.std.proofs.Common.{◌≡◌, ℕ, ◌+◌, Bool, true, false, cond, not, ◌||◌, ◌&&◌, List, [], ◌∷◌, ◌++◌, map, Option, refl, sym, ◌∙◌, ap, subst}
-use Rattle.std.specs.Prelude.{◌==◌}
-use Rattle.std.specs.List.{AllByRecursion, list_all, list_any}
-use Rattle.std.specs.Ordering.{eq_by_cmp}
-use Rattle.std.specs.declared.cmp.Ordering.{Ordering}
-use Rattle.std.specs.Cmp.{IsTotalOrder}
-use Rattle.std.specs.FinMap.{IsAntisymmetric}
-use Rattle.std.proofs.lemmas.Bool.{true≢false, false≢true, or_left, or_right, eqb-true}
-use Rattle.std.proofs.lemmas.List.{append-nil}
-use Rattle.std.proofs.lemmas.List.Folds.{list_any-append}
-use Rattle.sk_record.specs.Effects.{is_in}
-use Rattle.sk_record.specs.Merged.{Merges}
-use Rattle.sk_record.specs.Notes.{Note, has, without, cut, carried, committed, noted, last_tags}
-use Rattle.sk_record.specs.UndoState.{IsGrowing, numbers}
-use Rattle.sk_record.proofs.Machine.{has_filter}
-use Rattle.sk_record.proofs.Merged.{same_last}
-use Rattle.sk_record.proofs.UndoStates.{and_both}
-use Rattle.sk_guesses.specs.Dependents.{tags_by, with_tags, AllExact, IsAlmostExact, AllAlmostExact, Covers, Depends}
-use Rattle.sk_guesses.specs.EntitySet.{with_entity, with_entities, without_entity}
-use Rattle.sk_guesses.specs.Opens.{OpenGuess, opens_of, dependents_of, depending, left_to, but, not_resting, after_commit, without_tag, without_list}
+use Rattle.sk_guesses.proofs.Names.{◌≡◌, ℕ, ◌+◌, Bool, true, false, cond, not, ◌||◌, ◌&&◌, List, [], ◌∷◌, ◌++◌, map}
+use Rattle.sk_guesses.proofs.Names.{Option, refl, sym, ◌∙◌, ap, subst, ◌==◌, AllByRecursion, list_all, list_any}
+use Rattle.sk_guesses.proofs.Names.{eq_by_cmp, Ordering, IsTotalOrder, IsAntisymmetric, true≢false, false≢true, or_left}
+use Rattle.sk_guesses.proofs.Names.{or_right, eqb-true, append-nil, list_any-append, is_in, Merges, Note, has, without}
+use Rattle.sk_guesses.proofs.Names.{cut, carried, committed, noted, last_tags, IsGrowing, numbers, has_filter}
+use Rattle.sk_guesses.proofs.Names.{same_last, and_both, tags_by, with_tags, AllExact, IsAlmostExact, AllAlmostExact}
+use Rattle.sk_guesses.proofs.Names.{Covers, Depends, with_entity, with_entities, without_entity, OpenGuess, opens_of}
+use Rattle.sk_guesses.proofs.Names.{dependents_of, depending, left_to, but, not_resting, after_commit, without_tag}
+use Rattle.sk_guesses.proofs.Names.{without_list}
 use Rattle.sk_guesses.proofs.Opens.{all_kept, depending_keeps, same_opens}
 use Rattle.sk_guesses.proofs.Places.{with_in, with_all_in, without_in, tied_is}
 

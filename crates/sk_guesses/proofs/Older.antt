@@ -1,14 +1,7 @@
 -- Where all were drawn before a guess, and no tag is above its own guess, no step rests on it.
-use Rattle.std.proofs.Common.{◌≡◌, ltb, ℕ, suc, ◌-◌, ◌<◌, true, false, ◌||◌, List, [], ◌∷◌, length, map, refl, sym, ◌∙◌, ap, arith}
-use Rattle.std.specs.Prelude.{slice_index_or}
-use Rattle.std.specs.List.{list_any}
-use Rattle.std.specs.List.Sorted.{IsStrictlySortedBy}
-use Rattle.std.specs.Ordering.{nat_cmp}
-use Rattle.std.proofs.lemmas.Bool.{ltb-true, ltb-false}
-use Rattle.sk_record.specs.Notes.{has}
-use Rattle.sk_guesses.specs.Kept.{AreBelow}
-use Rattle.sk_guesses.specs.Opens.{opens_of}
-use Rattle.sk_guesses.specs.Room.{Listing}
+use Rattle.sk_guesses.proofs.Names.{◌≡◌, ltb, ℕ, suc, ◌-◌, ◌<◌, true, false, ◌||◌, List, [], ◌∷◌, length, map, refl}
+use Rattle.sk_guesses.proofs.Names.{sym, ◌∙◌, ap, arith, slice_index_or, list_any, IsStrictlySortedBy, nat_cmp}
+use Rattle.sk_guesses.proofs.Names.{ltb-true, ltb-false, has, AreBelow, opens_of, Listing}
 use Rattle.sk_guesses.proofs.Earlier.{number_at}
 use Rattle.sk_guesses.proofs.Opens.{guess_of, named}
 use Rattle.sk_guesses.proofs.Passes.{earlier}

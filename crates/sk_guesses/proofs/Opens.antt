@@ -1,31 +1,17 @@
 -- The undecided guesses after a draw, a decision and a strike.
-use Rattle.std.proofs.Common.{◌≡◌, ◌≢◌, ℕ, zero, suc, ◌<◌, ◌≤◌, ◌+◌, ◌-◌, length, length-set, take, drop, Bool, true, false, cond, not, ◌||◌, ◌&&◌, List, [], ◌∷◌, ◌++◌, map, Option, Some, None, refl, sym, ◌∙◌, ap, subst, arith}
-use Rattle.std.specs.Prelude.{◌==◌, slice_set, slice_index_or, is_some}
-use Rattle.std.specs.Ordering.{nat_cmp}
-use Rattle.std.specs.declared.cmp.Ordering.TheVariants.{Less}
-use Rattle.std.specs.Cmp.{nat_cmp_is}
-use Rattle.std.specs.List.{AllByRecursion, filter, prefix_len}
+use Rattle.sk_guesses.proofs.Names.{◌≡◌, ◌≢◌, ℕ, zero, suc, ◌<◌, ◌≤◌, ◌+◌, ◌-◌, length, length-set, take, drop, Bool}
+use Rattle.sk_guesses.proofs.Names.{true, false, cond, not, ◌||◌, ◌&&◌, List, [], ◌∷◌, ◌++◌, map, Option, Some, None}
+use Rattle.sk_guesses.proofs.Names.{refl, sym, ◌∙◌, ap, subst, arith, ◌==◌, slice_set, slice_index_or, is_some, nat_cmp}
+use Rattle.sk_guesses.proofs.Names.{Less, nat_cmp_is, AllByRecursion, filter, prefix_len, nat_le, nat_lt, true≢false}
+use Rattle.sk_guesses.proofs.Names.{eqb-true, eq-eqb, or_left, or_right, leb-false, ltb-false, LAST_GUESS, GUESS_LIMIT}
+use Rattle.sk_guesses.proofs.Names.{list_any-append, IsStrictlySortedBy-filter, slice_get_within, has, without}
+use Rattle.sk_guesses.proofs.Names.{rests_on, with_failure, numbers, not_struck, Status, Undecided, Committed, Failed}
+use Rattle.sk_guesses.proofs.Names.{Struck, has_filter, above, status_in, GuessesView, is_full, is_undecided}
+use Rattle.sk_guesses.proofs.Names.{undecided_of, status_since, decided, drawn, next_of, OpenGuess, AreOpen, opens_of}
+use Rattle.sk_guesses.proofs.Names.{dependents_of, but, not_resting, after_commit, without_tag, struck_by, open_in}
+use Rattle.sk_guesses.proofs.Names.{without_list, depending, relieved, left_to, with_entity, without_entity, Ordering}
+use Rattle.sk_guesses.proofs.Names.{Listing}
 use Rattle.std.specs.List.Sorted.{IsStrictlySortedBy}
-use Rattle.std.specs.Prelude.{nat_le, nat_lt}
-use Rattle.std.proofs.lemmas.Bool.{true≢false, eqb-true, eq-eqb, or_left, or_right, leb-false, ltb-false}
-use Rattle.sk_ids.specs.declared.guess.TheConstants.{LAST_GUESS}
-use Rattle.sk_guesses.specs.declared.guesses.TheConstants.{GUESS_LIMIT}
-use Rattle.std.proofs.lemmas.List.Folds.{list_any-append}
-use Rattle.std.proofs.lemmas.List.Kept.{IsStrictlySortedBy-filter}
-use Rattle.std.proofs.lemmas.Option.{slice_get_within}
-use Rattle.sk_record.specs.Notes.{has, without}
-use Rattle.sk_record.specs.Machine.{rests_on, with_failure}
-use Rattle.sk_record.specs.UndoState.{numbers, not_struck}
-use Rattle.sk_record.specs.declared.status.Status.{Status}
-use Rattle.sk_record.specs.declared.status.Status.TheVariants.{Undecided, Committed, Failed, Struck}
-use Rattle.sk_record.proofs.Machine.{has_filter}
-use Rattle.sk_record.proofs.Rising.{above}
-use Rattle.sk_record.specs.Epoch.{status_in}
-use Rattle.sk_guesses.specs.Guesses.{GuessesView, is_full, is_undecided, undecided_of, status_since, decided, drawn, next_of}
-use Rattle.sk_guesses.specs.Opens.{OpenGuess, AreOpen, opens_of, dependents_of, but, not_resting, after_commit, without_tag, struck_by, open_in, without_list, depending, relieved, left_to}
-use Rattle.sk_guesses.specs.EntitySet.{with_entity, without_entity}
-use Rattle.std.specs.declared.cmp.Ordering.{Ordering}
-use Rattle.sk_guesses.specs.Room.{Listing}
 use Rattle.sk_guesses.proofs.Count.{count_of}
 use Rattle.sk_guesses.proofs.Statuses.{at-place, some_number, nothing_in, drawn-since, status-drawn, status-decided}
 

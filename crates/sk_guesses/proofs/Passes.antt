@@ -1,20 +1,14 @@
 -- Passes over the open guesses, one place after the other.
-use Rattle.std.proofs.Common.{◌≡◌, ◌≢◌, ltb, ℕ, zero, suc, ◌+◌, ◌<◌, ◌≤◌, length, length-set, take, drop, Bool, true, false, cond, not, ◌||◌, ◌&&◌, List, [], ◌∷◌, ◌++◌, map, inl, inr, refl, sym, ◌∙◌, ap, subst, arith}
-use Rattle.std.specs.Prelude.{◌==◌, slice_set, slice_index_or}
-use Rattle.std.specs.Ordering.{nat_cmp}
-use Rattle.std.specs.List.{filter, prefix_len, remove}
+use Rattle.sk_guesses.proofs.Names.{◌≡◌, ◌≢◌, ltb, ℕ, zero, suc, ◌+◌, ◌<◌, ◌≤◌, length, length-set, take, drop, Bool}
+use Rattle.sk_guesses.proofs.Names.{true, false, cond, not, ◌||◌, ◌&&◌, List, ◌∷◌, ◌++◌, map, inl, inr, refl, sym, ◌∙◌}
+use Rattle.sk_guesses.proofs.Names.{ap, subst, arith, ◌==◌, slice_set, slice_index_or, nat_cmp, filter, prefix_len}
+use Rattle.sk_guesses.proofs.Names.{remove, true≢false, eqb-true, eq-eqb, or_cases, or_left, or_right, ltb-true}
+use Rattle.sk_guesses.proofs.Names.{ltb-false, append-nil, drop_all, take_all, suc-eq-add-one, drop-cons}
+use Rattle.sk_guesses.proofs.Names.{prefix_len_passes, prefix_len_stops, has, without, Open, not_struck, numbers}
+use Rattle.sk_guesses.proofs.Names.{AreBelow, struck_with, above, OpenGuess, after_commit, but, opens_of, without_tag}
+use Rattle.sk_guesses.proofs.Names.{Listing}
+use Rattle.std.proofs.Common.{[]}
 use Rattle.std.specs.List.Sorted.{IsStrictlySortedBy}
-use Rattle.std.proofs.lemmas.Bool.{true≢false, eqb-true, eq-eqb, or_cases, or_left, or_right, ltb-true, ltb-false}
-use Rattle.std.proofs.lemmas.List.{append-nil, drop_all, take_all}
-use Rattle.std.proofs.Math.Numerals.{suc-eq-add-one}
-use Rattle.std.proofs.Math.Seq.{drop-cons}
-use Rattle.std.proofs.lemmas.List.Sums.{prefix_len_passes, prefix_len_stops}
-use Rattle.sk_record.specs.Notes.{has, without}
-use Rattle.sk_record.specs.UndoState.{Open, not_struck, numbers}
-use Rattle.sk_guesses.specs.Kept.{AreBelow, struck_with}
-use Rattle.sk_record.proofs.Rising.{above}
-use Rattle.sk_guesses.specs.Opens.{OpenGuess, after_commit, but, opens_of, without_tag}
-use Rattle.sk_guesses.specs.Room.{Listing}
 use Rattle.sk_guesses.proofs.Opens.{guess_of, named, is_other, set_after, done_more, not_above}
 
 -- ---- a pass from the back

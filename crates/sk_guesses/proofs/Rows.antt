@@ -1,14 +1,13 @@
 -- Values in the order of their keys: what a write, one more and one less make of them.
-use Rattle.std.proofs.Common.{◌≡◌, ◌≢◌, ℕ, zero, suc, ◌+◌, ◌<◌, ◌||◌, length, Bool, true, false, cond, List, [], ◌∷◌, ◌++◌, Option, Some, None, Result, Ok, Err, inl, inr, refl, sym, ◌∙◌, ap, subst, arith, count_by}
-use Rattle.std.specs.Prelude.{◌==◌, slice_set, slice_index_or, is_some, OnOk}
-use Rattle.std.specs.List.{remove}
-use Rattle.std.proofs.lemmas.Bool.{true≢false, eqb-true, eq-eqb, or_left, or_right, cases_eq}
-use Rattle.std.proofs.lemmas.List.{get_or-set_same, get_or-set_other}
-use Rattle.std.proofs.lemmas.List.Folds.{list_any-append}
-use Rattle.std.proofs.lemmas.List.Sums.{sum_by-cons}
-use Rattle.slab.specs.Slab.{Slab, slab_len, with_value, Updates}
+use Rattle.sk_guesses.proofs.Names.{◌≡◌, ◌≢◌, ℕ, zero, suc, ◌+◌, ◌<◌, ◌||◌, length, Bool, true, false, cond, List, ◌∷◌}
+use Rattle.sk_guesses.proofs.Names.{◌++◌, Option, Some, Result, inl, inr, sym, ◌∙◌, subst, arith, count_by, ◌==◌}
+use Rattle.sk_guesses.proofs.Names.{slice_set, slice_index_or, is_some, OnOk, remove, eqb-true, eq-eqb, or_left}
+use Rattle.sk_guesses.proofs.Names.{or_right, cases_eq, get_or-set_same, list_any-append, sum_by-cons, Slab, slab_len}
+use Rattle.sk_guesses.proofs.Names.{with_value, Updates, before, in_order, ArePresent, AreApart, AreKeys}
+use Rattle.std.proofs.Common.{[], None, Ok, Err, refl, ap}
+use Rattle.std.proofs.lemmas.Bool.{true≢false}
+use Rattle.std.proofs.lemmas.List.{get_or-set_other}
 use Rattle.sk_record.specs.Notes.{has}
-use Rattle.sk_guesses.specs.Row.{before, in_order, ArePresent, AreApart, AreKeys}
 use Rattle.sk_guesses.proofs.Opens.{turned}
 
 none_left : (a b : Bool) → (a || b) ≡ false → a ≡ false

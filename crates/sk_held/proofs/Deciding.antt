@@ -1,22 +1,11 @@
 -- A guess is decided by the token at the place that was found: it is taken, and the other tokens are held as before.
-use Rattle.std.proofs.Common.{◌≡◌, ℕ, zero, suc, true, false, cond, ◌||◌, List, [], ◌∷◌, ◌++◌, length, Some, None, Result, Ok, Err, refl, sym, ap, ◌∙◌, subst}
-use Rattle.std.specs.Prelude.{◌==◌, get_or, slice_get}
-use Rattle.std.specs.List.{remove, AllByRecursion}
-use Rattle.std.proofs.lemmas.Bool.{true≢false, eq-eqb, or_left, or_right}
-use Rattle.sk_record.specs.Notes.{has, without}
-use Rattle.sk_record.specs.UndoState.{Open, numbers}
-use Rattle.sk_record.specs.declared.status.Status.TheVariants.{Undecided, Struck}
-use Rattle.sk_guesses.specs.Kept.{KeptView, known}
-use Rattle.sk_guesses.specs.Token.{Token}
-use Rattle.sk_speculator.specs.Calls.{IsStranger}
-use Rattle.sk_speculator.specs.declared.decided.Committed.{Committed}
+use Rattle.sk_held.proofs.Names.{◌≡◌, ℕ, zero, suc, true, false, cond, ◌||◌, List, [], ◌∷◌, ◌++◌, length, Some, None}
+use Rattle.sk_held.proofs.Names.{Result, Ok, Err, refl, sym, ap, ◌∙◌, subst, ◌==◌, get_or, slice_get, remove}
+use Rattle.sk_held.proofs.Names.{AllByRecursion, true≢false, eq-eqb, or_left, or_right, has, without, Open, numbers}
+use Rattle.sk_held.proofs.Names.{Undecided, Struck, KeptView, known, Token, IsStranger, Committed, bytes_cmp, ByteView}
+use Rattle.sk_held.proofs.Names.{CommitPost, FailPost, Unmade, ids, is_out, AreHeld}
 use Rattle.sk_speculator.specs.declared.decided.Committed.TheVariants as commit
-use Rattle.sk_index.specs.Index.{bytes_cmp}
-use Rattle.sk_bytes.specs.Told.{ByteView}
-use Rattle.sk_bytes.specs.Calls.{CommitPost, FailPost}
-use Rattle.sk_bytes.specs.declared.bytes.Unmade.{Unmade}
 use Rattle.sk_bytes.specs.declared.bytes.Unmade.TheVariants as unmade
-use Rattle.sk_held.specs.Tokens.{ids, is_out, AreHeld}
 use Rattle.sk_held.proofs.Found.{all_at, all_but, number_at, others, within}
 use Rattle.sk_held.proofs.Kept.{committed, failed, forgotten}
 

@@ -1,20 +1,9 @@
 -- A token is found by the number of its guess, and taken out at its place.
-use Rattle.std.proofs.Common.{◌≡◌, ℕ, zero, suc, ◌<◌, ◌≤◌, List, [], ◌∷◌, length, refl, sym, ap, ◌∙◌, subst, arith, Some, Result, Ok, Err}
-use Rattle.std.specs.Prelude.{get_or, slice_get}
-use Rattle.std.specs.List.{remove, AllByRecursion}
-use Rattle.std.specs.List.Sorted.{IsStrictlySortedBy, IsBinarySearchResult, IsNonDecreasingBy, IsSearchInRange}
-use Rattle.std.specs.Option.{IfSome}
-use Rattle.std.specs.Result.{result_ok}
-use Rattle.std.specs.Ordering.{nat_cmp, ordering_index}
-use Rattle.std.specs.declared.cmp.Ordering.TheVariants.{Less, Equal, Greater}
-use Rattle.std.proofs.Math.ListN.{get_or-map}
-use Rattle.std.proofs.lemmas.List.{length-map}
-use Rattle.std.proofs.lemmas.Cmp.{ranked}
-use Rattle.std.proofs.lemmas.Option.{slice_get_within, slice_get-get_or, get_or_from_slice_get}
-use Rattle.sk_record.specs.Notes.{without}
-use Rattle.sk_ids.proofs.Searches.{taken_at}
-use Rattle.sk_guesses.specs.Token.{Token}
-use Rattle.sk_held.specs.Tokens.{ids}
+use Rattle.sk_held.proofs.Names.{◌≡◌, ℕ, zero, suc, ◌<◌, ◌≤◌, List, [], ◌∷◌, length, refl, sym, ap, ◌∙◌, subst, arith}
+use Rattle.sk_held.proofs.Names.{Some, Result, Ok, Err, get_or, slice_get, remove, AllByRecursion, IsStrictlySortedBy}
+use Rattle.sk_held.proofs.Names.{IsBinarySearchResult, IsNonDecreasingBy, IsSearchInRange, IfSome, result_ok, nat_cmp}
+use Rattle.sk_held.proofs.Names.{ordering_index, Less, Equal, Greater, get_or-map, length-map, ranked, slice_get_within}
+use Rattle.sk_held.proofs.Names.{slice_get-get_or, get_or_from_slice_get, without, taken_at, Token, ids}
 
 abbrev number : Token → ℕ
 number t = t.id

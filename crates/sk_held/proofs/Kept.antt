@@ -1,30 +1,15 @@
 -- Just the tokens of undecided and struck guesses are held, behind each call of the kernel too.
-use Rattle.std.proofs.Common.{◌≡◌, ℕ, ◌≤◌, Bool, true, false, cond, not, ◌||◌, ◌&&◌, List, [], ◌∷◌, ◌++◌, map, Option, Some, None, Ok, inl, inr, refl, sym, ◌∙◌, ap, subst, arith}
-use Rattle.std.specs.Prelude.{◌==◌, nat_lt}
-use Rattle.std.specs.List.{AllByRecursion, filter}
+use Rattle.sk_held.proofs.Names.{◌≡◌, ℕ, ◌≤◌, Bool, true, false, cond, not, ◌||◌, ◌&&◌, List, [], ◌∷◌, ◌++◌, map}
+use Rattle.sk_held.proofs.Names.{Option, Some, None, Ok, inl, inr, refl, sym, ◌∙◌, ap, subst, arith, ◌==◌, nat_lt}
+use Rattle.sk_held.proofs.Names.{AllByRecursion, filter, nat_cmp, Ordering, true≢false, eqb-true, or_cases, ltb-true}
+use Rattle.sk_held.proofs.Names.{ltb-false, map-append, append-nil, list_any-append, IsStrictlySortedBy-filter, has}
+use Rattle.sk_held.proofs.Names.{without, rests_on, with_drawn, with_failure, with_status, Open, numbers, not_struck}
+use Rattle.sk_held.proofs.Names.{still_open, Status, Failed, Struck, has_filter, KeptView, AreStatuses, none_drawn}
+use Rattle.sk_held.proofs.Names.{struck_with, open_in, Token, statuses_redeemed, more_rises, Deed, Parts, next_of}
+use Rattle.sk_held.proofs.Names.{Commits, FailsIn, Forgets, Takes, ids, is_out, AreHeld}
 use Rattle.std.specs.List.Sorted.{IsStrictlySortedBy}
-use Rattle.std.specs.Ordering.{nat_cmp}
-use Rattle.std.specs.declared.cmp.Ordering.{Ordering}
-use Rattle.std.proofs.lemmas.Bool.{true≢false, eqb-true, or_cases, ltb-true, ltb-false}
-use Rattle.std.proofs.lemmas.List.{map-append, append-nil}
-use Rattle.std.proofs.lemmas.List.Folds.{list_any-append}
-use Rattle.std.proofs.lemmas.List.Kept.{IsStrictlySortedBy-filter}
-use Rattle.sk_record.specs.Notes.{has, without}
-use Rattle.sk_record.specs.Machine.{rests_on, with_drawn, with_failure, with_status}
-use Rattle.sk_record.specs.UndoState.{Open, numbers, not_struck, still_open}
-use Rattle.sk_record.specs.declared.status.Status.{Status}
-use Rattle.sk_record.specs.declared.status.Status.TheVariants.{Committed, Failed, Struck}
-use Rattle.sk_record.proofs.Machine.{has_filter}
-use Rattle.sk_guesses.specs.Kept.{KeptView, AreStatuses, none_drawn, struck_with}
-use Rattle.sk_guesses.specs.Opens.{open_in}
-use Rattle.sk_guesses.specs.Token.{Token}
+use Rattle.sk_record.specs.declared.status.Status.TheVariants.{Committed}
 use Rattle.sk_guesses.specs.declared.guess.Redeemed.TheVariants as redeemed_as
-use Rattle.sk_guesses.proofs.Kept.{statuses_redeemed}
-use Rattle.sk_guesses.proofs.Opens.{more_rises}
-use Rattle.sk_deeds.specs.Deed.{Deed}
-use Rattle.sk_speculator.specs.Parts.{Parts}
-use Rattle.sk_speculator.specs.Calls.{next_of, Commits, FailsIn, Forgets, Takes}
-use Rattle.sk_held.specs.Tokens.{ids, is_out, AreHeld}
 
 module _ (v : KeptView) (os : List Open) (status : ℕ → Option Status) (agrees : AreStatuses v os status) where
   -- no guess is undecided and struck

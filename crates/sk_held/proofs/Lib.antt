@@ -1,3 +1,4 @@
+pub mod Names
 mod Found
 mod Kept
 mod Deciding

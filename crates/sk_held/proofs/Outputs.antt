@@ -1,13 +1,7 @@
 -- The first output of a channel stands behind those of others.
-use Rattle.std.proofs.Common.{◌≡◌, ℕ, suc, ◌<◌, ◌≤◌, ◌+◌, Bool, true, false, cond, not, List, [], ◌∷◌, length, refl, sym, ap, ◌∙◌, arith, Option, Some, None, ◌++◌}
-use Rattle.std.specs.Prelude.{◌==◌, get_or}
-use Rattle.std.specs.List.{prefix_len, remove}
-use Rattle.std.specs.Option.{option_map}
-use Rattle.std.specs.Prelude.{is_some}
-use Rattle.std.proofs.lemmas.Bool.{true≢false, eq-eqb}
-use denote.Ref.{Bor}
-use Rattle.sk_held.specs.declared.output.Output.{Output}
-use Rattle.sk_held.specs.Outputs.{but_first, first_of}
+use Rattle.sk_held.proofs.Names.{◌≡◌, ℕ, suc, ◌<◌, ◌≤◌, ◌+◌, Bool, true, false, cond, not, List, [], ◌∷◌, length, refl}
+use Rattle.sk_held.proofs.Names.{sym, ap, ◌∙◌, arith, Option, Some, None, ◌++◌, ◌==◌, get_or, prefix_len, remove}
+use Rattle.sk_held.proofs.Names.{option_map, is_some, true≢false, eq-eqb, Bor, Output, but_first, first_of}
 
 abbrev pub is_other : ℕ → Output → Bool
 is_other t o = not (o.channel == t)

@@ -1,16 +1,8 @@
 -- What a part more makes of the step that is being written.
-use Rattle.std.proofs.Common.{◌≡◌, ℕ, Bool, true, false, ◌||◌, List, [], ◌∷◌, ◌++◌, map, Option, Some, None, Result, Ok, Err, refl, ap, ◌∙◌}
-use Rattle.std.specs.Global.{Vec}
-use Rattle.std.specs.Vec.{vec_items}
-use Rattle.std.specs.List.{list_any}
-use Rattle.std.proofs.lemmas.List.{map-append}
-use Rattle.std.proofs.lemmas.List.Folds.{list_any-append}
-use Rattle.sk_speculator.specs.WholeStep.{WholeStep}
-use Rattle.sk_bytes.specs.Calls.{has_long_key, is_long}
-use Rattle.sk_bytes.specs.Steps.{byte_deed}
-use Rattle.sk_bytes.specs.declared.refusal.Refusal.{Refusal}
-use Rattle.sk_bytes.specs.declared.refusal.Refusal.TheVariants.{LongKey, LongValue, TooMany, NoNumber, Memory}
-use Rattle.sk_held.specs.Held.{is_long_key, is_long_value, no_step, HeldView, PutsPost, WritesPost}
+use Rattle.sk_held.proofs.Names.{◌≡◌, ℕ, Bool, true, false, ◌||◌, List, [], ◌∷◌, ◌++◌, map, Option, Some, None, Result}
+use Rattle.sk_held.proofs.Names.{Ok, Err, refl, ap, ◌∙◌, Vec, vec_items, list_any, map-append, list_any-append}
+use Rattle.sk_held.proofs.Names.{WholeStep, has_long_key, is_long, byte_deed, Refusal, LongKey, LongValue, TooMany}
+use Rattle.sk_held.proofs.Names.{NoNumber, Memory, is_long_key, is_long_value, no_step, HeldView, PutsPost, WritesPost}
 
 abbrev Bytes : Type 0
 Bytes = Vec ℕ

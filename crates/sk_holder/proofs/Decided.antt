@@ -1,23 +1,11 @@
 -- A guess is decided by the token at the place that was found: what a commit and a failure answer, and that the other tokens are held as before.
-use Rattle.std.proofs.Common.{◌≡◌, ℕ, true, ◌<◌, List, [], ◌∷◌, get_or, length, Some, Result, Ok, Err, ap, ◌∙◌, subst, zero, suc}
-use Rattle.std.specs.Prelude.{◌==◌, slice_get}
-use Rattle.std.specs.List.{remove}
-use Rattle.std.proofs.lemmas.Bool.{eq-eqb, or_left, or_right}
-use Rattle.sk_record.specs.Notes.{has}
-use Rattle.sk_record.specs.declared.status.Status.TheVariants.{Undecided, Struck}
-use Rattle.sk_guesses.specs.Token.{Token}
-use Rattle.sk_trace.specs.declared.event.Event.{Event}
+use Rattle.sk_holder.proofs.Names.{◌≡◌, ℕ, true, ◌<◌, List, [], ◌∷◌, get_or, length, Some, Result, Ok, Err, ap, ◌∙◌}
+use Rattle.sk_holder.proofs.Names.{subst, zero, suc, ◌==◌, slice_get, remove, eq-eqb, or_left, or_right, has, Undecided}
+use Rattle.sk_holder.proofs.Names.{Struck, Token, Event, KernelView, HasStatus, DecisionPost, CommitPost, FailPost}
+use Rattle.sk_holder.proofs.Names.{HasSoundTrace, Outcome, Stranger, FailRefusal, undecided_is, struck_is_decided}
+use Rattle.sk_holder.proofs.Names.{HolderView, DecidesPost, but, ids, IsHeld}
 use Rattle.sk_trace.specs.declared.event.Event.TheVariants as events
-use Rattle.sk_kernel.specs.Kernel.{KernelView, HasStatus}
-use Rattle.sk_kernel.specs.Calls.{DecisionPost, CommitPost, FailPost}
-use Rattle.sk_kernel.specs.Laws.{HasSoundTrace}
-use Rattle.sk_kernel.specs.declared.kernel.Outcome.{Outcome}
 use Rattle.sk_kernel.specs.declared.kernel.Outcome.TheVariants as outcomes
-use Rattle.sk_kernel.specs.declared.kernel.Stranger.{Stranger}
-use Rattle.sk_kernel.specs.declared.kernel.FailRefusal.{FailRefusal}
-use Rattle.sk_kernel.proofs.Undecided.{undecided_is, struck_is_decided}
-use Rattle.sk_holder.specs.Holder.{HolderView, DecidesPost, but, ids}
-use Rattle.sk_holder.specs.Tokens.{IsHeld}
 use Rattle.sk_holder.proofs.Held.{Out, out_of, place_within, id_of, removed_but}
 use Rattle.sk_holder.proofs.Settled.{commits_keep, fails_keep, commit_taken, fail_taken}
 use Rattle.sk_holder.proofs.Kept.{commits_leave, fails_leave, held_without}

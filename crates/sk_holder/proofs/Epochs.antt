@@ -1,17 +1,8 @@
 -- Where no token is held none is held behind a new epoch, which memory alone can want for.
-use Rattle.std.proofs.Common.{◌≡◌, true, false, List, [], length, Result, Ok, Err, refl, sym, ◌∙◌, ap, subst, arith}
-use Rattle.std.specs.Prelude.{IfErr}
-use Rattle.std.proofs.lemmas.Bool.{true≢false}
-use Rattle.sk_record.specs.Notes.{has}
-use Rattle.sk_guesses.specs.Token.{Token}
-use Rattle.sk_terminal.specs.Terminals.{TerminalMap}
-use Rattle.sk_trace.specs.Trace.{TraceView}
-use Rattle.sk_kernel.specs.Kernel.{KernelView, undecided_at}
-use Rattle.sk_kernel.specs.Calls.{EpochPost}
-use Rattle.sk_kernel.specs.declared.kernel.EpochRefusal.{EpochRefusal}
+use Rattle.sk_holder.proofs.Names.{◌≡◌, true, false, List, [], length, Result, Ok, Err, refl, sym, ◌∙◌, ap, subst}
+use Rattle.sk_holder.proofs.Names.{arith, IfErr, true≢false, has, Token, TerminalMap, TraceView, KernelView}
+use Rattle.sk_holder.proofs.Names.{undecided_at, EpochPost, EpochRefusal, IsHeld, ids}
 use Rattle.sk_kernel.specs.declared.kernel.EpochRefusal.TheVariants as refusals
-use Rattle.sk_holder.specs.Tokens.{IsHeld}
-use Rattle.sk_holder.specs.Holder.{ids}
 use Rattle.sk_holder.proofs.Held.{no_tokens}
 
 none_held : (result : Result (TraceView × TerminalMap) EpochRefusal) (old new : KernelView) → EpochPost result old new → IsHeld old [] → IsHeld new []

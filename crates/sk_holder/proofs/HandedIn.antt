@@ -1,15 +1,8 @@
 -- A hand-in decides no guess and opens none: the tokens stay.
-use Rattle.std.proofs.Common.{◌≡◌, ℕ, zero, suc, true, List, [], ◌∷◌, Result, Ok, Err, sym, ap, subst, append_assoc}
-use Rattle.std.specs.Prelude.{replicate}
-use Rattle.sk_guesses.specs.Token.{Token}
+use Rattle.sk_holder.proofs.Names.{◌≡◌, ℕ, zero, suc, true, List, [], ◌∷◌, Result, Ok, Err, sym, ap, subst}
+use Rattle.sk_holder.proofs.Names.{append_assoc, replicate, Token, LeaseView, KernelView, with_event, no_step, TakesIn}
+use Rattle.sk_holder.proofs.Names.{HandInPost, alone_step, with_steps, HandIn, Stale, TraceFull, Memory, all_unspent}
 use Rattle.sk_script.specs.declared.instruction.Input.TheVariants as inputs
-use Rattle.sk_script.specs.Lease.{LeaseView}
-use Rattle.sk_kernel.specs.Kernel.{KernelView, with_event}
-use Rattle.sk_kernel.proofs.HandedIn.{no_step}
-use Rattle.sk_kernel.specs.HandIn.{TakesIn, HandInPost, alone_step, with_steps}
-use Rattle.sk_kernel.specs.declared.hand_in.HandIn.{HandIn}
-use Rattle.sk_kernel.specs.declared.hand_in.HandIn.TheVariants.{Stale, TraceFull, Memory}
-use Rattle.sk_holder.specs.Tokens.{all_unspent}
 use Rattle.sk_holder.proofs.Held.{more_unspent}
 use Rattle.sk_holder.proofs.Kept.{EachHeld, after_step}
 

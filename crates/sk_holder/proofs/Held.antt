@@ -1,28 +1,14 @@
 -- What becomes of held tokens when one more event stands in the trace, or a token is taken out.
-use Rattle.std.proofs.Common.{◌≡◌, ℕ, zero, suc, ◌<◌, ◌≤◌, drop, Bool, true, false, not, ◌&&◌, ◌||◌, ◌==◌, List, [], ◌∷◌, ◌++◌, map, length, get_or, refl, sym, ap, ◌∙◌, arith, subst, Some}
-use Rattle.std.specs.List.{Contains, list_all, list_any, remove}
-use Rattle.std.proofs.lemmas.Bool.{ne_eqb, eq-eqb, eqb-true, true≢false}
-use Rattle.std.proofs.lemmas.List.Folds.{list_any-append}
-use Rattle.std.specs.Prelude.{slice_get}
-use Rattle.sk_record.specs.Notes.{has}
-use Rattle.sk_record.specs.Trace.{Event as Happens, Commit, Fail, StatusIs}
-use Rattle.sk_record.specs.Epoch.{status_in}
-use Rattle.sk_record.specs.declared.status.Status.TheVariants.{Undecided, Struck}
-use Rattle.sk_record.proofs.Epoch.{in_trace}
-use Rattle.sk_record.proofs.Sound.{draws, is_commit, is_fail, has_commit, has_fail, is_drawn}
-use Rattle.sk_guesses.specs.Token.{Token}
-use Rattle.sk_script.specs.declared.instruction.Input.{Input}
-use Rattle.sk_trace.specs.Entry.{EntryView}
-use Rattle.sk_trace.specs.declared.event.Event.{Event}
+use Rattle.sk_holder.proofs.Names.{◌≡◌, ℕ, zero, suc, ◌<◌, ◌≤◌, drop, Bool, true, false, not, ◌&&◌, ◌||◌, List, [], ◌∷◌}
+use Rattle.sk_holder.proofs.Names.{◌++◌, map, length, get_or, refl, sym, ap, ◌∙◌, arith, subst, Some, Contains}
+use Rattle.sk_holder.proofs.Names.{list_all, list_any, remove, ne_eqb, eq-eqb, eqb-true, true≢false, list_any-append}
+use Rattle.sk_holder.proofs.Names.{slice_get, has, Happens, Commit, Fail, StatusIs, status_in, Undecided, Struck}
+use Rattle.sk_holder.proofs.Names.{in_trace, draws, is_commit, is_fail, has_commit, has_fail, is_drawn, Token, Input}
+use Rattle.sk_holder.proofs.Names.{EntryView, Event, plain, image, KernelView, events_of, next_guess, with_event, IsNew}
+use Rattle.sk_holder.proofs.Names.{IsStranger, HasSoundTrace, drawn_here, makes, commits, fails, is_unspent}
+use Rattle.sk_holder.proofs.Names.{all_unspent, none_of, is_held, ids, but}
+use Rattle.std.proofs.Common.{◌==◌}
 use Rattle.sk_trace.specs.declared.event.Event.TheVariants as events
-use Rattle.sk_plain.specs.Act.{plain}
-use Rattle.sk_plain.specs.Replay.{image}
-use Rattle.sk_kernel.specs.Kernel.{KernelView, events_of, next_guess, with_event}
-use Rattle.sk_kernel.specs.Calls.{IsNew, IsStranger}
-use Rattle.sk_kernel.specs.Laws.{HasSoundTrace}
-use Rattle.sk_kernel.proofs.Undecided.{drawn_here}
-use Rattle.sk_holder.specs.Tokens.{makes, commits, fails, is_unspent, all_unspent, none_of, is_held}
-use Rattle.sk_holder.specs.Holder.{ids, but}
 
 pub both : (a b : Bool) → (a && b) ≡ true → (a ≡ true) × (b ≡ true)
 both true true e = (refl, refl)

@@ -1,41 +1,16 @@
 -- Each undecided guess has its token, also behind each of the kernel's calls.
-use Rattle.std.proofs.Common.{◌≡◌, ℕ, zero, suc, ◌<◌, true, false, not, List, [], ◌∷◌, ◌++◌, get_or, length, Option, Result, Ok, Err, inl, inr, refl, sym, ap, ◌∙◌, subst, arith}
-use Rattle.std.specs.Prelude.{◌⊎◌, ◌==◌}
-use Rattle.std.specs.List.{Contains, remove}
-use Rattle.std.proofs.lemmas.Bool.{eq-eqb, eqb-true, true≢false, or_cases, or_left, or_right, false_from_ne_true}
-use Rattle.std.proofs.lemmas.List.Elements.{Contains-push}
-use Rattle.std.proofs.lemmas.List.Folds.{list_any-append}
-use Rattle.sk_record.specs.Notes.{has}
-use Rattle.sk_record.specs.Run.{effects}
-use Rattle.sk_record.specs.Strike.{strike}
-use Rattle.sk_record.specs.Trace.{Fail, Record, IsSound, all_recorded, no_record, recorded, undecided_of, still_marked}
-use Rattle.sk_record.specs.declared.status.Status.TheVariants.{Undecided}
-use Rattle.sk_record.specs.Epoch.{status_in}
-use Rattle.sk_record.proofs.Epoch.{in_trace}
-use Rattle.sk_record.proofs.Machine.{nil_right, has_filter}
-use Rattle.sk_record.proofs.UndoStates.{and_both}
-use Rattle.sk_record.proofs.Tidy.{recorded_more}
-use Rattle.sk_record.proofs.Sound.{sound_fail, undecided_is as is_undecided}
-use Rattle.sk_ids.proofs.Entities.{entity_total, entity_exact}
-use Rattle.sk_guesses.specs.Token.{Token}
-use Rattle.sk_script.specs.declared.instruction.Input.{Input}
-use Rattle.sk_trace.specs.Entry.{EntryView}
-use Rattle.sk_trace.specs.declared.event.Event.{Event}
+use Rattle.sk_holder.proofs.Names.{◌≡◌, ℕ, zero, suc, ◌<◌, true, false, not, List, [], ◌∷◌, ◌++◌, get_or, length}
+use Rattle.sk_holder.proofs.Names.{Option, Result, Ok, Err, inl, inr, refl, sym, ap, ◌∙◌, subst, arith, ◌⊎◌, ◌==◌}
+use Rattle.sk_holder.proofs.Names.{Contains, remove, eq-eqb, eqb-true, true≢false, or_cases, or_left, or_right}
+use Rattle.sk_holder.proofs.Names.{false_from_ne_true, Contains-push, list_any-append, has, effects, strike, Fail}
+use Rattle.sk_holder.proofs.Names.{Record, IsSound, all_recorded, no_record, recorded, undecided_of, still_marked}
+use Rattle.sk_holder.proofs.Names.{Undecided, status_in, in_trace, nil_right, has_filter, and_both, recorded_more}
+use Rattle.sk_holder.proofs.Names.{sound_fail, is_undecided, entity_total, entity_exact, Token, Input, EntryView, Event}
+use Rattle.sk_holder.proofs.Names.{plain, image, Refusal, KernelView, HasStatus, events_of, next_guess, undecided_at}
+use Rattle.sk_holder.proofs.Names.{with_event, StepPost, GuessPost, DecisionPost, CommitPost, FailPost, HasSoundTrace}
+use Rattle.sk_holder.proofs.Names.{Outcome, Stranger, FailRefusal, struck_is_decided, map_more, is_held, ids}
 use Rattle.sk_trace.specs.declared.event.Event.TheVariants as events
-use Rattle.sk_plain.specs.Act.{plain}
-use Rattle.sk_plain.specs.Replay.{image}
-use Rattle.sk_plain.specs.declared.refusal.Refusal.{Refusal}
-use Rattle.sk_kernel.specs.Kernel.{KernelView, HasStatus, events_of, next_guess, undecided_at, with_event}
-use Rattle.sk_kernel.specs.Calls.{StepPost, GuessPost, DecisionPost, CommitPost, FailPost}
-use Rattle.sk_kernel.specs.Laws.{HasSoundTrace}
-use Rattle.sk_kernel.specs.declared.kernel.Outcome.{Outcome}
 use Rattle.sk_kernel.specs.declared.kernel.Outcome.TheVariants as outcomes
-use Rattle.sk_kernel.specs.declared.kernel.Stranger.{Stranger}
-use Rattle.sk_kernel.specs.declared.kernel.FailRefusal.{FailRefusal}
-use Rattle.sk_kernel.proofs.Undecided.{struck_is_decided}
-use Rattle.sk_kernel.proofs.Whole.{map_more}
-use Rattle.sk_holder.specs.Tokens.{is_held}
-use Rattle.sk_holder.specs.Holder.{ids}
 use Rattle.sk_holder.proofs.Held.{no_tokens}
 
 -- ---- which guesses are undecided behind one more event

@@ -1,18 +1,10 @@
 -- Where no guess is undecided, what is held is let go, and a new epoch begins.
-use Rattle.std.proofs.Common.{◌≡◌, ℕ, true, List, [], ◌∷◌, length, Option, Some, None, Result, Ok, Err, refl, sym, ◌∙◌, ap, subst, arith}
-use Rattle.std.specs.Prelude.{IfErr}
-use Rattle.std.proofs.lemmas.Bool.{true≢false}
-use Rattle.sk_record.specs.Notes.{has}
-use Rattle.sk_terminal.specs.Terminals.{TerminalMap}
-use Rattle.sk_trace.specs.Trace.{TraceView}
+use Rattle.sk_holder.proofs.Names.{◌≡◌, ℕ, true, List, [], ◌∷◌, length, Option, Some, None, Result, Ok, Err, refl, sym}
+use Rattle.sk_holder.proofs.Names.{◌∙◌, ap, subst, arith, IfErr, true≢false, has, TerminalMap, TraceView, KernelView}
+use Rattle.sk_holder.proofs.Names.{undecided_at, EpochPost, EpochRefusal, Outcome, HolderView, DecidesPost, BeginsPost}
 use Rattle.sk_trace.specs.declared.event.Event.TheVariants as events
-use Rattle.sk_kernel.specs.Kernel.{KernelView, undecided_at}
-use Rattle.sk_kernel.specs.Calls.{EpochPost}
-use Rattle.sk_kernel.specs.declared.kernel.EpochRefusal.{EpochRefusal}
 use Rattle.sk_kernel.specs.declared.kernel.EpochRefusal.TheVariants as refusals
-use Rattle.sk_kernel.specs.declared.kernel.Outcome.{Outcome}
 use Rattle.sk_kernel.specs.declared.kernel.Outcome.TheVariants as outcomes
-use Rattle.sk_holder.specs.Holder.{HolderView, DecidesPost, BeginsPost}
 
 pub kernel_stays : (start : KernelView) (old new : HolderView) (id : ℕ) (result : Option Outcome) → undecided_at start ≡ [] → old.kernel ≡ start → DecidesPost result (events.Fail id) id old new
     → new.kernel ≡ start

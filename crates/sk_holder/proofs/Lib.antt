@@ -1,3 +1,4 @@
+pub mod Names
 pub mod Held
 pub mod Settled
 pub mod Kept

@@ -1,19 +1,11 @@
 -- No held token is spent, also behind each of the kernel's calls: from what the calls answer.
-use Rattle.std.proofs.Common.{◌≡◌, ℕ, true, List, [], ◌∷◌, ◌++◌, sym, ◌∙◌, subst, Option, Result, Ok, Err}
-use Rattle.sk_guesses.specs.Token.{Token}
-use Rattle.sk_plain.specs.declared.refusal.Refusal.{Refusal}
-use Rattle.sk_script.specs.declared.instruction.Input.{Input}
-use Rattle.sk_trace.specs.declared.event.Event.{Event}
+use Rattle.sk_holder.proofs.Names.{◌≡◌, ℕ, true, List, [], ◌∷◌, ◌++◌, sym, ◌∙◌, subst, Option, Result, Ok, Err, Token}
+use Rattle.sk_holder.proofs.Names.{Refusal, Input, Event, KernelView, next_guess, with_event, IsNew, StepPost}
+use Rattle.sk_holder.proofs.Names.{GuessPost, DecisionPost, CommitPost, FailPost, HasSoundTrace, Outcome, Stranger}
+use Rattle.sk_holder.proofs.Names.{FailRefusal, all_unspent}
 use Rattle.sk_trace.specs.declared.event.Event.TheVariants as events
-use Rattle.sk_kernel.specs.Kernel.{KernelView, next_guess, with_event}
-use Rattle.sk_kernel.specs.Calls.{IsNew, StepPost, GuessPost, DecisionPost, CommitPost, FailPost}
-use Rattle.sk_kernel.specs.Laws.{HasSoundTrace}
-use Rattle.sk_kernel.specs.declared.kernel.Outcome.{Outcome}
 use Rattle.sk_kernel.specs.declared.kernel.Outcome.TheVariants as outcomes
-use Rattle.sk_kernel.specs.declared.kernel.Stranger.{Stranger}
-use Rattle.sk_kernel.specs.declared.kernel.FailRefusal.{FailRefusal}
 use Rattle.sk_kernel.specs.declared.kernel.FailRefusal.TheVariants as refusals
-use Rattle.sk_holder.specs.Tokens.{all_unspent}
 use Rattle.sk_holder.proofs.Held.{IsUnspent, Out, DecidesNone, more_unspent, drawn_unspent, no_stranger}
 
 pub steps_keep : (result : Result (Unit {0}) Refusal) (refused : Option Refusal) (pid : ℕ) (input : Input) (old new : KernelView) (ts : List Token)

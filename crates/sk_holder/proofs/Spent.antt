@@ -1,11 +1,9 @@
 -- What is left is spent by failures alone.
-use Rattle.std.proofs.Common.{◌≡◌, ℕ, List, [], ◌∷◌, ◌++◌, map, Option, Some, None, refl, sym, ◌∙◌, ap, append_assoc}
-use Rattle.sk_trace.specs.declared.event.Event.{Event}
+use Rattle.sk_holder.proofs.Names.{◌≡◌, ℕ, List, [], ◌∷◌, ◌++◌, map, Option, Some, None, refl, sym, ◌∙◌, ap}
+use Rattle.sk_holder.proofs.Names.{append_assoc, Event, KernelView, with_event, Outcome, HolderView, DecidesPost}
+use Rattle.sk_holder.proofs.Names.{FailsSome}
 use Rattle.sk_trace.specs.declared.event.Event.TheVariants as events
-use Rattle.sk_kernel.specs.Kernel.{KernelView, with_event}
-use Rattle.sk_kernel.specs.declared.kernel.Outcome.{Outcome}
 use Rattle.sk_kernel.specs.declared.kernel.Outcome.TheVariants as outcomes
-use Rattle.sk_holder.specs.Holder.{HolderView, DecidesPost, FailsSome}
 
 nil_right : (es : List Event) → es ++ [] ≡ es
 nil_right [] = refl

@@ -1,8 +1,7 @@
 -- What is left of a list whose first elements have gone, where one more goes.
-use Rattle.std.proofs.Common.{◌≡◌, ℕ, zero, suc, ◌+◌, ◌<◌, List, [], ◌∷◌, length, arith, refl, subst}
+use Rattle.sk_ids.proofs.Names.{◌≡◌, ℕ, zero, suc, ◌+◌, ◌<◌, List, [], ◌∷◌, length, arith, refl, subst, remove}
+use Rattle.sk_ids.proofs.Names.{length-drop}
 use Rattle.std.specs.Prelude.{drop}
-use Rattle.std.specs.List.{remove}
-use Rattle.std.proofs.lemmas.List.{length-drop}
 
 front_at : (n : ℕ) (xs : List ℕ) → n < length xs → drop (suc n) xs ≡ remove (drop n xs) 0
 front_at zero [] lt = absurd (omega (lt, arith))

@@ -1,16 +1,9 @@
 -- Lists of guesses that rise: what a sort without repeats leaves of them.
-use Rattle.std.proofs.Common.{◌≡◌, ℕ, ◌||◌, eqb, List, [], ◌∷◌, ◌++◌, arith, refl, sym, ◌∙◌}
-use Rattle.std.specs.Ordering.{nat_cmp}
-use Rattle.std.specs.Cmp.{both_ways, nat_eq_equiv}
-use Rattle.std.specs.List.{list_any, dedup}
-use Rattle.std.specs.List.Sorted.{IsStrictlySortedBy, IsPermutation}
-use Rattle.std.proofs.lemmas.Map.Keys.{sorted_from_strictly_increasing}
-use Rattle.std.proofs.lemmas.Map.Views.{list_any-from_Contains, Contains-from_any}
-use Rattle.std.proofs.lemmas.List.Folds.{list_any-append}
-use Rattle.std.proofs.lemmas.List.Sorted.{list_any-IsPermutation}
-use Rattle.std.proofs.lemmas.List.Kept.{Contains-dedup_nat, Contains-from_dedup}
-use Rattle.std.proofs.lemmas.Bool.{eqb-true, eq-eqb}
-use Rattle.sk_record.specs.Notes.{has}
+use Rattle.sk_ids.proofs.Names.{◌≡◌, ℕ, ◌||◌, eqb, List, [], ◌∷◌, ◌++◌, arith, refl, sym, ◌∙◌, nat_cmp, both_ways}
+use Rattle.sk_ids.proofs.Names.{nat_eq_equiv, list_any, dedup, IsStrictlySortedBy, IsPermutation}
+use Rattle.sk_ids.proofs.Names.{sorted_from_strictly_increasing, list_any-from_Contains, Contains-from_any}
+use Rattle.sk_ids.proofs.Names.{list_any-append, list_any-IsPermutation, Contains-dedup_nat, Contains-from_dedup}
+use Rattle.sk_ids.proofs.Names.{eqb-true, eq-eqb, has}
 
 pub rising_none : IsStrictlySortedBy nat_cmp []
 rising_none = sorted_from_strictly_increasing [] (λ k h. absurd (omega arith))

@@ -1,12 +1,9 @@
 -- A list of numbers that rise has no number above its last, and is left as it is without one that it does not have.
-use Rattle.std.proofs.Common.{◌≡◌, ℕ, suc, ◌-◌, ◌<◌, ◌≤◌, true, false, not, cond, ◌||◌, eqb, nat_lt, List, [], ◌∷◌, length, slice_index_or, arith, inl, inr, refl, subst, sym, ap}
-use Rattle.std.specs.Ordering.{nat_cmp}
+use Rattle.sk_ids.proofs.Names.{◌≡◌, ℕ, suc, ◌-◌, ◌<◌, ◌≤◌, true, false, not, cond, ◌||◌, eqb, nat_lt, List, [], ◌∷◌}
+use Rattle.sk_ids.proofs.Names.{length, slice_index_or, arith, inl, inr, refl, subst, sym, ap, nat_cmp}
+use Rattle.sk_ids.proofs.Names.{IsStrictlyIncreasing-from_sorted, AllPairs-from_increasing, eqb-true, ltb-false}
+use Rattle.sk_ids.proofs.Names.{ltb-true, or_cases, has, without, above}
 use Rattle.std.specs.List.Sorted.{IsStrictlySortedBy}
-use Rattle.std.proofs.lemmas.Map.Keys.{IsStrictlyIncreasing-from_sorted}
-use Rattle.std.proofs.lemmas.List.Kept.{AllPairs-from_increasing}
-use Rattle.std.proofs.lemmas.Bool.{eqb-true, ltb-false, ltb-true, or_cases}
-use Rattle.sk_record.specs.Notes.{has, without}
-use Rattle.sk_record.proofs.Rising.{above}
 
 pub other : (x g : ℕ) → x < g → eqb x g ≡ false
 other x g below = elim (eqb x g) as (λ b. eqb x g ≡ b → b ≡ false) [

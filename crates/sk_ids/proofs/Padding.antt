@@ -1,10 +1,8 @@
 -- Names with zeros past their ends compare as the names do, since no byte of a name is 0.
-use Rattle.std.proofs.Common.{◌≡◌, ℕ, zero, suc, ◌+◌, ◌-◌, ◌<◌, IsTrue, true≢false, List, [], ◌∷◌, ◌++◌, length, take, replicate, All, arith, sym, ◌∙◌, ap, length-take-le, take-append-drop}
-use Rattle.std.specs.Ordering.{nat_cmp, ordering_then}
-use Rattle.std.specs.Cmp.Lexicographic.{slice_cmp}
-use Rattle.sk_ids.specs.Name.{is_name_byte}
-use Rattle.sk_ids.specs.Invariants.{IsTidyName}
-use Rattle.sk_ids.specs.declared.name.TheConstants.{NAME_LIMIT}
+use Rattle.sk_ids.proofs.Names.{◌≡◌, ℕ, zero, suc, ◌+◌, ◌-◌, ◌<◌, IsTrue, true≢false, List, [], ◌∷◌, ◌++◌, length, take}
+use Rattle.sk_ids.proofs.Names.{All, arith, sym, ◌∙◌, ap, length-take-le, take-append-drop, nat_cmp, ordering_then}
+use Rattle.sk_ids.proofs.Names.{slice_cmp, is_name_byte, IsTidyName, NAME_LIMIT}
+use Rattle.std.proofs.Common.{replicate}
 use Rattle.sk_ids.proofs.Words.{below, above, level}
 
 abbrev Letters : List ℕ → Type 0

@@ -1,10 +1,8 @@
 -- Rising lists without a gap are known by their ends.
-use Rattle.std.proofs.Common.{◌≡◌, ℕ, ◌<◌, ◌≤◌, ◌+◌, ◌-◌, length, List, [], ◌∷◌, refl, sym, ◌∙◌, ap, subst, arith}
+use Rattle.sk_ids.proofs.Names.{◌≡◌, ℕ, ◌<◌, ◌≤◌, ◌+◌, ◌-◌, length, List, [], ◌∷◌, refl, sym, ◌∙◌, ap, subst, arith}
+use Rattle.sk_ids.proofs.Names.{nat_cmp, or_left, eq-eqb, above}
 use Rattle.std.specs.Prelude.{slice_index_or}
-use Rattle.std.specs.Ordering.{nat_cmp}
 use Rattle.std.specs.List.Sorted.{IsStrictlySortedBy}
-use Rattle.std.proofs.lemmas.Bool.{or_left, eq-eqb}
-use Rattle.sk_record.proofs.Rising.{above}
 
 abbrev last_of : ℕ → List ℕ → ℕ
 last_of x [] = x

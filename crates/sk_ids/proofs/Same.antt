@@ -1,20 +1,12 @@
 -- The tests of texts and identifiers are exact.
-use Rattle.std.specs.Prelude.{◌≡◌, true, nat_eq}
-use Rattle.std.proofs.Common.{ap}
-use Rattle.std.specs.Option.{option_eq}
-use Rattle.std.specs.Cmp.{unsigned_Decides, first_so, second_so}
-use Rattle.std.specs.Cmp.Lexicographic.{pointwise, pointwise_decides}
-use Rattle.sk_record.specs.Same.{IsExact}
-use Rattle.sk_record.proofs.Exact.{exact_from, exact_option}
-use Rattle.sk_ids.specs.declared.pid.ObjId.{ObjId}
-use Rattle.sk_ids.specs.declared.entity.Entity.{Entity}
-use Rattle.sk_ids.specs.declared.entity.Entity.TheVariants.{Proc, Sig, Exit, Obj, Link, Copy}
+use Rattle.sk_ids.proofs.Names.{nat_eq, ap, option_eq, unsigned_Decides, first_so, second_so, pointwise}
+use Rattle.sk_ids.proofs.Names.{pointwise_decides, IsExact, exact_from, exact_option, ObjId, Entity, Proc, Sig, Exit}
+use Rattle.sk_ids.proofs.Names.{Obj, Link, Copy, object_laws, entity_laws}
+use Rattle.std.specs.Prelude.{◌≡◌, true}
 use Rattle.sk_ids.specs.contracts.text.TextPartialEq.TheImpl as text
 use Rattle.sk_ids.specs.contracts.pid.ObjIdPartialEq.TheImpl as object
-use Rattle.sk_ids.specs.contracts.pid.ObjIdEq.TheImpl.Laws.{laws-law as object_laws}
 use Rattle.sk_ids.specs.contracts.pid.PidPartialEq.TheImpl as pid
 use Rattle.sk_ids.specs.contracts.entity.EntityPartialEq.TheImpl as entity
-use Rattle.sk_ids.specs.contracts.entity.EntityEq.TheImpl.Laws.{laws-law as entity_laws}
 
 pub exact_bytes : IsExact (pointwise nat_eq)
 exact_bytes = pointwise_decides unsigned_Decides

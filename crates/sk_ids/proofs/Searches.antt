@@ -1,14 +1,9 @@
 -- What a binary search finds in a list of numbers that rises.
-use Rattle.std.proofs.Common.{◌≡◌, ℕ, zero, suc, ◌<◌, ◌≤◌, true, false, cond, not, eqb, nat_lt, List, [], ◌∷◌, length, arith, refl, sym, ◌∙◌, ap, subst}
-use Rattle.std.specs.Prelude.{get_or, Result, Ok, Err, is_ok}
-use Rattle.std.specs.List.{remove}
-use Rattle.std.specs.Ordering.{nat_cmp}
-use Rattle.std.specs.List.Sorted.{IsStrictlySortedBy, IsBinarySearchResult}
-use Rattle.std.proofs.lemmas.Map.Keys.{IsStrictlyIncreasing-from_sorted}
-use Rattle.std.proofs.lemmas.List.Kept.{AllPairs-from_increasing}
-use Rattle.std.proofs.lemmas.List.Sorted.{searched}
-use Rattle.std.proofs.lemmas.Bool.{ltb-false, ltb-true, or_left, or_right, eq-eqb, eqb-true}
-use Rattle.sk_record.specs.Notes.{has, without}
+use Rattle.sk_ids.proofs.Names.{◌≡◌, ℕ, zero, suc, ◌<◌, ◌≤◌, true, false, cond, not, eqb, nat_lt, List, [], ◌∷◌, length}
+use Rattle.sk_ids.proofs.Names.{arith, refl, sym, ◌∙◌, ap, subst, get_or, Result, Ok, Err, is_ok, remove, nat_cmp}
+use Rattle.sk_ids.proofs.Names.{IsStrictlySortedBy, IsBinarySearchResult, IsStrictlyIncreasing-from_sorted}
+use Rattle.sk_ids.proofs.Names.{AllPairs-from_increasing, searched, ltb-false, ltb-true, or_left, or_right, eq-eqb}
+use Rattle.sk_ids.proofs.Names.{eqb-true, has, without}
 use Rattle.sk_ids.proofs.Newest.{other, without_none}
 
 -- a number that is there, at a place

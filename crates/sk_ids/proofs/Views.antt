@@ -1,11 +1,8 @@
 -- A `BTreeMap`'s entries as a finite map. C is the order as the code computes it, and R as specs/ writes it.
-use Rattle.std.proofs.Common.{◌≡◌, cond, List, [], ◌∷◌, Some, None, refl, sym, ◌∙◌, ap}
-use Rattle.std.specs.declared.cmp.Ordering.{Ordering}
-use Rattle.std.specs.Ordering.{eq_by_cmp}
-use Rattle.std.specs.Cmp.{IsTotalOrder, eq_by_cmp_equiv}
-use Rattle.std.specs.BTreeMap.{is_at}
-use Rattle.std.specs.Map.{lookup}
-use Rattle.std.specs.FinMap.{find, get, insert, remove, from_entries, get-from_entries, get-insert, get-remove, same_map, IsAntisymmetric}
+use Rattle.sk_ids.proofs.Names.{◌≡◌, cond, List, [], ◌∷◌, Some, None, refl, sym, ◌∙◌, ap, Ordering, eq_by_cmp}
+use Rattle.sk_ids.proofs.Names.{IsTotalOrder, eq_by_cmp_equiv, is_at, lookup, find, get, insert, from_entries}
+use Rattle.sk_ids.proofs.Names.{get-from_entries, get-insert, get-remove, IsAntisymmetric}
+use Rattle.std.specs.FinMap.{remove, same_map}
 
 tied : {K : Type 0} {R C : K → K → Ordering} → C ≡ R → IsTotalOrder R → (k q : K) → is_at (C k) q ≡ eq_by_cmp R q k
 tied {K} {R} {C} same total k q = ap (λ (S : K → K → Ordering). is_at (S k) q) same ∙ (eq_by_cmp_equiv total).symm k q

@@ -1,9 +1,8 @@
 -- Cells as numbers, eight at a time: the first that differ tell how all compare.
-use Rattle.std.proofs.Common.{◌≡◌, ◌≢◌, ℕ, zero, suc, ◌+◌, ◌*◌, ◌<◌, ◌≤◌, List, [], ◌∷◌, length, get_or, drop, arith, refl, sym, ◌∙◌, ap, subst, length-drop, get_or-drop, drop-cons, drop-drop, drop_of_length-le, Fits, w8, Ordering, Less, Equal, Greater}
-use Rattle.std.specs.Ordering.{nat_cmp, ordering_then, MatchOrdering}
-use Rattle.std.specs.Cmp.{ranks}
-use Rattle.std.specs.Cmp.Lexicographic.{slice_cmp}
-use Rattle.sk_ids.specs.Word.{word_at}
+use Rattle.sk_ids.proofs.Names.{◌≡◌, ◌≢◌, ℕ, zero, suc, ◌+◌, ◌*◌, ◌<◌, ◌≤◌, List, [], ◌∷◌, length, drop, arith, refl}
+use Rattle.sk_ids.proofs.Names.{sym, ◌∙◌, ap, subst, get_or-drop, drop-cons, drop_of_length-le, Fits, w8, Equal}
+use Rattle.sk_ids.proofs.Names.{Greater, nat_cmp, ordering_then, MatchOrdering, ranks, slice_cmp, word_at}
+use Rattle.std.proofs.Common.{get_or, length-drop, drop-drop, Ordering, Less}
 
 -- each is a byte
 abbrev pub Bytes : List ℕ → Type 0

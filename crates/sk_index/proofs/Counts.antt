@@ -1,14 +1,8 @@
 -- There is a string for each place with one, none is there twice, and the places rise.
-use Rattle.std.proofs.Common.{◌≡◌, ℕ, suc, ◌+◌, ◌<◌, List, [], ◌∷◌, length, Option, Some, None, is_some, cond, count_by, refl, sym, arith}
-use Rattle.std.specs.Global.{Vec}
-use Rattle.std.specs.Cmp.{nat_cmp_is}
-use Rattle.std.specs.List.{AllByRecursion}
+use Rattle.sk_index.proofs.Names.{◌≡◌, ℕ, suc, ◌+◌, ◌<◌, List, [], ◌∷◌, length, Option, Some, None, is_some, cond}
+use Rattle.sk_index.proofs.Names.{count_by, refl, sym, arith, Vec, nat_cmp_is, AllByRecursion, nat_cmp, Less}
+use Rattle.sk_index.proofs.Names.{sum_by-cons, number_of, numbers_in, AreApart, numbered}
 use Rattle.std.specs.List.Sorted.{IsStrictlySortedBy}
-use Rattle.std.specs.Ordering.{nat_cmp}
-use Rattle.std.specs.declared.cmp.Ordering.TheVariants.{Less}
-use Rattle.std.proofs.lemmas.List.Sums.{sum_by-cons}
-use Rattle.sk_index.specs.Index.{number_of, numbers_in, AreApart}
-use Rattle.sk_index.specs.Inside.{numbered}
 use Rattle.sk_index.proofs.Strings.{apart_later, found_slot, Apart, Slots}
 
 pub length-numbered : (n : ℕ) (vs : List (Option (Vec ℕ))) → length (numbered n vs) ≡ count_by is_some vs

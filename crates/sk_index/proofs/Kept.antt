@@ -1,20 +1,10 @@
 -- What an index keeps holds after one string more, and after one less.
-use Rattle.std.proofs.Common.{◌≡◌, ◌≢◌, ℕ, zero, suc, ◌<◌, ◌≤◌, ◌^◌, true, false, ltb, List, [], ◌∷◌, Some, None, cond, refl, sym, ap, ◌∙◌, subst, arith}
-use Rattle.std.specs.Prelude.{◌==◌, ◌||◌, ◌&&◌, not, Bool}
-use Rattle.std.specs.List.{filter, list_any}
-use Rattle.std.specs.Ordering.{nat_cmp, ordering_then, is_eq, is_le, is_lt}
-use Rattle.std.specs.Cmp.{nat_cmp_is}
-use Rattle.std.specs.declared.ops.Bound.TheVariants.{Included}
-use Rattle.std.specs.BTreeMap.Range.{range_contains}
-use Rattle.std.specs.declared.cmp.Ordering.{Ordering}
-use Rattle.std.specs.declared.cmp.Ordering.TheVariants.{Less, Equal, Greater}
-use Rattle.std.specs.BTreeMap.{is_at}
-use Rattle.std.specs.Global.{Vec}
-use Rattle.std.proofs.lemmas.Bool.{eqb-true, eqb-false, ltb-true, ltb-false}
-use Rattle.std.proofs.lemmas.Map.Lookups.{exact_unsigned, exact_pairs}
-use Rattle.slab.specs.Slab.{Slab, get, Updates}
-use Rattle.sk_index.specs.Index.{number_of, Adds, Removes}
-use Rattle.sk_index.specs.Inside.{numbered, place_cmp, IsIndex}
+use Rattle.sk_index.proofs.Names.{◌≡◌, ◌≢◌, ℕ, zero, suc, ◌<◌, ◌≤◌, ◌^◌, true, false, ltb, List, [], ◌∷◌, Some, None}
+use Rattle.sk_index.proofs.Names.{cond, refl, sym, ap, ◌∙◌, subst, arith, ◌==◌, ◌||◌, ◌&&◌, not, Bool, filter, list_any}
+use Rattle.sk_index.proofs.Names.{nat_cmp, ordering_then, is_eq, is_le, is_lt, nat_cmp_is, Included, range_contains}
+use Rattle.sk_index.proofs.Names.{Ordering, Less, Equal, Greater, is_at, Vec, eqb-true, eqb-false, ltb-true, ltb-false}
+use Rattle.sk_index.proofs.Names.{exact_unsigned, exact_pairs, Slab, get, Updates, number_of, Adds, Removes, numbered}
+use Rattle.sk_index.proofs.Names.{place_cmp, IsIndex}
 use Rattle.sk_index.proofs.Strings as strings
 
 equal_of : (o : Ordering) → is_eq o ≡ true → o ≡ Equal

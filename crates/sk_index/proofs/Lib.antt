@@ -1,3 +1,4 @@
+pub mod Names
 pub mod Strings
 pub mod Kept
 pub mod Counts

@@ -1,16 +1,9 @@
 -- The strings in their places, as they are seen with their numbers.
-use Rattle.std.proofs.Common.{◌≡◌, ◌≢◌, ℕ, zero, suc, ◌+◌, ◌<◌, true, false, List, [], ◌∷◌, get_or, Option, Some, None, cond, refl, sym, ap, ◌∙◌, subst, zero-add, arith}
-use Rattle.std.specs.Prelude.{◌==◌, if◌then◌else◌}
-use Rattle.std.specs.Bool.{Decides}
-use Rattle.std.specs.Option.{option_map}
-use Rattle.std.specs.Ordering.{eq_by_cmp}
-use Rattle.std.specs.FinMap.{find}
-use Rattle.std.specs.Global.{Vec}
-use Rattle.std.proofs.lemmas.Bool.{eqb-true, eqb-false, ne_eqb, eq-eqb}
-use Rattle.std.proofs.lemmas.Slice.Eq.{bytes_eq-Decides}
-use Rattle.std.proofs.lemmas.Map.Text.{is_eq-slice_cmp}
-use Rattle.sk_index.specs.Index.{bytes_cmp, number_of, string_of, Adds, Removes}
-use Rattle.sk_index.specs.Inside.{numbered}
+use Rattle.sk_index.proofs.Names.{◌≡◌, ◌≢◌, ℕ, zero, suc, ◌+◌, ◌<◌, true, false, List, [], ◌∷◌, get_or, Option, Some}
+use Rattle.sk_index.proofs.Names.{None, cond, refl, sym, ap, ◌∙◌, subst, zero-add, arith, ◌==◌, if◌then◌else◌, Decides}
+use Rattle.sk_index.proofs.Names.{option_map, eq_by_cmp, find, Vec, eqb-true, eqb-false, ne_eqb, eq-eqb}
+use Rattle.sk_index.proofs.Names.{bytes_eq-Decides, is_eq-slice_cmp, bytes_cmp, number_of, string_of, Adds, Removes}
+use Rattle.sk_index.proofs.Names.{numbered}
 
 pub some_none : {A P : Type 0} (x : A) → Some x ≡ None → P
 some_none x is = cc

@@ -1,12 +1,7 @@
 -- The places that hashes have after one more, and after one less.
-use Rattle.std.proofs.Common.{◌≡◌, ℕ, true, false, Option, Some, None, refl, sym, ap, ◌∙◌}
-use Rattle.std.specs.Prelude.{◌==◌, ◌||◌, Bool}
-use Rattle.std.specs.BTreeMap.{is_at}
-use Rattle.std.specs.BTreeSet.{BTreeSet, contains}
+use Rattle.sk_index.proofs.Names.{◌≡◌, ℕ, true, false, Option, Some, None, refl, sym, ap, ◌∙◌, ◌==◌, ◌||◌, Bool, is_at}
+use Rattle.sk_index.proofs.Names.{BTreeSet, contains, HashMap, eqb-true, first_under, is_place, is_under, place_cmp}
 use Rattle.std.specs.BTreeSet as set
-use Rattle.std.specs.HashMap.{HashMap}
-use Rattle.std.proofs.lemmas.Bool.{eqb-true}
-use Rattle.sk_index.specs.Inside.{first_under, is_place, is_under, place_cmp}
 use Rattle.sk_index.proofs.Kept.{exact_place, still_true}
 
 -- a place that is not the first stands among the others

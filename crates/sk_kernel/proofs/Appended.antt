@@ -1,11 +1,7 @@
 -- What is appended to a trace, and that it was foreseen.
-use Rattle.std.proofs.Common.{◌≡◌, ℕ, List, [], ◌∷◌, ◌++◌, length, Option, Some, None, refl, sym, ap, subst, ◌∙◌, arith}
-use Rattle.std.specs.Prelude.{slice_get}
-use Rattle.std.proofs.lemmas.Option.{slice_get_past}
-use Rattle.sk_script.specs.declared.instruction.Input.{Input}
-use Rattle.sk_trace.specs.declared.event.Event.{Event}
-use Rattle.sk_kernel.specs.Kernel.{KernelView, with_event}
-use Rattle.sk_kernel.specs.Footprint.{appended, IsForeseen}
+use Rattle.sk_kernel.proofs.Names.{◌≡◌, ℕ, List, [], ◌∷◌, ◌++◌, length, Option, Some, None, refl, sym, ap, subst, ◌∙◌}
+use Rattle.sk_kernel.proofs.Names.{arith, slice_get, slice_get_past, Input, Event, KernelView, with_event, appended}
+use Rattle.sk_kernel.proofs.Names.{IsForeseen}
 
 behind : {X : Type 0} (xs : List X) (x : X) → slice_get (xs ++ x ∷ []) (length xs) ≡ Some x
 behind [] x = refl

@@ -1,27 +1,11 @@
 -- How many notes slots hold at least and at most: one for each entity that has some, and no more than those of longer logs.
-use Rattle.std.proofs.Common.{◌≡◌, ℕ, ◌+◌, ◌≤◌, length, Bool, true, false, cond, ◌&&◌, ◌||◌, List, [], ◌∷◌, Some, None, refl, sym, ◌∙◌, ap, subst, arith}
-use Rattle.std.specs.Prelude.{map as each, T}
-use Rattle.std.specs.List.{list_all, sum_by}
+use Rattle.sk_kernel.proofs.Names.{◌≡◌, ℕ, ◌+◌, ◌≤◌, length, Bool, true, false, cond, ◌&&◌, ◌||◌, List, [], ◌∷◌, Some}
+use Rattle.sk_kernel.proofs.Names.{None, refl, sym, ◌∙◌, ap, subst, arith, each, T, list_all, sum_by, find, is_sorted}
+use Rattle.sk_kernel.proofs.Names.{below_all, eq_by_cmp, is_lt, is_eq, Ordering, Less, Equal, Greater, Equal-is}
+use Rattle.sk_kernel.proofs.Names.{eq_by_cmp_equiv, true≢false, or_parts, and_parts, length-reverse, sum_by-cons}
+use Rattle.sk_kernel.proofs.Names.{entity_cmp, Entity, entity_total, entity_exact, is_in, Note, EntityState, is_empty}
+use Rattle.sk_kernel.proofs.Names.{SlotView, SlotMap, slot_in, log_at, note_count, notes_in, AreApart}
 use Rattle.std.specs.FinMap as map
-use Rattle.std.specs.FinMap.Entries.{find, is_sorted, below_all}
-use Rattle.std.specs.Ordering.{eq_by_cmp, is_lt, is_eq}
-use Rattle.std.specs.declared.cmp.Ordering.{Ordering}
-use Rattle.std.specs.declared.cmp.Ordering.TheVariants.{Less, Equal, Greater}
-use Rattle.std.specs.Cmp.{Equal-is, eq_by_cmp_equiv}
-use Rattle.std.proofs.lemmas.Bool.{true≢false, or_parts, and_parts}
-use Rattle.std.proofs.lemmas.List.{length-reverse}
-use Rattle.std.proofs.lemmas.List.Sums.{sum_by-cons}
-use Rattle.sk_ids.specs.Entity.{entity_cmp}
-use Rattle.sk_ids.specs.declared.entity.Entity.{Entity}
-use Rattle.sk_ids.proofs.Entities.{entity_total, entity_exact}
-use Rattle.sk_record.specs.Effects.{is_in}
-use Rattle.sk_record.specs.Notes.{Note}
-use Rattle.sk_store.specs.declared.entity_state.EntityState.{EntityState}
-use Rattle.sk_undo.specs.Log.{is_empty}
-use Rattle.sk_undo.specs.Slot.{SlotView}
-use Rattle.sk_undo.specs.Logs.{SlotMap, slot_in, log_at}
-use Rattle.sk_undo.specs.Count.{note_count, notes_in}
-use Rattle.sk_kernel.specs.Notes.{AreApart}
 
 abbrev Entries : Type 0
 Entries = List (Entity × SlotView)

@@ -1,11 +1,7 @@
 -- Where no guess is undecided all texts are released.
-use Rattle.std.proofs.Common.{◌≡◌, ℕ, true, false, cond, List, [], ◌∷◌, ◌++◌, map, Option, Some, None, refl, ◌∙◌, ap}
-use Rattle.std.specs.Prelude.{◌==◌}
-use Rattle.sk_record.specs.Effects.{MarkedEffect}
-use Rattle.sk_record.specs.Run.{System}
-use Rattle.sk_record.specs.Notes.{tags_along, next_dirty}
-use Rattle.sk_record.specs.Release.{said_with, said_by}
-use Rattle.sk_record.specs.Machine.{Tagged, released, released_if}
+use Rattle.sk_kernel.proofs.Names.{◌≡◌, ℕ, true, false, cond, List, [], ◌∷◌, ◌++◌, map, Option, Some, None, refl, ◌∙◌}
+use Rattle.sk_kernel.proofs.Names.{ap, ◌==◌, MarkedEffect, System, tags_along, next_dirty, said_with, said_by, Tagged}
+use Rattle.sk_kernel.proofs.Names.{released, released_if}
 
 -- no text rests on a guess
 abbrev pub AllClear : {W : Type 0} → List (Tagged W) → Type 0

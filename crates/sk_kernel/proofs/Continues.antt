@@ -1,27 +1,22 @@
 -- Where no guess is undecided, what comes later is as it would be from the state there.
-use Rattle.std.proofs.Common.{◌≡◌, ℕ, ◌<◌, ◌↔◌, ◌≤◌, length, Bool, true, false, ◌||◌, List, [], ◌∷◌, ◌++◌, cond, Option, Some, None, inl, inr, IsOk, refl, sym, ◌∙◌, ap, subst, arith, append_assoc}
-use Rattle.std.specs.List.{filter, list_any, fold}
-use Rattle.std.specs.declared.cmp.Ordering.{Ordering}
-use Rattle.std.specs.Cmp.{IsTotalOrder}
-use Rattle.std.specs.FinMap.{FinMap, IsAntisymmetric}
-use Rattle.std.proofs.lemmas.Bool.{or_parts, or_left, or_right, or_from, eq-eqb, false≢true, false_from_ne_true}
-use Rattle.std.proofs.lemmas.List.Elements.{Contains-append_left, Contains-append_right, Contains-append_cases}
-use Rattle.std.proofs.lemmas.List.Folds.{list_any-append}
-use Rattle.sk_record.specs.Effects.{MarkedEffect, is_in, is_marked, hit, hits, dirt, dirtied, keep, touches}
-use Rattle.sk_record.specs.Run.{System, outcome, after, marked_effect, run, effects}
-use Rattle.sk_record.specs.Strike.{strike}
-use Rattle.sk_record.specs.Notes.{has, without}
-use Rattle.sk_record.specs.Trace.{Event, Taken, Commit, Fail, IsDrawn, StatusIs, IsTagOf, IsAllowed, IsSound, record_of, record_after, undecided_of, still_marked, marks, Record, no_record, recorded, all_recorded, deps}
-use Rattle.sk_record.specs.Epoch.{status_in, or_since, StatusSince, IsEpoch, EndsAt}
-use Rattle.sk_record.specs.declared.status.Status.{Status}
-use Rattle.sk_record.specs.declared.status.Status.TheVariants.{Undecided}
-use Rattle.sk_record.proofs.Machine.{nil_right, run_append, trail_append}
-use Rattle.sk_record.proofs.Sound.{is_mark, is_commit, is_fail, draws, in_entries, has_entry, is_drawn, entries_are, record_more, each_event, sound_before, sound_first, sound_taken, sound_commit, sound_fail, accepted_last, drawn_more, undecided_is, tests}
-use Rattle.sk_record.proofs.Statuses.{status_by, status_of, status_is}
-use Rattle.sk_record.proofs.Epoch.{next_epoch, either_is}
-use Rattle.sk_record.proofs.Tidy.{recorded_more, tags_are as tags_from}
-use Rattle.sk_record.proofs.MachineRuns.{machine_stands, plain_run}
-use Rattle.sk_record.specs.Machine.{machine_after}
+use Rattle.sk_kernel.proofs.Names.{◌≡◌, ℕ, ◌<◌, ◌≤◌, length, Bool, true, false, ◌||◌, List, [], ◌∷◌, ◌++◌, cond, Option}
+use Rattle.sk_kernel.proofs.Names.{Some, None, inl, inr, IsOk, refl, sym, ◌∙◌, ap, subst, arith, append_assoc, filter}
+use Rattle.sk_kernel.proofs.Names.{list_any, fold, Ordering, IsTotalOrder, FinMap, IsAntisymmetric, or_parts, or_left}
+use Rattle.sk_kernel.proofs.Names.{or_right, or_from, eq-eqb, false≢true, false_from_ne_true, Contains-append_left}
+use Rattle.sk_kernel.proofs.Names.{Contains-append_right, Contains-append_cases, list_any-append, MarkedEffect, is_in}
+use Rattle.sk_kernel.proofs.Names.{is_marked, hit, hits, dirt, dirtied, keep, touches, System, outcome, after}
+use Rattle.sk_kernel.proofs.Names.{marked_effect, run, effects, strike, has, without, Taken, Commit, Fail, IsDrawn}
+use Rattle.sk_kernel.proofs.Names.{StatusIs, IsTagOf, IsAllowed, IsSound, record_of, record_after, undecided_of}
+use Rattle.sk_kernel.proofs.Names.{still_marked, marks, Record, no_record, recorded, all_recorded, deps, status_in}
+use Rattle.sk_kernel.proofs.Names.{or_since, StatusSince, IsEpoch, EndsAt, Status, Undecided, nil_right, run_append}
+use Rattle.sk_kernel.proofs.Names.{trail_append, is_mark, is_commit, is_fail, draws, in_entries, has_entry, is_drawn}
+use Rattle.sk_kernel.proofs.Names.{entries_are, record_more, each_event, sound_before, sound_first, sound_taken}
+use Rattle.sk_kernel.proofs.Names.{sound_commit, sound_fail, accepted_last, drawn_more, undecided_is, tests, status_by}
+use Rattle.sk_kernel.proofs.Names.{status_is, next_epoch, either_is, recorded_more, tags_from, machine_stands}
+use Rattle.sk_kernel.proofs.Names.{plain_run, machine_after}
+use Rattle.std.proofs.Common.{◌↔◌}
+use Rattle.sk_record.specs.Trace.{Event}
+use Rattle.sk_record.proofs.Statuses.{status_of}
 use Rattle.sk_kernel.proofs.Numbers.{number_or, last_after, last_is_greatest}
 
 no_entity : {E : Type 0} (es : List E) → list_any (λ e. false) es ≡ false

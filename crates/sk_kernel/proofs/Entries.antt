@@ -1,31 +1,15 @@
 -- A hand-in is as many entries of the record, and leaves its process as its instructions do.
-use Rattle.std.proofs.Common.{◌≡◌, ℕ, zero, suc, ◌<◌, true, false, cond, List, [], ◌∷◌, ◌++◌, Some, refl, sym, ◌∙◌, ap, subst, arith, append_assoc}
-use Rattle.std.specs.Prelude.{replicate}
+use Rattle.sk_kernel.proofs.Names.{◌≡◌, ℕ, zero, suc, ◌<◌, true, false, cond, List, [], ◌∷◌, ◌++◌, Some, refl, sym, ◌∙◌}
+use Rattle.sk_kernel.proofs.Names.{ap, subst, arith, append_assoc, replicate, eq_by_cmp, Equal-is, eq_by_cmp_equiv}
+use Rattle.sk_kernel.proofs.Names.{append-nil, fold-append, noted, Taken, record_after, record_of, Machine}
+use Rattle.sk_kernel.proofs.Names.{machine_after, MergedStands, HandsIn, alone_tags, with_value, machine_stands}
+use Rattle.sk_kernel.proofs.Names.{all_kept, merged_run, entity_cmp, Entity, Proc, entity_total, entity_exact, Process}
+use Rattle.sk_kernel.proofs.Names.{LeaseView, after_private, EntityState, EntryView, plain, Saying, alone_reads}
+use Rattle.sk_kernel.proofs.Names.{KernelView, events_of, record_at, state_at, IsAsLent, alone_step, alone_entry}
+use Rattle.sk_kernel.proofs.Names.{with_steps, HasSoundTrace, AreEntries}
 use Rattle.std.specs.FinMap as map
-use Rattle.std.specs.Ordering.{eq_by_cmp}
-use Rattle.std.specs.Cmp.{Equal-is, eq_by_cmp_equiv}
-use Rattle.std.proofs.lemmas.List.{append-nil}
-use Rattle.std.proofs.lemmas.List.Sums.{fold-append}
-use Rattle.sk_record.specs.Notes.{noted}
-use Rattle.sk_record.specs.Trace.{Event, Taken, record_after, record_of}
-use Rattle.sk_record.specs.Machine.{Machine, machine_after}
-use Rattle.sk_record.specs.Merged.{MergedStands, HandsIn, alone_tags, with_value}
-use Rattle.sk_record.proofs.MachineRuns.{machine_stands}
-use Rattle.sk_record.proofs.Merged.{all_kept, merged_run}
-use Rattle.sk_ids.specs.Entity.{entity_cmp}
-use Rattle.sk_ids.specs.declared.entity.Entity.{Entity}
-use Rattle.sk_ids.specs.declared.entity.Entity.TheVariants.{Proc}
-use Rattle.sk_ids.proofs.Entities.{entity_total, entity_exact}
-use Rattle.sk_script.specs.declared.process.Process.{Process}
-use Rattle.sk_script.specs.Lease.{LeaseView, after_private}
-use Rattle.sk_store.specs.declared.entity_state.EntityState.{EntityState}
+use Rattle.sk_record.specs.Trace.{Event}
 use Rattle.sk_store.specs.declared.entity_state.EntityState.TheVariants as stored
-use Rattle.sk_trace.specs.Entry.{EntryView}
-use Rattle.sk_plain.specs.Act.{plain, Saying}
-use Rattle.sk_plain.specs.Leased.{alone_reads}
-use Rattle.sk_kernel.specs.Kernel.{KernelView, events_of, record_at, state_at}
-use Rattle.sk_kernel.specs.HandIn.{IsAsLent, alone_step, alone_entry, with_steps}
-use Rattle.sk_kernel.specs.Laws.{HasSoundTrace, AreEntries}
 use Rattle.sk_kernel.proofs.HandedIn.{images_more, no_step, stands_handed}
 
 -- ---- the record

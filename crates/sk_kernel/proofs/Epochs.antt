@@ -1,27 +1,12 @@
 -- A kernel behind a new epoch goes on as the one without it.
-use Rattle.std.proofs.Common.{◌≡◌, ℕ, ◌+◌, ◌||◌, nat_le, nat_lt, length, cond, List, [], ◌++◌, map, Some, None, refl, sym, ◌∙◌, ap, subst}
-use Rattle.std.specs.Prelude.{◌↔◌}
-use Rattle.std.specs.List.{fold}
-use Rattle.std.proofs.lemmas.List.{map-append}
-use Rattle.std.proofs.lemmas.List.Sums.{fold-append}
-use Rattle.sk_record.specs.Run.{run, outcome}
-use Rattle.sk_record.specs.Trace.{Event as Happens, no_record, all_recorded, record_of, undecided_of, deps, IsTagOf}
-use Rattle.sk_record.specs.Epoch.{status_in, or_since, StatusSince, IsEpoch, EndsAt}
-use Rattle.sk_record.specs.declared.status.Status.{Status}
-use Rattle.sk_record.proofs.Epoch.{either_is}
-use Rattle.sk_record.proofs.Statuses.{none_yet}
-use Rattle.sk_ids.specs.declared.entity.Entity.{Entity}
-use Rattle.sk_ids.specs.declared.guess.TheConstants.{LAST_GUESS}
-use Rattle.sk_ids.proofs.Entities.{entity_total, entity_exact}
-use Rattle.sk_guesses.specs.declared.guesses.TheConstants.{GUESS_LIMIT}
-use Rattle.sk_trace.specs.Entry.{EntryView}
-use Rattle.sk_trace.specs.declared.event.Event.{Event}
-use Rattle.sk_plain.specs.Act.{plain}
-use Rattle.sk_plain.specs.Replay.{image}
-use Rattle.sk_plain.specs.declared.refusal.Refusal.TheVariants.{TooMany}
-use Rattle.sk_kernel.specs.Kernel.{KernelView, HasStatus, RestsOn, events_of, state_at, undecided_at, tags_at, number_after, next_guess}
-use Rattle.sk_kernel.specs.Calls.{IsNextEpoch}
-use Rattle.sk_kernel.specs.Laws.{HasSoundTrace, AnswersAlike, with_events}
+use Rattle.sk_kernel.proofs.Names.{◌≡◌, ℕ, ◌+◌, ◌||◌, length, cond, List, [], ◌++◌, map, Some, None, refl, sym, ◌∙◌, ap}
+use Rattle.sk_kernel.proofs.Names.{subst, ◌↔◌, fold, map-append, fold-append, run, outcome, Happens, no_record}
+use Rattle.sk_kernel.proofs.Names.{all_recorded, record_of, undecided_of, deps, IsTagOf, status_in, or_since}
+use Rattle.sk_kernel.proofs.Names.{StatusSince, IsEpoch, EndsAt, Status, either_is, none_yet, Entity, LAST_GUESS}
+use Rattle.sk_kernel.proofs.Names.{entity_total, entity_exact, GUESS_LIMIT, EntryView, Event, plain, image, TooMany}
+use Rattle.sk_kernel.proofs.Names.{KernelView, HasStatus, RestsOn, events_of, state_at, undecided_at, tags_at}
+use Rattle.sk_kernel.proofs.Names.{number_after, next_guess, IsNextEpoch, HasSoundTrace, AnswersAlike, with_events}
+use Rattle.std.proofs.Common.{nat_le, nat_lt}
 use Rattle.sk_kernel.proofs.Continues.{Continues, continues, state_is, tags_are, rests_are, status_behind, next_is_sound, old_is_sound}
 use Rattle.sk_kernel.proofs.Lawful.{last_same}
 use Rattle.sk_kernel.proofs.Numbers.{last_after}

@@ -1,17 +1,10 @@
 -- One event more in an epoch: its trace is sound in the epoch where it is sound.
-use Rattle.std.proofs.Common.{◌≡◌, ℕ, ◌<◌, ◌≤◌, length, true, List, [], ◌∷◌, map, Option, Some, None, inl, inr, refl, ◌∙◌, ap, subst, arith}
-use Rattle.std.specs.List.{fold, list_any}
-use Rattle.std.proofs.lemmas.Bool.{or_left, or_right, eq-eqb}
-use Rattle.sk_record.specs.Trace.{Event as Happens, Taken, Commit, Fail, IsDrawn, IsSound}
-use Rattle.sk_record.proofs.Sound.{draws, drawn_more, is_drawn}
-use Rattle.sk_script.specs.declared.instruction.Input.{Input}
-use Rattle.sk_trace.specs.Entry.{EntryView}
-use Rattle.sk_trace.specs.declared.event.Event.{Event}
+use Rattle.sk_kernel.proofs.Names.{◌≡◌, ℕ, ◌<◌, ◌≤◌, length, true, List, [], ◌∷◌, map, Option, Some, None, inl, inr}
+use Rattle.sk_kernel.proofs.Names.{refl, ◌∙◌, ap, subst, arith, fold, list_any, or_left, or_right, eq-eqb, Happens}
+use Rattle.sk_kernel.proofs.Names.{Taken, Commit, Fail, IsDrawn, IsSound, draws, drawn_more, is_drawn, Input, EntryView}
+use Rattle.sk_kernel.proofs.Names.{Event, plain, image, KernelView, events_of, next_guess, number_after, with_event}
+use Rattle.sk_kernel.proofs.Names.{HasSoundTrace}
 use Rattle.sk_trace.specs.declared.event.Event.TheVariants as events
-use Rattle.sk_plain.specs.Act.{plain}
-use Rattle.sk_plain.specs.Replay.{image}
-use Rattle.sk_kernel.specs.Kernel.{KernelView, events_of, next_guess, number_after, with_event}
-use Rattle.sk_kernel.specs.Laws.{HasSoundTrace}
 use Rattle.sk_kernel.proofs.Whole.{map_more, some_same}
 
 module _ (k : KernelView) (sound : HasSoundTrace k) where

@@ -1,35 +1,16 @@
 -- What the parts of a kernel say of its trace after a hand-in.
-use Rattle.std.proofs.Common.{◌≡◌, ℕ, zero, suc, ◌+◌, ◌-◌, ◌<◌, ◌≤◌, length, List, [], ◌∷◌, ◌++◌, map as each_of, Some, refl, sym, ◌∙◌, ap, subst, arith}
-use Rattle.std.specs.Prelude.{replicate}
-use Rattle.std.proofs.lemmas.List.Sums.{fold-append}
-use Rattle.std.specs.List.{fold}
+use Rattle.sk_kernel.proofs.Names.{◌≡◌, ℕ, zero, suc, ◌+◌, ◌-◌, ◌<◌, ◌≤◌, length, List, [], ◌∷◌, ◌++◌, each_of, Some}
+use Rattle.sk_kernel.proofs.Names.{refl, sym, ◌∙◌, ap, subst, arith, replicate, fold-append, fold, status_in, Taken}
+use Rattle.sk_kernel.proofs.Names.{MergedStands, HandsIn, StepsAlone, last_of, Machine, handed_in, merged_run, Entity}
+use Rattle.sk_kernel.proofs.Names.{Proc, Sig, entity_total, entity_exact, Process, LeaseView, after_private}
+use Rattle.sk_kernel.proofs.Names.{EntityState, EntryView, Event, Scripts, plain, Saying, is_due, alone_reads, image}
+use Rattle.sk_kernel.proofs.Names.{GoesOn, alone_run, runs_same, Parts, machine_of, KernelView, events_of, state_at}
+use Rattle.sk_kernel.proofs.Names.{undecided_at, room, number_after, last_guess, append-nil, IsAsLent, alone_step}
+use Rattle.sk_kernel.proofs.Names.{alone_entry, with_steps, IsWhole, Stands}
 use Rattle.std.specs.FinMap as map
-use Rattle.sk_record.specs.Epoch.{status_in}
-use Rattle.sk_record.specs.Trace.{Taken}
-use Rattle.sk_record.specs.Merged.{MergedStands, HandsIn, StepsAlone, last_of, each}
-use Rattle.sk_record.specs.Machine.{Machine}
-use Rattle.sk_record.proofs.Handed.{handed_in}
-use Rattle.sk_record.proofs.Merged.{merged_run}
-use Rattle.sk_ids.specs.declared.entity.Entity.{Entity}
-use Rattle.sk_ids.specs.declared.entity.Entity.TheVariants.{Proc, Sig}
-use Rattle.sk_ids.proofs.Entities.{entity_total, entity_exact}
-use Rattle.sk_script.specs.declared.process.Process.{Process}
-use Rattle.sk_script.specs.Lease.{LeaseView, after_private}
-use Rattle.sk_store.specs.declared.entity_state.EntityState.{EntityState}
+use Rattle.sk_record.specs.Merged.{each}
 use Rattle.sk_store.specs.declared.entity_state.EntityState.TheVariants as stored
-use Rattle.sk_trace.specs.Entry.{EntryView}
-use Rattle.sk_trace.specs.declared.event.Event.{Event}
-use Rattle.sk_plain.specs.Act.{Scripts, plain, Saying}
-use Rattle.sk_plain.specs.Next.{is_due}
-use Rattle.sk_plain.specs.Leased.{alone_reads}
-use Rattle.sk_plain.specs.Replay.{image}
-use Rattle.sk_plain.proofs.Alone.{GoesOn, alone_run, runs_same}
-use Rattle.sk_machine.specs.Parts.{Parts, machine_of}
-use Rattle.sk_kernel.specs.Kernel.{KernelView, events_of, state_at, undecided_at, room, number_after, last_guess}
 use Rattle.sk_kernel.proofs.Whole.{after_event, open_count}
-use Rattle.std.proofs.lemmas.List.{append-nil}
-use Rattle.sk_kernel.specs.HandIn.{IsAsLent, alone_step, alone_entry, with_steps}
-use Rattle.sk_kernel.specs.Invariant.{IsWhole, Stands}
 
 -- ---- the events of a hand-in
 each_is : {A B : Type 0} (b : B) (xs : List A) → each b xs ≡ replicate (length xs) b

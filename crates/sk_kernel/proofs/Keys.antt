@@ -1,14 +1,11 @@
 -- A rising list of all keys of a finite map is the list of its keys.
-use Rattle.std.proofs.Common.{◌≡◌, true, ◌&&◌, List, [], ◌∷◌, Option, Some, None, refl, sym, ◌∙◌, ap, subst}
-use Rattle.std.specs.Prelude.{map, is_some, T}
-use Rattle.std.specs.declared.cmp.Ordering.{Ordering}
-use Rattle.std.specs.declared.cmp.Ordering.TheVariants.{Less}
-use Rattle.std.specs.List.{AllByRecursion, list_any}
+use Rattle.sk_kernel.proofs.Names.{◌≡◌, true, ◌&&◌, List, ◌∷◌, Option, Some, None, sym, ◌∙◌, ap, subst, is_some, T}
+use Rattle.sk_kernel.proofs.Names.{Ordering, Less, AllByRecursion, list_any, is_lt, eq_by_cmp, IsTotalOrder, find}
+use Rattle.sk_kernel.proofs.Names.{is_sorted, below_all, is_some-find, same_entries}
+use Rattle.std.proofs.Common.{[], refl}
+use Rattle.std.specs.Prelude.{map}
 use Rattle.std.specs.List.Sorted.{IsStrictlySortedBy}
-use Rattle.std.specs.Ordering.{is_lt, eq_by_cmp}
-use Rattle.std.specs.Cmp.{IsTotalOrder}
 use Rattle.std.specs.FinMap as fin
-use Rattle.std.specs.FinMap.Entries.{find, is_sorted, below_all, is_some-find, same_entries}
 
 -- keys alone
 abbrev alone : {K : Type 0} → List K → List (K × Unit {0})

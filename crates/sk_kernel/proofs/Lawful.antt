@@ -1,27 +1,13 @@
 -- The laws of kernels, from those of records.
-use Rattle.std.proofs.Common.{◌≡◌, ℕ, ◌<◌, length, Bool, false, ◌||◌, List, [], ◌∷◌, ◌++◌, map, Some, None, refl, sym, subst, arith}
-use Rattle.std.specs.List.{fold, list_any}
+use Rattle.sk_kernel.proofs.Names.{◌≡◌, ℕ, ◌<◌, length, Bool, false, ◌||◌, List, [], ◌∷◌, ◌++◌, map, Some, None, refl}
+use Rattle.sk_kernel.proofs.Names.{sym, subst, arith, fold, list_any, is_marked, written_value, has, run, Effect}
+use Rattle.sk_kernel.proofs.Names.{Happens, Taken, IsTagOf, IsAllowed, record_of, all_recorded, no_record, deps}
+use Rattle.sk_kernel.proofs.Names.{Undecided, status_in, in_trace, entity_cmp, Entity, entity_total, entity_exact}
+use Rattle.sk_kernel.proofs.Names.{Input, EntryView, Event, EntityState, plain, Saying, image, KernelView, HasStatus}
+use Rattle.sk_kernel.proofs.Names.{RestsOn, events_of, state_at, tags_at, number_after, next_guess, with_event}
+use Rattle.sk_kernel.proofs.Names.{HasSoundTrace, WasDrawn, KeepsUnwritten, WritesAll}
 use Rattle.std.specs.FinMap as map
-use Rattle.sk_record.specs.Effects.{is_marked, written_value}
-use Rattle.sk_record.specs.Notes.{has}
-use Rattle.sk_record.specs.Run.{run}
-use Rattle.sk_record.specs.Step.{Effect}
-use Rattle.sk_record.specs.Trace.{Event as Happens, Taken, IsTagOf, IsAllowed, record_of, all_recorded, no_record, deps}
-use Rattle.sk_record.specs.declared.status.Status.TheVariants.{Undecided}
-use Rattle.sk_record.specs.Epoch.{status_in}
-use Rattle.sk_record.proofs.Epoch.{in_trace}
-use Rattle.sk_ids.specs.Entity.{entity_cmp}
-use Rattle.sk_ids.specs.declared.entity.Entity.{Entity}
-use Rattle.sk_ids.proofs.Entities.{entity_total, entity_exact}
-use Rattle.sk_script.specs.declared.instruction.Input.{Input}
-use Rattle.sk_trace.specs.Entry.{EntryView}
-use Rattle.sk_trace.specs.declared.event.Event.{Event}
 use Rattle.sk_trace.specs.declared.event.Event.TheVariants as events
-use Rattle.sk_store.specs.declared.entity_state.EntityState.{EntityState}
-use Rattle.sk_plain.specs.Act.{plain, Saying}
-use Rattle.sk_plain.specs.Replay.{image}
-use Rattle.sk_kernel.specs.Kernel.{KernelView, HasStatus, RestsOn, events_of, state_at, tags_at, number_after, next_guess, with_event}
-use Rattle.sk_kernel.specs.Laws.{HasSoundTrace, WasDrawn, KeepsUnwritten, WritesAll}
 use Rattle.sk_kernel.proofs.Whole.{map_more, no_guess, some_same}
 use Rattle.sk_kernel.proofs.Numbers.{last_after, last_is_greatest}
 use Rattle.sk_kernel.proofs.Unwritten.{value_stays, tags_stay, value_written, tags_written, none_rests, none_tagged}

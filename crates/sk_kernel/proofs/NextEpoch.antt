@@ -1,34 +1,13 @@
 -- Where nothing is undecided, the parts with their statuses and texts put away stand for the empty trace at the state now.
-use Rattle.std.proofs.Common.{◌≡◌, ℕ, ◌+◌, length, true, List, [], ◌++◌, Option, Some, None, refl, sym, ◌∙◌, ap, arith}
-use Rattle.std.specs.Prelude.{◌↔◌}
-use Rattle.std.specs.Option.{unwrap_or}
-use Rattle.std.specs.Ordering.{nat_cmp}
+use Rattle.sk_kernel.proofs.Names.{◌≡◌, ℕ, ◌+◌, length, true, List, [], ◌++◌, Option, Some, None, refl, sym, ◌∙◌, ap}
+use Rattle.sk_kernel.proofs.Names.{arith, ◌↔◌, unwrap_or, nat_cmp, false≢true, length-append, has, Machine}
+use Rattle.sk_kernel.proofs.Names.{MergedStands, status_in, or_since, Status, Undecided, stands_anew, no_opens}
+use Rattle.sk_kernel.proofs.Names.{undecided_now, either_is, none_yet, Entity, entity_total, entity_exact, status_of}
+use Rattle.sk_kernel.proofs.Names.{status_since, settled, nothing_in, status-settled, texts_in, State, EntityState}
+use Rattle.sk_kernel.proofs.Names.{look_at, plain, Saying, Parts, machine_of, said_at, KernelView, HasStatus, events_of}
+use Rattle.sk_kernel.proofs.Names.{state_at, undecided_at, last_guess, next_guess, Event, OpeningView, opening_of}
+use Rattle.sk_kernel.proofs.Names.{begun_at, IsNextEpoch, IsWhole, Stands}
 use Rattle.std.specs.FinMap as fin
-use Rattle.std.proofs.lemmas.Bool.{false≢true}
-use Rattle.std.proofs.lemmas.List.{length-append}
-use Rattle.sk_record.specs.Notes.{has}
-use Rattle.sk_record.specs.Machine.{Machine}
-use Rattle.sk_record.specs.Merged.{MergedStands}
-use Rattle.sk_record.specs.Epoch.{status_in, or_since}
-use Rattle.sk_record.specs.declared.status.Status.{Status}
-use Rattle.sk_record.specs.declared.status.Status.TheVariants.{Undecided}
-use Rattle.sk_record.proofs.Epoch.{stands_anew, no_opens, undecided_now, either_is}
-use Rattle.sk_record.proofs.Statuses.{none_yet}
-use Rattle.sk_ids.specs.declared.entity.Entity.{Entity}
-use Rattle.sk_ids.proofs.Entities.{entity_total, entity_exact}
-use Rattle.sk_guesses.specs.Guesses.{status_of, status_since, settled}
-use Rattle.sk_guesses.proofs.Statuses.{nothing_in, status-settled}
-use Rattle.sk_terminal.specs.Terminals.{texts_at as texts_in}
-use Rattle.sk_store.specs.State.{State}
-use Rattle.sk_store.specs.declared.entity_state.EntityState.{EntityState}
-use Rattle.sk_undo.specs.Logs.{look_at}
-use Rattle.sk_plain.specs.Act.{plain, Saying}
-use Rattle.sk_machine.specs.Parts.{Parts, machine_of, said_at}
-use Rattle.sk_kernel.specs.Kernel.{KernelView, HasStatus, events_of, state_at, undecided_at, last_guess, next_guess}
-use Rattle.sk_trace.specs.declared.event.Event.{Event}
-use Rattle.sk_kernel.specs.Opening.{OpeningView, opening_of, begun_at}
-use Rattle.sk_kernel.specs.Calls.{IsNextEpoch}
-use Rattle.sk_kernel.specs.Invariant.{IsWhole, Stands}
 use Rattle.sk_kernel.proofs.Whole.{look_is, status_is, epoch_of}
 
 -- the parts behind the end of an epoch

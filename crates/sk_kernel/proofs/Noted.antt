@@ -1,24 +1,10 @@
 -- No note is held exactly where nothing rests on an undecided guess.
-use Rattle.std.proofs.Common.{◌≡◌, ℕ, ◌≤◌, length, Bool, true, false, not, List, [], ◌∷◌, inl, inr, refl, sym, ◌∙◌, ap, subst, arith}
-use Rattle.std.specs.Prelude.{◌↔◌, min, ◌-◌, ◌^◌}
-use Rattle.std.specs.List.{list_all, sum_by}
-use Rattle.std.proofs.lemmas.Bool.{true≢false, or_left, eq-eqb}
-use Rattle.sk_ids.specs.Entity.{entity_cmp}
-use Rattle.sk_ids.specs.declared.entity.Entity.{Entity}
-use Rattle.sk_record.specs.Effects.{is_in}
-use Rattle.sk_record.specs.Merged.{Merges}
-use Rattle.sk_record.specs.UndoState.{log_of}
-use Rattle.sk_record.proofs.Sound.{entries_are}
-use Rattle.sk_plain.specs.Act.{plain}
-use Rattle.sk_record.specs.Notes.{Note, has, last_tags}
-use Rattle.sk_store.specs.declared.entity_state.EntityState.{EntityState}
-use Rattle.sk_undo.specs.Log.{is_empty}
-use Rattle.sk_undo.specs.Logs.{log_at}
-use Rattle.sk_undo.specs.Count.{AreUnnoted, notes_in}
-use Rattle.sk_machine.specs.Parts.{Parts}
-use Rattle.sk_kernel.specs.Kernel.{KernelView, events_of, undecided_at, tags_at}
-use Rattle.sk_kernel.specs.Invariant.{Stands}
-use Rattle.sk_kernel.specs.Notes.{NothingRests, CanHold, AreApart, rests_at, noted_at}
+use Rattle.sk_kernel.proofs.Names.{◌≡◌, ℕ, ◌≤◌, length, Bool, true, false, not, List, [], ◌∷◌, inl, inr, refl, sym, ◌∙◌}
+use Rattle.sk_kernel.proofs.Names.{ap, subst, arith, ◌↔◌, min, list_all, sum_by, true≢false, or_left, eq-eqb}
+use Rattle.sk_kernel.proofs.Names.{entity_cmp, Entity, is_in, Merges, log_of, entries_are, plain, Note, has, last_tags}
+use Rattle.sk_kernel.proofs.Names.{EntityState, is_empty, log_at, AreUnnoted, notes_in, Parts, KernelView, events_of}
+use Rattle.sk_kernel.proofs.Names.{undecided_at, tags_at, Stands, NothingRests, CanHold, AreApart, rests_at, noted_at}
+use Rattle.std.specs.Prelude.{◌-◌, ◌^◌}
 use Rattle.sk_kernel.proofs.Bounds.{ones, slots_least, slots_most}
 use Rattle.sk_kernel.proofs.Whole.{tags_computed, tidy, opens_are}
 

@@ -1,11 +1,8 @@
 -- The number of the last guess is the greatest that was drawn.
-use Rattle.std.proofs.Common.{◌≡◌, ℕ, ◌≤◌, List, [], ◌∷◌, ◌++◌, Option, Some, None, inl, inr, refl, sym, ◌∙◌, ap, subst, arith}
-use Rattle.std.specs.FinMap.{FinMap}
-use Rattle.std.specs.List.{fold}
-use Rattle.std.proofs.lemmas.List.Sums.{fold-append}
-use Rattle.sk_record.specs.Run.{System}
-use Rattle.sk_record.specs.Trace.{Event, Taken, Commit, Fail, IsDrawn, IsAllowed, IsSound}
-use Rattle.sk_record.proofs.Sound.{each_event, drawn_more}
+use Rattle.sk_kernel.proofs.Names.{◌≡◌, ℕ, ◌≤◌, List, [], ◌∷◌, ◌++◌, Option, Some, None, inl, inr, refl, sym, ◌∙◌, ap}
+use Rattle.sk_kernel.proofs.Names.{subst, arith, FinMap, fold, fold-append, System, Taken, Commit, Fail, IsDrawn}
+use Rattle.sk_kernel.proofs.Names.{IsAllowed, IsSound, each_event, drawn_more}
+use Rattle.sk_record.specs.Trace.{Event}
 
 abbrev pub number_or : ℕ → Option ℕ → ℕ
 number_or last None = last

@@ -1,26 +1,12 @@
 -- Why a step or a guess is refused, or that it is not, from what the machine does at its entry.
-use Rattle.std.proofs.Common.{◌≡◌, ℕ, ◌<◌, ◌≤◌, Bool, true, false, cond, Option, Some, None, Result, Ok, Err, sym, ◌∙◌, ap, subst, arith}
-use Rattle.std.specs.Prelude.{nat_lt}
+use Rattle.sk_kernel.proofs.Names.{◌≡◌, ℕ, ◌<◌, ◌≤◌, Bool, true, false, cond, Option, Some, None, Result, Ok, Err, sym}
+use Rattle.sk_kernel.proofs.Names.{◌∙◌, ap, subst, arith, nat_lt, lt-ltb, le-ltb, Effect, perform, Entity, ObjId}
+use Rattle.sk_kernel.proofs.Names.{is_full, EntityState, IsCount, name_there, names_in, names_counted, look_at}
+use Rattle.sk_kernel.proofs.Names.{EntryView, act, Saying, adds_in, refusal_of, Refusal, NoRoom, TooMany, TraceFull}
+use Rattle.sk_kernel.proofs.Names.{Parts, KernelView, or_else, trace_full, room, effect_at, state_at, crowded, no_room}
+use Rattle.sk_kernel.proofs.Names.{step_misfit, step_refused, guess_misfits, too_many, guess_refused, IsWhole}
+use Rattle.sk_kernel.proofs.Names.{TellsRoom}
 use Rattle.std.specs.FinMap as map
-use Rattle.std.proofs.lemmas.Bool.{lt-ltb, le-ltb}
-use Rattle.sk_record.specs.Step.{Effect, perform}
-use Rattle.sk_ids.specs.declared.entity.Entity.{Entity}
-use Rattle.sk_ids.specs.declared.pid.ObjId.{ObjId}
-use Rattle.sk_guesses.specs.Guesses.{is_full}
-use Rattle.sk_store.specs.declared.entity_state.EntityState.{EntityState}
-use Rattle.sk_store.specs.Names.{IsCount, name_there, names_in}
-use Rattle.sk_store.proofs.Names.{names_counted}
-use Rattle.sk_undo.specs.Logs.{look_at}
-use Rattle.sk_trace.specs.Entry.{EntryView}
-use Rattle.sk_plain.specs.Act.{act, Saying}
-use Rattle.sk_plain.specs.Adds.{adds_in}
-use Rattle.sk_plain.specs.Planned.{refusal_of}
-use Rattle.sk_plain.specs.declared.refusal.Refusal.{Refusal}
-use Rattle.sk_plain.specs.declared.refusal.Refusal.TheVariants.{NoRoom, TooMany, TraceFull}
-use Rattle.sk_machine.specs.Parts.{Parts}
-use Rattle.sk_kernel.specs.Kernel.{KernelView, or_else, trace_full, room, effect_at, state_at, crowded, no_room, step_misfit, step_refused, guess_misfits, too_many, guess_refused}
-use Rattle.sk_kernel.specs.Invariant.{IsWhole}
-use Rattle.sk_kernel.specs.Room.{TellsRoom}
 use Rattle.sk_kernel.proofs.Whole.{look_is, same_effect}
 use Rattle.sk_kernel.proofs.Tokens.{full_is}
 

@@ -1,17 +1,7 @@
 -- Whether a planned step has room for its name, from what the machine tells.
-use Rattle.std.proofs.Common.{◌≡◌, ℕ, Bool, true, false, cond, Some, None, Ok, ◌∙◌, ap}
-use Rattle.sk_trace.specs.Entry.{EntryView}
-use Rattle.sk_undo.specs.Logs.{look_at}
-use Rattle.sk_plain.specs.Adds.{adds_of}
-use Rattle.sk_plain.specs.Planned.{effect_of}
-use Rattle.sk_plain.specs.Seen.{seen_with}
-use Rattle.sk_plain.specs.declared.plan.Plan.{Plan}
-use Rattle.sk_plain.specs.declared.refusal.Refusal.TheVariants.{NoRoom}
-use Rattle.sk_plain.proofs.Adds.{adds_is}
-use Rattle.sk_machine.specs.Parts.{Parts}
-use Rattle.sk_kernel.specs.Kernel.{KernelView, state_at, no_room}
-use Rattle.sk_kernel.specs.Invariant.{IsWhole}
-use Rattle.sk_kernel.specs.Room.{TellsRoom}
+use Rattle.sk_kernel.proofs.Names.{◌≡◌, ℕ, Bool, true, false, cond, Some, None, Ok, ◌∙◌, ap, EntryView, look_at}
+use Rattle.sk_kernel.proofs.Names.{adds_of, effect_of, seen_with, Plan, NoRoom, adds_is, Parts, KernelView, state_at}
+use Rattle.sk_kernel.proofs.Names.{no_room, IsWhole, TellsRoom}
 use Rattle.sk_kernel.proofs.Refusals.{step_room}
 
 module _ (k : KernelView) (m : Parts) (place : ℕ) (whole : IsWhole k m place) (n : EntryView) (plan : Plan) (b : Bool) (tells : TellsRoom m.slots (adds_of plan) b) where

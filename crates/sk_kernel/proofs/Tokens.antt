@@ -1,36 +1,18 @@
 -- What a redeemed token says of its guess, and what stands after a decision and after a guess.
-use Rattle.std.proofs.Common.{◌≡◌, ℕ, suc, ◌<◌, ◌≤◌, ◌+◌, length, Bool, true, false, cond, not, ◌||◌, List, [], ◌∷◌, ◌++◌, map, Option, Some, None, Ok, Err, inl, inr, refl, sym, ◌∙◌, ap, subst, arith}
-use Rattle.std.specs.Prelude.{◌==◌, nat_le, nat_lt}
-use Rattle.std.specs.List.{filter}
-use Rattle.std.proofs.lemmas.Bool.{false_from_ne_true, true≢false, eqb-true, eq-eqb, or_cases, or_parts}
-use Rattle.std.proofs.lemmas.List.{length-set}
-use Rattle.sk_record.specs.Notes.{has, without}
-use Rattle.sk_record.specs.UndoState.{Open, numbers}
-use Rattle.sk_record.specs.Machine.{Fails, rests_on}
-use Rattle.sk_record.specs.Merged.{MergedTakes, MergedCommits}
-use Rattle.sk_record.specs.declared.status.Status.{Status}
-use Rattle.sk_record.specs.declared.status.Status.TheVariants.{Undecided, Committed, Failed, Struck}
-use Rattle.sk_ids.specs.declared.guess.TheConstants.{LAST_GUESS}
-use Rattle.sk_guesses.specs.declared.guesses.TheConstants.{GUESS_LIMIT}
-use Rattle.sk_guesses.specs.Token.{Token}
-use Rattle.sk_guesses.specs.Guesses.{GuessesView, status_of, status_since, decided, drawn, next_of, is_full}
-use Rattle.sk_guesses.specs.Calls.{redeemed, redeemed_at}
+use Rattle.sk_kernel.proofs.Names.{◌≡◌, ℕ, suc, ◌<◌, ◌≤◌, ◌+◌, length, Bool, true, false, cond, not, ◌||◌, List, []}
+use Rattle.sk_kernel.proofs.Names.{◌∷◌, ◌++◌, map, Option, Some, None, Ok, Err, inl, inr, refl, sym, ◌∙◌, ap, subst}
+use Rattle.sk_kernel.proofs.Names.{arith, ◌==◌, nat_le, nat_lt, filter, false_from_ne_true, true≢false, eqb-true}
+use Rattle.sk_kernel.proofs.Names.{eq-eqb, or_cases, or_parts, length-set, has, without, Open, numbers, Fails, rests_on}
+use Rattle.sk_kernel.proofs.Names.{MergedTakes, MergedCommits, Status, Undecided, Committed, Failed, Struck, LAST_GUESS}
+use Rattle.sk_kernel.proofs.Names.{GUESS_LIMIT, Token, GuessesView, status_of, status_since, decided, drawn, next_of}
+use Rattle.sk_kernel.proofs.Names.{is_full, redeemed, redeemed_at, Input, Event, plain, TooMany, Parts, machine_of}
+use Rattle.sk_kernel.proofs.Names.{KernelView, HasStatus, events_of, next_guess, with_event, too_many, IsNew}
+use Rattle.sk_kernel.proofs.Names.{IsStranger, DecisionPost, IsWhole, StatusOr, beyond, entity_total, entity_exact}
 use Rattle.sk_guesses.specs.declared.guess.Redeemed.TheVariants as redeemed_as
-use Rattle.sk_script.specs.declared.instruction.Input.{Input}
-use Rattle.sk_trace.specs.declared.event.Event.{Event}
 use Rattle.sk_trace.specs.declared.event.Event.TheVariants as events
-use Rattle.sk_plain.specs.Act.{plain}
-use Rattle.sk_plain.specs.declared.refusal.Refusal.TheVariants.{TooMany}
-use Rattle.sk_machine.specs.Parts.{Parts, machine_of}
-use Rattle.sk_kernel.specs.Kernel.{KernelView, HasStatus, events_of, next_guess, with_event, too_many}
-use Rattle.sk_kernel.specs.Calls.{IsNew, IsStranger, DecisionPost}
 use Rattle.sk_kernel.specs.declared.kernel.Outcome.TheVariants as outcomes
-use Rattle.sk_kernel.specs.Invariant.{IsWhole}
 use Rattle.sk_kernel.proofs.Whole.{status_is, undecided_since, open_undecided, undecided_counted, stands_committed, stands_failed, stands_guessed, drawn_below, after_event, stands_more, stands_after, last_after_event, earlier_long}
-use Rattle.sk_record.specs.Epoch.{StatusOr}
-use Rattle.sk_record.proofs.Epoch.{beyond}
 use Rattle.sk_record.proofs.Merged as merged
-use Rattle.sk_ids.proofs.Entities.{entity_total, entity_exact}
 
 -- ---- what a redeemed token says
 

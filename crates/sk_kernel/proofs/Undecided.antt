@@ -1,19 +1,9 @@
 -- The undecided guesses, as they are computed and as they are defined.
-use Rattle.std.proofs.Common.{◌≡◌, ℕ, Bool, true, false, Option, Some, None, refl, sym, ◌∙◌, subst}
-use Rattle.std.specs.Prelude.{◌↔◌}
-use Rattle.std.specs.Ordering.{nat_cmp}
-use Rattle.std.specs.List.Sorted.{IsStrictlySortedBy}
-use Rattle.std.proofs.lemmas.Map.Keys.{sorted_from_strictly_increasing}
-use Rattle.sk_record.specs.Notes.{has}
-use Rattle.sk_record.specs.declared.status.Status.TheVariants.{Undecided, Struck}
-use Rattle.sk_record.specs.Epoch.{status_in, StatusOr}
-use Rattle.sk_record.specs.declared.status.Status.{Status}
-use Rattle.sk_record.specs.Trace.{StatusIs}
-use Rattle.sk_record.proofs.Epoch.{beyond, since_undecided, undecided_now}
-use Rattle.sk_record.proofs.Undecided.{undecided_rises}
-use Rattle.sk_plain.specs.Act.{plain}
-use Rattle.sk_kernel.specs.Kernel.{KernelView, HasStatus, events_of, undecided_at}
-use Rattle.sk_kernel.specs.Laws.{HasSoundTrace, WasDrawn}
+use Rattle.sk_kernel.proofs.Names.{◌≡◌, ℕ, Bool, true, false, Option, Some, None, refl, sym, ◌∙◌, subst, ◌↔◌, nat_cmp}
+use Rattle.sk_kernel.proofs.Names.{IsStrictlySortedBy, sorted_from_strictly_increasing, has, Undecided, Struck}
+use Rattle.sk_kernel.proofs.Names.{status_in, StatusOr, Status, StatusIs, beyond, since_undecided, undecided_now}
+use Rattle.sk_kernel.proofs.Names.{undecided_rises, plain, KernelView, HasStatus, events_of, undecided_at}
+use Rattle.sk_kernel.proofs.Names.{HasSoundTrace, WasDrawn}
 
 pub undecided_is : (k : KernelView) → HasSoundTrace k → (g : ℕ) → (has g (undecided_at k) ≡ true) ↔ HasStatus k g Undecided
 undecided_is k sound g = ((λ here. since_undecided (plain k.scripts) k.start k.earlier (events_of k) sound g here), λ is. undecided_now (plain k.scripts) k.start k.earlier (events_of k) sound g is)

@@ -1,28 +1,17 @@
 -- What an accepted step writes has its values and its tags, what it does not write keeps its own; and a failed guess is no tag.
-use Rattle.std.proofs.Common.{◌≡◌, ℕ, true, false, ◌==◌, ◌||◌, ◌&&◌, List, [], ◌∷◌, ◌++◌, map, Option, Some, None, Ok, inl, inr, refl, sym, ◌∙◌, ap}
-use Rattle.std.specs.List.{list_any, Contains}
-use Rattle.std.specs.Ordering.{eq_by_cmp}
-use Rattle.std.specs.Cmp.{IsTotalOrder}
-use Rattle.std.specs.FinMap.{FinMap, get, IsAntisymmetric}
-use Rattle.std.proofs.lemmas.Bool.{or_cases, or_left, or_right, true≢false, false_from_ne_true}
-use Rattle.std.proofs.lemmas.List.{append-nil}
-use Rattle.std.proofs.lemmas.List.Elements.{Contains-push}
-use Rattle.std.proofs.lemmas.List.Folds.{list_any-append}
-use Rattle.sk_record.specs.Step.{Effect}
-use Rattle.sk_record.specs.Effects.{MarkedEffect, is_in, is_marked, touches, written_value}
-use Rattle.sk_record.specs.Run.{System, marked_effect, outcome, run}
-use Rattle.sk_record.specs.Notes.{Note, has, noted, last_tags}
-use Rattle.sk_record.specs.declared.status.Status.TheVariants.{Undecided}
-use Rattle.sk_record.specs.Trace.{Event, Taken, Fail, StatusIs, IsTagOf, IsAllowed, IsSound, record_of, all_recorded, no_record, deps, marks}
-use Rattle.sk_record.specs.UndoState.{UndoState, IsTidy, numbers, is_tag, step_tags, tags_at}
-use Rattle.sk_record.specs.Machine.{Machine, RepresentsTrace, took_by, machine_after}
-use Rattle.sk_record.proofs.Chains.{in_from}
-use Rattle.sk_record.proofs.Machine.{has_filter}
-use Rattle.sk_record.proofs.UndoStates.{tidy_clean}
-use Rattle.sk_record.proofs.MachineRuns.{same_outcome, stands_taken, machine_stands, plain_run}
-use Rattle.sk_record.proofs.Sound.{sound_fail}
-use Rattle.sk_record.proofs.Tidy.{tags_are, tidy_of}
-use Rattle.sk_record.proofs.Values.{written_other}
+use Rattle.sk_kernel.proofs.Names.{◌≡◌, ℕ, true, false, ◌||◌, ◌&&◌, List, [], ◌∷◌, ◌++◌, map, Option, Some, None, Ok}
+use Rattle.sk_kernel.proofs.Names.{inl, inr, refl, sym, ◌∙◌, ap, list_any, Contains, eq_by_cmp, IsTotalOrder, FinMap}
+use Rattle.sk_kernel.proofs.Names.{get, IsAntisymmetric, or_cases, or_left, or_right, true≢false, false_from_ne_true}
+use Rattle.sk_kernel.proofs.Names.{append-nil, Contains-push, list_any-append, Effect, MarkedEffect, is_in, is_marked}
+use Rattle.sk_kernel.proofs.Names.{touches, written_value, System, marked_effect, outcome, run, Note, has, noted}
+use Rattle.sk_kernel.proofs.Names.{last_tags, Undecided, Taken, Fail, StatusIs, IsTagOf, IsAllowed, IsSound, record_of}
+use Rattle.sk_kernel.proofs.Names.{all_recorded, no_record, deps, marks, UndoState, IsTidy, numbers, is_tag, step_tags}
+use Rattle.sk_kernel.proofs.Names.{Machine, RepresentsTrace, took_by, machine_after, in_from, has_filter, tidy_clean}
+use Rattle.sk_kernel.proofs.Names.{same_outcome, stands_taken, machine_stands, plain_run, sound_fail, tags_are, tidy_of}
+use Rattle.sk_kernel.proofs.Names.{written_other}
+use Rattle.std.proofs.Common.{◌==◌}
+use Rattle.sk_record.specs.Trace.{Event}
+use Rattle.sk_record.specs.UndoState.{tags_at}
 
 module _ {V : Type 0} where
   last_pushed : (d : List ℕ) (log : List (Note V)) (n : Note V) → last_tags d (log ++ n ∷ []) ≡ n.tags

@@ -1,69 +1,29 @@
 -- What the parts of a kernel say of its trace.
-use Rattle.std.proofs.Common.{Bor, ◌≡◌, ℕ, zero, suc, ◌<◌, ◌≤◌, ◌-◌, ◌+◌, length, true, false, not, List, [], ◌∷◌, ◌++◌, map, Option, Some, None, refl, sym, ◌∙◌, ap, subst, arith}
-use Rattle.std.specs.Prelude.{◌↔◌, is_some, slice_get, MatchOption}
-use Rattle.std.specs.declared.cmp.Ordering.TheVariants.{Less}
-use Rattle.std.specs.Cmp.{nat_cmp_is}
-use Rattle.std.proofs.lemmas.Bool.{eq-eqb, or_left, or_right}
-use Rattle.std.specs.Ordering.{nat_cmp}
-use Rattle.std.specs.List.{AllByRecursion, list_all, fold}
+use Rattle.sk_kernel.proofs.Names.{Bor, ◌≡◌, ℕ, zero, suc, ◌<◌, ◌≤◌, ◌-◌, ◌+◌, length, true, false, not, List, [], ◌∷◌}
+use Rattle.sk_kernel.proofs.Names.{◌++◌, map, Option, Some, None, refl, sym, ◌∙◌, ap, subst, arith, ◌↔◌, is_some}
+use Rattle.sk_kernel.proofs.Names.{slice_get, MatchOption, Less, nat_cmp_is, eq-eqb, or_left, or_right, nat_cmp}
+use Rattle.sk_kernel.proofs.Names.{AllByRecursion, list_all, fold, sorted_from_strictly_increasing, fold-append}
+use Rattle.sk_kernel.proofs.Names.{perform, effects, Note, has, tags_along, IsReleased, said_with, IsDrawn, StatusIs}
+use Rattle.sk_kernel.proofs.Names.{all_recorded, no_record, Open, numbers, tags_in, IsTidy, IsGrowing, Status}
+use Rattle.sk_kernel.proofs.Names.{Undecided, IsPlainRun, RepresentsTrace, Fails, released, MergedStands, MergedTakes}
+use Rattle.sk_kernel.proofs.Names.{MergedCommits, entries_are, one_status, AllSome, tidy_of, grows_of, rests_of}
+use Rattle.sk_kernel.proofs.Names.{tags_are, is_empty, entity_cmp, Entity, is_in, entity_total, entity_exact}
+use Rattle.sk_kernel.proofs.Names.{GuessesView, status_of, status_since, undecided_count, next_of, drawn-since}
+use Rattle.sk_kernel.proofs.Names.{nothing_in, place-of, status_in, or_since, either_is, in_trace, HasSoundTrace}
+use Rattle.sk_kernel.proofs.Names.{EntityState, texts_in, look_at, log_at, Input, EntryView, Event, plain, act, Saying}
+use Rattle.sk_kernel.proofs.Names.{image, Parts, machine_of, undo_state_of, said_at, count_of, KernelView, events_of}
+use Rattle.sk_kernel.proofs.Names.{record_at, state_at, undecided_at, tags_at, texts_at, said_by_record, HasStatus}
+use Rattle.sk_kernel.proofs.Names.{RestsOn, effect_at, number_after, last_guess, with_event, room, ShowsTerminal}
+use Rattle.sk_kernel.proofs.Names.{SaysNothing, LeavesTexts, released_at, IsWhole, Stands, opened, Machine}
+use Rattle.sk_kernel.proofs.Names.{machine_at_start, BootView, State, start_of, IsAtStart, booted, Scripts, append-nil}
+use Rattle.sk_kernel.proofs.Names.{TaggedText, waiting_of, option_copied, unwrap_or}
 use Rattle.std.specs.List.Sorted.{IsStrictlySortedBy}
 use Rattle.std.specs.FinMap as map
-use Rattle.std.proofs.lemmas.Map.Keys.{sorted_from_strictly_increasing}
-use Rattle.std.proofs.lemmas.List.Sums.{fold-append}
-use Rattle.sk_record.specs.Step.{perform}
-use Rattle.sk_record.specs.Run.{effects}
-use Rattle.sk_record.specs.Notes.{Note, has, tags_along}
-use Rattle.sk_record.specs.Release.{IsReleased, said_with}
-use Rattle.sk_record.specs.Trace.{IsDrawn, StatusIs, all_recorded, no_record}
-use Rattle.sk_record.specs.UndoState.{Open, numbers, tags_at as tags_in, IsTidy, IsGrowing}
-use Rattle.sk_record.specs.declared.status.Status.{Status}
-use Rattle.sk_record.specs.declared.status.Status.TheVariants.{Undecided}
-use Rattle.sk_record.specs.Machine.{IsPlainRun, RepresentsTrace, Fails, released}
-use Rattle.sk_record.specs.Merged.{MergedStands, MergedTakes, MergedCommits}
 use Rattle.sk_record.proofs.MachineRuns as machine_runs
 use Rattle.sk_record.proofs.Merged as merged
-use Rattle.sk_record.proofs.Sound.{entries_are}
-use Rattle.sk_record.proofs.Statuses.{one_status}
-use Rattle.sk_record.proofs.Tidy.{AllSome, tidy_of, grows_of, rests_of, tags_are}
-use Rattle.sk_undo.specs.Log.{is_empty}
-use Rattle.sk_ids.specs.Entity.{entity_cmp}
-use Rattle.sk_ids.specs.declared.entity.Entity.{Entity}
-use Rattle.sk_record.specs.Effects.{is_in}
 use Rattle.sk_kernel.proofs.Keys.{keys_are}
-use Rattle.sk_ids.proofs.Entities.{entity_total, entity_exact}
-use Rattle.sk_guesses.specs.Guesses.{GuessesView, status_of, status_since, undecided_of as undecided_count, next_of}
-use Rattle.sk_guesses.proofs.Statuses.{drawn-since, nothing_in}
-use Rattle.sk_guesses.proofs.Decided.{place-of}
-use Rattle.sk_record.specs.Epoch.{status_in, or_since}
-use Rattle.sk_record.proofs.Epoch.{either_is, in_trace}
-use Rattle.sk_kernel.specs.Laws.{HasSoundTrace}
-use Rattle.sk_store.specs.declared.entity_state.EntityState.{EntityState}
-use Rattle.sk_terminal.specs.Terminals.{texts_at as texts_in}
-use Rattle.sk_undo.specs.Logs.{look_at, log_at}
-use Rattle.sk_script.specs.declared.instruction.Input.{Input}
-use Rattle.sk_trace.specs.Entry.{EntryView}
-use Rattle.sk_trace.specs.declared.event.Event.{Event}
 use Rattle.sk_trace.specs.declared.event.Event.TheVariants as events
-use Rattle.sk_plain.specs.Act.{plain, act, Saying}
-use Rattle.sk_plain.specs.Replay.{image}
-use Rattle.sk_machine.specs.Parts.{Parts, machine_of, undo_state_of, said_at}
-use Rattle.sk_guesses.proofs.Count.{count_of}
-use Rattle.sk_kernel.specs.Kernel.{KernelView, events_of, record_at, state_at, undecided_at, tags_at, texts_at, said_by_record, HasStatus, RestsOn, effect_at, number_after, last_guess, with_event, room}
-use Rattle.sk_kernel.specs.Calls.{ShowsTerminal, SaysNothing, LeavesTexts}
 use Rattle.sk_kernel.proofs.Clear.{AllClear, all_clear, clear_released}
-use Rattle.sk_terminal.specs.Terminals.{released_at}
-use Rattle.sk_kernel.specs.Invariant.{IsWhole, Stands}
-use Rattle.sk_guesses.specs.Guesses.{opened}
-use Rattle.sk_record.specs.Machine.{Machine, machine_at_start}
-use Rattle.sk_script.specs.Boot.{BootView}
-use Rattle.sk_store.specs.State.{State}
-use Rattle.sk_store.specs.Start.{start_of}
-use Rattle.sk_machine.specs.Noted.{IsAtStart}
-use Rattle.sk_kernel.specs.Kernel.{booted}
-use Rattle.sk_plain.specs.Act.{Scripts}
-use Rattle.std.proofs.lemmas.List.{append-nil}
-use Rattle.sk_terminal.specs.Terminal.{TaggedText, waiting_of}
-use Rattle.std.specs.Option.{option_copied, unwrap_or}
 
 pub map_more : (es : List Event) (e : Event) → map image (es ++ e ∷ []) ≡ map image es ++ image e ∷ []
 map_more [] e = refl

@@ -1,10 +1,8 @@
 -- Blanking behind the frames that were read.
-use Rattle.std.proofs.Common.{◌≡◌, ℕ, suc, ◌+◌, ◌≤◌, List, [], ◌∷◌, ◌++◌, length, slice_index, take, drop, sym, ◌∙◌, ap, subst, inl, inr, arith, length-append, add-zero}
-use Rattle.std.proofs.lemmas.List.{take-append-drop, take_at, get_or_append_left, get_or-drop, get_or_past}
-use Rattle.std.proofs.lemmas.Bool.{cases_lt}
-use Rattle.sk_log.specs.Frame.{frame, Ends}
-use Rattle.sk_log.specs.Log.{log, AreFrames, IsLog}
-use Rattle.sk_log.specs.Crash.{IsFaded, Keeps, BlankingKeeps}
+use Rattle.sk_log.proofs.Names.{◌≡◌, ℕ, suc, ◌+◌, ◌≤◌, List, [], ◌∷◌, ◌++◌, length, slice_index, take, drop, sym, ◌∙◌}
+use Rattle.sk_log.proofs.Names.{ap, subst, inl, inr, arith, length-append, add-zero, take-append-drop, take_at}
+use Rattle.sk_log.proofs.Names.{get_or_append_left, get_or-drop, get_or_past, cases_lt, frame, Ends, log, AreFrames}
+use Rattle.sk_log.proofs.Names.{IsLog, IsFaded, Keeps, BlankingKeeps}
 use Rattle.sk_log.proofs.Fade.{faded_tail, assoc, torn_is_told}
 use Rattle.sk_log.proofs.Crash.{no_frame, kept_frame, crash_keeps_prefix}
 

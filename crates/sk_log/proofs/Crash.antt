@@ -1,9 +1,8 @@
 -- What is read after a crash.
-use Rattle.std.proofs.Common.{◌≡◌, ℕ, zero, suc, ◌+◌, ◌≤◌, List, [], ◌∷◌, ◌++◌, length, slice_index, take, drop, refl, sym, ◌∙◌, ap, subst, arith, length-append, add-zero}
-use Rattle.std.proofs.lemmas.List.{take-append-drop, length-take-le, ext_get_or, get_or-take, get_or_append_left}
-use Rattle.sk_log.specs.Frame.{head, frame, Ends}
-use Rattle.sk_log.specs.Log.{log, AreFrames}
-use Rattle.sk_log.specs.Crash.{IsFaded, Keeps, ReadsPrefix, CrashKeepsPrefix}
+use Rattle.sk_log.proofs.Names.{◌≡◌, ℕ, zero, suc, ◌+◌, ◌≤◌, List, [], ◌∷◌, ◌++◌, length, slice_index, take, drop, refl}
+use Rattle.sk_log.proofs.Names.{sym, ◌∙◌, ap, subst, arith, length-append, add-zero, take-append-drop, length-take-le}
+use Rattle.sk_log.proofs.Names.{ext_get_or, get_or-take, get_or_append_left, head, frame, Ends, log, AreFrames, IsFaded}
+use Rattle.sk_log.proofs.Names.{Keeps, ReadsPrefix, CrashKeepsPrefix}
 use Rattle.sk_log.proofs.Digits.{length-head, first-head}
 use Rattle.sk_log.proofs.Fade.{faded_tail, kept_tail, assoc, torn_is_told}
 

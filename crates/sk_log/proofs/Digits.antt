@@ -1,7 +1,8 @@
 -- Digits with the top bit set, and the head that is made of them.
-use Rattle.std.proofs.Common.{◌≡◌, ℕ, zero, suc, ◌+◌, ◌-◌, ◌*◌, ◌/◌, ◌%◌, ◌<◌, ◌≤◌, ◌^◌, List, [], ◌∷◌, ◌++◌, length, slice_index, refl, sym, ◌∙◌, ap, arith, length-append, sum}
-use Rattle.std.proofs.lemmas.List.Sums.{sum_by-cons, sum_by-append}
-use Rattle.sk_log.specs.Frame.{digits, front, head_of, head}
+use Rattle.sk_log.proofs.Names.{◌≡◌, ℕ, zero, suc, ◌+◌, ◌-◌, ◌*◌, ◌/◌, ◌%◌, ◌<◌, ◌≤◌, ◌^◌, List, [], ◌∷◌, ◌++◌, length}
+use Rattle.sk_log.proofs.Names.{sym, ◌∙◌, ap, arith, length-append, sum, sum_by-cons, sum_by-append, front, head}
+use Rattle.std.proofs.Common.{slice_index, refl}
+use Rattle.sk_log.specs.Frame.{digits, head_of}
 
 pub length-digits : (n x : ℕ) → length (digits n x) ≡ n
 unfolding digits

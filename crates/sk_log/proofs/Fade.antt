@@ -1,10 +1,9 @@
 -- A frame that lost bytes or bits is not read as a frame.
-use Rattle.std.proofs.Common.{◌≡◌, ℕ, suc, ◌+◌, ◌-◌, ◌<◌, ◌≤◌, ◌^◌, List, [], ◌∷◌, ◌++◌, length, slice_index, take, drop, sum, refl, sym, ◌∙◌, ap, subst, inl, inr, arith}
-use Rattle.std.proofs.lemmas.List.{take_at, drop_at, get_or_append_left, get_or-append-add, get_or_past}
-use Rattle.std.proofs.lemmas.List.Sums.{sum_by-cons}
-use Rattle.std.proofs.lemmas.Bool.{cases_lt}
-use Rattle.sk_log.specs.Frame.{digits, front, head_of, head, frame, IsFrame}
-use Rattle.sk_log.specs.Crash.{IsFaded, Keeps}
+use Rattle.sk_log.proofs.Names.{◌≡◌, ℕ, suc, ◌+◌, ◌-◌, ◌<◌, ◌≤◌, ◌^◌, List, [], ◌∷◌, ◌++◌, length, slice_index, take}
+use Rattle.sk_log.proofs.Names.{drop, sum, refl, sym, ◌∙◌, ap, subst, inl, inr, arith, take_at, drop_at}
+use Rattle.sk_log.proofs.Names.{get_or_append_left, get_or-append-add, get_or_past, sum_by-cons, cases_lt, digits}
+use Rattle.sk_log.proofs.Names.{front, head, frame, IsFrame, IsFaded, Keeps}
+use Rattle.sk_log.specs.Frame.{head_of}
 use Rattle.sk_log.proofs.Digits.{length-digits, value, value-digits, limit-two, limit-four, limit-six, limit-eight, same_digits, length-front, sum-front, length-head}
 
 -- What is lost is missing in the sum.

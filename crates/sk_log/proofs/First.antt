@@ -1,9 +1,7 @@
 -- What the first frame of a segment tells after a crash.
-use Rattle.std.proofs.Common.{◌≡◌, ℕ, zero, suc, ◌<◌, ◌≤◌, ◌^◌, List, [], ◌∷◌, ◌++◌, length, slice_index, take, drop, sum, sym, ◌∙◌, ap, subst, arith, length-append}
-use Rattle.std.proofs.lemmas.List.{append-nil, take-append-drop, get_or_append_left}
-use Rattle.sk_log.specs.Frame.{head_of, head, frame, Ends}
-use Rattle.sk_log.specs.Log.{log, AreFrames}
-use Rattle.sk_log.specs.Crash.{IsFaded, Keeps, Crashed}
+use Rattle.sk_log.proofs.Names.{◌≡◌, ℕ, zero, suc, ◌<◌, ◌≤◌, ◌^◌, List, [], ◌∷◌, ◌++◌, length, slice_index, take, drop}
+use Rattle.sk_log.proofs.Names.{sum, sym, ◌∙◌, ap, subst, arith, length-append, append-nil, take-append-drop}
+use Rattle.sk_log.proofs.Names.{get_or_append_left, head_of, head, frame, Ends, log, AreFrames, IsFaded, Keeps, Crashed}
 use Rattle.sk_log.proofs.Digits.{limit-eight, same_digits, length-head_of, length-head, first-head_of}
 use Rattle.sk_log.proofs.Fade.{assoc, faded_parts, faded_head, front_numbers}
 use Rattle.sk_log.proofs.Read.{parts_there}

@@ -1,10 +1,7 @@
 -- Further crashes, and what is written on.
-use Rattle.std.proofs.Common.{◌≡◌, ℕ, zero, suc, ◌+◌, ◌-◌, ◌≤◌, List, [], ◌∷◌, ◌++◌, length, slice_index, take, ◌∙◌, ap, inl, inr, arith, length-append}
-use Rattle.std.proofs.lemmas.List.{get_or_append_left, get_or-drop, get_or_past}
-use Rattle.std.proofs.lemmas.Bool.{cases_lt}
-use Rattle.sk_log.specs.Frame.{frame}
-use Rattle.sk_log.specs.Log.{log}
-use Rattle.sk_log.specs.Crash.{CrashesAgain, GoesOn, CrashesAreShort}
+use Rattle.sk_log.proofs.Names.{◌≡◌, ℕ, zero, suc, ◌+◌, ◌-◌, ◌≤◌, List, [], ◌∷◌, ◌++◌, length, slice_index, take, ◌∙◌}
+use Rattle.sk_log.proofs.Names.{ap, inl, inr, arith, length-append, get_or_append_left, get_or-drop, get_or_past}
+use Rattle.sk_log.proofs.Names.{cases_lt, frame, log, CrashesAgain, GoesOn, CrashesAreShort}
 use Rattle.sk_log.proofs.Crash.{crash_keeps_prefix}
 use Rattle.sk_log.proofs.Blanked.{log_append, faded_twice}
 

@@ -1,7 +1,8 @@
 -- What a frame's head says of the bytes behind it.
-use Rattle.std.proofs.Common.{◌≡◌, ℕ, ◌+◌, ◌*◌, ◌/◌, ◌%◌, ◌<◌, ◌≤◌, ◌^◌, List, ◌++◌, length, slice_index, take, drop, refl, sym, ◌∙◌, ap, arith, length-append}
-use Rattle.std.proofs.lemmas.List.{take-append-drop, drop-drop, length-take-le}
-use Rattle.sk_log.specs.Frame.{digits, head_of, head, frame}
+use Rattle.sk_log.proofs.Names.{◌≡◌, ℕ, ◌+◌, ◌*◌, ◌/◌, ◌%◌, ◌<◌, ◌≤◌, ◌^◌, List, ◌++◌, length, slice_index, take, drop}
+use Rattle.sk_log.proofs.Names.{refl, sym, ◌∙◌, ap, arith, length-append, take-append-drop, drop-drop, length-take-le}
+use Rattle.sk_log.proofs.Names.{head, frame}
+use Rattle.sk_log.specs.Frame.{digits, head_of}
 use Rattle.sk_log.proofs.Digits.{length-head}
 use Rattle.sk_log.proofs.Fade.{assoc, same_parts}
 

@@ -1,15 +1,10 @@
 -- What a reader knows after a call.
-use Rattle.std.proofs.Common.{◌≡◌, ℕ, suc, ◌+◌, ◌-◌, ◌≤◌, List, [], ◌∷◌, ◌++◌, length, slice_index, take, drop, sum, refl, sym, ◌∙◌, ap, subst, inl, inr, arith, length-append, length-drop, add-zero}
-use Rattle.std.proofs.lemmas.List.{append-nil, drop_at, length-take-le, get_or_append_left, get_or-append-add}
-use Rattle.std.proofs.lemmas.Bool.{cases_lt}
-use Rattle.sk_log.specs.Frame.{head, frame, IsFrame, Ends}
-use Rattle.sk_log.specs.Front.{BeginsFrame, IsShort, FrontIs}
-use Rattle.sk_log.specs.Log.{log, AreFrames}
-use Rattle.sk_log.specs.Crash.{UsesFront}
-use Rattle.sk_log.specs.Reading.{Reading, KeptBegin, Settles, Remains, HasRead, IsNext, RestIs, EndsAt}
-use Rattle.sk_log.specs.declared.front.Front.{Front}
-use Rattle.sk_log.specs.declared.front.Front.TheVariants.{Whole, Short, Other}
-use Rattle.sk_log.specs.declared.recovery.Rest.{Rest}
+use Rattle.sk_log.proofs.Names.{◌≡◌, ℕ, suc, ◌+◌, ◌-◌, ◌≤◌, List, [], ◌∷◌, ◌++◌, length, slice_index, take, drop, sum}
+use Rattle.sk_log.proofs.Names.{refl, sym, ◌∙◌, ap, subst, inl, inr, arith, length-append, length-drop, add-zero}
+use Rattle.sk_log.proofs.Names.{append-nil, drop_at, length-take-le, get_or_append_left, get_or-append-add, cases_lt}
+use Rattle.sk_log.proofs.Names.{head, frame, IsFrame, Ends, BeginsFrame, IsShort, FrontIs, log, AreFrames, UsesFront}
+use Rattle.sk_log.proofs.Names.{Reading, KeptBegin, Settles, Remains, HasRead, IsNext, RestIs, EndsAt, Front, Whole}
+use Rattle.sk_log.proofs.Names.{Short, Other, Rest}
 use Rattle.sk_log.proofs.Digits.{length-head}
 use Rattle.sk_log.proofs.Fade.{assoc, same_parts, same_heads}
 use Rattle.sk_log.proofs.Read.{length-frame, frame_length}

@@ -1,7 +1,6 @@
 -- What counts of two segments.
-use Rattle.std.proofs.Common.{◌≡◌, ℕ, zero, suc, ◌≤◌, List, [], ◌∷◌, ◌++◌, length, take, refl, ap, subst, sym, arith}
-use Rattle.sk_log.specs.Crash.{ReadsPrefix}
-use Rattle.sk_log.specs.Segments.{joined, synced_of, SegmentsJoin}
+use Rattle.sk_log.proofs.Names.{◌≡◌, ℕ, zero, suc, ◌≤◌, List, [], ◌∷◌, ◌++◌, length, take, refl, ap, subst, sym, arith}
+use Rattle.sk_log.proofs.Names.{ReadsPrefix, joined, synced_of, SegmentsJoin}
 
 first_more : (w : List ℕ) (ws : List (List ℕ)) (synced n : ℕ) (read : List (List ℕ)) → synced ≤ suc n → n ≤ length ws → read ≡ take n ws → ReadsPrefix (w ∷ ws) synced (w ∷ read)
 first_more w ws synced n read enough few is = (suc n, enough, omega (arith, few), ap (λ xs. w ∷ xs) is)

@@ -1,8 +1,7 @@
 -- What the front of some bytes is, by what was compared of it.
-use Rattle.std.proofs.Common.{◌≡◌, ℕ, ◌+◌, ◌<◌, ◌≤◌, ◌^◌, List, [], ◌++◌, length, take, drop, sum, refl, sym, ◌∙◌, ap, subst, arith, length-drop}
-use Rattle.std.proofs.lemmas.List.{length-take, length-take-le, append-nil}
-use Rattle.sk_log.specs.Frame.{head_of, head, frame, IsFrame, Ends}
-use Rattle.sk_log.specs.Front.{BeginsAs, BeginsFrame, IsShort, IsOther}
+use Rattle.sk_log.proofs.Names.{◌≡◌, ℕ, ◌+◌, ◌<◌, ◌≤◌, ◌^◌, List, [], ◌++◌, length, take, drop, sum, refl, sym, ◌∙◌, ap}
+use Rattle.sk_log.proofs.Names.{subst, arith, length-drop, length-take, length-take-le, append-nil, head_of, head}
+use Rattle.sk_log.proofs.Names.{frame, IsFrame, Ends, BeginsAs, BeginsFrame, IsShort, IsOther}
 use Rattle.sk_log.proofs.Read.{frame_length, parts_there, payload_there, frame_there}
 
 pub other_segment : (segment number : ℕ) (bytes : List ℕ) → 2 ^ 28 ≤ segment → IsOther segment number bytes

@@ -1,27 +1,11 @@
 -- Many private instructions of one process at once: the guesses that they rest on, and what the machine becomes.
-use Rattle.std.proofs.Common.{◌≡◌, ℕ, Bool, true, false, ◌||◌, List, [], ◌∷◌, ◌++◌, Some, None, refl, sym, ◌∙◌, ap, subst}
-use Rattle.std.proofs.lemmas.Bool.{true≢false}
-use Rattle.std.specs.List.{list_any, filter}
-use Rattle.std.specs.List.Sorted.{IsStrictlySortedBy}
-use Rattle.std.specs.Ordering.{nat_cmp, eq_by_cmp}
-use Rattle.std.proofs.lemmas.List.{append-nil}
-use Rattle.sk_record.specs.Effects.{MarkedEffect}
-use Rattle.sk_record.specs.Notes.{has, noted}
-use Rattle.sk_record.specs.Merged.{HandsIn, Merges, alone_tags}
-use Rattle.sk_record.specs.UndoState.{IsTidy, numbers, step_tags, tags_at}
-use Rattle.sk_record.proofs.Rising.{union_is_tags}
-use Rattle.sk_record.proofs.UndoStates.{tidy_clean}
-use Rattle.sk_ids.specs.Entity.{entity_cmp}
-use Rattle.sk_ids.specs.declared.entity.Entity.{Entity}
-use Rattle.sk_ids.specs.declared.entity.Entity.TheVariants.{Proc, Sig}
-use Rattle.sk_script.specs.declared.process.Process.{Process}
-use Rattle.sk_store.specs.declared.entity_state.EntityState.{EntityState}
+use Rattle.sk_machine.proofs.Names.{◌≡◌, ℕ, Bool, true, false, ◌||◌, List, [], ◌∷◌, ◌++◌, Some, None, refl, sym, ◌∙◌}
+use Rattle.sk_machine.proofs.Names.{ap, subst, true≢false, list_any, filter, IsStrictlySortedBy, nat_cmp, eq_by_cmp}
+use Rattle.sk_machine.proofs.Names.{append-nil, MarkedEffect, has, noted, HandsIn, Merges, alone_tags, IsTidy, numbers}
+use Rattle.sk_machine.proofs.Names.{step_tags, tags_at, union_is_tags, tidy_clean, entity_cmp, Entity, Proc, Sig}
+use Rattle.sk_machine.proofs.Names.{Process, EntityState, look_at, log_at, Scripts, Saying, plain, alone_reads, Parts}
+use Rattle.sk_machine.proofs.Names.{machine_of, undo_state_of, any_rests, Performed, IsClean}
 use Rattle.sk_store.specs.declared.entity_state.EntityState.TheVariants as stored
-use Rattle.sk_undo.specs.Logs.{look_at, log_at}
-use Rattle.sk_plain.specs.Act.{Scripts, Saying, plain}
-use Rattle.sk_plain.specs.Leased.{alone_reads}
-use Rattle.sk_machine.specs.Parts.{Parts, machine_of, undo_state_of, any_rests}
-use Rattle.sk_machine.specs.Performed.{Performed, IsClean}
 use Rattle.sk_machine.proofs.Joins.{contained, contained_more}
 
 -- what such a step touches; its values don't matter for its tags

@@ -1,41 +1,18 @@
 -- Steps that rest on just what their process rests on.
-use Rattle.std.proofs.Common.{◌≡◌, ℕ, suc, ◌<◌, ◌≤◌, length, true, false, cond, List, [], ◌∷◌, ◌++◌, Option, None, Result, Ok, Err, inl, inr, refl, sym, ◌∙◌, ap, subst, arith}
-use Rattle.std.specs.List.{list_any}
-use Rattle.std.specs.Prelude.{OnOk, OnErr, slice_index_or}
-use Rattle.std.specs.Cmp.{both_ways, eq_by_cmp_equiv}
-use Rattle.std.specs.Ordering.{nat_cmp, eq_by_cmp}
+use Rattle.sk_machine.proofs.Names.{◌≡◌, ℕ, suc, ◌<◌, ◌≤◌, length, true, false, cond, List, [], ◌∷◌, ◌++◌, Option, None}
+use Rattle.sk_machine.proofs.Names.{Result, Ok, Err, inl, inr, refl, sym, ◌∙◌, ap, subst, arith, list_any, OnOk, OnErr}
+use Rattle.sk_machine.proofs.Names.{slice_index_or, both_ways, eq_by_cmp_equiv, nat_cmp, eq_by_cmp, or_cases, or_left}
+use Rattle.sk_machine.proofs.Names.{or_right, true≢false, false≢true, eq-eqb, eqb-true, append-nil, list_any-append}
+use Rattle.sk_machine.proofs.Names.{above, is_in, has, IsTidy, Open, numbers, step_tags, entity_cmp, Entity, Proc, Sig}
+use Rattle.sk_machine.proofs.Names.{entity_total, entity_exact, OpenGuess, opens_of, tied_is, Input, EntityState}
+use Rattle.sk_machine.proofs.Names.{is_empty, SlotMap, look_at, undo_state, PlanView, LooksView, Nowhere, Scripts}
+use Rattle.sk_machine.proofs.Names.{looked_at, read_by, signals_read, written_by, writes_of, looked, looks_of}
+use Rattle.sk_machine.proofs.Names.{seen_with, written_in, Plan, Private, written_is, changed_are, tags_in, with_tags}
+use Rattle.sk_machine.proofs.Names.{AllExact, Covers, IsEnough, RestAlike, Parts, undo_state_of, planned_effect}
+use Rattle.sk_machine.proofs.Names.{IsClean, Performed, entities_of}
 use Rattle.std.specs.List.Sorted.{IsStrictlySortedBy}
-use Rattle.std.proofs.lemmas.Bool.{or_cases, or_left, or_right, true≢false, false≢true, eq-eqb, eqb-true}
-use Rattle.std.proofs.lemmas.List.{append-nil}
-use Rattle.std.proofs.lemmas.List.Folds.{list_any-append}
-use Rattle.sk_record.proofs.Rising.{above}
-use Rattle.sk_record.specs.Effects.{is_in}
-use Rattle.sk_record.specs.Notes.{has}
-use Rattle.sk_record.specs.UndoState.{IsTidy, Open, numbers, step_tags}
-use Rattle.sk_ids.specs.Entity.{entity_cmp}
-use Rattle.sk_ids.specs.declared.entity.Entity.{Entity}
-use Rattle.sk_ids.specs.declared.entity.Entity.TheVariants.{Proc, Sig}
-use Rattle.sk_ids.proofs.Entities.{entity_total, entity_exact}
-use Rattle.sk_guesses.specs.Opens.{OpenGuess, opens_of}
-use Rattle.sk_guesses.proofs.Places.{tied_is}
-use Rattle.sk_script.specs.declared.instruction.Input.{Input}
 use Rattle.sk_script.specs.declared.instruction.Input.TheVariants as inputs
-use Rattle.sk_store.specs.declared.entity_state.EntityState.{EntityState}
-use Rattle.sk_undo.specs.Log.{is_empty}
-use Rattle.sk_undo.specs.Logs.{SlotMap, look_at}
-use Rattle.sk_undo.specs.Decisions.{undo_state}
-use Rattle.sk_plain.specs.Plan.{PlanView, LooksView, Nowhere}
-use Rattle.sk_plain.specs.Act.{Scripts}
-use Rattle.sk_plain.specs.Planned.{looked_at, read_by, signals_read, written_by, writes_of}
-use Rattle.sk_plain.specs.Seen.{looked, looks_of, seen_with, written_in}
-use Rattle.sk_plain.specs.declared.plan.Plan.{Plan}
-use Rattle.sk_plain.specs.declared.plan.Plan.TheVariants.{Private}
-use Rattle.sk_plain.proofs.Plans.{written_is}
-use Rattle.sk_plain.proofs.Scan.{changed_are}
 use Rattle.sk_machine.proofs.Joins.{clean_of}
-use Rattle.sk_machine.specs.Dependents.{tags_in, with_tags, AllExact, Covers, IsEnough, RestAlike}
-use Rattle.sk_machine.specs.Parts.{Parts, undo_state_of, planned_effect}
-use Rattle.sk_machine.specs.Performed.{IsClean, Performed, entities_of}
 use Rattle.sk_machine.proofs.Listed.{exact_as, performed_exact}
 use Rattle.sk_machine.proofs.Tags.{tags_are}
 

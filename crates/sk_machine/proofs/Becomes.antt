@@ -1,32 +1,13 @@
 -- What the parts become, as the machine of records has it: after a step, a commit and a failure.
-use Rattle.std.proofs.Common.{◌≡◌, ℕ, true, false, cond, not, List, [], ◌∷◌, ◌++◌, Option, Some, None, Ok, refl, sym, ◌∙◌, ap, subst}
-use Rattle.std.specs.Prelude.{◌==◌}
-use Rattle.std.proofs.lemmas.Bool.{eqb-true}
-use Rattle.std.proofs.lemmas.List.{append-nil}
-use Rattle.sk_record.specs.Step.{perform}
-use Rattle.sk_record.specs.Notes.{has, without, noted}
-use Rattle.sk_record.specs.UndoState.{opened, step_tags, still_open, not_struck}
-use Rattle.sk_record.specs.Machine.{Fails, lightened, not_dropped, with_drawn, with_status, with_failure}
-use Rattle.sk_record.specs.Merged.{Merges, MergedTakes, MergedCommits}
-use Rattle.sk_record.specs.Effects.{is_in}
-use Rattle.sk_record.specs.Release.{said_by}
-use Rattle.sk_record.specs.declared.status.Status.TheVariants.{Committed}
-use Rattle.sk_guesses.specs.Guesses.{status_since, drawn, next_of}
-use Rattle.sk_guesses.proofs.Statuses.{status-drawn}
-use Rattle.sk_script.specs.declared.instruction.Input.{Input}
-use Rattle.sk_terminal.specs.Terminal.{TaggedText}
-use Rattle.sk_terminal.specs.Terminals.{TerminalMap, texts_at}
-use Rattle.sk_terminal.proofs.SaidTo.{texts_said}
-use Rattle.sk_ids.specs.Entity.{entity_cmp}
-use Rattle.sk_undo.specs.Logs.{look_at, log_at}
-use Rattle.sk_undo.specs.Decisions.{Lightened, Unwound}
-use Rattle.sk_trace.specs.Entry.{EntryView}
-use Rattle.sk_plain.specs.Act.{Scripts, Saying, act, plain}
-use Rattle.sk_plain.specs.Planned.{effect_of, writes_of, texts_after}
-use Rattle.sk_plain.specs.Planned.{said_by as said_in_plan}
-use Rattle.sk_plain.specs.Plan.{PlanView}
-use Rattle.sk_machine.specs.Parts.{Parts, machine_of, undo_state_of, planned_effect, said_at}
-use Rattle.sk_machine.specs.Performed.{Performed, entities_of}
+use Rattle.sk_machine.proofs.Names.{◌≡◌, ℕ, true, false, cond, not, List, [], ◌∷◌, ◌++◌, Option, Some, None, Ok, refl}
+use Rattle.sk_machine.proofs.Names.{sym, ◌∙◌, ap, subst, ◌==◌, eqb-true, append-nil, perform, has, without, noted}
+use Rattle.sk_machine.proofs.Names.{opened, step_tags, still_open, not_struck, Fails, lightened, not_dropped}
+use Rattle.sk_machine.proofs.Names.{with_drawn, with_status, with_failure, Merges, MergedTakes, MergedCommits, is_in}
+use Rattle.sk_machine.proofs.Names.{said_by, Committed, status_since, drawn, next_of, status-drawn, Input, TaggedText}
+use Rattle.sk_machine.proofs.Names.{TerminalMap, texts_at, texts_said, entity_cmp, look_at, log_at, Lightened, Unwound}
+use Rattle.sk_machine.proofs.Names.{EntryView, Scripts, Saying, act, plain, effect_of, writes_of, texts_after}
+use Rattle.sk_machine.proofs.Names.{said_in_plan, PlanView, Parts, machine_of, undo_state_of, planned_effect, said_at}
+use Rattle.sk_machine.proofs.Names.{Performed, entities_of}
 
 -- ---- texts
 

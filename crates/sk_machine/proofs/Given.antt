@@ -1,8 +1,5 @@
 -- What holds of a result where other things do.
-use Rattle.std.proofs.Common.{◌≡◌, true, false, Result, Ok, Err, sym}
-use Rattle.std.specs.Result.{is_err}
-use Rattle.std.proofs.lemmas.Bool.{true≢false}
-use Rattle.std.specs.Prelude.{IfOk, OnOk, OnErr}
+use Rattle.sk_machine.proofs.Names.{◌≡◌, true, false, Result, Ok, Err, sym, is_err, true≢false, IfOk, OnOk, OnErr}
 
 pub if_ok : {A F : Type 0} {P Q R : A → Type 0} (r : Result A F) → IfOk r P → IfOk r Q → ((x : A) → P x → Q x → R x) → IfOk r R
 if_ok (Ok x) p q f = f x p q

@@ -1,26 +1,10 @@
 -- A private step of a process that goes on with the guesses that it rests on.
-use Rattle.std.proofs.Common.{◌≡◌, ℕ, List, [], ◌∷◌, Some, None, Ok, refl, sym, ◌∙◌, ap, subst}
-use Rattle.std.specs.Ordering.{nat_cmp}
-use Rattle.std.specs.List.Sorted.{IsStrictlySortedBy}
-use Rattle.std.proofs.lemmas.List.{append-nil}
-use Rattle.sk_record.specs.Step.{perform}
-use Rattle.sk_record.specs.UndoState.{IsTidy, numbers}
-use Rattle.sk_record.specs.Merged.{MergedTakes}
-use Rattle.sk_ids.specs.declared.entity.Entity.{Entity}
-use Rattle.sk_ids.specs.declared.entity.Entity.TheVariants.{Proc, Sig}
-use Rattle.sk_guesses.specs.Guesses.{status_since}
-use Rattle.sk_guesses.specs.Opens.{OpenGuess}
-use Rattle.sk_script.specs.declared.instruction.Input.{Input}
-use Rattle.sk_store.specs.Processes.{became}
-use Rattle.sk_undo.specs.Logs.{SlotMap, look_at, slots_wrote}
-use Rattle.sk_plain.specs.Act.{Scripts, act, next_in, plain}
-use Rattle.sk_plain.specs.Plan.{PlanView}
-use Rattle.sk_plain.specs.Planned.{effect_of, read_by, writes_of}
-use Rattle.sk_plain.specs.Seen.{done_by, looked, looks_of, seen_with, written_in}
-use Rattle.sk_plain.specs.declared.plan.Plan.TheVariants.{Private}
-use Rattle.sk_machine.specs.Dependents.{AllExact, Covers, RestAlike, tags_in}
-use Rattle.sk_machine.specs.Parts.{Parts, machine_of, undo_state_of}
-use Rattle.sk_machine.specs.Performed.{IsClean, Performed, entities_of}
+use Rattle.sk_machine.proofs.Names.{◌≡◌, ℕ, List, [], ◌∷◌, Some, None, Ok, refl, sym, ◌∙◌, ap, subst, nat_cmp}
+use Rattle.sk_machine.proofs.Names.{IsStrictlySortedBy, append-nil, perform, IsTidy, numbers, MergedTakes, Entity, Proc}
+use Rattle.sk_machine.proofs.Names.{Sig, status_since, OpenGuess, Input, became, SlotMap, look_at, slots_wrote, Scripts}
+use Rattle.sk_machine.proofs.Names.{act, next_in, plain, PlanView, effect_of, read_by, writes_of, done_by, looked}
+use Rattle.sk_machine.proofs.Names.{looks_of, seen_with, written_in, Private, AllExact, Covers, RestAlike, tags_in}
+use Rattle.sk_machine.proofs.Names.{Parts, machine_of, undo_state_of, IsClean, Performed, entities_of}
 use Rattle.sk_machine.proofs.AsProcess.{alike_exact, alike_one, planned_alike, planned_clean, planned_tags, reads_on}
 use Rattle.sk_machine.proofs.Becomes.{takes_of}
 use Rattle.sk_machine.proofs.Listed.{performed_exact}

@@ -1,26 +1,12 @@
 -- Steps as the machine of a record has them.
-use Rattle.std.proofs.Common.{◌≡◌, ℕ, zero, suc, ◌<◌, true, false, ◌||◌, List, [], ◌∷◌, ◌++◌, map, Option, Some, None, refl, sym, ◌∙◌, ap, arith}
-use Rattle.std.specs.List.{Contains}
-use Rattle.std.specs.Ordering.{eq_by_cmp}
-use Rattle.std.specs.Cmp.{Equal-is}
-use Rattle.sk_ids.specs.Entity.{entity_cmp}
-use Rattle.sk_ids.specs.declared.entity.Entity.{Entity}
-use Rattle.sk_ids.specs.declared.entity.Entity.TheVariants.{Proc, Sig, Exit, Obj, Link, Copy}
-use Rattle.sk_script.specs.declared.process.Process.{Process}
-use Rattle.sk_plain.specs.Planned.{written_beside, gone_in}
-use Rattle.sk_ids.proofs.Entities.{entity_exact}
-use Rattle.std.proofs.lemmas.Bool.{true≢false}
-use Rattle.sk_record.specs.Effects.{is_in, writes}
-use Rattle.sk_record.specs.UndoState.{IsTidy, step_tags}
-use Rattle.sk_record.proofs.UndoStates.{tidy_clean}
-use Rattle.sk_store.specs.declared.entity_state.EntityState.{EntityState}
+use Rattle.sk_machine.proofs.Names.{◌≡◌, ℕ, zero, suc, ◌<◌, true, false, ◌||◌, List, [], ◌∷◌, ◌++◌, map, Option, Some}
+use Rattle.sk_machine.proofs.Names.{None, refl, sym, ◌∙◌, ap, arith, Contains, eq_by_cmp, Equal-is, entity_cmp, Entity}
+use Rattle.sk_machine.proofs.Names.{Proc, Sig, Exit, Obj, Link, Copy, Process, written_beside, gone_in, entity_exact}
+use Rattle.sk_machine.proofs.Names.{true≢false, is_in, writes, IsTidy, step_tags, tidy_clean, EntityState, IsBeside}
+use Rattle.sk_machine.proofs.Names.{IsNoProcess, writes_of, PlanView, BesideView, Nothing, Says, One, Birth, Gone}
+use Rattle.sk_machine.proofs.Names.{EntryView, look_at, Parts, undo_state_of, planned_effect, AreApart, IsClean}
+use Rattle.sk_machine.proofs.Names.{entities_of}
 use Rattle.sk_store.specs.declared.entity_state.EntityState.TheVariants as stored
-use Rattle.sk_plain.specs.Planned.{IsBeside, IsNoProcess, writes_of}
-use Rattle.sk_plain.specs.Plan.{PlanView, BesideView, Nothing, Says, One, Birth, Gone}
-use Rattle.sk_trace.specs.Entry.{EntryView}
-use Rattle.sk_undo.specs.Logs.{look_at}
-use Rattle.sk_machine.specs.Parts.{Parts, undo_state_of, planned_effect}
-use Rattle.sk_machine.specs.Performed.{AreApart, IsClean, entities_of}
 
 pub contained : (es : List Entity) (e : Entity) → is_in entity_cmp es e ≡ true → Contains es e
 contained [] e here = absurd (true≢false (sym here))

@@ -1,3 +1,4 @@
+pub mod Names
 pub mod Given
 pub mod Writes
 pub mod Joins

@@ -1,32 +1,16 @@
 -- What the lists of dependents have, after writes and decisions.
-use Rattle.std.proofs.Common.{◌≡◌, ℕ, zero, suc, ◌<◌, ◌≤◌, ◌+◌, length, take, drop, true, false, not, cond, ◌||◌, List, [], ◌∷◌, ◌++◌, map, Option, refl, sym, ◌∙◌, ap, subst, arith}
-use Rattle.std.specs.List.{list_any, AllByRecursion}
-use Rattle.std.specs.Prelude.{◌==◌, slice_index_or}
-use Rattle.std.specs.Ordering.{eq_by_cmp}
-use Rattle.std.specs.Cmp.{eq_by_cmp_equiv}
-use Rattle.sk_ids.proofs.Entities.{entity_total, entity_exact}
+use Rattle.sk_machine.proofs.Names.{◌≡◌, ℕ, zero, suc, ◌<◌, ◌≤◌, ◌+◌, length, take, drop, true, false, not, cond, ◌||◌}
+use Rattle.sk_machine.proofs.Names.{List, [], ◌∷◌, ◌++◌, map, Option, refl, sym, ◌∙◌, ap, subst, arith, list_any}
+use Rattle.sk_machine.proofs.Names.{AllByRecursion, ◌==◌, slice_index_or, eq_by_cmp, eq_by_cmp_equiv, entity_total}
+use Rattle.sk_machine.proofs.Names.{entity_exact, all_kept, true≢false, false≢true, or_left, or_right, eqb-true, eq-eqb}
+use Rattle.sk_machine.proofs.Names.{list_any-append, is_in, has, nat_cmp, above, IsTidy, numbers, still_open}
+use Rattle.sk_machine.proofs.Names.{entity_cmp, Entity, with_entities, OpenGuess, opens_of, dependents_of, left_to, but}
+use Rattle.sk_machine.proofs.Names.{not_resting, after_commit, tied_is, EntityState, SlotMap, look_at, log_at, Unwound}
+use Rattle.sk_machine.proofs.Names.{Lightened, AreListed, AllGrow, tags_in, with_tags, AllExact, AllAlmostExact, Covers}
+use Rattle.sk_machine.proofs.Names.{Depends, Parts, undo_state_of, IsClean, Performed, entities_of}
 use Rattle.sk_guesses.proofs.Kept as kept
 use Rattle.sk_guesses.proofs.Listed as lists
-use Rattle.sk_guesses.proofs.Opens.{all_kept}
-use Rattle.std.proofs.lemmas.Bool.{true≢false, false≢true, or_left, or_right, eqb-true, eq-eqb}
-use Rattle.std.proofs.lemmas.List.Folds.{list_any-append}
-use Rattle.sk_record.specs.Effects.{is_in}
-use Rattle.sk_record.specs.Notes.{has}
-use Rattle.std.specs.Ordering.{nat_cmp}
 use Rattle.std.specs.List.Sorted.{IsStrictlySortedBy}
-use Rattle.sk_record.proofs.Rising.{above}
-use Rattle.sk_record.specs.UndoState.{IsTidy, numbers, still_open}
-use Rattle.sk_ids.specs.Entity.{entity_cmp}
-use Rattle.sk_ids.specs.declared.entity.Entity.{Entity}
-use Rattle.sk_guesses.specs.EntitySet.{with_entities}
-use Rattle.sk_guesses.specs.Opens.{OpenGuess, opens_of, dependents_of, left_to, but, not_resting, after_commit}
-use Rattle.sk_guesses.proofs.Places.{tied_is}
-use Rattle.sk_store.specs.declared.entity_state.EntityState.{EntityState}
-use Rattle.sk_undo.specs.Logs.{SlotMap, look_at, log_at}
-use Rattle.sk_undo.specs.Decisions.{Unwound, Lightened, AreListed, AllGrow}
-use Rattle.sk_machine.specs.Dependents.{tags_in, with_tags, AllExact, AllAlmostExact, Covers, Depends}
-use Rattle.sk_machine.specs.Parts.{Parts, undo_state_of}
-use Rattle.sk_machine.specs.Performed.{IsClean, Performed, entities_of}
 
 -- ---- the lemmas of sk_guesses, in the order of entities
 pub exact_as : (tags later : Entity → List ℕ) → ((e : Entity) → tags e ≡ later e) → (os : List (OpenGuess Entity)) → AllExact tags os → AllExact later os

@@ -1,24 +1,9 @@
 -- The tags that a step's footprint rests on, one entity after another.
-use Rattle.std.proofs.Common.{◌≡◌, ℕ, Bool, true, false, ◌||◌, List, [], ◌∷◌, ◌++◌, map, Option, refl, sym, ◌∙◌, ap}
-use Rattle.std.proofs.lemmas.Bool.{true≢false, or_right}
-use Rattle.sk_undo.specs.Log.{is_empty}
-use Rattle.std.specs.Ordering.{nat_cmp}
-use Rattle.std.specs.List.Sorted.{IsStrictlySortedBy}
-use Rattle.std.proofs.Math.Bool.{or_assoc}
-use Rattle.std.proofs.lemmas.List.Folds.{list_any-append}
-use Rattle.sk_record.specs.Effects.{is_marked, touches}
-use Rattle.sk_record.specs.Notes.{has}
-use Rattle.sk_record.specs.Trace.{marks}
-use Rattle.sk_record.specs.UndoState.{numbers, tags_at, step_tags, IsTidy}
-use Rattle.sk_record.proofs.Rising.{union_is_tags}
-use Rattle.sk_ids.specs.declared.entity.Entity.{Entity}
-use Rattle.sk_store.specs.declared.entity_state.EntityState.{EntityState}
-use Rattle.sk_undo.specs.Logs.{look_at}
-use Rattle.sk_trace.specs.Entry.{EntryView}
-use Rattle.sk_plain.specs.Planned.{read_by, written_by}
-use Rattle.sk_plain.specs.Plan.{PlanView}
-use Rattle.sk_plain.proofs.Scan.{asked, changed_are}
-use Rattle.sk_machine.specs.Parts.{Parts, undo_state_of, planned_effect, any_rests}
+use Rattle.sk_machine.proofs.Names.{◌≡◌, ℕ, Bool, true, false, ◌||◌, List, [], ◌∷◌, ◌++◌, map, Option, refl, sym, ◌∙◌}
+use Rattle.sk_machine.proofs.Names.{ap, true≢false, or_right, is_empty, nat_cmp, IsStrictlySortedBy, or_assoc}
+use Rattle.sk_machine.proofs.Names.{list_any-append, is_marked, touches, has, marks, numbers, tags_at, step_tags}
+use Rattle.sk_machine.proofs.Names.{IsTidy, union_is_tags, Entity, EntityState, look_at, EntryView, read_by, written_by}
+use Rattle.sk_machine.proofs.Names.{PlanView, asked, changed_are, Parts, undo_state_of, planned_effect, any_rests}
 use Rattle.sk_machine.proofs.Listed.{not_known}
 
 pub none_more : (b : Bool) → b ≡ (b || false)

@@ -1,30 +1,14 @@
 -- The writes of a step, each with its note or covered by the newest one: the logs are those of the machine, but for notes that are left out.
-use Rattle.std.proofs.Common.{◌≡◌, ℕ, Bool, true, false, cond, ◌||◌, List, [], ◌∷◌, ◌++◌, Option, refl, sym, ◌∙◌, ap, subst}
-use Rattle.std.specs.Prelude.{reverse}
-use Rattle.std.specs.Ordering.{eq_by_cmp}
-use Rattle.std.specs.Cmp.{Equal-is, eq_by_cmp_equiv}
+use Rattle.sk_machine.proofs.Names.{◌≡◌, ℕ, Bool, true, false, cond, ◌||◌, List, [], ◌∷◌, ◌++◌, Option, refl, sym, ◌∙◌}
+use Rattle.sk_machine.proofs.Names.{ap, subst, reverse, eq_by_cmp, Equal-is, eq_by_cmp_equiv, true≢false, or_left}
+use Rattle.sk_machine.proofs.Names.{or_right, reverse_onto, append-nil, entity_cmp, Entity, entity_total, entity_exact}
+use Rattle.sk_machine.proofs.Names.{exact_bytes, Note, noted, last_tags, is_in, written_value, wrote_all, AreApart}
+use Rattle.sk_machine.proofs.Names.{IsClean, Performed, entities_of, is_in_tied, EntityState, is_empty, SlotView}
+use Rattle.sk_machine.proofs.Names.{noted_on, slot_wrote, goes_unnoted, is_whole, SlotMap, LogsView, slot_in, look_at}
+use Rattle.sk_machine.proofs.Names.{log_at, slots_wrote, wrote, Merges, same_tags, left_out, both_more, in_turn}
+use Rattle.sk_machine.proofs.Names.{none_left, and_both, newest_of, none_reverse, placed_at}
 use Rattle.std.specs.FinMap as fin
-use Rattle.std.proofs.lemmas.Bool.{true≢false, or_left, or_right}
-use Rattle.std.proofs.lemmas.Grind.{reverse_onto}
-use Rattle.std.proofs.lemmas.List.{append-nil}
-use Rattle.sk_ids.specs.Entity.{entity_cmp}
-use Rattle.sk_ids.specs.declared.entity.Entity.{Entity}
-use Rattle.sk_ids.proofs.Entities.{entity_total, entity_exact}
-use Rattle.sk_ids.proofs.Same.{exact_bytes}
-use Rattle.sk_record.specs.Notes.{Note, noted, last_tags}
-use Rattle.sk_record.specs.Effects.{is_in, written_value}
-use Rattle.sk_plain.specs.Planned.{wrote_all}
-use Rattle.sk_machine.specs.Performed.{AreApart, IsClean, Performed, entities_of}
-use Rattle.sk_record.proofs.Values.{is_in_tied}
-use Rattle.sk_store.specs.declared.entity_state.EntityState.{EntityState}
-use Rattle.sk_undo.specs.Log.{is_empty}
-use Rattle.sk_undo.specs.Slot.{SlotView, noted_on, slot_wrote, goes_unnoted, is_whole}
-use Rattle.sk_undo.specs.Logs.{SlotMap, LogsView, slot_in, look_at, log_at, slots_wrote, wrote}
-use Rattle.sk_record.specs.Merged.{Merges, same_tags}
-use Rattle.sk_record.proofs.Merged.{all_kept, left_out, both_more, in_turn, none_left}
-use Rattle.sk_record.proofs.UndoStates.{and_both}
-use Rattle.sk_undo.proofs.SeenNotes.{newest_of, none_reverse}
-use Rattle.sk_undo.proofs.Passes.{placed_at}
+use Rattle.sk_record.proofs.Merged.{all_kept}
 
 -- a write that is not noted has the tags of the newest note
 unnoted_tags : (t : ℕ) (tags : List ℕ) (log : List (Note EntityState)) → goes_unnoted (t ∷ tags) log ≡ true → last_tags [] (reverse log) ≡ t ∷ tags

@@ -1,12 +1,6 @@
 -- What follows of keys: their test of equality is exact, and what is known in the order that the code computes is known in that of specs/.
-use Rattle.std.proofs.Common.{◌≡◌, Bool, List, sym, subst, ◌∙◌}
-use Rattle.std.specs.Ordering.{is_eq}
-use Rattle.std.specs.declared.cmp.Ordering.{Ordering}
-use Rattle.std.specs.List.Sorted.{IsStrictlySortedBy}
-use Rattle.std.specs.Cmp.{IsTotalOrder, Equal-is, eq_by_cmp_equiv}
-use Rattle.std.specs.FinMap.{IsAntisymmetric}
-use Rattle.sk_record.specs.Same.{IsExact}
-use Rattle.sk_record.proofs.Exact.{exact_from}
+use Rattle.sk_map.proofs.Names.{◌≡◌, Bool, List, sym, subst, ◌∙◌, is_eq, Ordering, IsStrictlySortedBy, IsTotalOrder}
+use Rattle.sk_map.proofs.Names.{Equal-is, eq_by_cmp_equiv, IsAntisymmetric, IsExact, exact_from}
 
 pub rising : {K : Type 0} {C R : K → K → Ordering} → C ≡ R → (ks : List K) → IsStrictlySortedBy C ks → IsStrictlySortedBy R ks
 rising same ks = subst (λ S. IsStrictlySortedBy S ks) same

@@ -1,14 +1,10 @@
 -- A reply is read from its bytes.
-use Rattle.std.proofs.Common.{◌≡◌, ℕ, ◌<◌, ◌≤◌, ◌^◌, ◌&&◌, nat_lt, nat_le, cond, false, List, [], ◌∷◌, ◌++◌, length, drop, Option, Some, None, option_map, refl, ap, ◌∙◌, arith, le-ltb, le-leb, eq-eqb, length-append}
-use Rattle.std.proofs.lemmas.Nat.{from_le_bytes-to_le_bytes_8}
-use Rattle.sk_ids.specs.declared.text.TheConstants.{TEXT_LIMIT}
-use Rattle.sk_objects.specs.Content.{ContentView}
-use Rattle.sk_objects.specs.declared.content.TheConstants.{LAST_VERSION}
-use Rattle.sk_server.specs.declared.reply.Answer.{Answer}
-use Rattle.sk_server.specs.declared.reply.Answer.TheVariants.{Yes, No, Copy, Dropped}
-use Rattle.sk_server.specs.declared.reply.Reply.{Reply}
+use Rattle.sk_messages.proofs.Names.{◌≡◌, ℕ, ◌<◌, ◌≤◌, ◌^◌, ◌&&◌, nat_lt, nat_le, cond, false, List, [], ◌∷◌, ◌++◌}
+use Rattle.sk_messages.proofs.Names.{length, drop, Option, Some, None, option_map, refl, ap, ◌∙◌, arith, le-ltb, le-leb}
+use Rattle.sk_messages.proofs.Names.{eq-eqb, length-append, from_le_bytes-to_le_bytes_8, TEXT_LIMIT, ContentView}
+use Rattle.sk_messages.proofs.Names.{LAST_VERSION, Answer, Yes, No, Copy, Dropped, Reply, answer_of, content_in}
+use Rattle.sk_messages.proofs.Names.{content_of, kind_of, reply_bytes, reply_from, reply_of, IsReply}
 use Rattle.sk_messages.specs.Numbers.{number_at, number_bytes}
-use Rattle.sk_messages.specs.Replies.{answer_of, content_in, content_of, kind_of, reply_bytes, reply_from, reply_of, IsReply}
 
 -- four numbers, and bytes behind them
 abbrev message : ℕ → ℕ → ℕ → ℕ → List ℕ → List ℕ

@@ -1,8 +1,9 @@
 -- What stands at each place of bytes that were written over, cut or held.
-use Rattle.std.proofs.Common.{◌≡◌, ℕ, ◌+◌, ◌-◌, ◌<◌, ◌≤◌, inl, inr, List, ◌++◌, length, get_or, take, drop, replicate, arith, refl, sym, ap, ◌∙◌}
-use Rattle.std.proofs.lemmas.Bool.{cases_lt}
-use Rattle.std.proofs.lemmas.List.{length-append, length-take-le, length-drop, length-replicate, length-take, get_or_append_left, get_or-append_right, get_or-take, get_or-drop, get_or-replicate, get_or_past, same_lists, get_or_default}
-use Rattle.sk_objects.specs.File.{overwritten, filled, written, cut, held}
+use Rattle.sk_objects.proofs.Names.{◌≡◌, ℕ, ◌+◌, ◌-◌, ◌<◌, ◌≤◌, inl, inr, List, ◌++◌, length, get_or, take, drop}
+use Rattle.sk_objects.proofs.Names.{replicate, arith, refl, sym, ap, ◌∙◌, cases_lt, length-append, length-take-le}
+use Rattle.sk_objects.proofs.Names.{length-drop, length-replicate, length-take, get_or_append_left, get_or-append_right}
+use Rattle.sk_objects.proofs.Names.{get_or-take, get_or-drop, get_or-replicate, get_or_past, same_lists, get_or_default}
+use Rattle.sk_objects.proofs.Names.{overwritten, filled, written, cut, held}
 
 module _ {A : Type 0} (f b : List A) (at : ℕ) (fits : at ≤ length f) where
   front_len : length (take at f ++ b) ≡ at + length b

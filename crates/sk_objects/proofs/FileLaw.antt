@@ -1,12 +1,9 @@
 -- Blocks that a change of a file keeps can be put back, and give the file before.
-use Rattle.std.proofs.Common.{◌≡◌, ℕ, ◌+◌, ◌-◌, ◌*◌, ◌/◌, ◌%◌, ◌<◌, ◌≤◌, inl, inr, Bool, true, false, List, length, get_or, arith, refl, sym, ◌∙◌}
-use Rattle.std.specs.Prelude.{nat_le, nat_lt, if◌then◌else◌}
-use Rattle.std.proofs.lemmas.Bool.{cases_lt, ltb-true, ltb-false, leb-true, leb-false}
-use Rattle.std.proofs.lemmas.List.{get_or_past}
-use Rattle.sk_objects.specs.File.{written, cut, blocks_of}
+use Rattle.sk_objects.proofs.Names.{◌≡◌, ℕ, ◌+◌, ◌-◌, ◌*◌, ◌/◌, ◌%◌, ◌<◌, ◌≤◌, inl, inr, Bool, true, false, List}
+use Rattle.sk_objects.proofs.Names.{length, get_or, arith, refl, sym, ◌∙◌, nat_le, nat_lt, if◌then◌else◌, cases_lt}
+use Rattle.sk_objects.proofs.Names.{ltb-true, ltb-false, leb-true, leb-false, get_or_past, written, cut, blocks_of}
+use Rattle.sk_objects.proofs.Names.{BlocksView, blocks_from, blocks_under, under_write, under_cut, CanPut, with_blocks}
 use Rattle.sk_objects.proofs.Bytes.{written_before, written_behind, length_written, length_held, cut_before, cut_behind, length_cut, same_at, put_back}
-use Rattle.sk_objects.specs.Blocks.{BlocksView}
-use Rattle.sk_objects.specs.Slots.{blocks_from, blocks_under, under_write, under_cut, CanPut, with_blocks}
 
 -- a file's blocks can be put into another that is the same elsewhere, and give the file
 pub record GoesBack (g : List ℕ) (blocks : BlocksView) (f : List ℕ) : Type 0 where

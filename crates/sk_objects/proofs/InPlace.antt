@@ -1,11 +1,9 @@
 -- One block written over where it stands: the slots with it are those of the file that is written.
-use Rattle.std.proofs.Common.{◌≡◌, ℕ, ◌+◌, ◌-◌, ◌*◌, ◌/◌, ◌%◌, ◌<◌, ◌≤◌, inr, List, [], ◌∷◌, ◌++◌, length, get_or, take, drop, arith, refl, sym, ap, ap₂, subst, ◌∙◌}
-use Rattle.std.specs.Prelude.{slice_set}
-use Rattle.std.proofs.lemmas.List.{append_assoc, append-nil, take-append-drop, take-set, drop-set, get_or_default}
-use Rattle.std.proofs.lemmas.List.Elements.{All-cons, All-get_or}
-use Rattle.sk_objects.specs.File.{overwritten, written, part}
-use Rattle.sk_objects.specs.Blocks.{joined, AreBlocks, BlocksView}
-use Rattle.sk_objects.specs.Slots.{AreSlots, CanPut, with_blocks, blocks_under, under_write}
+use Rattle.sk_objects.proofs.Names.{◌≡◌, ℕ, ◌+◌, ◌-◌, ◌*◌, ◌/◌, ◌%◌, ◌<◌, ◌≤◌, inr, List, [], ◌∷◌, ◌++◌, length, get_or}
+use Rattle.sk_objects.proofs.Names.{take, drop, arith, refl, sym, ap, ap₂, subst, ◌∙◌, slice_set, append_assoc}
+use Rattle.sk_objects.proofs.Names.{append-nil, take-append-drop, take-set, drop-set, get_or_default, All-cons}
+use Rattle.sk_objects.proofs.Names.{All-get_or, overwritten, written, part, joined, AreBlocks, BlocksView, AreSlots}
+use Rattle.sk_objects.proofs.Names.{CanPut, with_blocks, blocks_under, under_write}
 use Rattle.sk_objects.proofs.Bytes.{length_overwritten}
 use Rattle.sk_objects.proofs.FileLaw.{write_on}
 use Rattle.sk_objects.proofs.Joined.{blanks_are}

@@ -1,12 +1,11 @@
 -- Blocks one after another: what a part of them is, and what an exchange leaves.
-use Rattle.std.proofs.Common.{◌≡◌, ℕ, zero, suc, ◌+◌, ◌-◌, ◌*◌, ◌<◌, ◌≤◌, inl, inr, List, [], ◌∷◌, ◌++◌, length, get_or, take, drop, replicate, arith, refl, sym, ap, ◌∙◌}
-use Rattle.std.proofs.Math.Seq.{take-append-add, drop-append-add}
-use Rattle.std.proofs.lemmas.Bool.{cases_lt}
-use Rattle.std.proofs.lemmas.List.{append_assoc, length-append, length-drop, length-replicate, get_or_append_left, get_or-append_right}
-use Rattle.std.proofs.lemmas.List.Elements.{All-head, All-tail, All-take, All-drop, All-append, All-replicate}
-use Rattle.sk_objects.specs.File.{overwritten, part}
+use Rattle.sk_objects.proofs.Names.{◌≡◌, ℕ, zero, suc, ◌+◌, ◌-◌, ◌*◌, ◌<◌, ◌≤◌, inl, inr, List, [], ◌∷◌, ◌++◌, length}
+use Rattle.sk_objects.proofs.Names.{get_or, take, drop, replicate, arith, refl, sym, ap, ◌∙◌, take-append-add}
+use Rattle.sk_objects.proofs.Names.{drop-append-add, cases_lt, append_assoc, length-append, length-drop}
+use Rattle.sk_objects.proofs.Names.{length-replicate, get_or_append_left, get_or-append_right, All-head, All-tail}
+use Rattle.sk_objects.proofs.Names.{All-take, All-drop, All-append, All-replicate, overwritten, part, joined, AreBlocks}
 use Rattle.sk_objects.proofs.Bytes.{zeros_at}
-use Rattle.sk_objects.specs.Blocks.{joined, AreBlocks, blank}
+use Rattle.sk_objects.specs.Blocks.{blank}
 
 -- 512 bytes
 abbrev IsBlock : List ℕ → Type 0

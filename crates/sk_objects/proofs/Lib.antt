@@ -1,3 +1,4 @@
+pub mod Names
 pub mod Bytes
 pub mod FileLaw
 pub mod InPlace

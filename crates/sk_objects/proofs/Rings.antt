@@ -1,15 +1,11 @@
 -- Rings: what turning on, writing round the end and reading do.
-use Rattle.std.proofs.Common.{◌≡◌, ℕ, ◌+◌, ◌-◌, ◌<◌, ◌≤◌, inl, inr, Bool, true, false, List, [], ◌++◌, length, take, drop, arith, refl, sym, ap, ap₂, ◌∙◌, take-add, zero-add}
-use Rattle.std.specs.Prelude.{nat_lt, if◌then◌else◌, ◌&&◌}
-use Rattle.std.specs.Bool.{Decides}
-use Rattle.std.proofs.Math.Seq.{take-append-add, drop-append-add}
-use Rattle.std.proofs.lemmas.Bool.{cases_lt, ltb-true, ltb-false, lt-ltb, le-ltb, false≢true}
-use Rattle.std.proofs.lemmas.Bool.Decides.{Decides-and, Decides-like}
-use Rattle.std.proofs.lemmas.List.{append_assoc, append-nil, length-append, length-take-le, length-drop, take-append-drop, take-append-le, take_at, drop_at, drop_all, drop-append-le, drop-drop, take-take, drop-take}
-use Rattle.sk_objects.specs.File.{overwritten}
-use Rattle.sk_objects.specs.Ring.{turned, ring_bytes, wrapped}
-use Rattle.sk_objects.specs.Same.{same_bytes}
-use Rattle.sk_objects.specs.SameLemma.{exact_bytes}
+use Rattle.sk_objects.proofs.Names.{◌≡◌, ℕ, ◌+◌, ◌-◌, ◌<◌, ◌≤◌, inl, inr, Bool, true, false, List, [], ◌++◌, length}
+use Rattle.sk_objects.proofs.Names.{take, drop, arith, refl, sym, ap, ap₂, ◌∙◌, take-add, zero-add, nat_lt}
+use Rattle.sk_objects.proofs.Names.{if◌then◌else◌, ◌&&◌, Decides, take-append-add, drop-append-add, cases_lt, ltb-true}
+use Rattle.sk_objects.proofs.Names.{ltb-false, lt-ltb, le-ltb, false≢true, Decides-and, Decides-like, append_assoc}
+use Rattle.sk_objects.proofs.Names.{append-nil, length-append, length-take-le, length-drop, take-append-drop}
+use Rattle.sk_objects.proofs.Names.{take-append-le, take_at, drop_at, drop_all, drop-append-le, drop-drop, take-take}
+use Rattle.sk_objects.proofs.Names.{drop-take, overwritten, turned, ring_bytes, wrapped, same_bytes, exact_bytes}
 
 module _ (r : List ℕ) (h : ℕ) (in_ring : h ≤ length r) where
   front_len : length (take h r) ≡ h

@@ -1,14 +1,14 @@
 -- A file's slots and the bytes that are seen of them.
-use Rattle.std.proofs.Common.{◌≡◌, ℕ, ◌+◌, ◌-◌, ◌*◌, ◌/◌, ◌%◌, ◌<◌, ◌≤◌, ◌⊎◌, inl, inr, Bool, true, false, List, [], ◌∷◌, ◌++◌, length, get_or, take, drop, replicate, arith, refl, sym, ap, ap₂, ◌∙◌, take-add}
-use Rattle.std.specs.Bool.{Decides}
-use Rattle.std.specs.Prelude.{if◌then◌else◌}
-use Rattle.std.proofs.lemmas.Bool.{cases_lt, false≢true, le-leb, lt-leb, lt-ltb, le-ltb}
-use Rattle.std.proofs.lemmas.List.{length-append, length-replicate, get_or_append_left, get_or-append_right, length-take-le, length-take, length-drop, append-nil, drop-drop, drop-take, drop_all, same_lists, take-take, take_all, get_or-take, get_or-drop, get_or_past}
-use Rattle.std.proofs.lemmas.List.Elements.{All-get_or}
-use Rattle.sk_objects.specs.File.{overwritten, written, cut, part, held, blocks_of}
+use Rattle.sk_objects.proofs.Names.{◌≡◌, ℕ, ◌+◌, ◌-◌, ◌*◌, ◌/◌, ◌%◌, ◌<◌, ◌≤◌, ◌⊎◌, inl, inr, Bool, true, false, List}
+use Rattle.sk_objects.proofs.Names.{[], ◌∷◌, ◌++◌, length, get_or, take, drop, replicate, arith, refl, sym, ap, ap₂}
+use Rattle.sk_objects.proofs.Names.{◌∙◌, take-add, Decides, if◌then◌else◌, cases_lt, false≢true, le-leb, lt-leb, lt-ltb}
+use Rattle.sk_objects.proofs.Names.{le-ltb, length-append, length-replicate, get_or_append_left, get_or-append_right}
+use Rattle.sk_objects.proofs.Names.{length-take-le, length-take, length-drop, append-nil, drop-drop, drop-take}
+use Rattle.sk_objects.proofs.Names.{drop_all, same_lists, take-take, take_all, get_or-take, get_or-drop, get_or_past}
+use Rattle.sk_objects.proofs.Names.{All-get_or, overwritten, written, cut, part, held, blocks_of, joined, AreBlocks}
+use Rattle.sk_objects.proofs.Names.{BlocksView, blank, AreSlots, CanPut, with_blocks, replaced, blocks_under}
+use Rattle.sk_objects.proofs.Names.{blocks_from, under_write, under_cut}
 use Rattle.sk_objects.proofs.Bytes.{overwritten_before, overwritten_in, overwritten_behind, length_overwritten, written_before, written_in, written_behind, length_held, held_at, length_cut, length_written, cut_before, cut_behind, same_bytes, zeros_behind}
-use Rattle.sk_objects.specs.Blocks.{joined, AreBlocks, BlocksView, blank}
-use Rattle.sk_objects.specs.Slots.{AreSlots, CanPut, with_blocks, replaced, blocks_under, blocks_from, under_write, under_cut}
 use Rattle.sk_objects.proofs.FileLaw.{under_fit}
 use Rattle.sk_objects.proofs.Joined.{length_joined, joined_overwritten, overwritten_blocks, joined_part, block_byte, blanks_are, joined_blanks}
 

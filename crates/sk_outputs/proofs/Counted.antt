@@ -1,12 +1,8 @@
 -- How many outputs each channel has.
-use Rattle.std.proofs.Common.{◌≡◌, ℕ, zero, suc, ◌+◌, ◌<◌, ◌≤◌, Bool, true, false, not, cond, List, [], ◌∷◌, ◌++◌, length, drop, get_or, refl, sym, ◌∙◌, ap, arith}
-use Rattle.std.specs.Prelude.{◌==◌, slice_index_or}
-use Rattle.std.specs.List.{prefix_len, remove}
-use Rattle.std.proofs.lemmas.Bool.{eqb-true, eqb-false}
-use Rattle.sk_record.specs.Machine.{Tagged, lightened, not_dropped, released}
-use Rattle.sk_record.specs.Notes.{has}
-use Rattle.sk_outputs.specs.Said.{Said, said_at, is_empty}
-use Rattle.sk_outputs.specs.Ready.{is_ready, AreCounted}
+use Rattle.sk_outputs.proofs.Names.{◌≡◌, ℕ, zero, suc, ◌+◌, ◌<◌, ◌≤◌, Bool, true, false, not, cond, List, [], ◌∷◌, ◌++◌}
+use Rattle.sk_outputs.proofs.Names.{length, drop, get_or, refl, sym, ◌∙◌, ap, arith, ◌==◌, slice_index_or, prefix_len}
+use Rattle.sk_outputs.proofs.Names.{remove, eqb-true, eqb-false, Tagged, lightened, not_dropped, released, has, Said}
+use Rattle.sk_outputs.proofs.Names.{said_at, is_empty, is_ready, AreCounted}
 use Rattle.sk_outputs.proofs.Firsts.{other}
 use Rattle.sk_outputs.proofs.Ready.{ready_is}
 

@@ -1,10 +1,7 @@
 -- The first output of a channel.
-use Rattle.std.proofs.Common.{◌≡◌, ℕ, zero, suc, ◌+◌, ◌<◌, Bool, true, false, not, cond, [], ◌∷◌, length, refl, sym, ◌∙◌, ap, arith}
-use Rattle.std.specs.Prelude.{◌==◌, slice_index_or, Some, None}
-use Rattle.std.specs.List.{prefix_len, remove}
-use Rattle.std.proofs.lemmas.Bool.{eqb-true}
-use Rattle.sk_record.specs.Machine.{Tagged}
-use Rattle.sk_outputs.specs.Said.{Said, said_at, first_of}
+use Rattle.sk_outputs.proofs.Names.{◌≡◌, ℕ, zero, suc, ◌+◌, ◌<◌, Bool, true, false, not, cond, [], ◌∷◌, length, refl}
+use Rattle.sk_outputs.proofs.Names.{sym, ◌∙◌, ap, arith, ◌==◌, slice_index_or, Some, None, prefix_len, remove, eqb-true}
+use Rattle.sk_outputs.proofs.Names.{Tagged, Said, said_at, first_of}
 
 module _ {O : Type 0} where
   abbrev pub other : ℕ → Tagged (ℕ × O) → Bool

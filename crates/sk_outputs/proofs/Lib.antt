@@ -1,3 +1,4 @@
+pub mod Names
 mod Passes
 mod Firsts
 mod Numbers

@@ -1,17 +1,11 @@
 -- A number put among numbers that rise.
-use Rattle.std.proofs.Common.{◌≡◌, ℕ, zero, suc, ◌<◌, ◌≤◌, ◌||◌, Bool, true, false, List, [], ◌∷◌, length, get_or, refl, sym, ◌∙◌, ap, arith}
-use Rattle.std.specs.Prelude.{◌==◌, Ok, Err}
-use Rattle.std.specs.List.{AllByRecursion, insert}
-use Rattle.std.specs.List.Sorted.{IsStrictlySortedBy, IsBinarySearchResult}
+use Rattle.sk_outputs.proofs.Names.{◌≡◌, ℕ, suc, ◌<◌, ◌≤◌, ◌||◌, Bool, true, false, List, ◌∷◌, length, get_or, refl}
+use Rattle.sk_outputs.proofs.Names.{sym, ◌∙◌, ap, arith, ◌==◌, Ok, Err, AllByRecursion, insert, IsBinarySearchResult}
+use Rattle.sk_outputs.proofs.Names.{Less, nat_cmp_is, non_decreasing_from_sorted, searched, eqb-true, has, without}
+use Rattle.sk_outputs.proofs.Names.{without_none, tells}
+use Rattle.std.proofs.Common.{zero, []}
+use Rattle.std.specs.List.Sorted.{IsStrictlySortedBy}
 use Rattle.std.specs.Ordering.{nat_cmp}
-use Rattle.std.specs.declared.cmp.Ordering.TheVariants.{Less}
-use Rattle.std.specs.Cmp.{nat_cmp_is}
-use Rattle.std.proofs.lemmas.Map.Keys.{non_decreasing_from_sorted}
-use Rattle.std.proofs.lemmas.List.Sorted.{searched}
-use Rattle.std.proofs.lemmas.Bool.{eqb-true}
-use Rattle.sk_record.specs.Notes.{has, without}
-use Rattle.sk_ids.proofs.Newest.{without_none}
-use Rattle.sk_ids.proofs.Searches.{tells}
 
 swap : (a b c : Bool) → (a || (b || c)) ≡ (b || (a || c))
 swap true true c = refl

@@ -1,16 +1,10 @@
 -- Which channels have an output to take.
-use Rattle.std.proofs.Common.{◌≡◌, ℕ, zero, suc, ◌+◌, ◌<◌, ◌≤◌, ◌&&◌, ◌||◌, Bool, true, false, not, cond, List, [], ◌∷◌, ◌++◌, length, drop, refl, sym, ◌∙◌, ap, subst, arith}
-use Rattle.std.specs.Prelude.{◌==◌, slice_index_or, Option, Some, None, Result, Ok, Err, IfSome, OnOk}
-use Rattle.std.specs.List.{filter, prefix_len, slice_get}
-use Rattle.std.specs.Option.{option_map}
-use Rattle.std.specs.Cmp.{both_ways}
-use Rattle.std.proofs.lemmas.Bool.{true≢false, eqb-true, eq-eqb}
-use Rattle.sk_record.specs.Machine.{Tagged, lightened, not_dropped, released, released_if}
-use Rattle.sk_record.specs.Notes.{has, without}
-use Rattle.sk_record.proofs.Machine.{has_filter}
-use Rattle.sk_record.proofs.Sound.{eqb_turned}
-use Rattle.sk_outputs.specs.Said.{Said, said_at, first_of, is_empty}
-use Rattle.sk_outputs.specs.Ready.{is_ready, AreReady}
+use Rattle.sk_outputs.proofs.Names.{◌≡◌, ℕ, zero, suc, ◌+◌, ◌<◌, ◌≤◌, ◌&&◌, ◌||◌, Bool, true, false, not, cond, List}
+use Rattle.sk_outputs.proofs.Names.{[], ◌∷◌, ◌++◌, length, drop, refl, sym, ◌∙◌, ap, subst, arith, ◌==◌, slice_index_or}
+use Rattle.sk_outputs.proofs.Names.{Option, Some, None, Result, Ok, Err, IfSome, OnOk, filter, prefix_len, slice_get}
+use Rattle.sk_outputs.proofs.Names.{option_map, both_ways, true≢false, eqb-true, eq-eqb, Tagged, lightened, not_dropped}
+use Rattle.sk_outputs.proofs.Names.{released, released_if, has, without, has_filter, eqb_turned, Said, said_at}
+use Rattle.sk_outputs.proofs.Names.{first_of, is_empty, is_ready, AreReady}
 use Rattle.sk_outputs.proofs.Firsts.{other, not_true, not_false}
 
 suc_eq : (a b : ℕ) → (suc a == suc b) ≡ (a == b)

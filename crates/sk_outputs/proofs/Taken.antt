@@ -1,11 +1,7 @@
 -- The first output of a channel, taken out.
-use Rattle.std.proofs.Common.{◌≡◌, ℕ, ◌<◌, false, true, [], ◌∷◌, length, drop, get_or, sym, ◌∙◌, ap, List, ◌+◌, cond}
-use Rattle.std.specs.Prelude.{◌==◌, slice_index_or}
-use Rattle.std.specs.List.{prefix_len, remove}
-use Rattle.sk_record.specs.Machine.{Tagged}
-use Rattle.sk_record.specs.Notes.{has}
-use Rattle.sk_outputs.specs.Said.{Said, said_at}
-use Rattle.sk_outputs.specs.Ready.{is_ready, AreCounted, AreReady}
+use Rattle.sk_outputs.proofs.Names.{◌≡◌, ℕ, ◌<◌, false, true, [], ◌∷◌, length, drop, get_or, sym, ◌∙◌, ap, List, ◌+◌}
+use Rattle.sk_outputs.proofs.Names.{cond, ◌==◌, slice_index_or, prefix_len, remove, Tagged, has, Said, said_at}
+use Rattle.sk_outputs.proofs.Names.{is_ready, AreCounted, AreReady}
 use Rattle.sk_outputs.proofs.Firsts.{other, first_said, others_kept}
 use Rattle.sk_outputs.proofs.Ready.{first_bare, first_near, same_ready}
 use Rattle.sk_outputs.proofs.Counted.{counted_less, ready_later, some_counted}

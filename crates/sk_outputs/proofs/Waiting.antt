@@ -1,9 +1,7 @@
 -- How many outputs wait.
-use Rattle.std.proofs.Common.{◌≡◌, ℕ, zero, suc, ◌+◌, ◌&&◌, ◌||◌, true, false, not, cond, List, [], ◌∷◌, length, refl, sym, ◌∙◌, ap, arith}
-use Rattle.std.specs.Prelude.{◌==◌, ◌-◌, nat_lt}
-use Rattle.std.proofs.lemmas.Bool.{true≢false}
-use Rattle.sk_record.specs.Machine.{Tagged, released, released_if}
-use Rattle.sk_outputs.specs.Said.{Said, said_at, waiting_of, is_empty}
+use Rattle.sk_outputs.proofs.Names.{◌≡◌, ℕ, zero, suc, ◌+◌, ◌&&◌, ◌||◌, true, false, not, cond, List, [], ◌∷◌, length}
+use Rattle.sk_outputs.proofs.Names.{refl, sym, ◌∙◌, ap, arith, ◌==◌, ◌-◌, nat_lt, true≢false, Tagged, released}
+use Rattle.sk_outputs.proofs.Names.{released_if, Said, said_at, waiting_of, is_empty}
 
 module _ {W : Type 0} where
   -- the first goes out

@@ -1,35 +1,14 @@
 -- Each call is a move of the machine, with what is logged of it, for statuses that agree with what is kept of guesses.
-use Rattle.std.proofs.Common.{◌≡◌, ℕ, List, [], ◌∷◌, ◌++◌, Option, Some, None, inl, inr, refl, sym, ◌∙◌, ap, subst, append_assoc, arith}
-use Rattle.std.specs.Prelude.{◌⊎◌}
-use Rattle.std.specs.Option.{unwrap_or}
-use Rattle.std.specs.FinMap.{FinMap, IsAntisymmetric}
-use Rattle.std.specs.Cmp.{IsTotalOrder}
-use Rattle.std.proofs.lemmas.Bool.{false≢true}
-use Rattle.std.proofs.lemmas.List.{append-nil}
-use Rattle.sk_record.specs.Notes.{has, without}
-use Rattle.sk_record.specs.Run.{System}
-use Rattle.sk_record.specs.Trace.{Event, Taken, Commit, Fail}
-use Rattle.sk_record.specs.UndoState.{numbers}
-use Rattle.sk_record.specs.Machine.{with_drawn, with_failure, with_status}
-use Rattle.sk_record.specs.declared.status.Status.{Status}
+use Rattle.sk_own_rests.proofs.Names.{◌≡◌, ℕ, List, [], ◌∷◌, ◌++◌, Option, Some, None, inl, inr, refl, sym, ◌∙◌, ap}
+use Rattle.sk_own_rests.proofs.Names.{subst, append_assoc, arith, ◌⊎◌, unwrap_or, FinMap, IsAntisymmetric, IsTotalOrder}
+use Rattle.sk_own_rests.proofs.Names.{false≢true, append-nil, has, without, System, Event, Taken, Commit, Fail, numbers}
+use Rattle.sk_own_rests.proofs.Names.{with_drawn, with_failure, with_status, Status, has_filter, and_both, AreStatuses}
+use Rattle.sk_own_rests.proofs.Names.{open_is, IsNext, Moves, Starts, Told, TakenOut, with_told, told_more, first}
+use Rattle.sk_own_rests.proofs.Names.{look_at, log_at, said_at, Parts, undo_state_of, machine_of, next_of, Forgets}
+use Rattle.sk_own_rests.proofs.Names.{Call, Does, Tells, Returns, events_of, TakesOut, Happens, IsFirst, Logged}
+use Rattle.sk_own_rests.proofs.Names.{IsLogOf, IsAsLogged, Stands, stands_first, one_more, taken_out, ends, OwnLogs}
+use Rattle.sk_own_rests.proofs.Names.{OwnStandsAsLogged}
 use Rattle.sk_record.specs.declared.status.Status.TheVariants as status_as
-use Rattle.sk_record.proofs.Machine.{has_filter}
-use Rattle.sk_record.proofs.UndoStates.{and_both}
-use Rattle.sk_guesses.specs.Kept.{AreStatuses}
-use Rattle.sk_guesses.proofs.Opens.{open_is}
-use Rattle.sk_deeds.specs.Moves.{IsNext, Moves, Starts}
-use Rattle.sk_deeds.specs.Told.{Told, TakenOut, with_told, told_more}
-use Rattle.sk_deeds.proofs.Runs.{first}
-use Rattle.sk_slots.specs.Slots.{look_at, log_at}
-use Rattle.sk_outputs.specs.Said.{said_at}
-use Rattle.sk_speculator.specs.Parts.{Parts, undo_state_of, machine_of}
-use Rattle.sk_speculator.specs.Calls.{next_of, Forgets}
-use Rattle.sk_speculator.specs.Law.{Call, Does, Tells, Returns, events_of, TakesOut, Happens, IsFirst}
-use Rattle.sk_rests.specs.Logged.{Logged, IsLogOf}
-use Rattle.sk_rests.specs.Laws.{IsAsLogged}
-use Rattle.sk_rests.proofs.Along.{Stands, stands_first, one_more, taken_out}
-use Rattle.sk_rests.proofs.Ends.{ends}
-use Rattle.sk_own_rests.specs.OwnLogs.{OwnLogs, OwnStandsAsLogged}
 
 none_number : {P : Type 0} (g : ℕ) → None ≡ Some g → P
 none_number g is = cc

@@ -1,32 +1,16 @@
 -- The directory that a plan adds a name to is told by its writes.
-use Rattle.std.proofs.Common.{◌≡◌, ℕ, Bool, true, false, cond, List, Option, Some, None, Result, Ok, Err, refl}
-use Rattle.std.specs.Prelude.{nat_lt}
-use Rattle.sk_record.specs.Step.{Effect, Ask, Refuse, Done, perform, with_read}
-use Rattle.sk_ids.specs.declared.entity.Entity.{Entity}
-use Rattle.sk_ids.specs.declared.entity.Entity.TheVariants.{Proc, Sig, Exit, Obj, Link, Copy}
-use Rattle.sk_objects.specs.Content.{ContentView}
-use Rattle.sk_objects.specs.declared.content.TheConstants.{LAST_VERSION}
+use Rattle.sk_plain.proofs.Cites.{◌≡◌, ℕ, Bool, true, false, cond, List, Option, Some, None, Result, Ok, Err, refl}
+use Rattle.sk_plain.proofs.Cites.{nat_lt, Effect, Ask, Refuse, Done, perform, with_read, Entity, Proc, Sig, Exit, Obj}
+use Rattle.sk_plain.proofs.Cites.{Link, Copy, ContentView, LAST_VERSION, Process, Instruction, Input, process_in}
+use Rattle.sk_plain.proofs.Cites.{EntityState, Scripts, StepTree, Saying, next_in, with_input, goes_on, act, adds_in}
+use Rattle.sk_plain.proofs.Cites.{adds_of, adds_beside, writes_of, IsReply, from_copy, over_copy, good, fresh, stale}
+use Rattle.sk_plain.proofs.Cites.{Refusal, seen_with, changed_by, looked, beside_of, Plan, Private, Speaks, Received}
+use Rattle.sk_plain.proofs.Cites.{Forks, Acts, Beside, Writes, LooksView}
 use Rattle.sk_objects.specs.declared.value.Value.TheVariants as values
-use Rattle.sk_script.specs.declared.process.Process.{Process}
-use Rattle.sk_script.specs.declared.instruction.Instruction.{Instruction}
 use Rattle.sk_script.specs.declared.instruction.Instruction.TheVariants as does_
-use Rattle.sk_script.specs.declared.instruction.Input.{Input}
 use Rattle.sk_script.specs.declared.instruction.Input.TheVariants as inputs
-use Rattle.sk_store.specs.Processes.{process_in}
-use Rattle.sk_store.specs.declared.entity_state.EntityState.{EntityState}
 use Rattle.sk_store.specs.declared.entity_state.EntityState.TheVariants as stored
-use Rattle.sk_plain.specs.Act.{Scripts, StepTree, Saying, next_in, with_input, goes_on, act}
-use Rattle.sk_plain.specs.Adds.{adds_in, adds_of, adds_beside}
-use Rattle.sk_plain.specs.Planned.{writes_of, IsReply}
-use Rattle.sk_plain.specs.Replies.{from_copy, over_copy, good, fresh, stale}
-use Rattle.sk_plain.specs.declared.refusal.Refusal.{Refusal}
-use Rattle.sk_plain.specs.Seen.{seen_with, changed_by, looked, beside_of}
-use Rattle.sk_plain.specs.declared.plan.Plan.{Plan}
-use Rattle.sk_plain.specs.declared.plan.Plan.TheVariants.{Private, Speaks, Received, Forks, Acts}
-use Rattle.sk_plain.specs.declared.plan.Beside.{Beside}
 use Rattle.sk_plain.specs.declared.plan.Beside.TheVariants as beside
-use Rattle.sk_plain.specs.declared.plan.Writes.{Writes}
-use Rattle.sk_plain.specs.Plan.{LooksView}
 
 one_added : (look : Entity → Option EntityState) (pid : ℕ) (q p : Process) (looks : LooksView) (e : Entity) (w : Writes)
     → adds_in (writes_of look pid (record { process = q; looks = looks; beside = beside_of p (beside.One e w) })) ≡ adds_beside (beside.One e w)

@@ -1,20 +1,8 @@
 -- What depends on a guess hangs on which entities are dirty, and not on how they are listed.
-use Rattle.std.proofs.Common.{◌≡◌, ℕ, Bool, true, false, ◌||◌, List, [], ◌∷◌, ◌++◌, refl, ◌∙◌, ap}
-use Rattle.std.specs.List.{list_any}
-use Rattle.std.specs.Ordering.{eq_by_cmp}
-use Rattle.std.proofs.lemmas.List.Folds.{list_any-append}
-use Rattle.sk_record.specs.Effects.{MarkedEffect, is_in, is_marked, hit, hits, dirtied, keep, touches}
-use Rattle.sk_record.specs.Run.{effects}
-use Rattle.sk_record.proofs.Later.{dirtied_same}
-use Rattle.sk_record.proofs.Values.{is_in_tied}
-use Rattle.sk_ids.specs.declared.entity.Entity.{Entity}
-use Rattle.sk_ids.specs.Entity.{entity_cmp}
-use Rattle.sk_ids.proofs.Entities.{entity_total}
-use Rattle.sk_store.specs.State.{State}
-use Rattle.sk_store.specs.declared.entity_state.EntityState.{EntityState}
-use Rattle.sk_trace.specs.Entry.{EntryView}
-use Rattle.sk_plain.specs.Act.{Scripts, Saying, plain}
-use Rattle.sk_plain.specs.Remaining.{remaining}
+use Rattle.sk_plain.proofs.Cites.{◌≡◌, ℕ, Bool, true, false, ◌||◌, List, [], ◌∷◌, ◌++◌, refl, ◌∙◌, ap, list_any}
+use Rattle.sk_plain.proofs.Cites.{eq_by_cmp, list_any-append, MarkedEffect, is_in, is_marked, hit, hits, dirtied, keep}
+use Rattle.sk_plain.proofs.Cites.{touches, effects, dirtied_same, is_in_tied, Entity, entity_cmp, entity_total, State}
+use Rattle.sk_plain.proofs.Cites.{EntityState, EntryView, Scripts, Saying, plain, remaining}
 
 abbrev Left : Type 0
 Left = MarkedEffect Entity EntityState Saying

@@ -1,34 +1,17 @@
 -- A private instruction of a lease is a step of its process without input, which looks at the process and its signals and writes the process alone.
-use Rattle.std.proofs.Common.{◌≡◌, ℕ, zero, suc, length, Bool, true, false, cond, not, ◌&&◌, ◌||◌, List, [], ◌∷◌, Option, Some, None, Ok, refl, sym, ◌∙◌, ap, subst, arith}
-use Rattle.std.specs.Prelude.{◌==◌, is_some, slice_get, option_and_then, unwrap_or, if◌then◌else◌}
-use Rattle.std.specs.List.{list_any}
-use Rattle.std.specs.FinMap.{get}
-use Rattle.std.specs.Ordering.{eq_by_cmp}
-use Rattle.std.specs.Cmp.{eq_by_cmp_equiv}
-use Rattle.std.proofs.lemmas.Bool.{or_parts, true≢false}
-use Rattle.sk_record.specs.Step.{perform, with_read, Refuse}
-use Rattle.sk_plain.specs.declared.refusal.Refusal.TheVariants.{Ended}
-use Rattle.sk_record.specs.Merged.{StepsAlone, with_value, last_of}
-use Rattle.sk_ids.specs.Entity.{entity_cmp}
-use Rattle.sk_ids.specs.declared.entity.Entity.{Entity}
-use Rattle.sk_ids.specs.declared.entity.Entity.TheVariants.{Proc, Sig}
-use Rattle.sk_ids.proofs.Entities.{entity_total}
+use Rattle.sk_plain.proofs.Cites.{◌≡◌, ℕ, zero, suc, length, Bool, true, false, cond, not, ◌&&◌, ◌||◌, List, [], ◌∷◌}
+use Rattle.sk_plain.proofs.Cites.{Option, Some, None, Ok, refl, sym, ◌∙◌, ap, subst, arith, ◌==◌, is_some, slice_get}
+use Rattle.sk_plain.proofs.Cites.{option_and_then, unwrap_or, if◌then◌else◌, list_any, get, eq_by_cmp, eq_by_cmp_equiv}
+use Rattle.sk_plain.proofs.Cites.{or_parts, true≢false, perform, with_read, Refuse, Ended, StepsAlone, with_value}
+use Rattle.sk_plain.proofs.Cites.{last_of, entity_cmp, Entity, Proc, Sig, entity_total, Process, Instruction}
+use Rattle.sk_plain.proofs.Cites.{private_step, private_next, number_given, process_given, at_place_if, sum_in, is_zero}
+use Rattle.sk_plain.proofs.Cites.{is_negative, after_private, private_run, script_at, held, boot_pid, EntityState}
+use Rattle.sk_plain.proofs.Cites.{Scripts, act, plain, goes_on, with_input, with_signals, handled, does, private_or}
+use Rattle.sk_plain.proofs.Cites.{instruction_of, row, alone, is_due, KILL, KILLED, ended_with}
 use Rattle.sk_objects.specs.declared.value.Value.TheVariants as values
-use Rattle.sk_script.specs.declared.process.Process.{Process}
-use Rattle.sk_script.specs.declared.instruction.Instruction.{Instruction}
 use Rattle.sk_script.specs.declared.instruction.Instruction.TheVariants as does_
 use Rattle.sk_script.specs.declared.instruction.Input.TheVariants as inputs
-use Rattle.sk_script.specs.Private.{private_step, private_next, number_given, process_given, at_place_if, sum_in, is_zero, is_negative}
-use Rattle.sk_script.specs.Lease.{after_private, private_run}
-use Rattle.sk_script.specs.Scripts.{script_at}
-use Rattle.sk_script.specs.Registers.{held}
-use Rattle.sk_ids.specs.Pid.{boot_pid}
-use Rattle.sk_store.specs.declared.entity_state.EntityState.{EntityState}
 use Rattle.sk_store.specs.declared.entity_state.EntityState.TheVariants as stored
-use Rattle.sk_plain.specs.Act.{Scripts, act, plain, goes_on, with_input, with_signals, handled, does, private_or, instruction_of, row}
-use Rattle.sk_plain.specs.Rows.{alone}
-use Rattle.sk_plain.specs.Next.{is_due}
-use Rattle.sk_plain.specs.Processes.{KILL, KILLED, ended_with}
 
 -- the process runs this script, and no signal is due
 pub record GoesOn (look : Entity → Option EntityState) (scripts : Scripts) (pid : ℕ) (script : List Instruction) (p : Process) : Type 0 where

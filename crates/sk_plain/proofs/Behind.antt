@@ -1,19 +1,9 @@
 -- A failure leaves the entries that stand before its guess's own, and strikes of those behind what a run from there strikes.
-use Rattle.std.proofs.Common.{◌≡◌, ℕ, suc, Bool, true, false, List, [], ◌∷◌, ◌++◌, length, refl, ◌∙◌, ap, subst, sym, arith}
-use Rattle.std.specs.List.{list_any}
-use Rattle.std.proofs.lemmas.Bool.{or_parts, or_from, true≢false}
-use Rattle.sk_record.specs.Effects.{MarkedEffect, is_in, is_marked, hit, hits, dirt, dirtied, keep, touches}
-use Rattle.sk_record.specs.Run.{run, effects, outcome, after}
-use Rattle.sk_record.specs.Strike.{strike}
-use Rattle.sk_record.specs.Trace.{still_marked}
-use Rattle.sk_record.proofs.Machine.{trail_append, unmarked_hits}
-use Rattle.sk_record.proofs.Sound.{marked_is}
-use Rattle.sk_ids.specs.declared.entity.Entity.{Entity}
-use Rattle.sk_ids.specs.Entity.{entity_cmp}
-use Rattle.sk_store.specs.State.{State}
-use Rattle.sk_store.specs.declared.entity_state.EntityState.{EntityState}
-use Rattle.sk_trace.specs.Entry.{EntryView}
-use Rattle.sk_plain.specs.Act.{Scripts, Saying, plain}
+use Rattle.sk_plain.proofs.Cites.{◌≡◌, ℕ, suc, Bool, true, false, List, [], ◌∷◌, ◌++◌, length, refl, ◌∙◌, ap, subst}
+use Rattle.sk_plain.proofs.Cites.{sym, arith, list_any, or_parts, or_from, true≢false, MarkedEffect, is_in, is_marked}
+use Rattle.sk_plain.proofs.Cites.{hit, hits, dirt, dirtied, keep, touches, run, effects, outcome, after, strike}
+use Rattle.sk_plain.proofs.Cites.{still_marked, trail_append, unmarked_hits, marked_is, Entity, entity_cmp, State}
+use Rattle.sk_plain.proofs.Cites.{EntityState, EntryView, Scripts, Saying, plain}
 
 abbrev Left : Type 0
 Left = MarkedEffect Entity EntityState Saying

@@ -1,16 +1,8 @@
 -- No text of the plain kernel rests on a guess, so all are released: from how a text is said.
-use Rattle.std.proofs.Common.{◌≡◌, ℕ, Bool, true, false, cond, List, [], ◌∷◌, ◌++◌, map, Option, Some, None, refl, sym, subst, ap}
-use Rattle.std.specs.Prelude.{◌==◌, unwrap_or}
-use Rattle.std.specs.List.{AllByRecursion}
-use Rattle.std.specs.Ordering.{nat_cmp}
+use Rattle.sk_plain.proofs.Cites.{◌≡◌, ℕ, Bool, true, false, cond, List, [], ◌∷◌, ◌++◌, map, Option, Some, None, refl}
+use Rattle.sk_plain.proofs.Cites.{sym, subst, ap, ◌==◌, unwrap_or, AllByRecursion, nat_cmp, append-nil, released}
+use Rattle.sk_plain.proofs.Cites.{TaggedText, TerminalMap, texts_at, texts_said, Saying, AllClear, with_said}
 use Rattle.std.specs.FinMap as maps
-use Rattle.std.proofs.lemmas.List.{append-nil}
-use Rattle.sk_record.specs.Machine.{released}
-use Rattle.sk_terminal.specs.Terminal.{TaggedText}
-use Rattle.sk_terminal.specs.Terminals.{TerminalMap, texts_at}
-use Rattle.sk_terminal.proofs.SaidTo.{texts_said}
-use Rattle.sk_plain.specs.Act.{Saying}
-use Rattle.sk_plain.specs.Plain.{AllClear, with_said}
 
 abbrev Clear : List TaggedText → Type 0
 Clear xs = AllByRecursion (λ x. x.1 ≡ []) xs

@@ -1,18 +1,8 @@
 -- A process after a write of another entity, on whatever performs writes.
-use Rattle.std.proofs.Common.{◌≡◌, ◌<◌, ℕ, true, false, Option, Some, Result, Ok, Err, refl, sym, ap, subst, ◌∙◌, arith}
-use Rattle.std.specs.Prelude.{OnOk}
-use Rattle.std.specs.Ordering.{eq_by_cmp}
-use Rattle.std.specs.Cmp.{Equal-is}
-use Rattle.std.specs.Result.{is_err}
-use Rattle.std.proofs.lemmas.Bool.{true≢false}
-use Rattle.sk_ids.proofs.Entities.{entity_exact}
-use Rattle.sk_ids.specs.declared.entity.Entity.{Entity}
-use Rattle.sk_ids.specs.declared.entity.Entity.TheVariants.{Proc, Sig, Exit, Obj, Link, Copy}
-use Rattle.sk_ids.specs.Entity.{entity_cmp}
-use Rattle.sk_script.specs.declared.process.Process.{Process}
-use Rattle.sk_store.specs.Processes.{CanBecome, became}
-use Rattle.sk_store.specs.declared.entity_state.EntityState.{EntityState}
-use Rattle.sk_plain.specs.Planned.{IsNoProcess}
+use Rattle.sk_plain.proofs.Cites.{◌≡◌, ◌<◌, ℕ, true, false, Option, Some, Result, Ok, Err, refl, sym, ap, subst, ◌∙◌}
+use Rattle.sk_plain.proofs.Cites.{arith, OnOk, eq_by_cmp, Equal-is, is_err, true≢false, entity_exact, Entity, Proc, Sig}
+use Rattle.sk_plain.proofs.Cites.{Exit, Obj, Link, Copy, entity_cmp, Process, CanBecome, became, EntityState}
+use Rattle.sk_plain.proofs.Cites.{IsNoProcess}
 
 pub then_ok : {A E P Q : Type 0} (r : Result A E) → OnOk r P → (P → Q) → OnOk r Q
 then_ok (Ok x) p f = f p

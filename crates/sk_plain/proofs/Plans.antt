@@ -1,30 +1,17 @@
 -- What a plan writes and says, from the plan alone.
-use Rattle.std.proofs.Common.{◌≡◌, ℕ, ◌+◌, ◌<◌, ◌^◌, true, false, cond, List, [], ◌∷◌, Option, Some, None, Result, Ok, Err, refl, sym, ◌∙◌, ap, subst}
-use Rattle.std.specs.Prelude.{IfOk, is_some, unwrap_or}
-use Rattle.std.proofs.lemmas.Bool.{true≢false}
-use Rattle.sk_record.specs.Step.{Refuse, perform, with_read}
-use Rattle.sk_ids.specs.declared.entity.Entity.{Entity}
-use Rattle.sk_ids.specs.declared.entity.Entity.TheVariants.{Proc}
-use Rattle.sk_script.specs.declared.process.Process.{Process}
-use Rattle.sk_script.specs.declared.instruction.Instruction.{Instruction}
-use Rattle.sk_script.specs.declared.instruction.Input.{Input}
+use Rattle.sk_plain.proofs.Cites.{◌≡◌, ℕ, ◌+◌, ◌<◌, ◌^◌, true, false, cond, List, [], ◌∷◌, Option, Some, None, Result}
+use Rattle.sk_plain.proofs.Cites.{Ok, Err, refl, sym, ◌∙◌, ap, subst, IfOk, is_some, unwrap_or, true≢false, Refuse}
+use Rattle.sk_plain.proofs.Cites.{perform, with_read, Entity, Proc, Process, Instruction, Input, private_step}
+use Rattle.sk_plain.proofs.Cites.{IsProcess, process_in, EntityState, Scripts, StepTree, does, goes_on, next_in}
+use Rattle.sk_plain.proofs.Cites.{private_or, row, with_input, PlanView, Nowhere, CanDo, IsBeside, planned, said_by}
+use Rattle.sk_plain.proofs.Cites.{said_in, signals_read, written_by, CanPerform, Fits, PlansAfter, PlansRow, PlansStep}
+use Rattle.sk_plain.proofs.Cites.{all_seen, beside_of, changed_by, plan_of, result_seen, seen_with, written_in}
+use Rattle.sk_plain.proofs.Cites.{written_of, written_row, Refusal, Ended, Plan, Private, Speaks, Received, Forks, Acts}
+use Rattle.sk_plain.proofs.Cites.{Row, Beside, Nothing, One, Gone}
 use Rattle.sk_script.specs.declared.instruction.Input.TheVariants as inputs
-use Rattle.sk_script.specs.Private.{private_step}
-use Rattle.sk_store.specs.Processes.{IsProcess, process_in}
-use Rattle.sk_store.specs.declared.entity_state.EntityState.{EntityState}
 use Rattle.sk_store.specs.declared.entity_state.EntityState.TheVariants as stored
-use Rattle.sk_plain.specs.Act.{Scripts, StepTree, does, goes_on, next_in, private_or, row, with_input}
-use Rattle.sk_plain.specs.Plan.{PlanView, Nowhere}
 use Rattle.sk_plain.specs.Plan as views
-use Rattle.sk_plain.specs.Planned.{CanDo, IsBeside, planned, said_by, said_in, signals_read, written_by}
-use Rattle.sk_plain.specs.Seen.{CanPerform, Fits, PlansAfter, PlansRow, PlansStep, all_seen, beside_of, changed_by, plan_of, result_seen, seen, seen_with, written_in, written_of, written_row}
-use Rattle.sk_plain.specs.declared.refusal.Refusal.{Refusal}
-use Rattle.sk_plain.specs.declared.refusal.Refusal.TheVariants.{Ended}
-use Rattle.sk_plain.specs.declared.plan.Plan.{Plan}
-use Rattle.sk_plain.specs.declared.plan.Plan.TheVariants.{Private, Speaks, Received, Forks, Acts}
-use Rattle.sk_plain.specs.declared.plan.Row.{Row}
-use Rattle.sk_plain.specs.declared.plan.Beside.{Beside}
-use Rattle.sk_plain.specs.declared.plan.Beside.TheVariants.{Nothing, One, Gone}
+use Rattle.sk_plain.specs.Seen.{seen}
 
 -- a row says nothing
 pub row_quiet : (q p : Process) (b : Beside) → said_in q (beside_of p b) ≡ None

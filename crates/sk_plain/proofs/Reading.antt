@@ -1,19 +1,10 @@
 -- The bytes that come to a process's buffer.
-use Rattle.std.proofs.Common.{◌≡◌, ℕ, ◌+◌, ◌<◌, ◌≤◌, ◌^◌, List, [], ◌∷◌, length, Option, Some, None, Ok, sym, ◌∙◌, ap}
-use Rattle.std.proofs.lemmas.List.{take_all}
-use Rattle.sk_record.specs.Step.{Ask, perform, with_read}
-use Rattle.sk_ids.specs.declared.entity.Entity.{Entity}
-use Rattle.sk_ids.specs.declared.entity.Entity.TheVariants.{Proc, Copy}
-use Rattle.sk_objects.specs.Content.{ContentView}
+use Rattle.sk_plain.proofs.Cites.{◌≡◌, ℕ, ◌+◌, ◌<◌, ◌≤◌, ◌^◌, List, [], ◌∷◌, length, Option, Some, None, Ok, sym, ◌∙◌}
+use Rattle.sk_plain.proofs.Cites.{ap, take_all, Ask, perform, with_read, Entity, Proc, Copy, ContentView, Process}
+use Rattle.sk_plain.proofs.Cites.{EntityState, filled, from_copy, PlansRow, text_at, Fills}
 use Rattle.sk_objects.specs.declared.value.Value.TheVariants as values
-use Rattle.sk_script.specs.declared.process.Process.{Process}
-use Rattle.sk_store.specs.declared.entity_state.EntityState.{EntityState}
 use Rattle.sk_store.specs.declared.entity_state.EntityState.TheVariants as stored
-use Rattle.sk_plain.specs.Rows.{filled}
-use Rattle.sk_plain.specs.Replies.{from_copy}
-use Rattle.sk_plain.specs.Seen.{PlansRow, text_at}
 use Rattle.sk_plain.specs.declared.plan.Looks.TheVariants as looks
-use Rattle.sk_plain.specs.declared.plan.ProcessChange.TheVariants.{Fills}
 use Rattle.sk_plain.specs.declared.plan.Beside.TheVariants as beside
 
 -- a fetch from the copy that is there

@@ -1,28 +1,17 @@
 -- A replay of a sound trace goes on with each event that may come next, and else the event has the fault that is told.
-use Rattle.std.proofs.Common.{◌≡◌, ℕ, zero, suc, ◌+◌, ◌<◌, true, false, List, [], ◌∷◌, ◌++◌, Option, Some, None, Result, Ok, Err, IsOk, length, map, take, drop, get_or, inl, inr, refl, sym, ◌∙◌, ap, subst, arith}
-use Rattle.std.specs.Prelude.{IsErr, OnOk, IfErr}
-use Rattle.std.specs.List.{Contains}
-use Rattle.sk_record.proofs.Machine.{run_append}
-use Rattle.std.proofs.lemmas.Bool.{true≢false, false≢true, ltb-true, ltb-false, eqb-true, or_cases, false_from_ne_true, true_from_ne_false}
-use Rattle.std.proofs.lemmas.List.Elements.{Contains-push}
-use Rattle.sk_record.specs.Run.{run, outcome, after}
-use Rattle.sk_record.specs.Notes.{has}
-use Rattle.sk_record.specs.Trace.{Event as Happens, Taken, Commit, Fail, IsDrawn, IsAllowed, IsSound, StatusIs, Record, marks, record_of, recorded, undecided_of, no_record}
-use Rattle.sk_record.specs.declared.status.Status.TheVariants.{Undecided}
-use Rattle.sk_record.proofs.Sound.{sound_first, sound_taken, sound_commit, sound_fail, entries_are, undecided_is, drawn_more, is_drawn, tests}
-use Rattle.sk_record.proofs.Tidy.{recorded_more}
-use Rattle.sk_ids.proofs.Entities.{entity_total, entity_exact}
-use Rattle.sk_store.specs.State.{State}
-use Rattle.sk_trace.specs.Entry.{EntryView}
-use Rattle.sk_plain.specs.Act.{Scripts, plain}
-use Rattle.sk_trace.specs.declared.event.Event.{Event}
-use Rattle.sk_plain.specs.declared.replay.Replay.{Replay}
-use Rattle.sk_plain.specs.declared.replay.EventFault.{EventFault}
+use Rattle.sk_plain.proofs.Cites.{◌≡◌, ℕ, zero, suc, ◌+◌, ◌<◌, true, false, List, [], ◌∷◌, ◌++◌, Option, Some, None}
+use Rattle.sk_plain.proofs.Cites.{Result, Ok, Err, IsOk, length, map, take, drop, get_or, inl, inr, refl, sym, ◌∙◌, ap}
+use Rattle.sk_plain.proofs.Cites.{subst, arith, IsErr, OnOk, IfErr, Contains, run_append, true≢false, false≢true}
+use Rattle.sk_plain.proofs.Cites.{ltb-true, ltb-false, eqb-true, or_cases, false_from_ne_true, true_from_ne_false}
+use Rattle.sk_plain.proofs.Cites.{Contains-push, run, outcome, after, has, Happens, Taken, Commit, Fail, IsDrawn}
+use Rattle.sk_plain.proofs.Cites.{IsAllowed, IsSound, StatusIs, Record, marks, record_of, recorded, undecided_of}
+use Rattle.sk_plain.proofs.Cites.{no_record, Undecided, sound_first, sound_taken, sound_commit, sound_fail, entries_are}
+use Rattle.sk_plain.proofs.Cites.{undecided_is, drawn_more, is_drawn, tests, recorded_more, entity_total, entity_exact}
+use Rattle.sk_plain.proofs.Cites.{State, EntryView, Scripts, plain, Event, Replay, EventFault, TraceFault, Refused}
+use Rattle.sk_plain.proofs.Cites.{UnknownGuess, NoStart, Memory, image, is_made, seen, is_above, newest, IsGreatest}
+use Rattle.sk_plain.proofs.Cites.{IsReplay, HasTaken, StepFault, HasCommitted, HasFailed, DecisionFault, Goes}
+use Rattle.sk_plain.proofs.Cites.{IsFirstFault, IsRefused, IsTaken, FaultIn, StopsIn}
 use Rattle.sk_plain.specs.declared.replay.EventFault.TheVariants as faults
-use Rattle.sk_plain.specs.declared.replay.TraceFault.{TraceFault}
-use Rattle.sk_plain.specs.declared.replay.TraceFault.TheVariants.{Refused, UnknownGuess, NoStart, Memory}
-use Rattle.sk_plain.specs.Standing.{image, is_made, seen}
-use Rattle.sk_plain.specs.Replay.{is_above, newest, IsGreatest, IsReplay, HasTaken, StepFault, HasCommitted, HasFailed, DecisionFault, Goes, IsFirstFault, IsRefused, IsTaken, FaultIn, StopsIn}
 use Rattle.sk_plain.proofs.Settled.{adds}
 
 abbrev Events : Type 0

@@ -1,30 +1,17 @@
 -- One planned step of a record, read from left to right: whether it depends on the guess, and what is left after it. From the plan's reads and writes.
-use Rattle.std.proofs.Common.{arith, zero, suc, ◌<◌, get_or, length, ◌≡◌, ℕ, Bool, true, false, cond, ◌||◌, List, [], ◌∷◌, ◌++◌, map, Option, Some, None, Result, Ok, Err, IsOk, refl, sym, ◌∙◌, ap, subst}
-use Rattle.std.specs.Prelude.{OnOk}
-use Rattle.std.specs.List.{list_any}
-use Rattle.std.specs.FinMap.{get}
-use Rattle.std.proofs.lemmas.List.{append_assoc}
-use Rattle.std.proofs.lemmas.List.Folds.{list_any-append}
-use Rattle.sk_record.specs.Step.{Effect}
-use Rattle.sk_record.specs.Effects.{is_in, is_marked, dirtied, hit, hits, keep}
-use Rattle.sk_record.specs.Run.{IsLegal, after, marked_effect, outcome, put, put_all, run, effects}
-use Rattle.sk_ids.specs.declared.entity.Entity.{Entity}
-use Rattle.sk_ids.specs.declared.entity.Entity.TheVariants.{Proc}
-use Rattle.sk_ids.specs.Entity.{entity_cmp}
-use Rattle.sk_store.specs.State.{State}
-use Rattle.sk_trace.specs.Entry.{EntryView}
-use Rattle.sk_plain.specs.Act.{Scripts, Saying, plain}
-use Rattle.sk_plain.specs.Remaining.{depends, remaining, first_refusal, refusal_in, BeginsWell, EndsBy}
-use Rattle.sk_plain.specs.Planned.{written_beside, gone_in, writes_of, wrote_all, effect_of, read_by, written_by}
-use Rattle.sk_store.specs.declared.entity_state.EntityState.{EntityState}
+use Rattle.sk_plain.proofs.Cites.{arith, zero, suc, ◌<◌, get_or, length, ◌≡◌, ℕ, Bool, true, false, cond, ◌||◌, List}
+use Rattle.sk_plain.proofs.Cites.{[], ◌∷◌, ◌++◌, map, Option, Some, None, Result, Ok, Err, IsOk, refl, sym, ◌∙◌, ap}
+use Rattle.sk_plain.proofs.Cites.{subst, OnOk, list_any, get, append_assoc, list_any-append, Effect, is_in, is_marked}
+use Rattle.sk_plain.proofs.Cites.{dirtied, hit, hits, keep, IsLegal, after, marked_effect, outcome, put, put_all, run}
+use Rattle.sk_plain.proofs.Cites.{effects, Entity, Proc, entity_cmp, State, EntryView, Scripts, Saying, plain, depends}
+use Rattle.sk_plain.proofs.Cites.{remaining, first_refusal, refusal_in, BeginsWell, EndsBy, written_beside, gone_in}
+use Rattle.sk_plain.proofs.Cites.{writes_of, wrote_all, effect_of, read_by, written_by, EntityState, Refusal, NoProcess}
+use Rattle.sk_plain.proofs.Cites.{Ended, Mismatch, NeedsReply, Blocked, NoRoom, TooMany, TraceFull, Plan, PlanView}
+use Rattle.sk_plain.proofs.Cites.{BesideView, Says, Birth, seen_with, looked, looks_of, written_in, Process}
 use Rattle.sk_store.specs.declared.entity_state.EntityState.TheVariants as stored
-use Rattle.sk_plain.specs.declared.refusal.Refusal.{Refusal}
-use Rattle.sk_plain.specs.declared.refusal.Refusal.TheVariants.{NoProcess, Ended, Mismatch, NeedsReply, Blocked, NoRoom, TooMany, TraceFull, Memory}
-use Rattle.sk_plain.specs.declared.plan.Plan.{Plan}
-use Rattle.sk_plain.specs.Plan.{PlanView, BesideView, Nothing, Says, One, Birth, Gone}
-use Rattle.sk_plain.specs.Seen.{seen_with, looked, looks_of, written_in}
+use Rattle.sk_plain.specs.declared.refusal.Refusal.TheVariants.{Memory}
+use Rattle.sk_plain.specs.Plan.{Nothing, One, Gone}
 use Rattle.sk_plain.proofs.Plans.{written_is}
-use Rattle.sk_script.specs.declared.process.Process.{Process}
 
 pub asked : {A B : Type 0} (look : A → B) (es : List A) → map (λ (r : A × B). r.0) (map (λ e. (e, look e)) es) ≡ es
 asked look [] = refl

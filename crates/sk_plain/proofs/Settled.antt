@@ -1,26 +1,14 @@
 -- What is settled stays settled, and the record is what an event makes of it.
-use Rattle.std.proofs.Common.{◌≡◌, ℕ, zero, suc, ◌+◌, arith, Bool, true, false, not, cond, ◌||◌, ◌&&◌, inl, inr, List, [], ◌∷◌, ◌++◌, take, drop, Option, Some, None, refl, sym, ◌∙◌, ap, subst, append_assoc}
-use Rattle.std.specs.List.{filter, prefix_len}
-use Rattle.std.proofs.lemmas.Bool.{or_parts, or_from, or_left, or_right, or_cases, eq-eqb, eqb-true, true≢false, false_from_ne_true}
-use Rattle.std.specs.Prelude.{◌==◌, Result, Ok, Err, OnOk}
-use Rattle.std.specs.Result.{is_err}
-use Rattle.sk_record.proofs.UndoStates.{and_both}
-use Rattle.std.proofs.lemmas.List.Folds.{list_any-append}
-use Rattle.sk_record.specs.Effects.{is_marked}
-use Rattle.sk_record.specs.Run.{run, effects}
-use Rattle.sk_record.specs.Strike.{strike}
-use Rattle.sk_record.specs.Notes.{has, without}
-use Rattle.sk_record.specs.Trace.{marks, still_marked}
-use Rattle.sk_record.proofs.Machine.{has_filter, run_append}
-use Rattle.sk_record.proofs.Sound.{marked_is, mark_is}
-use Rattle.sk_store.specs.State.{State}
-use Rattle.sk_trace.specs.Entry.{EntryView}
+use Rattle.sk_plain.proofs.Cites.{◌≡◌, ℕ, zero, suc, ◌+◌, arith, Bool, true, false, not, cond, ◌||◌, ◌&&◌, inl, inr}
+use Rattle.sk_plain.proofs.Cites.{List, [], ◌∷◌, ◌++◌, take, drop, Option, Some, None, refl, sym, ◌∙◌, ap, subst}
+use Rattle.sk_plain.proofs.Cites.{filter, prefix_len, or_parts, or_from, or_left, or_right, or_cases, eq-eqb, eqb-true}
+use Rattle.sk_plain.proofs.Cites.{true≢false, false_from_ne_true, ◌==◌, OnOk, is_err, and_both, list_any-append}
+use Rattle.sk_plain.proofs.Cites.{is_marked, run, effects, strike, has, without, marks, still_marked, has_filter}
+use Rattle.sk_plain.proofs.Cites.{run_append, marked_is, mark_is, State, EntryView, Input, Scripts, plain, is_made}
+use Rattle.sk_plain.proofs.Cites.{Standing, seen, is_settled, is_other, Stands, GoesOn, Settles}
+use Rattle.std.proofs.Common.{append_assoc}
+use Rattle.std.specs.Prelude.{Result, Ok, Err}
 use Rattle.sk_trace.specs.declared.event.Event.TheVariants as events
-use Rattle.sk_script.specs.declared.instruction.Input.{Input}
-use Rattle.sk_plain.specs.Act.{Scripts, plain}
-use Rattle.sk_plain.specs.Standing.{is_made}
-use Rattle.sk_plain.specs.declared.standing.Standing.{Standing}
-use Rattle.sk_plain.specs.Standing.{seen, is_settled, is_other, Stands, GoesOn, Settles}
 use Rattle.sk_plain.proofs.Behind.{strike_behind}
 
 -- entries before the first that made one of these guesses made none of them

@@ -1,18 +1,12 @@
 -- What keys have behind what is written, and that the keys stay in order.
-use Rattle.std.proofs.Common.{◌≡◌, ℕ, Bool, true, false, not, cond, T, List, [], ◌∷◌, Option, Some, None, is_some, bytes_eq, refl, sym, ap, subst, ◌∙◌}
-use Rattle.std.specs.Ordering.{eq_by_cmp, is_eq}
-use Rattle.std.specs.Cmp.{IsTotalOrder, tied_itself}
-use Rattle.std.specs.Cmp.Lexicographic.{nat_list_cmp_total}
-use Rattle.std.specs.FinMap.{nat_cmp-IsAntisymmetric, slice_cmp-IsAntisymmetric}
-use Rattle.std.specs.FinMap.Entries.{is_sorted, find-put, find-where_key, is_some-find, is_sorted-put, is_sorted-where_key}
-use Rattle.std.specs.declared.cmp.Ordering.{Ordering}
-use Rattle.std.specs.declared.cmp.Ordering.TheVariants.{Less, Equal, Greater}
-use Rattle.std.specs.List.{list_any}
-use Rattle.std.proofs.lemmas.Bool.Decides.{same_from_decides}
-use Rattle.std.proofs.lemmas.Slice.Eq.{bytes_eq-Decides}
-use Rattle.sk_commands.specs.Table.{is_among, Written}
-use Rattle.sk_commands.specs.Work.{after, with_value}
-use Rattle.sk_plain_store.specs.Plain.{bytes_cmp, held, keys_of, written_at, written_to, Entries}
+use Rattle.sk_plain_store.proofs.Names.{◌≡◌, ℕ, Bool, true, false, not, cond, T, List, [], ◌∷◌, Option, Some, None}
+use Rattle.sk_plain_store.proofs.Names.{is_some, bytes_eq, refl, sym, ap, subst, ◌∙◌, eq_by_cmp, is_eq, IsTotalOrder}
+use Rattle.sk_plain_store.proofs.Names.{tied_itself, nat_list_cmp_total, nat_cmp-IsAntisymmetric}
+use Rattle.sk_plain_store.proofs.Names.{slice_cmp-IsAntisymmetric, find-put, find-where_key, is_some-find}
+use Rattle.sk_plain_store.proofs.Names.{is_sorted-put, is_sorted-where_key, Ordering, Less, Equal, Greater, list_any}
+use Rattle.sk_plain_store.proofs.Names.{same_from_decides, bytes_eq-Decides, is_among, Written, after, with_value}
+use Rattle.sk_plain_store.proofs.Names.{bytes_cmp, held, keys_of, written_at, written_to, Entries}
+use Rattle.std.specs.FinMap.Entries.{is_sorted}
 
 pub bytes_total : IsTotalOrder bytes_cmp
 bytes_total = nat_list_cmp_total

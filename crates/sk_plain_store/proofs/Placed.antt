@@ -1,22 +1,14 @@
 -- The entries that places have, where one is held, set or let go.
-use Rattle.std.proofs.Common.{◌≡◌, ℕ, ◌+◌, ◌<◌, ◌≤◌, Bool, true, false, cond, List, [], ◌∷◌, ◌++◌, length, get_or, take, Option, Some, None, is_some, if◌then◌else◌, refl, sym, ap, subst, ◌∙◌}
-use Rattle.std.specs.Prelude.{◌&&◌, not, unwrap_or}
-use Rattle.std.specs.Global.{Vec}
-use Rattle.std.specs.Ordering.{is_eq, is_lt, match_ordering}
-use Rattle.std.specs.declared.cmp.Ordering.{Ordering}
-use Rattle.std.specs.declared.cmp.Ordering.TheVariants.{Less, Equal, Greater}
-use Rattle.std.specs.List.{AllByRecursion}
-use Rattle.std.specs.List.Sorted.{IsStrictlySortedBy}
+use Rattle.sk_plain_store.proofs.Names.{◌≡◌, ℕ, ◌+◌, ◌<◌, ◌≤◌, Bool, true, false, cond, List, [], ◌∷◌, ◌++◌, length}
+use Rattle.sk_plain_store.proofs.Names.{get_or, take, Option, Some, None, is_some, if◌then◌else◌, refl, sym, ap, subst}
+use Rattle.sk_plain_store.proofs.Names.{◌∙◌, ◌&&◌, unwrap_or, Vec, is_eq, is_lt, match_ordering, Ordering, Less, Equal}
+use Rattle.sk_plain_store.proofs.Names.{Greater, AllByRecursion, IsStrictlySortedBy, remove_entry, set_value}
+use Rattle.sk_plain_store.proofs.Names.{insert_entry, is_at, is_sorted, below_all, sorted_head, sorted_tail, bytes_cmp}
+use Rattle.sk_plain_store.proofs.Names.{held, keys_of, put_in, taken_out, written_at, written_to, Entries, take_all}
+use Rattle.sk_plain_store.proofs.Names.{take_more, told, Written, entries_of, has_place, place_of, with_entry}
+use Rattle.sk_plain_store.proofs.Names.{HavePlaces, KeepsPlaces, Places}
+use Rattle.std.specs.Prelude.{not}
 use Rattle.std.specs.Map as pairs
-use Rattle.std.specs.Map.{remove_entry, set_value}
-use Rattle.std.specs.BTreeMap.{insert_entry, is_at}
-use Rattle.std.specs.FinMap.{is_sorted}
-use Rattle.std.specs.FinMap.Entries.{below_all}
-use Rattle.std.proofs.lemmas.Map.Keys.{sorted_head, sorted_tail}
-use Rattle.sk_plain_store.specs.Plain.{bytes_cmp, held, keys_of, put_in, taken_out, written_at, written_to, Entries}
-use Rattle.std.proofs.lemmas.List.{take_all, take_more}
-use Rattle.sk_commands.specs.Table.{told, Written}
-use Rattle.sk_plain_store.specs.Places.{entries_of, has_place, place_of, with_entry, HavePlaces, KeepsPlaces, Places}
 use Rattle.sk_plain_store.proofs.Kept.{bytes_total, tied_is}
 
 abbrev pub key_cmp : Vec ℕ → Vec ℕ → Ordering

@@ -1,10 +1,7 @@
 -- The guesses that are held after a decision.
-use Rattle.std.proofs.Common.{◌≡◌, ℕ, true, false, ◌==◌, List, [], ◌∷◌, refl, sym, ap, ◌∙◌, Option, Some, None}
-use Rattle.sk_record.specs.Notes.{has}
-use Rattle.sk_trace.specs.declared.event.Event.{Event}
-use Rattle.sk_kernel.specs.declared.kernel.Outcome.{Outcome}
+use Rattle.sk_play.proofs.Names.{◌≡◌, ℕ, true, false, ◌==◌, List, [], ◌∷◌, refl, sym, ap, ◌∙◌, Option, Some, None, has}
+use Rattle.sk_play.proofs.Names.{Event, Outcome, HolderView, DecidesPost, but}
 use Rattle.sk_kernel.specs.declared.kernel.Outcome.TheVariants as outcomes
-use Rattle.sk_holder.specs.Holder.{HolderView, DecidesPost, but}
 
 -- a guess that is not held: none is taken out
 none_but : (id : ℕ) (held : List ℕ) → has id held ≡ false → but id held ≡ held

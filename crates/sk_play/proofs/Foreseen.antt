@@ -1,25 +1,11 @@
 -- What a call appends was foreseen.
-use Rattle.std.proofs.Common.{ℕ, Bool, List, Option, Some, None, refl}
-use Rattle.sk_record.specs.Notes.{has}
-use Rattle.sk_script.specs.declared.instruction.Input.{Input}
-use Rattle.sk_plain.specs.declared.refusal.Refusal.{Refusal}
-use Rattle.sk_trace.specs.declared.event.Event.{Event}
+use Rattle.sk_play.proofs.Names.{ℕ, Bool, List, Option, Some, None, refl, has, Input, Refusal, Event, KernelView}
+use Rattle.sk_play.proofs.Names.{next_guess, appended, IsForeseen, unchanged_foreseen, appended_foreseen, Call}
+use Rattle.sk_play.proofs.Names.{WorldEvent, WorldView, upcoming_in, event_foreseen, CallAnswer, WorldTold}
+use Rattle.sk_play.proofs.Names.{AnswerMatches, StepTold, GuessTold, DecisionTold, upcoming, Happens}
 use Rattle.sk_trace.specs.declared.event.Event.TheVariants as events
-use Rattle.sk_kernel.specs.Kernel.{KernelView, next_guess}
-use Rattle.sk_kernel.specs.Footprint.{appended, IsForeseen}
-use Rattle.sk_kernel.proofs.Appended.{unchanged_foreseen, appended_foreseen}
-use Rattle.sk_scenario.specs.declared.call.Call.{Call}
 use Rattle.sk_scenario.specs.declared.call.Call.TheVariants as calls
-use Rattle.sk_client.specs.declared.world.WorldEvent.{WorldEvent}
-use Rattle.sk_client.specs.WorldView.{WorldView}
-use Rattle.sk_client.specs.Upcoming.{upcoming as upcoming_in}
-use Rattle.sk_client.proofs.Upcoming.{event_foreseen}
-use Rattle.sk_play.specs.declared.answer.CallAnswer.{CallAnswer}
 use Rattle.sk_play.specs.declared.answer.CallAnswer.TheVariants as answers
-use Rattle.sk_play.specs.declared.told.WorldTold.{WorldTold}
-use Rattle.sk_play.specs.Session.{AnswerMatches, StepTold, GuessTold, DecisionTold}
-use Rattle.sk_play.specs.Upcoming.{upcoming}
-use Rattle.sk_play.specs.Worlds.{Happens}
 
 step_foreseen : (a : CallAnswer) (refused : Option Refusal) (pid : ℕ) (input : Input) (old new : KernelView) → StepTold a refused (events.Step pid input) old new
     → IsForeseen (Some (pid, input)) (appended old new)

@@ -1,17 +1,9 @@
 -- One more event that happens: in the world that those before it left.
-use Rattle.std.proofs.Common.{◌≡◌, ℕ, ◌+◌, List, [], ◌∷◌, ◌++◌, length, Option, Some, Result, Ok, refl, sym, ap, subst, ◌∙◌, arith}
-use Rattle.std.specs.Prelude.{OnOk}
-use Rattle.std.specs.Io.KnownBytes.{Keeps, Appends}
-use Rattle.std.proofs.KnownBytes.{Appends-kept}
-use Rattle.std.proofs.lemmas.List.{append_assoc, append-nil}
-use Rattle.sk_client.specs.declared.world.WorldEvent.{WorldEvent}
-use Rattle.sk_client.specs.declared.world.WorldAnswer.{WorldAnswer}
-use Rattle.sk_client.specs.WorldView.{WorldView, EventPost}
-use Rattle.sk_play.specs.declared.told.WorldTold.{WorldTold}
+use Rattle.sk_play.proofs.Names.{◌≡◌, ℕ, ◌+◌, List, [], ◌∷◌, ◌++◌, length, Option, Some, Result, Ok, refl, sym, ap}
+use Rattle.sk_play.proofs.Names.{subst, ◌∙◌, arith, OnOk, Keeps, Appends, Appends-kept, append_assoc, append-nil}
+use Rattle.sk_play.proofs.Names.{WorldEvent, WorldAnswer, WorldView, EventPost, WorldTold, told_line, KernelView}
+use Rattle.sk_play.proofs.Names.{Happens, WorldTells, WorldReported}
 use Rattle.sk_play.specs.declared.told.WorldTold.TheVariants as tells
-use Rattle.sk_play.specs.Told.{told_line}
-use Rattle.sk_kernel.specs.Kernel.{KernelView}
-use Rattle.sk_play.specs.Worlds.{Happens, WorldTells, WorldReported}
 
 pub tells_more : (beside : KernelView → KernelView → List ℕ) (n : ℕ) (es : List WorldEvent) (e : WorldEvent) (t : WorldTold) (w mid last : WorldView) (text : List ℕ)
     → WorldTells beside n es w mid text → Happens (Some t) mid e last

@@ -1,3 +1,4 @@
+pub mod Names
 pub mod Decided
 pub mod Turns
 pub mod Replayed

@@ -1,13 +1,9 @@
 -- One more event that happens, and what a replayed trace leaves.
-use Rattle.std.proofs.Common.{◌≡◌, ℕ, ◌<◌, ◌+◌, List, [], ◌∷◌, ◌++◌, map, take, drop, zero, suc, length, get_or, refl, sym, ap, ◌∙◌, subst, arith}
-use Rattle.std.proofs.lemmas.List.{append-nil, append_assoc}
-use Rattle.sk_trace.specs.declared.event.Event.{Event}
+use Rattle.sk_play.proofs.Names.{◌≡◌, ℕ, ◌<◌, ◌+◌, List, [], ◌∷◌, ◌++◌, map, take, drop, zero, suc, length, get_or}
+use Rattle.sk_play.proofs.Names.{refl, sym, ap, ◌∙◌, subst, arith, append-nil, append_assoc, Event, KernelView}
+use Rattle.sk_play.proofs.Names.{with_event, CallAnswer, AnswerMatches, held_after, Plays, Replays, StopsAt, call_of}
+use Rattle.sk_play.proofs.Names.{told_by, replayed}
 use Rattle.sk_trace.specs.declared.event.Event.TheVariants as events
-use Rattle.sk_kernel.specs.Kernel.{KernelView, with_event}
-use Rattle.sk_play.specs.declared.answer.CallAnswer.{CallAnswer}
-use Rattle.sk_play.specs.Session.{AnswerMatches, held_after}
-use Rattle.sk_play.specs.Plays.{Plays}
-use Rattle.sk_play.specs.Replays.{Replays, StopsAt, call_of, told_by, replayed}
 use Rattle.sk_play.proofs.Turns.{plays_more}
 
 map_more : {A B : Type 0} (f : A → B) (xs : List A) (x : A) → map f (xs ++ x ∷ []) ≡ map f xs ++ f x ∷ []

@@ -1,15 +1,7 @@
 -- One more step that is taken: from what the steps before it left.
-use Rattle.std.proofs.Common.{◌≡◌, ℕ, ◌+◌, List, [], ◌∷◌, ◌++◌, length, Option, refl, sym, ap, subst, ◌∙◌, arith}
-use Rattle.std.specs.Io.KnownBytes.{Keeps}
-use Rattle.std.proofs.KnownBytes.{Appends-kept}
-use Rattle.std.proofs.lemmas.List.{append_assoc}
-use Rattle.std.proofs.lemmas.List.{append-nil}
-use Rattle.sk_scenario.specs.declared.call.Call.{Call}
-use Rattle.sk_kernel.specs.Kernel.{KernelView}
-use Rattle.sk_play.specs.declared.answer.CallAnswer.{CallAnswer}
-use Rattle.sk_play.specs.Session.{AnswerMatches, held_after}
-use Rattle.sk_play.specs.Played.{answer_line}
-use Rattle.sk_play.specs.Plays.{Plays, Tells, Reported}
+use Rattle.sk_play.proofs.Names.{◌≡◌, ℕ, ◌+◌, List, [], ◌∷◌, ◌++◌, length, Option, refl, sym, ap, subst, ◌∙◌, arith}
+use Rattle.sk_play.proofs.Names.{Keeps, Appends-kept, append_assoc, append-nil, Call, KernelView, CallAnswer}
+use Rattle.sk_play.proofs.Names.{AnswerMatches, held_after, answer_line, Plays, Tells, Reported}
 
 pub plays_more : (ss : List Call) (bs : List CallAnswer) (s : Call) (a : CallAnswer) (ts us : List ℕ) (k mid last : KernelView) → Plays ss bs ts k us mid → AnswerMatches a s us mid last
     → Plays (ss ++ s ∷ []) (bs ++ a ∷ []) ts k (held_after a s us) last

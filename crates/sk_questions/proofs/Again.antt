@@ -1,29 +1,18 @@
 -- The words of an entity are read as that entity: by what is known of printed numbers, processes and names.
-use Rattle.std.proofs.Common.{◌≡◌, ◌<◌, ◌^◌, ℕ, ◌/◌, ◌%◌, List, [], ◌∷◌, ◌++◌, true, false, eqb, ltb, length, get_or, Option, Some, None, Result, Ok, Err, refl, ap, sym, ◌∙◌, arith}
-use Rattle.std.specs.Prelude.{codes, decimal, bytes_eq}
-use Rattle.std.specs.List.{AllByRecursion, list_any, list_all}
-use Rattle.std.specs.Str.{all_ascii_digits}
-use Rattle.std.proofs.lemmas.Bool.{ne_eqb, le-leb, lt-ltb, lt-leb, ltb-false, or_parts, and_parts}
-use Rattle.std.proofs.lemmas.List.Folds.{list_any-append, list_all-append}
-use Rattle.std.proofs.lemmas.List.Sums.{list_all-from_AllPass}
-use Rattle.std.proofs.lemmas.Str.Parse.{tells_all_ascii_digits}
-use Rattle.std.proofs.lemmas.Slice.Eq.{bytes_eq-Decides}
-use Rattle.std.proofs.lemmas.Fmt.{digits_decimal, digits_value-decimal, decimal_nonempty}
-use Rattle.sk_ids.specs.Name.{IsName, is_name_byte}
-use Rattle.sk_ids.specs.Pid.{IsPath}
-use Rattle.sk_ids.specs.declared.pid.ObjId.{ObjId}
-use Rattle.sk_ids.specs.declared.entity.Entity.{Entity}
-use Rattle.sk_ids.specs.declared.entity.Entity.TheVariants.{Proc, Sig, Exit, Obj, Link, Copy}
-use Rattle.sk_words.specs.declared.fault.FaultKind.{FaultKind}
+use Rattle.sk_questions.proofs.Names.{◌≡◌, ◌<◌, ◌^◌, ℕ, ◌/◌, ◌%◌, List, [], ◌∷◌, ◌++◌, true, false, eqb, ltb, length}
+use Rattle.sk_questions.proofs.Names.{get_or, Option, Some, None, Result, Ok, Err, refl, ap, sym, ◌∙◌, arith, codes}
+use Rattle.sk_questions.proofs.Names.{decimal, bytes_eq, AllByRecursion, list_any, list_all, all_ascii_digits, ne_eqb}
+use Rattle.sk_questions.proofs.Names.{le-leb, lt-ltb, lt-leb, ltb-false, or_parts, and_parts, list_any-append}
+use Rattle.sk_questions.proofs.Names.{list_all-append, list_all-from_AllPass, tells_all_ascii_digits, bytes_eq-Decides}
+use Rattle.sk_questions.proofs.Names.{digits_decimal, digits_value-decimal, decimal_nonempty, IsName, is_name_byte}
+use Rattle.sk_questions.proofs.Names.{IsPath, ObjId, Entity, Proc, Sig, Exit, Obj, Link, Copy, FaultKind, words, name}
+use Rattle.sk_questions.proofs.Names.{is_name, pid, short, digits, maker_word, object_word, pid_word, two_levels}
+use Rattle.sk_questions.proofs.Names.{spaced, IsWord, is_bare_word, own, number_is, bare_word, words_again, pid_again}
+use Rattle.sk_questions.proofs.Names.{pid_is_word, halves, maker, object, entity, entity_words, IsMaker, IsObject}
+use Rattle.sk_questions.proofs.Names.{IsEntity}
 use Rattle.sk_words.specs.declared.fault.FaultKind.TheVariants as kinds
-use Rattle.sk_words.specs.Words.{words}
-use Rattle.sk_words.specs.Operands.{name, is_name, pid, short, digits, one_of, two_of, the_two, both}
-use Rattle.sk_words.specs.Spelling.{maker_word, object_word, pid_word, two_levels, spaced}
-use Rattle.sk_words.specs.Printed.{IsWord, is_bare_word}
-use Rattle.sk_words.proofs.Numbers.{own, number_is}
-use Rattle.sk_words.proofs.WordsAgain.{bare_word, words_again}
-use Rattle.sk_words.proofs.PidAgain.{pid_again, pid_is_word}
-use Rattle.sk_questions.specs.Named.{halves, maker, object, entity, entity_of, entity_words, IsMaker, IsObject, IsEntity}
+use Rattle.sk_words.specs.Operands.{one_of, two_of, the_two, both}
+use Rattle.sk_questions.specs.Named.{entity_of}
 
 -- ---- printed numbers and processes have no colon, and no byte that ends a word
 

@@ -1,2 +1,3 @@
+pub mod Names
 mod Halves
 pub mod Again

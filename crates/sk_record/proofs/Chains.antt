@@ -1,15 +1,10 @@
 -- The flags that are computed from left to right are those of the positions that chains of feeds lead to.
-use Rattle.std.proofs.Common.{◌≡◌, ℕ, zero, suc, ◌<◌, Bool, true, false, List, [], ◌∷◌, Option, Some, None, inl, inr, refl, sym, ◌∙◌, ap, subst, arith}
-use Rattle.std.specs.Prelude.{slice_get, ◌⊎◌, ◌↔◌}
-use Rattle.std.specs.List.{list_any, Contains}
-use Rattle.std.specs.declared.cmp.Ordering.{Ordering}
-use Rattle.std.specs.Ordering.{eq_by_cmp}
-use Rattle.std.specs.Cmp.{IsTotalOrder, eq_by_cmp_equiv, Equal-is}
-use Rattle.std.specs.FinMap.{IsAntisymmetric}
-use Rattle.std.proofs.lemmas.Bool.{or_cases, or_left, or_right, true≢false, eqb-true, eq-eqb}
-use Rattle.std.proofs.lemmas.List.Folds.{list_any-append}
-use Rattle.std.proofs.lemmas.Map.Views.{list_any-from_Contains, Contains-from_any}
-use Rattle.sk_record.specs.Effects.{MarkedEffect, Dep, itself, fed, is_in, is_marked, hit, hits, dirt, dirtied, keep, place, writes, touches}
+use Rattle.sk_record.proofs.Names.{◌≡◌, ℕ, zero, suc, ◌<◌, Bool, true, false, List, [], ◌∷◌, Option, Some, None, inl}
+use Rattle.sk_record.proofs.Names.{inr, refl, sym, ◌∙◌, ap, subst, arith, slice_get, ◌⊎◌, ◌↔◌, list_any, Contains}
+use Rattle.sk_record.proofs.Names.{Ordering, eq_by_cmp, IsTotalOrder, eq_by_cmp_equiv, Equal-is, IsAntisymmetric}
+use Rattle.sk_record.proofs.Names.{or_cases, or_left, or_right, true≢false, eqb-true, eq-eqb, list_any-append}
+use Rattle.sk_record.proofs.Names.{list_any-from_Contains, Contains-from_any, MarkedEffect, Dep, itself, fed, is_in}
+use Rattle.sk_record.proofs.Names.{is_marked, hit, hits, dirt, dirtied, keep, place, writes, touches}
 use Rattle.sk_record.proofs.Values.{shared, StruckWrite}
 
 pub slice_get-keep : {A : Type 0} (bs : List Bool) (xs : List A) (k : ℕ) → slice_get (keep bs xs) k ≡ slice_get xs (place bs k)

@@ -1,18 +1,11 @@
 -- A new epoch: the machine of the old one, with its statuses and texts put away, is the machine at the new start.
-use Rattle.std.proofs.Common.{◌≡◌, ℕ, zero, suc, ◌<◌, ◌≤◌, ◌-◌, length, cond, true, false, List, [], ◌∷◌, Option, Some, None, refl, sym, ◌∙◌, ap, subst, arith}
-use Rattle.std.specs.Prelude.{◌↔◌, ◌==◌, slice_get}
-use Rattle.std.specs.declared.cmp.Ordering.{Ordering}
-use Rattle.std.specs.FinMap.{FinMap, get}
-use Rattle.std.proofs.lemmas.Bool.{false≢true}
-use Rattle.sk_record.specs.Effects.{MarkedEffect, is_in, writes, written_value}
-use Rattle.sk_record.specs.Run.{System, run, effects}
-use Rattle.sk_record.specs.Notes.{has, noted, next_dirty, notes_of}
-use Rattle.sk_record.specs.declared.status.Status.{Status}
+use Rattle.sk_record.proofs.Names.{◌≡◌, ℕ, zero, suc, ◌<◌, ◌≤◌, ◌-◌, length, cond, true, false, List, [], ◌∷◌, Option}
+use Rattle.sk_record.proofs.Names.{Some, None, refl, sym, ◌∙◌, ap, subst, arith, ◌↔◌, ◌==◌, slice_get, Ordering, FinMap}
+use Rattle.sk_record.proofs.Names.{get, false≢true, MarkedEffect, is_in, writes, written_value, System, run, effects}
+use Rattle.sk_record.proofs.Names.{has, noted, next_dirty, notes_of, Status, Event, StatusIs, record_of, undecided_of}
+use Rattle.sk_record.proofs.Names.{no_record, all_recorded, Open, numbers, Represents, AllOwnTagsExact, Machine}
+use Rattle.sk_record.proofs.Names.{RepresentsTrace, status_in, or_since, StatusOr, StatusSince, IsEpoch, EndsAt}
 use Rattle.sk_record.specs.declared.status.Status.TheVariants.{Undecided}
-use Rattle.sk_record.specs.Trace.{Event, StatusIs, record_of, undecided_of, no_record, all_recorded}
-use Rattle.sk_record.specs.UndoState.{Open, numbers, Represents, AllOwnTagsExact}
-use Rattle.sk_record.specs.Machine.{Machine, RepresentsTrace}
-use Rattle.sk_record.specs.Epoch.{status_in, or_since, StatusOr, StatusSince, IsEpoch, EndsAt}
 use Rattle.sk_record.proofs.Sound.{sound_first, undecided_is, entries_are}
 use Rattle.sk_record.proofs.Statuses.{none_yet, one_status}
 

@@ -1,19 +1,11 @@
 -- Many private steps of one process at once, with one note, are these steps one after another.
-use Rattle.std.proofs.Common.{◌≡◌, ℕ, Bool, true, false, cond, ◌&&◌, ◌||◌, List, [], ◌∷◌, ◌++◌, map, Option, Some, None, Ok, refl, sym, ◌∙◌, ap, subst, append_assoc}
-use Rattle.std.specs.List.{list_any, filter}
-use Rattle.std.specs.Ordering.{eq_by_cmp}
-use Rattle.std.specs.Cmp.{IsTotalOrder, Equal-is, eq_by_cmp_equiv}
-use Rattle.std.specs.FinMap.{FinMap, IsAntisymmetric}
-use Rattle.std.proofs.lemmas.Bool.{true≢false, or_left, or_right, or_parts, or_from, eq-eqb}
-use Rattle.std.proofs.lemmas.List.Folds.{list_any-append}
-use Rattle.sk_record.specs.Step.{Effect, perform}
-use Rattle.sk_record.specs.Effects.{is_marked}
-use Rattle.sk_record.specs.Run.{System, marked_effect}
-use Rattle.sk_record.specs.Notes.{Note, has, noted, last_tags}
-use Rattle.sk_record.specs.Trace.{Event, Taken, IsAllowed, marks}
-use Rattle.sk_record.specs.UndoState.{numbers, tags_at, step_tags, opened}
-use Rattle.sk_record.specs.Machine.{Machine, with_drawn}
-use Rattle.sk_record.specs.Merged.{Merges, MergedStands, HandsIn, StepsAlone, with_value, alone_tags, last_of, each}
+use Rattle.sk_record.proofs.Names.{◌≡◌, ℕ, Bool, true, false, cond, ◌&&◌, ◌||◌, List, [], ◌∷◌, ◌++◌, map, Option, Some}
+use Rattle.sk_record.proofs.Names.{None, Ok, refl, sym, ◌∙◌, ap, subst, append_assoc, list_any, filter, eq_by_cmp}
+use Rattle.sk_record.proofs.Names.{IsTotalOrder, Equal-is, eq_by_cmp_equiv, FinMap, IsAntisymmetric, true≢false}
+use Rattle.sk_record.proofs.Names.{or_left, or_right, or_parts, or_from, eq-eqb, list_any-append, Effect, perform}
+use Rattle.sk_record.proofs.Names.{is_marked, System, marked_effect, Note, has, noted, last_tags, Event, Taken}
+use Rattle.sk_record.proofs.Names.{IsAllowed, marks, numbers, tags_at, step_tags, opened, Machine, with_drawn, Merges}
+use Rattle.sk_record.proofs.Names.{MergedStands, HandsIn, StepsAlone, with_value, alone_tags, last_of, each}
 use Rattle.sk_record.proofs.Machine.{nil_right, has_filter}
 use Rattle.sk_record.proofs.Merged.{all_kept, left_out, in_turn, merged_taken}
 

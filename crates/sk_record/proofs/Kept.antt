@@ -1,15 +1,10 @@
 -- What a failure leaves as it was: the tags of the positions that are left. From the later-failure law, and from this: a guess whose own entry is struck takes nothing else with it.
-use Rattle.std.proofs.Common.{◌≡◌, ℕ, zero, suc, Bool, true, false, List, [], ◌∷◌, ◌++◌, Some, inl, inr, refl, sym, ◌∙◌, ap, subst}
-use Rattle.std.specs.Prelude.{◌↔◌, slice_get}
-use Rattle.std.specs.declared.cmp.Ordering.{Ordering}
-use Rattle.std.specs.Cmp.{IsTotalOrder}
-use Rattle.std.specs.FinMap.{FinMap, IsAntisymmetric}
-use Rattle.std.proofs.lemmas.Bool.{or_parts, or_left, or_right, true≢false}
-use Rattle.std.proofs.lemmas.List.Elements.{Contains-push_cases, Contains-append_left}
-use Rattle.sk_record.specs.Effects.{MarkedEffect, IsMarked, Dep, itself, fed, hit, hits, dirtied, keep, place}
-use Rattle.sk_record.specs.Run.{System, effects}
-use Rattle.sk_record.specs.Strike.{struck}
-use Rattle.sk_record.specs.Trace.{Event, Commit, Fail, Undecided, StatusIs, IsTagAt, IsSound, record_of, effects_of, still_marked}
+use Rattle.sk_record.proofs.Names.{◌≡◌, ℕ, zero, suc, Bool, true, false, List, [], ◌∷◌, ◌++◌, Some, inl, inr, refl, sym}
+use Rattle.sk_record.proofs.Names.{◌∙◌, ap, subst, ◌↔◌, slice_get, Ordering, IsTotalOrder, FinMap, IsAntisymmetric}
+use Rattle.sk_record.proofs.Names.{or_parts, or_left, or_right, true≢false, Contains-push_cases, Contains-append_left}
+use Rattle.sk_record.proofs.Names.{MarkedEffect, IsMarked, Dep, itself, fed, hit, hits, dirtied, keep, place, System}
+use Rattle.sk_record.proofs.Names.{effects, struck, Event, Commit, Fail, Undecided, StatusIs, IsTagAt, IsSound}
+use Rattle.sk_record.proofs.Names.{record_of, effects_of, still_marked}
 use Rattle.sk_record.proofs.Chains.{slice_get-keep, flags_are_Dep}
 use Rattle.sk_record.proofs.Struck.{struck_runs, later_dep}
 use Rattle.sk_record.proofs.Machine.{nil_right}

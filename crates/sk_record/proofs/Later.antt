@@ -1,11 +1,8 @@
 -- What a later failure strikes, where some positions are struck already.
-use Rattle.std.proofs.Common.{◌≡◌, ℕ, Bool, true, false, ◌||◌, List, [], ◌∷◌, ◌++◌, refl, sym, ◌∙◌, ap}
-use Rattle.std.specs.List.{list_any}
-use Rattle.std.specs.declared.cmp.Ordering.{Ordering}
-use Rattle.std.specs.Ordering.{eq_by_cmp}
-use Rattle.std.proofs.lemmas.Bool.{or_parts}
-use Rattle.std.proofs.lemmas.List.Folds.{list_any-append}
-use Rattle.sk_record.specs.Effects.{MarkedEffect, is_in, is_marked, hit, hits, dirtied, keep, writes, touches}
+use Rattle.sk_record.proofs.Names.{◌≡◌, ℕ, Bool, false, ◌||◌, List, ◌∷◌, ◌++◌, sym, ◌∙◌, ap, list_any, Ordering}
+use Rattle.sk_record.proofs.Names.{eq_by_cmp, or_parts, list_any-append, MarkedEffect, is_in, is_marked, hit, hits}
+use Rattle.sk_record.proofs.Names.{dirtied, keep, writes, touches}
+use Rattle.std.proofs.Common.{true, [], refl}
 use Rattle.sk_record.proofs.Sets.{none_of_both}
 
 -- dh and dk have the same entities outside dg

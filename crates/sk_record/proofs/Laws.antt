@@ -1,15 +1,10 @@
 -- The laws, one lemma for each statement, from the proofs of the parts.
-use Rattle.std.proofs.Common.{[], ◌∷◌, ◌++◌, sym, ◌∙◌, ap}
-use Rattle.std.specs.Prelude.{slice_get}
-use Rattle.std.specs.Cmp.{IsTotalOrder}
-use Rattle.std.specs.FinMap.{get, IsAntisymmetric}
-use Rattle.std.proofs.lemmas.List.Sums.{fold-append}
-use Rattle.sk_record.specs.Run.{System, run, effects}
-use Rattle.sk_record.specs.Strike.{struck, strike}
-use Rattle.sk_record.specs.Trace.{Commit, Fail, record_of, effects_of, all_recorded, no_record, undecided_of}
-use Rattle.sk_record.specs.UndoState.{log_of}
-use Rattle.sk_record.specs.Machine.{Machine, machine_after, machine_at_start, moved}
-use Rattle.sk_record.specs.Laws.{StruckWithin, OneStatus, UndecidedAre, Survivors, TagsAlong, LogsAreRuns, NotesAreSuffix, UnwindsToStruckRun, CommitKeeps, StaysReleased, MachineIsPlainRun}
+use Rattle.sk_record.proofs.Names.{[], ◌∷◌, ◌++◌, sym, ◌∙◌, ap, slice_get, IsTotalOrder, get, IsAntisymmetric}
+use Rattle.sk_record.proofs.Names.{fold-append, System, run, effects, struck, strike, Commit, Fail, record_of}
+use Rattle.sk_record.proofs.Names.{effects_of, all_recorded, no_record, undecided_of, log_of, Machine, machine_after}
+use Rattle.sk_record.proofs.Names.{machine_at_start, moved, StruckWithin, OneStatus, UndecidedAre, Survivors, TagsAlong}
+use Rattle.sk_record.proofs.Names.{LogsAreRuns, NotesAreSuffix, UnwindsToStruckRun, CommitKeeps, StaysReleased}
+use Rattle.sk_record.proofs.Names.{MachineIsPlainRun}
 use Rattle.sk_record.proofs.Chains.{slice_get-keep}
 use Rattle.sk_record.proofs.Machine.{unwound_run, cut_run}
 use Rattle.sk_record.proofs.UndoStates.{inv_of}

@@ -1,3 +1,4 @@
+pub mod Names
 pub mod Sets
 pub mod Runs
 pub mod Later

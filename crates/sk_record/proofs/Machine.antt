@@ -1,22 +1,14 @@
 -- Values, logs and the numbers of the open guesses are what the plain kernel makes of the record, after every step, commit and failure.
-use Rattle.std.proofs.Common.{◌≡◌, ℕ, Bool, true, false, cond, not, ◌&&◌, ◌||◌, List, [], ◌∷◌, ◌++◌, map, Option, Some, None, Result, IsOk, Ok, inl, inr, refl, sym, ◌∙◌, ap, subst}
-use Rattle.std.specs.Prelude.{◌==◌, is_ok}
-use Rattle.std.specs.List.{list_any, filter}
-use Rattle.std.specs.Cmp.{IsTotalOrder}
-use Rattle.std.specs.FinMap.{FinMap, get, IsAntisymmetric}
-use Rattle.std.specs.declared.cmp.Ordering.{Ordering}
-use Rattle.std.proofs.lemmas.Bool.{or_parts, or_left, or_right, or_from, or_cases, true≢false, eq-eqb, eqb-true}
-use Rattle.std.proofs.lemmas.List.Elements.{filter-append}
-use Rattle.std.proofs.lemmas.List.Folds.{list_any-append}
-use Rattle.std.proofs.lemmas.Map.Views.{any-filter_same}
-use Rattle.std.proofs.Math.Bool.{and-true}
-use Rattle.sk_record.specs.Step.{Effect, perform}
-use Rattle.sk_record.specs.Effects.{MarkedEffect, is_in, is_marked, hit, hits, dirt, dirtied, writes, touches, written_value, value_after}
-use Rattle.sk_record.specs.Run.{System, outcome, after, marked_effect, run, IsLegal, effects}
-use Rattle.sk_record.specs.Strike.{strike}
-use Rattle.sk_record.specs.Notes.{has, without, noted, last_tags, cut, unwound, committed, rests, next_dirty, notes_of}
-use Rattle.sk_record.specs.Trace.{Taken, Commit, Fail, marks, still_marked, Record, recorded, IsFresh, deps}
-use Rattle.sk_record.specs.UndoState.{Open, UndoState, numbers, opened, still_open, tags_at, is_tag, step_tags, Committed, Failed, Took}
+use Rattle.sk_record.proofs.Names.{◌≡◌, ℕ, Bool, true, false, cond, not, ◌&&◌, ◌||◌, List, [], ◌∷◌, ◌++◌, map, Option}
+use Rattle.sk_record.proofs.Names.{Some, None, Result, IsOk, Ok, inl, inr, refl, sym, ◌∙◌, ap, subst, ◌==◌, is_ok}
+use Rattle.sk_record.proofs.Names.{list_any, filter, IsTotalOrder, FinMap, get, IsAntisymmetric, Ordering, or_parts}
+use Rattle.sk_record.proofs.Names.{or_left, or_right, or_from, or_cases, true≢false, eq-eqb, eqb-true, filter-append}
+use Rattle.sk_record.proofs.Names.{list_any-append, any-filter_same, and-true, Effect, perform, MarkedEffect, is_in}
+use Rattle.sk_record.proofs.Names.{is_marked, hit, hits, dirt, dirtied, writes, touches, written_value, value_after}
+use Rattle.sk_record.proofs.Names.{System, outcome, after, marked_effect, run, IsLegal, effects, strike, has, without}
+use Rattle.sk_record.proofs.Names.{noted, last_tags, cut, unwound, committed, rests, next_dirty, notes_of, Taken}
+use Rattle.sk_record.proofs.Names.{Commit, Fail, marks, still_marked, Record, recorded, IsFresh, deps, Open, UndoState}
+use Rattle.sk_record.proofs.Names.{numbers, opened, still_open, tags_at, is_tag, step_tags, Committed, Failed, Took}
 use Rattle.sk_record.proofs.Values.{get-put_all, get-run}
 use Rattle.sk_record.proofs.Notes.{unwound_is, cut_is}
 use Rattle.sk_record.proofs.Tags.{tags_are, notes_more, commit_is, fewer_guesses}

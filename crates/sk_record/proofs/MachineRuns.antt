@@ -1,19 +1,11 @@
 -- The machine stands for its trace after every step, commit and failure, and so is what the plain kernel makes of the trace's record.
-use Rattle.std.proofs.Common.{◌≡◌, ℕ, Bool, true, not, ◌&&◌, List, [], ◌∷◌, ◌++◌, Ok, Err, refl, sym, ◌∙◌, ap, subst}
-use Rattle.std.specs.Prelude.{◌↔◌, is_ok}
-use Rattle.std.specs.Cmp.{IsTotalOrder}
-use Rattle.std.specs.List.Sorted.{IsStrictlyIncreasing}
-use Rattle.std.specs.FinMap.{FinMap, get, IsAntisymmetric}
-use Rattle.std.proofs.lemmas.Bool.{false≢true}
-use Rattle.std.proofs.lemmas.List.Sums.{fold-append}
-use Rattle.sk_record.specs.Step.{perform}
-use Rattle.sk_record.specs.Effects.{is_in, dirt, hits, keep}
-use Rattle.sk_record.specs.Run.{System, outcome, run, effects}
-use Rattle.sk_record.specs.Strike.{strike}
-use Rattle.sk_record.specs.Notes.{has}
-use Rattle.sk_record.specs.Trace.{Event, Taken, Commit, Fail, Undecided, StatusIs, IsTagOf, IsAllowed, IsSound, record_of, effects_of, all_recorded, no_record, still_marked}
-use Rattle.sk_record.specs.UndoState.{Represents, tags_at, numbers}
-use Rattle.sk_record.specs.Machine.{Machine, TextsRepresent, RepresentsTrace, IsPlainRun, Takes, Commits, Fails, moved, took_by, machine_after, machine_at_start}
+use Rattle.sk_record.proofs.Names.{◌≡◌, ℕ, Bool, true, not, ◌&&◌, List, [], ◌∷◌, ◌++◌, Ok, Err, refl, sym, ◌∙◌, ap}
+use Rattle.sk_record.proofs.Names.{subst, ◌↔◌, is_ok, IsTotalOrder, IsStrictlyIncreasing, FinMap, get, IsAntisymmetric}
+use Rattle.sk_record.proofs.Names.{false≢true, fold-append, perform, is_in, dirt, hits, keep, System, outcome, run}
+use Rattle.sk_record.proofs.Names.{effects, strike, has, Event, Taken, Commit, Fail, Undecided, StatusIs, IsTagOf}
+use Rattle.sk_record.proofs.Names.{IsAllowed, IsSound, record_of, effects_of, all_recorded, no_record, still_marked}
+use Rattle.sk_record.proofs.Names.{Represents, tags_at, numbers, Machine, TextsRepresent, RepresentsTrace, IsPlainRun}
+use Rattle.sk_record.proofs.Names.{Takes, Commits, Fails, moved, took_by, machine_after, machine_at_start}
 use Rattle.sk_record.proofs.Chains.{dirt_is}
 use Rattle.sk_record.proofs.Machine.{has_filter}
 use Rattle.sk_record.proofs.UndoStates.{and_both, took, failed, committed_still, begins}

@@ -1,21 +1,14 @@
 -- A log that keeps one note for neighbouring writes with equal tags unwinds, cuts, commits and tells tags as the whole log does.
-use Rattle.std.proofs.Common.{◌≡◌, ℕ, true, false, cond, ◌&&◌, ◌||◌, List, [], ◌∷◌, ◌++◌, map, Option, Some, Ok, inl, inr, refl, sym, ◌∙◌, ap, subst}
-use Rattle.std.specs.Prelude.{◌↔◌}
-use Rattle.std.specs.List.Sorted.{IsStrictlyIncreasing}
-use Rattle.std.specs.List.{list_any, list_all, filter}
-use Rattle.std.specs.Cmp.{IsTotalOrder}
-use Rattle.std.specs.FinMap.{FinMap, IsAntisymmetric}
-use Rattle.sk_record.specs.Step.{perform}
-use Rattle.sk_record.specs.Effects.{MarkedEffect, is_in, is_marked, writes, touches, written_value}
-use Rattle.sk_record.specs.Run.{System, marked_effect}
-use Rattle.sk_record.specs.Release.{said_by}
-use Rattle.sk_record.specs.Notes.{Note, has, without, noted, last_tags, cut, carried, unwound, committed}
-use Rattle.sk_record.specs.Trace.{Event, Taken, Commit, Fail, Undecided, StatusIs, IsAllowed, IsTagOf, marks}
-use Rattle.sk_record.specs.UndoState.{numbers, tags_at, step_tags, opened, still_open, not_struck, IsTidy, IsGrowing}
-use Rattle.sk_record.specs.Machine.{Machine, IsPlainRun, Fails, moved, took_by, released, lightened, not_dropped, with_status, with_drawn, with_failure}
-use Rattle.sk_record.specs.declared.status.Status.TheVariants.{Committed as StatusCommitted}
-use Rattle.sk_record.specs.Release.{IsReleased}
-use Rattle.sk_record.specs.Merged.{Merges, IsMergedOf, MergedTakes, MergedCommits, MergedStands}
+use Rattle.sk_record.proofs.Names.{◌≡◌, ℕ, true, false, cond, ◌&&◌, ◌||◌, List, [], ◌∷◌, ◌++◌, map, Option, Some, Ok}
+use Rattle.sk_record.proofs.Names.{inl, inr, refl, sym, ◌∙◌, ap, subst, ◌↔◌, IsStrictlyIncreasing, list_any, list_all}
+use Rattle.sk_record.proofs.Names.{filter, IsTotalOrder, FinMap, IsAntisymmetric, perform, MarkedEffect, is_in}
+use Rattle.sk_record.proofs.Names.{is_marked, writes, touches, written_value, System, marked_effect, said_by, Note, has}
+use Rattle.sk_record.proofs.Names.{without, noted, last_tags, cut, carried, unwound, committed, Event, Taken, Commit}
+use Rattle.sk_record.proofs.Names.{Fail, Undecided, StatusIs, IsAllowed, IsTagOf, marks, numbers, tags_at, step_tags}
+use Rattle.sk_record.proofs.Names.{opened, still_open, not_struck, IsTidy, IsGrowing, Machine, IsPlainRun, Fails, moved}
+use Rattle.sk_record.proofs.Names.{took_by, released, lightened, not_dropped, with_status, with_drawn, with_failure}
+use Rattle.sk_record.proofs.Names.{StatusCommitted, IsReleased, Merges, IsMergedOf, MergedTakes, MergedCommits}
+use Rattle.sk_record.proofs.Names.{MergedStands}
 use Rattle.sk_record.proofs.UndoStates.{and_both}
 use Rattle.sk_record.proofs.Tidy.{AllSome, noted_some}
 use Rattle.sk_record.proofs.MachineRuns as whole

@@ -1,14 +1,9 @@
 -- Undo logs give the values of the struck run.
-use Rattle.std.proofs.Common.{◌≡◌, ℕ, Bool, true, false, cond, ◌||◌, List, [], ◌∷◌, ◌++◌, Option, refl, sym, ◌∙◌, ap, subst}
-use Rattle.std.specs.Prelude.{◌==◌}
-use Rattle.std.specs.List.{filter}
-use Rattle.std.specs.declared.cmp.Ordering.{Ordering}
-use Rattle.std.specs.Ordering.{eq_by_cmp}
-use Rattle.std.specs.Cmp.{IsTotalOrder}
-use Rattle.std.proofs.lemmas.Bool.{or_parts, or_left, or_right, true≢false, or_from, ne_eqb, eqb-true}
-use Rattle.std.proofs.lemmas.List.Folds.{list_any-append}
-use Rattle.sk_record.specs.Effects.{MarkedEffect, is_in, is_marked, hit, hits, dirt, dirtied, keep, writes, touches, written_value, value_after}
-use Rattle.sk_record.specs.Notes.{Note, has, noted, cut, unwound, rests, next_dirty, notes_of}
+use Rattle.sk_record.proofs.Names.{◌≡◌, ℕ, Bool, true, false, cond, ◌||◌, List, [], ◌∷◌, ◌++◌, Option, refl, sym, ◌∙◌}
+use Rattle.sk_record.proofs.Names.{ap, subst, ◌==◌, filter, Ordering, eq_by_cmp, IsTotalOrder, or_parts, or_left}
+use Rattle.sk_record.proofs.Names.{or_right, true≢false, or_from, ne_eqb, eqb-true, list_any-append, MarkedEffect}
+use Rattle.sk_record.proofs.Names.{is_in, is_marked, hit, hits, dirt, dirtied, keep, writes, touches, written_value}
+use Rattle.sk_record.proofs.Names.{value_after, Note, has, noted, cut, unwound, rests, next_dirty, notes_of}
 use Rattle.sk_record.proofs.Sets.{none_of_both}
 use Rattle.sk_record.proofs.Later.{SameOff, any_same, dirtied_other, dirtied_same}
 use Rattle.sk_record.proofs.Values.{unwritten, frozen, written_other}

@@ -1,11 +1,7 @@
 -- The tags of each position, as texts carry them, and what a failure leaves of them.
-use Rattle.std.proofs.Common.{◌≡◌, ℕ, true, false, ◌||◌, List, [], ◌∷◌, map, refl, sym, ◌∙◌, ap}
-use Rattle.std.specs.List.{filter}
-use Rattle.std.specs.declared.cmp.Ordering.{Ordering}
-use Rattle.std.specs.Ordering.{eq_by_cmp}
-use Rattle.std.proofs.lemmas.Bool.{or_parts}
-use Rattle.sk_record.specs.Effects.{MarkedEffect, is_in, is_marked, hit, hits, dirtied, keep, writes, touches}
-use Rattle.sk_record.specs.Notes.{has, rests, next_dirty, tags_along}
+use Rattle.sk_record.proofs.Names.{◌≡◌, ℕ, true, false, ◌||◌, List, [], ◌∷◌, map, refl, sym, ◌∙◌, ap, filter, Ordering}
+use Rattle.sk_record.proofs.Names.{eq_by_cmp, or_parts, MarkedEffect, is_in, is_marked, hit, hits, dirtied, keep}
+use Rattle.sk_record.proofs.Names.{writes, touches, has, rests, next_dirty, tags_along}
 use Rattle.sk_record.proofs.Sets.{none_of_both}
 use Rattle.sk_record.proofs.Later.{SameOff, any_same, dirtied_other, dirtied_same}
 use Rattle.sk_record.proofs.Notes.{has_not, has_passed}

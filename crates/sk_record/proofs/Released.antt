@@ -1,16 +1,10 @@
 -- What a machine releases is the longest prefix of what the record says whose positions are clear.
-use Rattle.std.proofs.Common.{◌≡◌, ℕ, zero, suc, ◌+◌, Bool, true, false, cond, List, [], ◌∷◌, ◌++◌, map, length, Option, Some, None, inl, inr, refl, sym, ◌∙◌, ap, subst, arith}
-use Rattle.std.specs.Prelude.{◌==◌, ◌⊎◌, ◌↔◌, slice_get}
-use Rattle.std.specs.List.{Contains}
-use Rattle.std.specs.Cmp.{IsTotalOrder}
-use Rattle.std.specs.FinMap.{FinMap, IsAntisymmetric}
-use Rattle.std.proofs.lemmas.Bool.{true≢false}
-use Rattle.sk_record.specs.Effects.{MarkedEffect, Dep, hits}
-use Rattle.sk_record.specs.Run.{System, effects}
-use Rattle.sk_record.specs.Notes.{has, tags_along}
-use Rattle.sk_record.specs.Trace.{Event, IsTagAt, IsSound, effects_of, all_recorded, no_record}
-use Rattle.sk_record.specs.Release.{said_by, said_from, said_with, said, IsClear, IsReleased}
-use Rattle.sk_record.specs.Machine.{Tagged, released, TextsRepresent}
+use Rattle.sk_record.proofs.Names.{◌≡◌, ℕ, zero, suc, ◌+◌, Bool, true, false, cond, List, [], ◌∷◌, ◌++◌, map, length}
+use Rattle.sk_record.proofs.Names.{Option, Some, None, inl, inr, refl, sym, ◌∙◌, ap, subst, arith, ◌==◌, ◌⊎◌, ◌↔◌}
+use Rattle.sk_record.proofs.Names.{slice_get, Contains, IsTotalOrder, FinMap, IsAntisymmetric, true≢false, MarkedEffect}
+use Rattle.sk_record.proofs.Names.{Dep, hits, System, effects, has, tags_along, Event, IsTagAt, IsSound, effects_of}
+use Rattle.sk_record.proofs.Names.{all_recorded, no_record, said_by, said_from, said_with, said, IsClear, IsReleased}
+use Rattle.sk_record.proofs.Names.{Tagged, released, TextsRepresent}
 use Rattle.sk_record.proofs.Chains.{flags_are_Dep}
 use Rattle.sk_record.proofs.Output.{carries_is}
 use Rattle.sk_record.proofs.UndoStates.{no_tags}

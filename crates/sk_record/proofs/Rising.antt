@@ -1,18 +1,11 @@
 -- Lists of guesses that rise and have the same members are the same. So what a step's footprint rests on, put together as a set, is the step's tags.
-use Rattle.std.proofs.Common.{◌≡◌, ℕ, ◌<◌, true, false, ◌&&◌, eqb, ltb, List, [], ◌∷◌, ◌++◌, Option, Some, None, inl, inr, refl, sym, ◌∙◌, subst, arith}
-use Rattle.std.specs.Prelude.{◌==◌}
-use Rattle.std.specs.Ordering.{nat_cmp}
-use Rattle.std.specs.declared.cmp.Ordering.TheVariants.{Less, Equal, Greater}
-use Rattle.std.specs.Cmp.{both_ways, nat_cmp_is}
-use Rattle.std.specs.List.{AllByRecursion, list_any}
+use Rattle.sk_record.proofs.Names.{◌≡◌, ℕ, ◌<◌, true, false, ◌&&◌, eqb, ltb, List, [], ◌∷◌, ◌++◌, Option, Some, None}
+use Rattle.sk_record.proofs.Names.{inl, inr, refl, sym, ◌∙◌, subst, arith, ◌==◌, nat_cmp, Less, Equal, Greater}
+use Rattle.sk_record.proofs.Names.{both_ways, nat_cmp_is, AllByRecursion, list_any, or_cases, or_left, or_right}
+use Rattle.sk_record.proofs.Names.{true≢false, eq-eqb, eqb-true, eqb-false, ltb-true, ltb-false, list_any-append}
+use Rattle.sk_record.proofs.Names.{IsStrictlySortedBy-filter, MarkedEffect, is_marked, touches, has, marks, UndoState}
+use Rattle.sk_record.proofs.Names.{numbers, tags_at, is_tag, step_tags, IsTidy}
 use Rattle.std.specs.List.Sorted.{IsStrictlySortedBy}
-use Rattle.std.proofs.lemmas.Bool.{or_cases, or_left, or_right, true≢false, eq-eqb, eqb-true, eqb-false, ltb-true, ltb-false}
-use Rattle.std.proofs.lemmas.List.Folds.{list_any-append}
-use Rattle.std.proofs.lemmas.List.Kept.{IsStrictlySortedBy-filter}
-use Rattle.sk_record.specs.Effects.{MarkedEffect, is_marked, touches}
-use Rattle.sk_record.specs.Notes.{has}
-use Rattle.sk_record.specs.Trace.{marks}
-use Rattle.sk_record.specs.UndoState.{UndoState, numbers, tags_at, is_tag, step_tags, IsTidy}
 use Rattle.sk_record.proofs.Machine.{has_filter}
 
 less_of : (x y : ℕ) → nat_cmp x y ≡ Less → x < y

@@ -1,14 +1,10 @@
 -- A step does the same where what it asks is the same, and so a run without the struck entries goes as before.
-use Rattle.std.proofs.Common.{◌≡◌, ℕ, Bool, true, false, List, [], ◌∷◌, ◌++◌, map, Option, Result, Ok, Err, IsOk, refl, sym, ◌∙◌, ap, subst}
-use Rattle.std.specs.List.{list_any}
-use Rattle.std.specs.declared.cmp.Ordering.{Ordering}
-use Rattle.std.specs.Ordering.{eq_by_cmp}
-use Rattle.std.specs.Cmp.{IsTotalOrder}
-use Rattle.std.specs.FinMap.{FinMap, get}
-use Rattle.std.proofs.lemmas.Bool.{or_parts, false≢true}
-use Rattle.sk_record.specs.Step.{Step, Effect, Ask, Refuse, Done, perform, with_read}
-use Rattle.sk_record.specs.Effects.{is_in, hit, hits, dirtied, keep}
-use Rattle.sk_record.specs.Run.{System, put_all, outcome, after, IsLegal, marked_effect, effects}
+use Rattle.sk_record.proofs.Names.{◌≡◌, ℕ, Bool, true, false, List, ◌∷◌, ◌++◌, map, Option, Result, Ok, Err, IsOk, refl}
+use Rattle.sk_record.proofs.Names.{sym, ◌∙◌, ap, subst, list_any, Ordering, eq_by_cmp, IsTotalOrder, FinMap, get}
+use Rattle.sk_record.proofs.Names.{or_parts, false≢true, Step, Effect, Ask, Refuse, Done, perform, with_read, is_in}
+use Rattle.sk_record.proofs.Names.{hit, hits, dirtied, keep, System, put_all, outcome, after, IsLegal, marked_effect}
+use Rattle.sk_record.proofs.Names.{effects}
+use Rattle.std.proofs.Common.{[]}
 use Rattle.sk_record.proofs.Sets.{none_of_both, get-put_all_other, get-put_all_same}
 
 abbrev pub AgreeOn : {E V : Type 0} → (E → Option V) → (E → Option V) → List E → Type 0

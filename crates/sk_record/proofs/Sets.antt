@@ -1,14 +1,7 @@
 -- Lists of entities as sets, and writes to a map.
-use Rattle.std.proofs.Common.{◌≡◌, Bool, false, cond, List, [], ◌∷◌, ◌++◌, map, Option, Some, None, refl, sym, ◌∙◌, ap}
-use Rattle.std.specs.List.{list_any}
-use Rattle.std.specs.declared.cmp.Ordering.{Ordering}
-use Rattle.std.specs.Ordering.{eq_by_cmp}
-use Rattle.std.specs.Cmp.{IsTotalOrder}
-use Rattle.std.specs.FinMap.{FinMap, get, get-insert, get-remove}
-use Rattle.std.proofs.lemmas.Bool.{or_parts}
-use Rattle.std.proofs.lemmas.List.Folds.{list_any-append}
-use Rattle.sk_record.specs.Effects.{is_in}
-use Rattle.sk_record.specs.Run.{put, put_all}
+use Rattle.sk_record.proofs.Names.{◌≡◌, Bool, false, cond, List, [], ◌∷◌, ◌++◌, map, Option, Some, None, refl, sym, ◌∙◌}
+use Rattle.sk_record.proofs.Names.{ap, list_any, Ordering, eq_by_cmp, IsTotalOrder, FinMap, get, get-insert, get-remove}
+use Rattle.sk_record.proofs.Names.{or_parts, list_any-append, is_in, put, put_all}
 
 -- the test of a joined list, where it fails
 pub none_of_both : {A : Type 0} (p : A → Bool) (xs ys : List A) → list_any p (xs ++ ys) ≡ false → (list_any p xs ≡ false) × (list_any p ys ≡ false)

@@ -1,18 +1,13 @@
 -- Sound traces: what holds at each prefix, and the status of a guess as tests of the trace and its record.
-use Rattle.std.proofs.Common.{◌≡◌, ℕ, suc, ◌<◌, Bool, true, false, not, ◌&&◌, ◌||◌, List, [], ◌∷◌, ◌++◌, Option, Some, None, Ok, Err, IsOk, inl, inr, refl, sym, ◌∙◌, ap, subst, arith, append_assoc}
-use Rattle.std.specs.Prelude.{◌==◌, ◌⊎◌, ◌↔◌}
-use Rattle.std.specs.List.{list_any, fold, Contains}
-use Rattle.std.specs.Cmp.{both_ways, IsTotalOrder}
-use Rattle.std.specs.FinMap.{FinMap, IsAntisymmetric}
-use Rattle.std.proofs.lemmas.Bool.{or_parts, or_cases, or_from, true≢false, eq-eqb, eqb-true, true_from_ne_false, false_from_ne_true}
-use Rattle.std.proofs.lemmas.List.Folds.{list_any-append}
-use Rattle.std.proofs.lemmas.List.Sums.{fold-append}
-use Rattle.std.proofs.lemmas.List.Elements.{Contains-push_cases}
-use Rattle.sk_record.specs.Effects.{is_marked, hit, hits, dirtied, keep}
-use Rattle.sk_record.specs.Run.{System, outcome, after, marked_effect, run, IsLegal, effects}
-use Rattle.sk_record.specs.Strike.{strike}
-use Rattle.sk_record.specs.Notes.{has}
-use Rattle.sk_record.specs.Trace.{Event, Taken, Commit, Fail, Undecided, HasEntry, IsDrawn, record_after, record_of, StatusIs, IsAllowed, IsSound, marks, still_marked, Record, no_record, recorded, all_recorded, IsFresh}
+use Rattle.sk_record.proofs.Names.{◌≡◌, ℕ, suc, ◌<◌, Bool, true, false, not, ◌&&◌, ◌||◌, List, [], ◌∷◌, ◌++◌, Option}
+use Rattle.sk_record.proofs.Names.{Some, None, Ok, Err, IsOk, inl, inr, refl, sym, ◌∙◌, ap, subst, arith, append_assoc}
+use Rattle.sk_record.proofs.Names.{◌==◌, ◌⊎◌, ◌↔◌, list_any, fold, Contains, both_ways, IsTotalOrder, FinMap}
+use Rattle.sk_record.proofs.Names.{IsAntisymmetric, or_parts, or_cases, or_from, true≢false, eq-eqb, eqb-true}
+use Rattle.sk_record.proofs.Names.{true_from_ne_false, false_from_ne_true, list_any-append, fold-append}
+use Rattle.sk_record.proofs.Names.{Contains-push_cases, is_marked, hit, hits, dirtied, keep, System, outcome, after}
+use Rattle.sk_record.proofs.Names.{marked_effect, run, IsLegal, effects, strike, has, Event, Taken, Commit, Fail}
+use Rattle.sk_record.proofs.Names.{Undecided, HasEntry, IsDrawn, record_after, record_of, StatusIs, IsAllowed, IsSound}
+use Rattle.sk_record.proofs.Names.{marks, still_marked, Record, no_record, recorded, all_recorded, IsFresh}
 use Rattle.sk_record.proofs.Machine.{nil_right, has_filter, legal_append, legal_last}
 use Rattle.sk_record.proofs.UndoStates.{any_at}
 use Rattle.sk_record.proofs.Struck.{struck_runs}

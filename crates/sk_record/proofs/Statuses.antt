@@ -1,17 +1,12 @@
 -- The machine's statuses are those of the trace: both follow the same tests, event by event.
-use Rattle.std.proofs.Common.{◌≡◌, ℕ, Bool, true, false, cond, not, ◌&&◌, ◌||◌, List, [], ◌∷◌, ◌++◌, Option, Some, None, refl, sym, ◌∙◌, ap, subst}
-use Rattle.std.specs.Prelude.{◌==◌, ◌↔◌}
-use Rattle.std.specs.List.{list_any}
-use Rattle.std.specs.FinMap.{FinMap}
-use Rattle.std.proofs.lemmas.Bool.{true≢false, false_from_ne_true, true_from_ne_false, eqb-true}
-use Rattle.std.proofs.lemmas.List.Folds.{list_any-append}
-use Rattle.sk_record.specs.Effects.{MarkedEffect, is_marked, hits, keep}
-use Rattle.sk_record.specs.Run.{System}
-use Rattle.sk_record.specs.Strike.{strike}
-use Rattle.sk_record.specs.Notes.{has}
-use Rattle.sk_record.specs.Trace.{Event, Taken, Commit, Fail, Status, Undecided, Committed, Failed, Struck, HasEntry, IsDrawn, StatusIs, IsSound, record_of, still_marked, all_recorded, no_record}
-use Rattle.sk_record.specs.UndoState.{Open, numbers, AllOwnTagsExact}
-use Rattle.sk_record.specs.Machine.{with_status, with_drawn, with_failure, rests_on}
+use Rattle.sk_record.proofs.Names.{◌≡◌, ℕ, Bool, true, false, cond, not, ◌&&◌, ◌||◌, List, [], ◌∷◌, ◌++◌, Option, Some}
+use Rattle.sk_record.proofs.Names.{None, refl, sym, ◌∙◌, ap, subst, ◌==◌, ◌↔◌, list_any, FinMap, true≢false}
+use Rattle.sk_record.proofs.Names.{false_from_ne_true, true_from_ne_false, eqb-true, list_any-append, MarkedEffect}
+use Rattle.sk_record.proofs.Names.{is_marked, hits, keep, System, strike, has, Event, Taken, Commit, Fail, Undecided}
+use Rattle.sk_record.proofs.Names.{Struck, HasEntry, IsDrawn, StatusIs, IsSound, record_of, still_marked, all_recorded}
+use Rattle.sk_record.proofs.Names.{no_record, Open, numbers, AllOwnTagsExact, with_status, with_drawn, with_failure}
+use Rattle.sk_record.proofs.Names.{rests_on}
+use Rattle.sk_record.specs.Trace.{Status, Committed, Failed}
 use Rattle.sk_record.proofs.UndoStates.{fate_is}
 use Rattle.sk_record.proofs.Sound.{is_commit, is_fail, draws, in_entries, tests, undrawn_before, undecided_parts, left_within, more_any, record_more, sound_before, sound_first, eqb_turned, or_no, has_commit, has_fail, has_entry, is_drawn, marked_is}
 

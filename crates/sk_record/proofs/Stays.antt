@@ -1,15 +1,9 @@
 -- What was released stays released. From what a step, a commit and a failure make of a machine's texts; and a record releases one list to each terminal.
-use Rattle.std.proofs.Common.{◌≡◌, ℕ, suc, List, [], ◌∷◌, ◌++◌, map, Ok, Err, refl, sym, ◌∙◌, ap, arith, append_assoc}
-use Rattle.std.specs.List.{fold, Contains}
-use Rattle.std.specs.Cmp.{IsTotalOrder}
-use Rattle.std.specs.FinMap.{FinMap, IsAntisymmetric}
-use Rattle.std.proofs.lemmas.List.Sums.{fold-append}
-use Rattle.sk_record.specs.Step.{perform}
-use Rattle.sk_record.specs.Run.{System}
-use Rattle.sk_record.specs.Notes.{without}
-use Rattle.sk_record.specs.Trace.{Event, Taken, Commit, Fail, IsSound}
-use Rattle.sk_record.specs.Release.{IsClear, IsReleased, IsFront}
-use Rattle.sk_record.specs.Machine.{Machine, Tagged, released, released_if, lightened, not_dropped, moved, took_by, machine_after, machine_at_start}
+use Rattle.sk_record.proofs.Names.{◌≡◌, ℕ, suc, List, [], ◌∷◌, ◌++◌, map, Ok, Err, refl, sym, ◌∙◌, ap, arith}
+use Rattle.sk_record.proofs.Names.{append_assoc, fold, Contains, IsTotalOrder, FinMap, IsAntisymmetric, fold-append}
+use Rattle.sk_record.proofs.Names.{perform, System, without, Event, Taken, Commit, Fail, IsSound, IsClear, IsReleased}
+use Rattle.sk_record.proofs.Names.{IsFront, Machine, Tagged, released, released_if, lightened, not_dropped, moved}
+use Rattle.sk_record.proofs.Names.{took_by, machine_after, machine_at_start}
 use Rattle.sk_record.proofs.Machine.{nil_right}
 use Rattle.sk_record.proofs.Sound.{sound_before, tail_of, first_or}
 use Rattle.sk_record.proofs.MachineRuns.{machine_is_plain_run}

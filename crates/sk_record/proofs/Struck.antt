@@ -1,13 +1,8 @@
 -- The laws of struck runs.
-use Rattle.std.proofs.Common.{◌≡◌, ℕ, suc, List, [], ◌∷◌, take, Option, Some, refl, sym, ◌∙◌, ap, arith}
-use Rattle.std.specs.Prelude.{slice_get}
-use Rattle.std.specs.List.{Contains}
-use Rattle.std.specs.Cmp.{IsTotalOrder}
-use Rattle.std.specs.FinMap.{FinMap, get, IsAntisymmetric}
-use Rattle.sk_record.specs.Effects.{MarkedEffect, Dep, writes, keep, place, hits, value_after}
-use Rattle.sk_record.specs.Run.{System, IsLegal, effects}
-use Rattle.sk_record.specs.Strike.{struck, strike}
-use Rattle.sk_record.specs.Laws.{FlagsAreDep, Footprint, StruckRun, Later, LaterDep}
+use Rattle.sk_record.proofs.Names.{◌≡◌, ℕ, suc, List, [], ◌∷◌, take, Option, Some, refl, sym, ◌∙◌, ap, arith, slice_get}
+use Rattle.sk_record.proofs.Names.{Contains, IsTotalOrder, FinMap, get, IsAntisymmetric, MarkedEffect, Dep, writes}
+use Rattle.sk_record.proofs.Names.{keep, place, hits, value_after, System, IsLegal, effects, struck, strike}
+use Rattle.sk_record.proofs.Names.{FlagsAreDep, Footprint, StruckRun, Later, LaterDep}
 use Rattle.sk_record.proofs.Runs.{AgreeOn, same_accepted, struck_run, Follows}
 use Rattle.sk_record.proofs.Later.{later_hits}
 use Rattle.sk_record.proofs.Values.{StruckWrite, value_at_first, value_at_end, get-run, effects-take}

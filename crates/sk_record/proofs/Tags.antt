@@ -1,14 +1,10 @@
 -- What the notes of an entity say of its tags, and how commits, steps and failures change them.
-use Rattle.std.proofs.Common.{◌≡◌, ℕ, Bool, true, false, cond, not, List, [], ◌∷◌, ◌++◌, Option, refl, sym, ◌∙◌, ap, subst}
-use Rattle.std.specs.Prelude.{◌==◌}
-use Rattle.std.specs.List.{list_any, list_all, filter}
-use Rattle.std.specs.declared.cmp.Ordering.{Ordering}
-use Rattle.std.specs.Ordering.{eq_by_cmp}
-use Rattle.std.specs.Cmp.{IsTotalOrder}
-use Rattle.std.proofs.lemmas.Bool.{or_from, or_parts, or_left, true≢false, and_from, false_from_ne_true, true_from_ne_false}
-use Rattle.std.proofs.lemmas.List.Folds.{list_any-append}
-use Rattle.sk_record.specs.Effects.{MarkedEffect, is_in, hit, hits, dirt, dirtied, writes, written_value, value_after}
-use Rattle.sk_record.specs.Notes.{Note, has, without, noted, last_tags, cut, carried, committed, rests, next_dirty, notes_of}
+use Rattle.sk_record.proofs.Names.{◌≡◌, ℕ, Bool, true, false, cond, not, List, [], ◌∷◌, ◌++◌, Option, refl, sym, ◌∙◌}
+use Rattle.sk_record.proofs.Names.{ap, subst, ◌==◌, list_any, list_all, filter, Ordering, eq_by_cmp, IsTotalOrder}
+use Rattle.sk_record.proofs.Names.{or_from, or_parts, or_left, true≢false, and_from, false_from_ne_true}
+use Rattle.sk_record.proofs.Names.{true_from_ne_false, list_any-append, MarkedEffect, is_in, hit, hits, dirt, dirtied}
+use Rattle.sk_record.proofs.Names.{writes, written_value, value_after, Note, has, without, noted, last_tags, cut}
+use Rattle.sk_record.proofs.Names.{carried, committed, rests, next_dirty, notes_of}
 use Rattle.sk_record.proofs.Later.{dirtied_other}
 use Rattle.sk_record.proofs.Values.{unwritten}
 use Rattle.sk_record.proofs.Chains.{dirtied_more}

@@ -1,20 +1,11 @@
 -- The texts that a machine keeps are those that the record says, each with its tags, after every step, commit and failure; and what it releases of them.
-use Rattle.std.proofs.Common.{◌≡◌, ℕ, zero, suc, Bool, true, false, cond, not, List, [], ◌∷◌, ◌++◌, map, length, Option, Some, None, Ok, refl, sym, ◌∙◌, ap, append_assoc}
-use Rattle.std.specs.Prelude.{◌==◌, slice_get}
-use Rattle.std.specs.List.{list_any, filter}
-use Rattle.std.specs.declared.cmp.Ordering.{Ordering}
-use Rattle.std.specs.Cmp.{IsTotalOrder}
-use Rattle.std.specs.FinMap.{FinMap, IsAntisymmetric}
-use Rattle.std.proofs.lemmas.Bool.{or_parts}
-use Rattle.std.proofs.lemmas.List.Elements.{filter-append}
-use Rattle.sk_record.specs.Effects.{MarkedEffect, hit, hits, dirt, keep}
-use Rattle.sk_record.specs.Run.{System, IsLegal, marked_effect, effects}
-use Rattle.sk_record.specs.Strike.{strike}
-use Rattle.sk_record.specs.Notes.{has, without, rests, next_dirty, tags_along}
-use Rattle.sk_record.specs.Trace.{Taken, Commit, Fail, Record, recorded, marks, still_marked, IsFresh}
-use Rattle.sk_record.specs.UndoState.{UndoState, Represents, Took, step_tags}
-use Rattle.sk_record.specs.Release.{said_by, said_with}
-use Rattle.sk_record.specs.Machine.{Tagged, lightened, not_dropped, TextsRepresent}
+use Rattle.sk_record.proofs.Names.{◌≡◌, ℕ, zero, suc, Bool, true, false, cond, not, List, [], ◌∷◌, ◌++◌, map, length}
+use Rattle.sk_record.proofs.Names.{Option, Some, None, Ok, refl, sym, ◌∙◌, ap, append_assoc, ◌==◌, slice_get, list_any}
+use Rattle.sk_record.proofs.Names.{filter, Ordering, IsTotalOrder, FinMap, IsAntisymmetric, or_parts, filter-append}
+use Rattle.sk_record.proofs.Names.{MarkedEffect, hit, hits, dirt, keep, System, IsLegal, marked_effect, effects, strike}
+use Rattle.sk_record.proofs.Names.{has, without, rests, next_dirty, tags_along, Taken, Commit, Fail, Record, recorded}
+use Rattle.sk_record.proofs.Names.{marks, still_marked, IsFresh, UndoState, Represents, Took, step_tags, said_by}
+use Rattle.sk_record.proofs.Names.{said_with, Tagged, lightened, not_dropped, TextsRepresent}
 use Rattle.sk_record.proofs.Tags.{filter_swap, filter_within}
 use Rattle.sk_record.proofs.Output.{carries_is, kept_rests}
 use Rattle.sk_record.proofs.Machine.{nil_right, has_filter, unmarked_hits, union_is, longer, accepted_run}

@@ -1,16 +1,12 @@
 -- What follows of a kernel that stands for its record.
-use Rattle.std.proofs.Common.{◌≡◌, ℕ, suc, ◌≤◌, ◌<◌, length, Bool, true, false, cond, not, ◌&&◌, ◌||◌, List, [], ◌∷◌, ◌++◌, map, Option, inl, inr, refl, sym, ◌∙◌, ap, subst, arith}
-use Rattle.std.specs.Prelude.{◌==◌}
-use Rattle.std.specs.List.{list_any, list_all, filter}
-use Rattle.std.specs.Cmp.{IsTotalOrder}
-use Rattle.std.specs.FinMap.{FinMap, get, IsAntisymmetric}
-use Rattle.std.specs.declared.cmp.Ordering.{Ordering}
-use Rattle.std.proofs.lemmas.Bool.{or_parts, or_left, or_cases, or_from, true≢false, eq-eqb, eqb-true}
-use Rattle.sk_record.specs.Effects.{MarkedEffect, is_in, hit, hits, dirt, dirtied, keep, writes, written_value}
-use Rattle.sk_record.specs.Run.{System, effects}
-use Rattle.sk_record.specs.Notes.{Note, has, without, noted, last_tags, carried, rests, next_dirty, notes_of}
-use Rattle.sk_record.specs.Trace.{Event, still_marked, Record, recorded, all_recorded, deps}
-use Rattle.sk_record.specs.UndoState.{Open, UndoState, numbers, still_open, not_struck, tags_at, IsTidy, IsGrowing, Owned, AllOwnTagsExact, Represents}
+use Rattle.sk_record.proofs.Names.{◌≡◌, ℕ, suc, ◌≤◌, ◌<◌, length, Bool, true, false, cond, not, ◌&&◌, ◌||◌, List, []}
+use Rattle.sk_record.proofs.Names.{◌∷◌, ◌++◌, map, Option, inl, inr, refl, sym, ◌∙◌, ap, subst, arith, ◌==◌, list_any}
+use Rattle.sk_record.proofs.Names.{list_all, filter, IsTotalOrder, FinMap, get, IsAntisymmetric, Ordering, or_parts}
+use Rattle.sk_record.proofs.Names.{or_left, or_cases, or_from, true≢false, eq-eqb, eqb-true, MarkedEffect, is_in, hit}
+use Rattle.sk_record.proofs.Names.{hits, dirt, dirtied, keep, writes, written_value, System, effects, Note, has}
+use Rattle.sk_record.proofs.Names.{without, noted, last_tags, carried, rests, next_dirty, notes_of, Event, still_marked}
+use Rattle.sk_record.proofs.Names.{Record, recorded, all_recorded, deps, Open, UndoState, numbers, still_open}
+use Rattle.sk_record.proofs.Names.{not_struck, tags_at, IsTidy, IsGrowing, Owned, AllOwnTagsExact, Represents}
 use Rattle.sk_record.proofs.Tags.{suffix_is}
 use Rattle.sk_record.proofs.Machine.{inv_tags, has_filter}
 use Rattle.sk_record.proofs.UndoStates.{inv_of, and_both}

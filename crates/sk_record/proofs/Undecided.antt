@@ -1,15 +1,9 @@
 -- The undecided guesses that are computed along a trace stand there once each, by rising number.
-use Rattle.std.proofs.Common.{◌≡◌, ℕ, zero, suc, ◌+◌, ◌<◌, not, List, [], ◌∷◌, ◌++◌, length, Option, Some, None, refl, sym, subst, arith}
-use Rattle.std.specs.Prelude.{◌==◌, get_or}
-use Rattle.std.specs.List.{AllPairs, Contains}
-use Rattle.std.specs.List.Sorted.{IsStrictlyIncreasing}
-use Rattle.std.specs.FinMap.{FinMap}
-use Rattle.std.proofs.lemmas.Bool.{eq-eqb}
-use Rattle.std.proofs.lemmas.List.Kept.{AllPairs-filter}
-use Rattle.std.proofs.lemmas.List.Quantifiers.{all_pairs_push}
-use Rattle.sk_record.specs.Run.{System, effects}
-use Rattle.sk_record.specs.Strike.{strike}
-use Rattle.sk_record.specs.Trace.{Event, Taken, Commit, Fail, Undecided, IsSound, all_recorded, no_record, undecided_of, marks, still_marked}
+use Rattle.sk_record.proofs.Names.{◌≡◌, ℕ, zero, suc, ◌+◌, ◌<◌, not, List, [], ◌∷◌, ◌++◌, length, Option, Some, None}
+use Rattle.sk_record.proofs.Names.{refl, sym, subst, arith, ◌==◌, get_or, AllPairs, Contains, IsStrictlyIncreasing}
+use Rattle.sk_record.proofs.Names.{FinMap, eq-eqb, AllPairs-filter, all_pairs_push, System, effects, strike, Event}
+use Rattle.sk_record.proofs.Names.{Taken, Commit, Fail, Undecided, IsSound, all_recorded, no_record, undecided_of}
+use Rattle.sk_record.proofs.Names.{marks, still_marked}
 use Rattle.sk_record.proofs.UndoStates.{any_at}
 use Rattle.sk_record.proofs.Machine.{nil_right}
 use Rattle.sk_record.proofs.Tidy.{recorded_more}

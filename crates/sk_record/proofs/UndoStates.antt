@@ -1,19 +1,13 @@
 -- What the calls see stands for the record, after every event.
-use Rattle.std.proofs.Common.{◌≡◌, ℕ, zero, suc, Bool, true, false, cond, not, ◌&&◌, ◌||◌, List, [], ◌∷◌, ◌++◌, map, Option, Some, None, Ok, inl, inr, refl, sym, ◌∙◌, ap, subst, arith}
-use Rattle.std.specs.Prelude.{◌==◌}
-use Rattle.std.specs.List.{list_any, filter, Contains}
-use Rattle.std.specs.Cmp.{IsTotalOrder}
-use Rattle.std.specs.FinMap.{FinMap, get, IsAntisymmetric}
-use Rattle.std.specs.declared.cmp.Ordering.{Ordering}
-use Rattle.std.proofs.lemmas.Bool.{or_parts, or_left, or_right, or_from, or_cases, true≢false, eq-eqb, eqb-true}
-use Rattle.std.proofs.lemmas.List.Folds.{list_any-append}
-use Rattle.std.proofs.Math.Bool.{and-true}
-use Rattle.sk_record.specs.Effects.{MarkedEffect, is_marked, hit, hits, dirt, dirtied, keep, writes, touches}
-use Rattle.sk_record.specs.Run.{System, marked_effect, IsLegal, effects}
-use Rattle.sk_record.specs.Strike.{strike}
-use Rattle.sk_record.specs.Notes.{has, without, rests}
-use Rattle.sk_record.specs.Trace.{Taken, Commit, Fail, marks, still_marked, Record, recorded, IsFresh}
-use Rattle.sk_record.specs.UndoState.{Open, UndoState, numbers, opened, still_open, not_struck, IsTidy, is_tag, tags_at, step_tags, Committed, Failed, Took, Owned, OwnTagsExact, AllOwnTagsExact, Represents}
+use Rattle.sk_record.proofs.Names.{◌≡◌, ℕ, zero, suc, Bool, true, false, cond, not, ◌&&◌, ◌||◌, List, [], ◌∷◌, ◌++◌}
+use Rattle.sk_record.proofs.Names.{map, Option, Some, None, Ok, inl, inr, refl, sym, ◌∙◌, ap, subst, arith, ◌==◌}
+use Rattle.sk_record.proofs.Names.{list_any, filter, Contains, IsTotalOrder, FinMap, get, IsAntisymmetric, Ordering}
+use Rattle.sk_record.proofs.Names.{or_parts, or_left, or_right, or_from, or_cases, true≢false, eq-eqb, eqb-true}
+use Rattle.sk_record.proofs.Names.{list_any-append, and-true, MarkedEffect, is_marked, hit, hits, dirt, dirtied, keep}
+use Rattle.sk_record.proofs.Names.{writes, touches, System, marked_effect, IsLegal, effects, strike, has, without}
+use Rattle.sk_record.proofs.Names.{rests, Taken, Commit, Fail, marks, still_marked, Record, recorded, IsFresh, Open}
+use Rattle.sk_record.proofs.Names.{UndoState, numbers, opened, still_open, not_struck, IsTidy, is_tag, tags_at}
+use Rattle.sk_record.proofs.Names.{step_tags, Committed, Failed, Took, Owned, OwnTagsExact, AllOwnTagsExact, Represents}
 use Rattle.sk_record.proofs.Notes.{has_passed}
 use Rattle.sk_record.proofs.Struck.{struck_runs, later}
 use Rattle.sk_record.proofs.Machine.{Inv, takes, commits, fails, union_is, has_filter, unmarked_hits, longer, accepted_run}

@@ -1,17 +1,11 @@
 -- The value that an entity has after a run, read off its effects.
-use Rattle.std.proofs.Common.{◌≡◌, ℕ, zero, suc, ◌<◌, Bool, true, false, cond, ◌||◌, List, [], ◌∷◌, ◌++◌, map, take, Option, Some, Result, Ok, Err, refl, sym, ◌∙◌, ap, subst, arith}
-use Rattle.std.specs.Prelude.{slice_get}
-use Rattle.std.specs.List.{list_any}
-use Rattle.std.specs.declared.cmp.Ordering.{Ordering}
-use Rattle.std.specs.Ordering.{eq_by_cmp}
-use Rattle.std.specs.Cmp.{IsTotalOrder, eq_by_cmp_equiv}
-use Rattle.std.specs.FinMap.{FinMap, get}
+use Rattle.sk_record.proofs.Names.{◌≡◌, ℕ, zero, suc, ◌<◌, Bool, true, false, cond, ◌||◌, List, [], ◌∷◌, ◌++◌, map}
+use Rattle.sk_record.proofs.Names.{take, Option, Some, Result, Ok, Err, refl, sym, ◌∙◌, ap, subst, arith, slice_get}
+use Rattle.sk_record.proofs.Names.{list_any, Ordering, eq_by_cmp, IsTotalOrder, eq_by_cmp_equiv, FinMap, get, or_parts}
+use Rattle.sk_record.proofs.Names.{or_left, or_right, true≢false, or_from, false_from_ne_true, list_any-append, Effect}
+use Rattle.sk_record.proofs.Names.{MarkedEffect, is_in, hit, hits, dirtied, keep, writes, touches, written_value}
+use Rattle.sk_record.proofs.Names.{value_after, System, put, put_all, outcome, after, run, marked_effect, effects}
 use Rattle.sk_record.proofs.Sets.{get-put}
-use Rattle.std.proofs.lemmas.Bool.{or_parts, or_left, or_right, true≢false, or_from, false_from_ne_true}
-use Rattle.std.proofs.lemmas.List.Folds.{list_any-append}
-use Rattle.sk_record.specs.Step.{Effect}
-use Rattle.sk_record.specs.Effects.{MarkedEffect, is_in, hit, hits, dirtied, keep, writes, touches, written_value, value_after}
-use Rattle.sk_record.specs.Run.{System, put, put_all, outcome, after, run, marked_effect, effects}
 
 module _ {E : Type 0} {R : E → E → Ordering} (total : IsTotalOrder R) where
   -- entities that compare alike are in the same lists

@@ -1,21 +1,12 @@
 -- What counts of segments, with one more, or with a frame more.
-use Rattle.std.proofs.Common.{◌≡◌, ◌==◌, ◌&&◌, ℕ, ◌+◌, ◌-◌, ◌<◌, ◌≤◌, Bool, true, false, nat_lt, List, [], ◌∷◌, ◌++◌, length, take, drop, Option, Some, None, refl, sym, ap, subst, ◌∙◌, arith, length-append, add-zero, if◌then◌else◌}
-use Rattle.std.specs.List.{slice_get}
-use Rattle.std.proofs.lemmas.Bool.{ltb-false, ltb-true, eqb-true}
-use Rattle.std.proofs.lemmas.List.{append_assoc, append-nil, drop_more, take_all, take-append-le}
-use Rattle.std.proofs.lemmas.Option.{get_or_from_slice_get, slice_get_within}
-use Rattle.sk_log.specs.Log.{IsLog}
-use Rattle.sk_log.specs.Reading.{HasRead, Reading}
-use Rattle.sk_plain_store.specs.Plain.{Entries}
-use Rattle.sk_recovered.specs.Frames.{with_one, HasTaken, IsMade}
-use Rattle.sk_recovered.specs.Segments.{below, counted, counting, is_below, least, AreRead, IsPart, Part}
-use Rattle.sk_recovered.specs.Recovered.{counted_with, number_of, part_of, HasRecovered, IsFound, IsWithin}
-use Rattle.sk_recovered.specs.declared.frames.Damage.{Damage}
-use Rattle.sk_recovered.specs.declared.frames.Frames.{Frames}
-use Rattle.sk_recovered.specs.declared.heads.Head.{Head}
-use Rattle.sk_recovered.specs.declared.segment.Segment.{Segment}
-use Rattle.sk_recovered.specs.declared.recovered.Found.{Found}
-use Rattle.sk_recovered.specs.declared.recovered.Recovered.{Recovered}
+use Rattle.sk_recovered.proofs.Names.{◌≡◌, ◌==◌, ◌&&◌, ℕ, ◌+◌, ◌-◌, ◌<◌, ◌≤◌, Bool, true, false, nat_lt, List, [], ◌∷◌}
+use Rattle.sk_recovered.proofs.Names.{◌++◌, length, take, drop, Option, Some, None, refl, sym, ap, subst, ◌∙◌, arith}
+use Rattle.sk_recovered.proofs.Names.{length-append, add-zero, if◌then◌else◌, slice_get, ltb-false, ltb-true, eqb-true}
+use Rattle.sk_recovered.proofs.Names.{append_assoc, append-nil, drop_more, take_all, take-append-le}
+use Rattle.sk_recovered.proofs.Names.{get_or_from_slice_get, slice_get_within, IsLog, HasRead, Reading, Entries}
+use Rattle.sk_recovered.proofs.Names.{with_one, HasTaken, IsMade, below, counted, counting, is_below, least, AreRead}
+use Rattle.sk_recovered.proofs.Names.{IsPart, Part, counted_with, number_of, part_of, HasRecovered, IsFound, IsWithin}
+use Rattle.sk_recovered.proofs.Names.{Damage, Frames, Head, Segment, Found, Recovered}
 
 pub counted_more : (next : ℕ) (parts : List Part) (p : Part)
     → counted next (parts ++ p ∷ []) ≡ counted next parts ++ counting (p.first == next + length (counted next parts)) p

@@ -1,21 +1,12 @@
 -- What is found after a crash.
-use Rattle.std.proofs.Common.{◌≡◌, ℕ, Err, zero, suc, ◌+◌, ◌-◌, ◌≤◌, List, [], ◌∷◌, ◌++◌, flat_map, length, take, Option, Some, None, refl, sym, ap, subst, ◌∙◌, arith, length-append}
-use Rattle.std.proofs.lemmas.List.{length-map, map-append, take-map}
-use Rattle.sk_log.specs.Crash.{ReadsPrefix}
-use Rattle.sk_log.specs.Segments.{joined, synced_of}
-use Rattle.sk_log.proofs.Crash.{crash_keeps_prefix}
-use Rattle.sk_log.proofs.Segments.{segments_join}
-use Rattle.sk_commands.specs.Requests.{log_text, requests_of, AreAsked, AreWithin}
-use Rattle.sk_commands.specs.declared.work.Work.{Work}
-use Rattle.sk_plain_store.specs.Plain.{Entries}
-use Rattle.sk_replay.specs.Frames.{payloads_of, AreLogged}
-use Rattle.sk_replay.specs.Works.{log_limits}
-use Rattle.sk_replay.proofs.Again.{read_as}
-use Rattle.sk_recovered.specs.Crash.{bytes_of, heads_of, synced_at, synced_in, whole, whole_at, AreWritten, CrashesAreRecovered, Written}
-use Rattle.sk_recovered.specs.Frames.{IsMade}
-use Rattle.sk_recovered.specs.Laws.{joined_all, joined_at, least_first, AreBounded}
-use Rattle.sk_recovered.specs.Segments.{counted, least, lower, AreRead, Part}
-use Rattle.sk_recovered.specs.declared.frames.Damage.{Damage}
+use Rattle.sk_recovered.proofs.Names.{◌≡◌, ℕ, Err, zero, suc, ◌+◌, ◌-◌, ◌≤◌, List, [], ◌∷◌, ◌++◌, flat_map, length}
+use Rattle.sk_recovered.proofs.Names.{take, Option, Some, None, refl, sym, ap, subst, ◌∙◌, arith, length-append}
+use Rattle.sk_recovered.proofs.Names.{length-map, map-append, take-map, ReadsPrefix, joined, synced_of}
+use Rattle.sk_recovered.proofs.Names.{crash_keeps_prefix, segments_join, log_text, requests_of, AreAsked, AreWithin}
+use Rattle.sk_recovered.proofs.Names.{Work, Entries, payloads_of, AreLogged, log_limits, read_as, bytes_of, heads_of}
+use Rattle.sk_recovered.proofs.Names.{synced_at, synced_in, whole, whole_at, AreWritten, CrashesAreRecovered, Written}
+use Rattle.sk_recovered.proofs.Names.{IsMade, joined_all, joined_at, least_first, AreBounded, counted, least, lower}
+use Rattle.sk_recovered.proofs.Names.{AreRead, Part, Damage}
 use Rattle.sk_recovered.proofs.Joined.{counted_joined, counted_restored}
 
 -- ---- bounds

@@ -1,14 +1,10 @@
 -- What counts of segments is what is joined of them, and is restored.
-use Rattle.std.proofs.Common.{◌≡◌, ◌==◌, ℕ, zero, suc, ◌+◌, ◌-◌, ◌<◌, ◌≤◌, Bool, true, false, nat_lt, List, [], ◌∷◌, ◌++◌, flat_map, length, map, take, Option, Some, None, if◌then◌else◌, refl, sym, ap, subst, ◌∙◌, arith}
-use Rattle.std.specs.Prelude.{unwrap_or}
-use Rattle.std.proofs.lemmas.Bool.{eq-eqb, eqb-true, ltb-false, ltb-true}
-use Rattle.std.proofs.lemmas.List.{append-nil, length-map, length-take-le, take_all}
-use Rattle.sk_log.specs.Segments.{joined}
-use Rattle.sk_commands.specs.Requests.{log_text}
-use Rattle.sk_replay.specs.Frames.{SayAll}
-use Rattle.sk_replay.proofs.Framed.{restore}
-use Rattle.sk_recovered.specs.Laws.{joined_all, joined_at, least_first, CountedIsJoined, CountedIsRestored}
-use Rattle.sk_recovered.specs.Segments.{counted, counting, lower, Part}
+use Rattle.sk_recovered.proofs.Names.{◌≡◌, ◌==◌, ℕ, zero, suc, ◌+◌, ◌-◌, ◌<◌, ◌≤◌, Bool, true, false, nat_lt, List, []}
+use Rattle.sk_recovered.proofs.Names.{◌∷◌, ◌++◌, flat_map, length, map, take, Option, Some, None, if◌then◌else◌, refl}
+use Rattle.sk_recovered.proofs.Names.{sym, ap, subst, ◌∙◌, arith, unwrap_or, eq-eqb, eqb-true, ltb-false, ltb-true}
+use Rattle.sk_recovered.proofs.Names.{append-nil, length-map, length-take-le, take_all, joined, log_text, SayAll}
+use Rattle.sk_recovered.proofs.Names.{restore, joined_all, joined_at, least_first, CountedIsJoined, CountedIsRestored}
+use Rattle.sk_recovered.proofs.Names.{counted, counting, lower, Part}
 
 same_number : (a b : ℕ) → Some a ≡ Some b → a ≡ b
 same_number a b e = ap (λ o. unwrap_or o 0) e

@@ -1,3 +1,4 @@
+pub mod Names
 pub mod Taken
 pub mod Counted
 pub mod Joined

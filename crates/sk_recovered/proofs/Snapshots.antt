@@ -1,20 +1,11 @@
 -- What is found of a snapshot.
-use Rattle.std.proofs.Common.{◌≡◌, ℕ, suc, List, [], ◌∷◌, ◌++◌, flat_map, length, map, take, drop, Some, None, refl, sym, ap, subst, ◌∙◌, arith}
-use Rattle.std.proofs.lemmas.List.{length-map, map-append, take_all, take-append-drop}
-use Rattle.sk_log.specs.Crash.{Crashed}
-use Rattle.sk_log.specs.Log.{log, AreFrames}
-use Rattle.sk_commands.specs.Names.{text_of}
-use Rattle.sk_commands.specs.Requests.{log_text, AreAsked}
+use Rattle.sk_recovered.proofs.Names.{◌≡◌, ℕ, suc, List, [], ◌∷◌, ◌++◌, flat_map, length, map, take, drop, Some, None}
+use Rattle.sk_recovered.proofs.Names.{refl, sym, ap, subst, ◌∙◌, arith, length-map, map-append, take_all}
+use Rattle.sk_recovered.proofs.Names.{take-append-drop, Crashed, log, AreFrames, text_of, log_text, AreAsked, Work}
+use Rattle.sk_recovered.proofs.Names.{says, Entries, payloads_of, works_in, AreLogged, after_works, entries_text}
+use Rattle.sk_recovered.proofs.Names.{set_of, restored, short_is_within, AreWritten, Written, ArePieces}
+use Rattle.sk_recovered.proofs.Names.{SnapshotsAreRead}
 use Rattle.sk_commands.specs.declared.name.Name.TheVariants as named
-use Rattle.sk_commands.specs.declared.work.Work.{Work}
-use Rattle.sk_commands.proofs.Said.{says}
-use Rattle.sk_plain_store.specs.Plain.{Entries}
-use Rattle.sk_replay.specs.Frames.{payloads_of, works_in, AreLogged}
-use Rattle.sk_replay.specs.Snapshot.{after_works, entries_text, set_of}
-use Rattle.sk_replay.proofs.Restored.{restored}
-use Rattle.sk_replay.proofs.Short.{short_is_within}
-use Rattle.sk_recovered.specs.Crash.{AreWritten, Written}
-use Rattle.sk_recovered.specs.Snapshots.{ArePieces, SnapshotsAreRead}
 use Rattle.sk_recovered.proofs.Crashed.{crashes_recovered}
 
 -- the works of each frame of a snapshot

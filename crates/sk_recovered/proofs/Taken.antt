@@ -1,16 +1,8 @@
 -- Frames that are carried out, one more.
-use Rattle.std.proofs.Common.{◌≡◌, ℕ, ◌+◌, List, [], ◌∷◌, ◌++◌, length, Option, Some, None, true, false, is_some, refl, sym, ap, ◌∙◌, arith, length-append}
-use Rattle.std.proofs.lemmas.List.{append_assoc, append-nil}
-use Rattle.sk_commands.specs.declared.work.Work.{Work}
-use Rattle.sk_plain_store.specs.Plain.{Entries}
-use Rattle.sk_replay.specs.Frames.{SayAll}
-use Rattle.sk_replay.specs.Snapshot.{after_work, after_works}
-use Rattle.sk_replay.specs.Works.{log_limits, IsRefused, Says}
-use Rattle.sk_replay.specs.declared.refusal.Refusal.{Refusal}
-use Rattle.sk_replay.specs.declared.refusal.Refusal.TheVariants.{Memory}
-use Rattle.sk_recovered.specs.Frames.{IsMade}
-use Rattle.sk_recovered.specs.declared.frames.Damage.{Damage}
-use Rattle.sk_recovered.specs.declared.frames.Place.{Place}
+use Rattle.sk_recovered.proofs.Names.{◌≡◌, ℕ, ◌+◌, List, [], ◌∷◌, ◌++◌, length, Option, Some, None, true, false}
+use Rattle.sk_recovered.proofs.Names.{is_some, refl, sym, ap, ◌∙◌, arith, length-append, append_assoc, append-nil, Work}
+use Rattle.sk_recovered.proofs.Names.{Entries, SayAll, after_work, after_works, log_limits, IsRefused, Says, Refusal}
+use Rattle.sk_recovered.proofs.Names.{Memory, IsMade, Damage, Place}
 
 pub after_append : (vs ws : List Work) (start : Entries)
     → after_works (vs ++ ws) start ≡ after_works ws (after_works vs start)

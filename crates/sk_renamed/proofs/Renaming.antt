@@ -1,22 +1,12 @@
 -- What a step, a commit and a failure make of names is what they make of the keys that these stand for.
-use Rattle.std.proofs.Common.{◌≡◌, ℕ, false, List, [], ◌∷◌, ◌++◌, map, Option, Some, None, Ok, refl, sym, ◌∙◌, ap, subst}
-use Rattle.std.specs.Prelude.{◌||◌, Bool, Result, Err, if◌then◌else◌}
-use Rattle.std.specs.List.{filter, list_any}
-use Rattle.std.specs.declared.cmp.Ordering.{Ordering}
-use Rattle.std.specs.Ordering.{eq_by_cmp}
-use Rattle.sk_record.specs.Step.{Effect}
-use Rattle.sk_record.specs.Effects.{MarkedEffect, is_in, writes, written_value, is_marked}
-use Rattle.sk_record.specs.Run.{marked_effect}
-use Rattle.sk_record.specs.Release.{said_by}
-use Rattle.sk_record.specs.Notes.{has, last_tags, noted, committed, cut, unwound}
-use Rattle.sk_record.specs.Trace.{marks}
-use Rattle.sk_record.specs.UndoState.{UndoState, tags_at, is_tag, step_tags, numbers, opened}
-use Rattle.sk_record.specs.Machine.{Machine, Fails, with_drawn}
-use Rattle.sk_record.specs.Merged.{MergedTakes, MergedCommits, Merges}
-use Rattle.sk_deeds.specs.Deed.{Deed, effect_of, again}
-use Rattle.sk_deeds.proofs.Runs.{performs}
-use Rattle.sk_renamed.specs.Renamed.{at_key, renamed_state, renamed, KeepsApart, keys_of, AreWrites, IsDeed}
-use Rattle.sk_renamed.specs.Laws.{TakesRenamed, CommitsRenamed, FailsRenamed}
+use Rattle.sk_renamed.proofs.Names.{◌≡◌, ℕ, false, List, [], ◌∷◌, ◌++◌, map, Option, Some, None, Ok, refl, sym, ◌∙◌, ap}
+use Rattle.sk_renamed.proofs.Names.{subst, ◌||◌, Bool, Result, Err, if◌then◌else◌, filter, list_any, Ordering}
+use Rattle.sk_renamed.proofs.Names.{eq_by_cmp, Effect, MarkedEffect, is_in, writes, written_value, is_marked}
+use Rattle.sk_renamed.proofs.Names.{marked_effect, said_by, has, last_tags, noted, committed, cut, unwound, marks}
+use Rattle.sk_renamed.proofs.Names.{UndoState, tags_at, is_tag, step_tags, numbers, opened, Machine, Fails, with_drawn}
+use Rattle.sk_renamed.proofs.Names.{MergedTakes, MergedCommits, Merges, Deed, effect_of, again, performs, at_key}
+use Rattle.sk_renamed.proofs.Names.{renamed_state, renamed, KeepsApart, keys_of, AreWrites, IsDeed, TakesRenamed}
+use Rattle.sk_renamed.proofs.Names.{CommitsRenamed, FailsRenamed}
 
 abbrev ok_or : {A C : Type 0} → A → Result A C → A
 ok_or d (Ok x) = x

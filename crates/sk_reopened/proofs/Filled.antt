@@ -1,15 +1,7 @@
 -- Entries that a new store gets, one after another.
-use Rattle.std.proofs.Common.{◌≡◌, ◌||◌, ℕ, Bool, true, false, List, [], ◌∷◌, map, drop, take, refl, sym, ap, subst, ◌∙◌}
-use Rattle.std.proofs.lemmas.List.{drop-take}
-use Rattle.std.specs.List.{list_any}
-use Rattle.sk_plain_store.specs.Plain.{keys_of, Entries}
-use Rattle.sk_replay.specs.Snapshot.{after_work, after_works, set_of}
-use Rattle.sk_served.specs.Names.{names_reserved}
-use Rattle.sk_reserved.specs.Keys.{is_reserved}
-use Rattle.sk_durable.specs.declared.limits.Limits.{Limits}
-use Rattle.sk_durable.specs.declared.store.Next.{Next}
-use Rattle.sk_durable.specs.Store.{IsNew, StoreView}
-use Rattle.sk_reopened.specs.Reopened.{has_wrong, is_wrong}
+use Rattle.sk_reopened.proofs.Names.{◌≡◌, ◌||◌, ℕ, Bool, true, false, List, [], ◌∷◌, map, drop, take, refl, sym, ap}
+use Rattle.sk_reopened.proofs.Names.{subst, ◌∙◌, drop-take, list_any, keys_of, Entries, after_work, after_works, set_of}
+use Rattle.sk_reopened.proofs.Names.{names_reserved, is_reserved, Limits, Next, IsNew, StoreView, has_wrong, is_wrong}
 
 either_false : (a b : Bool) → (a || b) ≡ false → a ≡ false
 either_false false b h = refl

@@ -1,26 +1,13 @@
 -- What is read of the bytes that a log keeps of works.
-use Rattle.std.proofs.Common.{◌≡◌, ℕ, true, List, [], ◌∷◌, ◌++◌, flat_map, map, take, drop, Option, Some, None, is_some, Result, Ok, Err, refl, sym, ap, subst, ◌∙◌}
-use Rattle.std.specs.Global.{Vec}
-use Rattle.std.proofs.lemmas.List.{append_assoc, take-append-drop}
-use Rattle.sk_requests.specs.Stream.{Splits}
-use Rattle.sk_requests.specs.declared.limits.Limits.{Limits}
-use Rattle.sk_requests.proofs.Streams.{go_on}
-use Rattle.sk_commands.specs.Names.{text_of}
-use Rattle.sk_commands.specs.Parsing.{order_of}
-use Rattle.sk_commands.specs.Session.{turn}
-use Rattle.sk_commands.specs.Requests.{log_text, requests_of, words_for, work_for, AreAsked, AreSaid, AreWithin, IsAsked, IsSaid}
+use Rattle.sk_replay.proofs.Names.{◌≡◌, ℕ, true, List, [], ◌∷◌, ◌++◌, flat_map, map, take, drop, Option, Some, None}
+use Rattle.sk_replay.proofs.Names.{is_some, Result, Ok, Err, refl, sym, ap, subst, ◌∙◌, Vec, append_assoc}
+use Rattle.sk_replay.proofs.Names.{take-append-drop, Splits, Limits, go_on, text_of, order_of, turn, log_text}
+use Rattle.sk_replay.proofs.Names.{requests_of, words_for, work_for, AreAsked, AreSaid, AreWithin, IsAsked, IsSaid}
+use Rattle.sk_replay.proofs.Names.{Fault, Command, Order, Run, Multi, Exec, Queue, Work, said_again, says, read_again}
+use Rattle.sk_replay.proofs.Names.{waiting, works_again, fault_in, queue_after, AreTaken, IsAgain, IsRead, IsRefused}
+use Rattle.sk_replay.proofs.Names.{Says, Refusal}
 use Rattle.sk_commands.specs.declared.name.Name.TheVariants as named
-use Rattle.sk_commands.specs.declared.fault.Fault.{Fault}
-use Rattle.sk_commands.specs.declared.command.Command.{Command}
-use Rattle.sk_commands.specs.declared.command.Order.{Order}
-use Rattle.sk_commands.specs.declared.command.Order.TheVariants.{Run, Multi, Exec}
-use Rattle.sk_commands.specs.declared.session.Queue.{Queue}
-use Rattle.sk_commands.specs.declared.work.Work.{Work}
 use Rattle.sk_commands.specs.declared.work.Work.TheVariants as works
-use Rattle.sk_commands.proofs.Said.{said_again, says}
-use Rattle.sk_commands.proofs.Works.{read_again, waiting, works_again}
-use Rattle.sk_replay.specs.Works.{fault_in, queue_after, AreTaken, IsAgain, IsRead, IsRefused, Says}
-use Rattle.sk_replay.specs.declared.refusal.Refusal.{Refusal}
 use Rattle.sk_replay.specs.declared.refusal.Refusal.TheVariants as refusals
 use Rattle.sk_replay.proofs.Told.{aligned, no_fault, no_part, none_large, same_requests}
 

@@ -1,15 +1,8 @@
 -- What a channel carries out, request by request.
-use Rattle.std.proofs.Common.{◌≡◌, ℕ, List, [], ◌∷◌, ◌++◌, unwrap_or, Option, Some, None, refl, sym, ap, subst, ◌∙◌}
-use Rattle.sk_commands.specs.Parsing.{order_of}
-use Rattle.sk_commands.specs.Session.{turn}
-use Rattle.sk_commands.specs.Requests.{with_work, work_for}
-use Rattle.sk_commands.specs.declared.fault.Fault.{Fault}
-use Rattle.sk_commands.specs.declared.reply.Reply.TheVariants.{Simple, Error, Rejected, Text, Integer, Bulk, Null, Array}
-use Rattle.sk_commands.specs.declared.session.Queue.{Queue}
-use Rattle.sk_commands.specs.declared.work.Work.{Work}
-use Rattle.sk_commands.specs.declared.work.Work.TheVariants.{Say, One, Each}
-use Rattle.sk_replay.specs.Works.{fault_in, queue_after, AreTaken, HasCarried}
-use Rattle.sk_replay.specs.declared.channel.Channel.{Channel}
+use Rattle.sk_replay.proofs.Names.{◌≡◌, ℕ, List, [], ◌∷◌, ◌++◌, unwrap_or, Option, Some, None, refl, sym, ap, subst}
+use Rattle.sk_replay.proofs.Names.{◌∙◌, order_of, turn, with_work, work_for, Fault, Simple, Error, Rejected, Text}
+use Rattle.sk_replay.proofs.Names.{Integer, Bulk, Null, Array, Queue, Work, Say, One, Each, fault_in, queue_after}
+use Rattle.sk_replay.proofs.Names.{AreTaken, HasCarried, Channel}
 
 pub queue_on : (queue : Option Queue) (rs : List (List (List ℕ))) (words : List (List ℕ)) → queue_after queue (rs ++ words ∷ []) ≡ (turn (queue_after queue rs) (order_of words)).queue
 queue_on queue [] words = refl

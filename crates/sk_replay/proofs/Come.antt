@@ -1,19 +1,11 @@
 -- How far a payload is read.
-use Rattle.std.proofs.Common.{◌≡◌, ℕ, ◌+◌, ◌-◌, ◌≤◌, Bool, true, false, List, [], ◌∷◌, ◌++◌, length, map, take, drop, Option, Some, None, is_some, Result, Ok, Err, IfErr, OnOk, refl, sym, ap, subst, ◌∙◌, arith, length-drop}
-use Rattle.std.specs.Global.{Vec}
-use Rattle.std.proofs.Math.Seq.{take-add}
-use Rattle.std.proofs.lemmas.List.{take_all, take-append-drop}
-use Rattle.sk_requests.specs.Stream.{EndsWithin, HasRead, ReadsOn, Splits}
-use Rattle.sk_requests.specs.declared.limits.Limits.{Limits}
-use Rattle.sk_requests.specs.declared.fault.Refusal.{Refusal as ReaderRefusal}
+use Rattle.sk_replay.proofs.Names.{◌≡◌, ℕ, ◌+◌, ◌-◌, ◌≤◌, Bool, true, false, List, [], ◌∷◌, ◌++◌, length, map, take}
+use Rattle.sk_replay.proofs.Names.{drop, Option, Some, None, is_some, Result, Ok, Err, IfErr, OnOk, refl, sym, ap}
+use Rattle.sk_replay.proofs.Names.{subst, ◌∙◌, arith, length-drop, Vec, take-add, take_all, take-append-drop}
+use Rattle.sk_replay.proofs.Names.{EndsWithin, HasRead, ReadsOn, Splits, Limits, ReaderRefusal, Reader, Taken, Queue}
+use Rattle.sk_replay.proofs.Names.{Work, log_limits, queue_after, refused_at, HasCarried, HasCome, IsRefused}
+use Rattle.sk_replay.proofs.Names.{IsRefusedBehind, IsToldOf, Says, Reading, Refusal}
 use Rattle.sk_requests.specs.declared.fault.Refusal.TheVariants as reader
-use Rattle.sk_requests.specs.declared.reader.Reader.{Reader}
-use Rattle.sk_requests.specs.declared.reader.Taken.{Taken}
-use Rattle.sk_commands.specs.declared.session.Queue.{Queue}
-use Rattle.sk_commands.specs.declared.work.Work.{Work}
-use Rattle.sk_replay.specs.Works.{log_limits, queue_after, refused_at, HasCarried, HasCome, IsRefused, IsRefusedBehind, IsToldOf, Says}
-use Rattle.sk_replay.specs.declared.payload.Reading.{Reading}
-use Rattle.sk_replay.specs.declared.refusal.Refusal.{Refusal}
 use Rattle.sk_replay.specs.declared.refusal.Refusal.TheVariants as refusals
 
 map_push : (rs : List (List (List ℕ))) (words : List (List ℕ)) → map Some (rs ++ words ∷ []) ≡ map Some rs ++ Some words ∷ []

@@ -1,9 +1,7 @@
 -- Entries that are written one after another.
-use Rattle.std.proofs.Common.{◌≡◌, ℕ, ◌+◌, ◌<◌, List, [], ◌∷◌, ◌++◌, flat_map, length, map, take, get_or, refl, sym, ap, ◌∙◌}
-use Rattle.std.proofs.lemmas.List.{append_assoc, append-nil, take_more}
-use Rattle.sk_commands.specs.Requests.{log_text}
-use Rattle.sk_plain_store.specs.Plain.{Entries}
-use Rattle.sk_replay.specs.Snapshot.{entries_text, set_of}
+use Rattle.sk_replay.proofs.Names.{◌≡◌, ℕ, ◌+◌, ◌<◌, List, [], ◌∷◌, ◌++◌, flat_map, length, map, take, get_or, refl}
+use Rattle.sk_replay.proofs.Names.{sym, ap, ◌∙◌, append_assoc, append-nil, take_more, log_text, Entries, entries_text}
+use Rattle.sk_replay.proofs.Names.{set_of}
 
 text_append : (xs ys : Entries) → entries_text (xs ++ ys) ≡ entries_text xs ++ entries_text ys
 text_append [] ys = refl

@@ -1,11 +1,7 @@
 -- What frames say that are read again.
-use Rattle.std.proofs.Common.{◌≡◌, ℕ, zero, suc, List, [], ◌∷◌, ◌++◌, flat_map, take, refl, ap, subst, ◌∙◌}
-use Rattle.std.proofs.lemmas.List.{take-map}
-use Rattle.sk_commands.specs.Requests.{log_text}
-use Rattle.sk_commands.specs.declared.work.Work.{Work}
-use Rattle.sk_replay.specs.Frames.{payloads_of, works_in, AreLogged, FramesRestore, SayAll}
-use Rattle.sk_replay.specs.Snapshot.{after_works}
-use Rattle.sk_replay.specs.Works.{log_limits}
+use Rattle.sk_replay.proofs.Names.{◌≡◌, ℕ, zero, suc, List, [], ◌∷◌, ◌++◌, flat_map, take, refl, ap, subst, ◌∙◌}
+use Rattle.sk_replay.proofs.Names.{take-map, log_text, Work, payloads_of, works_in, AreLogged, FramesRestore, SayAll}
+use Rattle.sk_replay.proofs.Names.{after_works, log_limits}
 use Rattle.sk_replay.proofs.Again.{says_again}
 
 say_logged : (frames : List (List Work)) (works : List Work) → AreLogged frames → SayAll (payloads_of frames) works → works ≡ works_in frames

@@ -1,8 +1,6 @@
 -- What is left of entries in the order of their keys is in it.
-use Rattle.std.proofs.Common.{◌≡◌, ℕ, zero, suc, true, [], ◌∷◌, drop, refl}
-use Rattle.std.specs.FinMap.{is_sorted}
-use Rattle.std.specs.FinMap.Entries.{below_all}
-use Rattle.sk_plain_store.specs.Plain.{bytes_cmp, Entries}
+use Rattle.sk_replay.proofs.Names.{◌≡◌, ℕ, zero, suc, true, [], ◌∷◌, drop, refl, is_sorted, below_all, bytes_cmp}
+use Rattle.sk_replay.proofs.Names.{Entries}
 use Rattle.sk_replay.proofs.Restored.{second_is}
 
 pub left_rises : (n : ℕ) (entries : Entries) → is_sorted bytes_cmp entries ≡ true → is_sorted bytes_cmp (drop n entries) ≡ true

@@ -1,3 +1,4 @@
+pub mod Names
 pub mod Carried
 pub mod Told
 pub mod Again

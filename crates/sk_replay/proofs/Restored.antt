@@ -1,14 +1,8 @@
 -- Entries that are set in the order of their keys.
-use Rattle.std.proofs.Common.{◌≡◌, ℕ, Bool, true, false, ◌&&◌, List, [], ◌∷◌, ◌++◌, map, refl, sym, ap, ◌∙◌}
-use Rattle.std.proofs.lemmas.List.{append_assoc, append-nil}
-use Rattle.std.specs.Ordering.{is_lt, ordering_reverse}
-use Rattle.std.specs.FinMap.{is_sorted}
-use Rattle.std.specs.FinMap.Entries.{below_all, by_order}
-use Rattle.std.specs.declared.cmp.Ordering.{Ordering}
-use Rattle.std.specs.declared.cmp.Ordering.TheVariants.{Less, Equal, Greater}
-use Rattle.sk_plain_store.specs.Plain.{bytes_cmp, put_in, Entries}
-use Rattle.sk_plain_store.proofs.Kept.{bytes_total}
-use Rattle.sk_replay.specs.Snapshot.{after_works, set_of, SnapshotsRestore}
+use Rattle.sk_replay.proofs.Names.{◌≡◌, ℕ, Bool, true, false, ◌&&◌, List, [], ◌∷◌, ◌++◌, map, refl, sym, ap, ◌∙◌}
+use Rattle.sk_replay.proofs.Names.{append_assoc, append-nil, is_lt, ordering_reverse, is_sorted, below_all, by_order}
+use Rattle.sk_replay.proofs.Names.{Ordering, Less, Equal, Greater, bytes_cmp, put_in, Entries, bytes_total, after_works}
+use Rattle.sk_replay.proofs.Names.{set_of, SnapshotsRestore}
 
 first_is : (a b : Bool) → (a && b) ≡ true → a ≡ true
 first_is true b h = refl

@@ -1,12 +1,8 @@
 -- What has few bytes has few words, and each is short.
-use Rattle.std.proofs.Common.{◌≡◌, ℕ, ◌+◌, ◌<◌, ◌≤◌, ◌^◌, List, [], ◌∷◌, ◌++◌, flat_map, length, refl, sym, ap, subst, ◌∙◌, inl, arith, length-append}
-use Rattle.std.proofs.lemmas.List.{append_assoc}
-use Rattle.sk_requests.specs.Lines.{head}
-use Rattle.sk_requests.specs.Request.{array, bulk, bulks, total, AreWords, IsWithin}
-use Rattle.sk_commands.specs.Requests.{log_text, requests_of, AreWithin}
-use Rattle.sk_commands.specs.declared.work.Work.{Work}
-use Rattle.sk_replay.specs.Frames.{ShortIsWithin}
-use Rattle.sk_replay.specs.Works.{log_limits}
+use Rattle.sk_replay.proofs.Names.{◌≡◌, ℕ, ◌+◌, ◌<◌, ◌≤◌, ◌^◌, List, [], ◌∷◌, ◌++◌, flat_map, length, refl, sym, ap}
+use Rattle.sk_replay.proofs.Names.{subst, ◌∙◌, inl, arith, length-append, append_assoc, head, array, bulk, bulks, total}
+use Rattle.sk_replay.proofs.Names.{AreWords, IsWithin, log_text, requests_of, AreWithin, Work, ShortIsWithin}
+use Rattle.sk_replay.proofs.Names.{log_limits}
 
 bulk_long : (w : List ℕ) → length w + 1 ≤ length (bulk w)
 bulk_long w =

@@ -1,13 +1,9 @@
 -- What is told of whole requests.
-use Rattle.std.proofs.Common.{◌≡◌, ℕ, ◌<◌, List, [], ◌∷◌, ◌++◌, length, map, unwrap_or, Option, Some, None, true, refl, sym, ap, subst, ◌∙◌, inl, arith}
-use Rattle.std.proofs.lemmas.List.{append-nil}
-use Rattle.sk_requests.specs.Request.{array}
-use Rattle.sk_requests.specs.Faults.{HasFault}
-use Rattle.sk_requests.specs.Stream.{EndsWithin, IsPart, IsTold, Splits}
-use Rattle.sk_requests.specs.declared.limits.Limits.{Limits}
+use Rattle.sk_replay.proofs.Names.{◌≡◌, ℕ, ◌<◌, List, [], ◌∷◌, ◌++◌, length, map, unwrap_or, Option, Some, None, true}
+use Rattle.sk_replay.proofs.Names.{refl, sym, ap, subst, ◌∙◌, inl, arith, append-nil, array, HasFault, EndsWithin}
+use Rattle.sk_replay.proofs.Names.{IsPart, IsTold, Splits, Limits, fault_is_final, told_once, request_within}
+use Rattle.sk_replay.proofs.Names.{line_is_part}
 use Rattle.sk_requests.specs.declared.fault.Fault.{Fault}
-use Rattle.sk_requests.proofs.Arrays.{fault_is_final}
-use Rattle.sk_requests.proofs.Streams.{told_once, request_within, line_is_part}
 
 -- Nothing begins with a request.
 none_is_part : (limits : Limits) → IsPart limits []

@@ -1,10 +1,6 @@
 -- What a terminal shows are the texts that the trace says to it.
-use Rattle.std.proofs.Common.{◌≡◌, ℕ, List, [], ◌∷◌, map, refl, sym, ◌∙◌, ap}
-use Rattle.sk_terminal.specs.Terminal.{TaggedText}
-use Rattle.sk_machine.specs.Parts.{said_at}
-use Rattle.sk_kernel.specs.Kernel.{KernelView, texts_at}
-use Rattle.sk_kernel.specs.Calls.{ShowsTerminal}
-use Rattle.sk_report.specs.Report.{said_there}
+use Rattle.sk_report.proofs.Names.{◌≡◌, ℕ, List, [], ◌∷◌, map, refl, sym, ◌∙◌, ap, TaggedText, said_at, KernelView}
+use Rattle.sk_report.proofs.Names.{texts_at, ShowsTerminal, said_there}
 
 back : (t : ℕ) (texts : List TaggedText) → map (λ s. (s.0.text, s.1)) (said_at t texts) ≡ texts
 back t [] = refl

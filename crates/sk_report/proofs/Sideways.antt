@@ -1,23 +1,12 @@
 -- Among entities that rise, the names of one directory stand side by side.
-use Rattle.std.proofs.Common.{◌≡◌, ◌≤◌, ◌<◌, ℕ, zero, suc, ◌+◌, Bool, true, false, cond, List, [], ◌∷◌, length, take, drop, refl, sym, ◌∙◌, ap, subst, arith}
-use Rattle.std.specs.declared.cmp.Ordering.{Ordering}
-use Rattle.std.specs.declared.cmp.Ordering.TheVariants.{Less, Equal, Greater}
-use Rattle.std.specs.Ordering.{is_lt, is_eq, ordering_then, ordering_reverse}
-use Rattle.std.specs.Cmp.{IsTotalOrder}
-use Rattle.std.specs.List.{filter, AllByRecursion}
-use Rattle.std.specs.Prelude.{slice_index_or}
-use Rattle.std.specs.List.Sorted.{IsStrictlySortedBy, IsPartitionedBy, IsPartitionPoint}
-use Rattle.std.proofs.lemmas.List.{get_or-drop, length-drop}
-use Rattle.std.proofs.lemmas.Bool.{true≢false}
-use Rattle.std.proofs.lemmas.Map.Keys.{sorted_head, sorted_tail}
-use Rattle.sk_ids.specs.Name.{name_order}
-use Rattle.sk_ids.specs.Entity.{entity_cmp, object_cmp}
-use Rattle.sk_ids.specs.declared.pid.ObjId.{ObjId}
-use Rattle.sk_ids.specs.declared.entity.Entity.{Entity}
-use Rattle.sk_ids.specs.declared.entity.Entity.TheVariants.{Proc, Sig, Exit, Obj, Link, Copy}
+use Rattle.sk_report.proofs.Names.{◌≡◌, ◌≤◌, ◌<◌, ℕ, zero, suc, ◌+◌, Bool, true, false, cond, List, [], ◌∷◌, length}
+use Rattle.sk_report.proofs.Names.{take, drop, refl, sym, ◌∙◌, ap, subst, arith, Ordering, Less, Equal, Greater, is_lt}
+use Rattle.sk_report.proofs.Names.{is_eq, ordering_then, ordering_reverse, IsTotalOrder, filter, AllByRecursion}
+use Rattle.sk_report.proofs.Names.{slice_index_or, IsStrictlySortedBy, IsPartitionedBy, IsPartitionPoint, get_or-drop}
+use Rattle.sk_report.proofs.Names.{length-drop, true≢false, sorted_head, sorted_tail, name_order, entity_cmp}
+use Rattle.sk_report.proofs.Names.{object_cmp, ObjId, Entity, Proc, Sig, Exit, Obj, Link, Copy, total-law, is_before}
+use Rattle.sk_report.proofs.Names.{is_name_of, names_under}
 use Rattle.sk_ids.specs.contracts.pid.ObjIdOrd.TheImpl as object_ord
-use Rattle.sk_ids.specs.contracts.pid.ObjIdOrd.TheImpl.Laws.{total-law}
-use Rattle.sk_report.specs.Directories.{is_before, is_name_of, names_under}
 
 computed_is : (a b : ObjId) → (object_ord.ghosts).cmp a b ≡ object_cmp a b
 computed_is a b = refl

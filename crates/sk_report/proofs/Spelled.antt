@@ -1,8 +1,6 @@
 -- One more block of a file, as it is printed.
-use Rattle.std.proofs.Common.{◌≡◌, ℕ, ◌+◌, ◌*◌, List, ◌++◌, take, arith, ap, ◌∙◌, take-add}
-use Rattle.std.specs.Prelude.{flat_map}
-use Rattle.std.proofs.lemmas.List.Concat.{flat_map-append}
-use Rattle.sk_objects.specs.File.{part}
+use Rattle.sk_report.proofs.Names.{◌≡◌, ℕ, ◌+◌, ◌*◌, List, ◌++◌, take, arith, ap, ◌∙◌, take-add, flat_map}
+use Rattle.sk_report.proofs.Names.{flat_map-append, part}
 
 pub one_more : (d : ℕ → List ℕ) (f : List ℕ) (i : ℕ) → flat_map d (take (512 * (i + 1)) f) ≡ flat_map d (take (512 * i) f) ++ flat_map d (part f (512 * i) 512)
 one_more d f i =

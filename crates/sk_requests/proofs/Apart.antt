@@ -1,14 +1,8 @@
 -- Bytes have one fault, whatever follows them.
-use Rattle.std.proofs.Common.{◌≡◌, ◌≢◌, ℕ, ◌+◌, ◌≤◌, ◌^◌, List, [], ◌∷◌, ◌++◌, length, slice_index, refl, sym, ◌∙◌, ap, inl, inr, arith}
-use Rattle.std.proofs.lemmas.List.{append_assoc, append-nil}
-use Rattle.std.proofs.lemmas.Bool.{cases_lt}
-use Rattle.sk_requests.specs.Lines.{head}
-use Rattle.sk_requests.specs.Request.{bulk, bulks, AreWords}
-use Rattle.sk_requests.specs.Faults.{InWords, NoHead, NoEnd, HasFault}
-use Rattle.sk_requests.specs.Laws.{FaultsAreApart}
-use Rattle.sk_requests.specs.declared.limits.Limits.{Limits}
-use Rattle.sk_requests.specs.declared.fault.Fault.{Fault}
-use Rattle.sk_requests.specs.declared.fault.Fault.TheVariants.{Count, Line, Length, Mark, End}
+use Rattle.sk_requests.proofs.Names.{◌≡◌, ◌≢◌, ℕ, ◌+◌, ◌≤◌, ◌^◌, List, [], ◌∷◌, ◌++◌, length, slice_index, refl, sym}
+use Rattle.sk_requests.proofs.Names.{◌∙◌, ap, inl, inr, arith, append_assoc, append-nil, cases_lt, head, bulk, bulks}
+use Rattle.sk_requests.proofs.Names.{AreWords, InWords, NoHead, NoEnd, HasFault, FaultsAreApart, Limits, Fault, Count}
+use Rattle.sk_requests.proofs.Names.{Line, Length, Mark, End}
 use Rattle.sk_requests.proofs.Lines.{same_parts, same_head, first_head}
 use Rattle.sk_requests.proofs.Arrays.{star, dollar, bulk_parts, front_words, first_stays, some_byte, first_in_words}
 

@@ -1,13 +1,9 @@
 -- Requests at the front of bytes.
-use Rattle.std.proofs.Common.{◌≡◌, ◌≢◌, ℕ, ◌+◌, ◌<◌, ◌≤◌, ◌^◌, List, [], ◌∷◌, ◌++◌, length, slice_index, drop, refl, sym, ◌∙◌, ap, inl, inr, arith, length-append}
-use Rattle.std.proofs.lemmas.List.{append_assoc, append-nil}
-use Rattle.sk_requests.specs.Inline.{line_words}
-use Rattle.sk_requests.specs.Lines.{head}
-use Rattle.sk_requests.specs.Request.{bulk, bulks, array, AreWords, IsArray, IsInline, IsRequest, BeginsNone}
-use Rattle.sk_requests.specs.Faults.{InWords, NoLine, HasFault}
-use Rattle.sk_requests.specs.declared.limits.Limits.{Limits}
-use Rattle.sk_requests.specs.declared.fault.Fault.{Fault}
-use Rattle.sk_requests.specs.declared.fault.Fault.TheVariants.{Count, Line, Length, Mark, End}
+use Rattle.sk_requests.proofs.Names.{◌≡◌, ◌≢◌, ℕ, ◌+◌, ◌<◌, ◌≤◌, ◌^◌, List, [], ◌∷◌, ◌++◌, length, slice_index, drop}
+use Rattle.sk_requests.proofs.Names.{refl, sym, ◌∙◌, ap, inl, inr, arith, length-append, append_assoc, append-nil}
+use Rattle.sk_requests.proofs.Names.{line_words, head, bulk, bulks, array, AreWords, IsArray, IsInline, IsRequest}
+use Rattle.sk_requests.proofs.Names.{BeginsNone, InWords, NoLine, HasFault, Limits, Fault, Count, Line, Length, Mark}
+use Rattle.sk_requests.proofs.Names.{End}
 use Rattle.sk_requests.proofs.Lines.{same_parts, same_line, same_head, first_head}
 
 pub star : ◌≢◌ {A = ℕ} 42 10

@@ -1,10 +1,10 @@
 -- Lines at the front of bytes, and the numbers in them.
-use Rattle.std.proofs.Common.{◌≡◌, ◌≢◌, ℕ, zero, suc, ◌+◌, ◌-◌, ◌*◌, ◌%◌, ◌<◌, ◌≤◌, ◌^◌, List, [], ◌∷◌, ◌++◌, length, slice_index, take, drop, decimal, refl, sym, ◌∙◌, ap, inl, inr, arith, length-append}
-use Rattle.std.proofs.lemmas.List.{take_at, drop_at, get_or_at, get_or_append_left, get_or-append-add, append_assoc, append_cancel_right, take_all, take_more}
-use Rattle.std.proofs.lemmas.Bool.{cases_lt}
-use Rattle.std.proofs.lemmas.Fmt.{decimal_by_steps, decimal_injective, length-decimal-le}
-use Rattle.sk_requests.specs.Lines.{IsLine, said, head, value_from}
-use Rattle.sk_requests.specs.Faults.{NoHead}
+use Rattle.sk_requests.proofs.Names.{◌≡◌, ◌≢◌, ℕ, zero, suc, ◌+◌, ◌-◌, ◌*◌, ◌%◌, ◌<◌, ◌≤◌, ◌^◌, List, [], ◌∷◌, ◌++◌}
+use Rattle.sk_requests.proofs.Names.{length, slice_index, take, drop, decimal, refl, sym, ◌∙◌, ap, inl, inr, arith}
+use Rattle.sk_requests.proofs.Names.{length-append, take_at, drop_at, get_or_at, get_or_append_left, get_or-append-add}
+use Rattle.sk_requests.proofs.Names.{append_assoc, append_cancel_right, take_all, take_more, cases_lt, decimal_by_steps}
+use Rattle.sk_requests.proofs.Names.{decimal_injective, length-decimal-le, IsLine, head, value_from, NoHead}
+use Rattle.sk_requests.specs.Lines.{said}
 
 -- Two lists that begin with parts of equal length are equal part by part.
 pub same_parts : (n : ℕ) (a b c d : List ℕ) → length a ≡ n → length b ≡ n → a ++ c ≡ b ++ d → (a ≡ b) × (c ≡ d)

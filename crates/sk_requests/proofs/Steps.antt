@@ -1,17 +1,13 @@
 -- What each step of a reader leaves.
-use Rattle.std.proofs.Common.{◌≡◌, ◌≢◌, ◌⊎◌, ℕ, zero, suc, ◌+◌, ◌-◌, ◌<◌, ◌≤◌, ◌^◌, Bool, true, false, List, [], ◌∷◌, ◌++◌, length, slice_index, take, drop, Err, refl, sym, ◌∙◌, ap, subst, inl, inr, arith, length-append}
-use Rattle.std.specs.Prelude.{cond, eqb, if◌then◌else◌, ◌==◌}
-use Rattle.std.proofs.lemmas.List.{append_assoc, append-nil, take-append-drop, take_all, length-drop, length-take-le}
-use Rattle.std.proofs.lemmas.Bool.{false≢true, eqb-true, eqb-false}
-use Rattle.sk_requests.specs.Lines.{IsLine, said, head}
-use Rattle.sk_requests.specs.Request.{bulk, bulks, AreWords, total, IsArray, IsTooLarge, Fits}
-use Rattle.sk_requests.specs.Faults.{InWords, NoHead, NoLine, NoEnd, HasFault}
-use Rattle.sk_requests.specs.Reading.{Keeps, InArray, InWord, KeepsLine, IsAt, IsBehind, Reads}
+use Rattle.sk_requests.proofs.Names.{◌≡◌, ◌≢◌, ◌⊎◌, ℕ, zero, suc, ◌+◌, ◌-◌, ◌<◌, ◌≤◌, ◌^◌, Bool, true, false, List, []}
+use Rattle.sk_requests.proofs.Names.{◌∷◌, ◌++◌, length, slice_index, take, drop, Err, refl, sym, ◌∙◌, ap, subst, inl}
+use Rattle.sk_requests.proofs.Names.{inr, arith, length-append, cond, eqb, if◌then◌else◌, ◌==◌, append_assoc}
+use Rattle.sk_requests.proofs.Names.{append-nil, take-append-drop, take_all, length-drop, length-take-le, false≢true}
+use Rattle.sk_requests.proofs.Names.{eqb-true, eqb-false, IsLine, said, head, bulk, bulks, AreWords, total, IsArray}
+use Rattle.sk_requests.proofs.Names.{IsTooLarge, Fits, InWords, NoHead, NoLine, NoEnd, HasFault, Keeps, InArray, InWord}
+use Rattle.sk_requests.proofs.Names.{KeepsLine, IsAt, IsBehind, Reads, Reader, Limits, Count, Line, Length, Mark, End}
+use Rattle.sk_requests.proofs.Names.{Refusal}
 use Rattle.sk_requests.specs.declared.place.Place.TheVariants as places
-use Rattle.sk_requests.specs.declared.reader.Reader.{Reader}
-use Rattle.sk_requests.specs.declared.limits.Limits.{Limits}
-use Rattle.sk_requests.specs.declared.fault.Fault.TheVariants.{Count, Line, Length, Mark, End}
-use Rattle.sk_requests.specs.declared.fault.Refusal.{Refusal}
 use Rattle.sk_requests.specs.declared.fault.Refusal.TheVariants as refusals
 use Rattle.sk_requests.proofs.Lines.{ends_behind, line-append, long_head, other_head}
 

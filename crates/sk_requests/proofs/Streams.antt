@@ -1,20 +1,14 @@
 -- Streams of requests.
-use Rattle.std.proofs.Common.{◌≡◌, ℕ, ◌+◌, ◌<◌, ◌≤◌, ◌^◌, not, ◌==◌, List, [], ◌∷◌, ◌++◌, length, take, Option, Some, None, Result, Ok, Err, true, refl, sym, ◌∙◌, ap, subst, inl, inr, arith, length-append, rules}
-use Rattle.std.proofs.lemmas.List.{append_assoc, append-nil}
-use Rattle.sk_requests.specs.Lines.{IsLine, said, head}
-use Rattle.sk_requests.specs.Request.{bulks, IsArray, IsRequest, IsWithin, Fits, IsTooLarge}
-use Rattle.sk_requests.specs.Faults.{InWords, HasFault}
-use Rattle.sk_requests.specs.Reading.{has_some, IsAt, IsBehind, IsFound, Reads, words_of}
-use Rattle.sk_requests.specs.Stream.{EndsWithin, IsTold, Splits, IsPart, HasRead, HasFound, ReadsOn}
-use Rattle.sk_requests.specs.Laws.{PartsAreNone, StreamsReadOnce, StreamsGoOn, CutsDontMatter}
-use Rattle.sk_requests.specs.declared.limits.Limits.{Limits}
-use Rattle.sk_requests.specs.declared.place.Place.{Place}
-use Rattle.sk_requests.specs.declared.place.Place.TheVariants.{Front, Length, Word, End}
-use Rattle.sk_requests.specs.declared.reader.Reader.{Reader}
-use Rattle.sk_requests.specs.declared.reader.Taken.{Taken}
-use Rattle.sk_requests.specs.declared.reader.Found.{Found}
+use Rattle.sk_requests.proofs.Names.{◌≡◌, ℕ, ◌+◌, ◌<◌, ◌≤◌, ◌^◌, not, List, [], ◌∷◌, ◌++◌, length, take, Option, Some}
+use Rattle.sk_requests.proofs.Names.{None, Result, Ok, Err, true, refl, sym, ◌∙◌, ap, subst, inl, inr, arith}
+use Rattle.sk_requests.proofs.Names.{length-append, rules, append_assoc, append-nil, IsLine, said, head, bulks, IsArray}
+use Rattle.sk_requests.proofs.Names.{IsRequest, IsWithin, Fits, IsTooLarge, InWords, HasFault, has_some, IsAt, IsBehind}
+use Rattle.sk_requests.proofs.Names.{IsFound, Reads, words_of, EndsWithin, IsTold, Splits, IsPart, HasRead, HasFound}
+use Rattle.sk_requests.proofs.Names.{ReadsOn, PartsAreNone, StreamsReadOnce, StreamsGoOn, CutsDontMatter, Limits, Place}
+use Rattle.sk_requests.proofs.Names.{Front, Word, Reader, Taken, Found, Refusal}
+use Rattle.std.proofs.Common.{◌==◌}
+use Rattle.sk_requests.specs.declared.place.Place.TheVariants.{Length, End}
 use Rattle.sk_requests.specs.declared.reader.Found.TheVariants as finds
-use Rattle.sk_requests.specs.declared.fault.Refusal.{Refusal}
 use Rattle.sk_requests.specs.declared.fault.Refusal.TheVariants as refusals
 use Rattle.sk_requests.proofs.Lines.{ends_behind, same_head, head_line, head_parts}
 use Rattle.sk_requests.proofs.Arrays.{next_word, first_in_words, first_alone, no_inline, one_request}

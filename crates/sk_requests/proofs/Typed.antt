@@ -1,10 +1,10 @@
 -- The parts of a line.
-use Rattle.std.proofs.Common.{◌≡◌, ◌≢◌, ℕ, ◌-◌, ◌<◌, ◌≤◌, List, [], ◌∷◌, ◌++◌, length, slice_index, take, Some, None, decimal, refl, sym, ◌∙◌, ap, arith, length-append}
-use Rattle.std.specs.Prelude.{cond, eqb, slice_get, is_some, unwrap_or}
-use Rattle.std.proofs.lemmas.List.{append_assoc, append-nil, get_or-take, get_or_at, length-take-le}
-use Rattle.std.proofs.lemmas.Bool.{false≢true, ne_eqb}
-use Rattle.sk_requests.specs.Inline.{ended, words_from, without_return}
-use Rattle.sk_requests.specs.Lines.{IsLine, said}
+use Rattle.sk_requests.proofs.Names.{◌≡◌, ◌≢◌, ℕ, ◌-◌, ◌<◌, ◌≤◌, List, [], ◌∷◌, ◌++◌, length, slice_index, take, Some}
+use Rattle.sk_requests.proofs.Names.{None, decimal, refl, sym, ◌∙◌, ap, arith, length-append, cond, eqb, slice_get}
+use Rattle.sk_requests.proofs.Names.{is_some, unwrap_or, append_assoc, append-nil, get_or-take, get_or_at}
+use Rattle.sk_requests.proofs.Names.{length-take-le, false≢true, ne_eqb, ended, words_from, IsLine}
+use Rattle.sk_requests.specs.Inline.{without_return}
+use Rattle.sk_requests.specs.Lines.{said}
 
 pub without_none : (line : List ℕ) → length line ≡ 0 → line ≡ without_return line
 unfolding without_return

@@ -1,38 +1,20 @@
 -- What is logged and what the machine stands for go together, call by call.
-use Rattle.std.proofs.Common.{◌≡◌, ℕ, Bool, true, false, not, ◌&&◌, ◌||◌, List, [], ◌∷◌, ◌++◌, map, Ok, inl, inr, refl, sym, ◌∙◌, ap, subst, append_assoc}
-use Rattle.std.specs.Prelude.{◌==◌, ◌⊎◌}
-use Rattle.std.specs.List.{list_any, filter, Contains}
-use Rattle.std.specs.Cmp.{IsTotalOrder}
-use Rattle.std.specs.FinMap.{FinMap, IsAntisymmetric}
-use Rattle.std.proofs.lemmas.Bool.{or_cases, or_left, or_right, true≢false, eq-eqb, eqb-true, true_from_ne_false, false_from_ne_true}
-use Rattle.std.proofs.lemmas.List.{append-nil, map-append}
-use Rattle.std.proofs.lemmas.List.Folds.{list_any-append}
-use Rattle.std.proofs.lemmas.List.Elements.{Contains-append_left, Contains-push}
-use Rattle.std.proofs.Math.Bool.{and-true}
-use Rattle.sk_record.specs.Step.{perform}
-use Rattle.sk_record.specs.Effects.{MarkedEffect, is_marked, hit, hits, dirt, keep, touches}
-use Rattle.sk_record.specs.Run.{System, marked_effect, run, outcome, IsLegal, effects}
-use Rattle.sk_record.specs.Strike.{struck, strike}
-use Rattle.sk_record.specs.Notes.{has}
-use Rattle.sk_record.specs.Trace.{Event, Taken, Commit, Fail, IsDrawn, record_of, effects_of, undecided_of, all_recorded, no_record, Record, marks, still_marked}
-use Rattle.sk_record.specs.declared.status.Status.TheVariants.{Undecided}
-use Rattle.sk_record.specs.UndoState.{numbers, tags_at, is_tag}
-use Rattle.sk_record.specs.Machine.{Machine}
-use Rattle.sk_record.specs.Merged.{MergedStands}
-use Rattle.sk_record.proofs.Machine.{has_filter, unmarked_hits, union_is, accepted_run, longer, nil_right}
-use Rattle.sk_record.proofs.Notes.{has_passed}
-use Rattle.sk_record.proofs.UndoStates.{and_both, any_at, inv_of}
-use Rattle.sk_record.proofs.Tidy.{recorded_more, tidy_of}
-use Rattle.sk_record.proofs.Struck.{struck_runs, later}
-use Rattle.sk_record.proofs.Sound.{any_from, has_fail, is_drawn, mark_is, draws, marked_is, or_no, record_more, entries_are, tests, undecided_is, undrawn_before, fresh_from}
-use Rattle.sk_record.proofs.Statuses.{one_status}
-use Rattle.sk_record.proofs.Merged.{same_tags, merged_run}
-use Rattle.sk_deeds.specs.Deed.{effect_of}
-use Rattle.sk_deeds.specs.Moves.{Steps, Moves}
-use Rattle.sk_deeds.specs.Told.{Call, Does, Tells, Told, told_more, with_told, TakenOut, moves_of}
-use Rattle.sk_deeds.proofs.Runs.{one, first}
-use Rattle.sk_deeds.proofs.Told.{takes_told, commits_told, fails_told, stands_told}
-use Rattle.sk_rests.specs.Logged.{Logged, failed_in, is_struck, kept, done_at, IsLogged, IsLogOf, Logs}
+use Rattle.sk_rests.proofs.Names.{◌≡◌, ℕ, Bool, true, false, not, ◌&&◌, ◌||◌, List, [], ◌∷◌, ◌++◌, map, Ok, inl, inr}
+use Rattle.sk_rests.proofs.Names.{refl, sym, ◌∙◌, ap, subst, append_assoc, ◌==◌, ◌⊎◌, list_any, filter, Contains}
+use Rattle.sk_rests.proofs.Names.{IsTotalOrder, FinMap, IsAntisymmetric, or_cases, or_left, or_right, true≢false}
+use Rattle.sk_rests.proofs.Names.{eq-eqb, eqb-true, true_from_ne_false, false_from_ne_true, append-nil, map-append}
+use Rattle.sk_rests.proofs.Names.{list_any-append, Contains-append_left, Contains-push, and-true, perform, MarkedEffect}
+use Rattle.sk_rests.proofs.Names.{is_marked, hit, hits, dirt, keep, touches, System, marked_effect, run, outcome}
+use Rattle.sk_rests.proofs.Names.{IsLegal, effects, struck, strike, has, Event, Taken, Commit, Fail, IsDrawn, record_of}
+use Rattle.sk_rests.proofs.Names.{effects_of, undecided_of, all_recorded, no_record, Record, marks, still_marked}
+use Rattle.sk_rests.proofs.Names.{Undecided, numbers, tags_at, is_tag, Machine, MergedStands, has_filter, unmarked_hits}
+use Rattle.sk_rests.proofs.Names.{union_is, accepted_run, longer, nil_right, has_passed, and_both, any_at, inv_of}
+use Rattle.sk_rests.proofs.Names.{recorded_more, tidy_of, struck_runs, later, any_from, has_fail, is_drawn, mark_is}
+use Rattle.sk_rests.proofs.Names.{draws, marked_is, or_no, record_more, entries_are, tests, undecided_is}
+use Rattle.sk_rests.proofs.Names.{undrawn_before, fresh_from, one_status, same_tags, merged_run, effect_of, Steps}
+use Rattle.sk_rests.proofs.Names.{Moves, Call, Does, Tells, Told, told_more, with_told, TakenOut, moves_of, one, first}
+use Rattle.sk_rests.proofs.Names.{takes_told, commits_told, fails_told, stands_told, Logged, failed_in, is_struck, kept}
+use Rattle.sk_rests.proofs.Names.{done_at, IsLogged, IsLogOf, Logs}
 use Rattle.sk_rests.proofs.Lists.{rested, none_kept, all_false, any_map, keep_map, map_keep, flat, failed_more, failed_is, kept_more, kept_one, kept_push, hits_push, no_hits, marks_is}
 
 module _ {K V O F N : Type 0} (own : System K V (ℕ × O) F N) (start : FinMap own.order V) where

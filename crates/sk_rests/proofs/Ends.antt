@@ -1,31 +1,15 @@
 -- What the log says of the end.
-use Rattle.std.proofs.Common.{◌≡◌, ℕ, zero, suc, Bool, true, false, not, cond, ◌&&◌, List, [], ◌∷◌, ◌++◌, map, Option, Some, None, inl, inr, refl, sym, ◌∙◌, ap, subst, arith}
-use Rattle.std.specs.Prelude.{◌==◌, ◌⊎◌, ◌↔◌, slice_get}
-use Rattle.std.specs.List.{list_any, filter, Contains}
-use Rattle.std.specs.Cmp.{IsTotalOrder}
-use Rattle.std.specs.FinMap.{FinMap, IsAntisymmetric}
-use Rattle.std.proofs.lemmas.Bool.{true≢false, or_left, or_right, eq-eqb}
-use Rattle.std.proofs.lemmas.List.{map-append}
-use Rattle.std.proofs.lemmas.List.Elements.{Contains-append_left, Contains-append_right, Contains-append_cases}
-use Rattle.sk_record.specs.Effects.{MarkedEffect, Dep, hit, hits}
-use Rattle.sk_record.specs.Run.{System, effects}
-use Rattle.sk_record.specs.Strike.{struck}
-use Rattle.sk_record.specs.Notes.{has, rests, next_dirty, tags_along}
-use Rattle.sk_record.specs.Release.{said_by, said_with}
-use Rattle.sk_record.specs.Trace.{Event, Commit, record_of, effects_of, undecided_of}
-use Rattle.sk_record.specs.declared.status.Status.TheVariants.{Undecided, Committed, Failed}
-use Rattle.sk_record.specs.UndoState.{numbers}
-use Rattle.sk_record.specs.Machine.{Machine, Tagged}
-use Rattle.sk_record.proofs.Machine.{has_filter}
-use Rattle.sk_record.proofs.UndoStates.{any_at}
-use Rattle.sk_record.proofs.Struck.{flags}
-use Rattle.sk_record.proofs.Sound.{has_fail, entries_are, undecided_is, first_or, tail_of}
-use Rattle.sk_record.proofs.Texts.{got_map}
-use Rattle.sk_record.proofs.Merged.{merged_run}
-use Rattle.sk_deeds.specs.Told.{Told, untagged, with_told, moves_of}
-use Rattle.sk_deeds.proofs.Runs.{first}
-use Rattle.sk_rests.specs.Logged.{Logged, failed_in, kept, resting_among, said_to}
-use Rattle.sk_rests.specs.Laws.{IsSaid, IsAsLogged, StandsAsLogged, RangeIsStruck}
+use Rattle.sk_rests.proofs.Names.{◌≡◌, ℕ, zero, suc, Bool, true, false, not, cond, ◌&&◌, List, [], ◌∷◌, ◌++◌, map}
+use Rattle.sk_rests.proofs.Names.{Option, Some, None, inl, inr, refl, sym, ◌∙◌, ap, subst, arith, ◌==◌, ◌⊎◌, ◌↔◌}
+use Rattle.sk_rests.proofs.Names.{slice_get, list_any, filter, Contains, IsTotalOrder, FinMap, IsAntisymmetric}
+use Rattle.sk_rests.proofs.Names.{true≢false, or_left, or_right, eq-eqb, map-append, Contains-append_left}
+use Rattle.sk_rests.proofs.Names.{Contains-append_right, Contains-append_cases, MarkedEffect, Dep, hit, hits, System}
+use Rattle.sk_rests.proofs.Names.{effects, struck, has, rests, next_dirty, tags_along, said_by, said_with, Event}
+use Rattle.sk_rests.proofs.Names.{Commit, record_of, effects_of, undecided_of, Undecided, Committed, Failed, numbers}
+use Rattle.sk_rests.proofs.Names.{Machine, Tagged, has_filter, any_at, flags, has_fail, entries_are, undecided_is}
+use Rattle.sk_rests.proofs.Names.{first_or, tail_of, got_map, merged_run, Told, untagged, with_told, moves_of, first}
+use Rattle.sk_rests.proofs.Names.{Logged, failed_in, kept, resting_among, said_to, IsSaid, IsAsLogged, StandsAsLogged}
+use Rattle.sk_rests.proofs.Names.{RangeIsStruck}
 use Rattle.sk_rests.proofs.Lists.{kept_more, failed_is, rested}
 use Rattle.sk_rests.proofs.Along.{Stands, stands_first, along}
 

@@ -1,15 +1,8 @@
 -- A run without the steps that change nothing.
-use Rattle.std.proofs.Common.{◌≡◌, Bool, true, false, not, cond, List, [], ◌∷◌, map, Result, Ok, Err, refl, sym, ◌∙◌, ap}
-use Rattle.std.specs.Prelude.{is_ok}
-use Rattle.std.specs.List.{filter}
-use Rattle.std.specs.Cmp.{IsTotalOrder}
-use Rattle.std.specs.FinMap.{FinMap, get}
-use Rattle.sk_record.specs.Step.{Effect, perform}
-use Rattle.sk_record.specs.Effects.{keep, written_value}
-use Rattle.sk_record.specs.Run.{System, outcome, after, marked_effect, run, IsLegal, effects}
-use Rattle.sk_record.proofs.Values.{get-put_all}
-use Rattle.sk_rests.specs.Logged.{is_struck, kept}
-use Rattle.sk_rests.specs.Idle.{OthersAreIdle, IdleMayGo, PartIsKept}
+use Rattle.sk_rests.proofs.Names.{◌≡◌, Bool, true, false, not, cond, List, [], ◌∷◌, map, Result, Ok, Err, refl, sym}
+use Rattle.sk_rests.proofs.Names.{◌∙◌, ap, is_ok, filter, IsTotalOrder, FinMap, get, Effect, perform, keep}
+use Rattle.sk_rests.proofs.Names.{written_value, System, outcome, after, marked_effect, run, IsLegal, effects}
+use Rattle.sk_rests.proofs.Names.{get-put_all, is_struck, kept, OthersAreIdle, IdleMayGo, PartIsKept}
 
 module _ {E V W F N : Type 0} (K : System E V W F N) (total : IsTotalOrder K.order) where
   -- a run from t that is one from s, but for the entries whose flags are true

@@ -1,16 +1,9 @@
 -- Lists of what is logged: what is left of them where guesses fail, and flags of them.
-use Rattle.std.proofs.Common.{◌≡◌, ℕ, Bool, true, false, not, cond, ◌||◌, List, [], ◌∷◌, ◌++◌, map, Option, Some, None, refl, ◌∙◌, ap}
-use Rattle.std.specs.Prelude.{◌==◌}
-use Rattle.std.specs.List.{list_any, filter}
-use Rattle.std.specs.declared.cmp.Ordering.{Ordering}
-use Rattle.std.proofs.lemmas.Bool.{or_parts, or_from}
-use Rattle.std.proofs.lemmas.List.Folds.{list_any-append}
-use Rattle.std.proofs.lemmas.List.Elements.{filter-append}
-use Rattle.sk_record.specs.Effects.{MarkedEffect, is_marked, hit, hits, dirt, dirtied, keep, touches}
-use Rattle.sk_record.specs.Notes.{has}
-use Rattle.sk_record.specs.Trace.{Event, Taken, Commit, Fail, marks, still_marked}
-use Rattle.sk_record.proofs.Sound.{is_fail, eqb_turned, or_no}
-use Rattle.sk_rests.specs.Logged.{Logged, failed_in, is_struck, kept}
+use Rattle.sk_rests.proofs.Names.{◌≡◌, ℕ, Bool, true, false, not, cond, ◌||◌, List, [], ◌∷◌, ◌++◌, map, Option, Some}
+use Rattle.sk_rests.proofs.Names.{None, refl, ◌∙◌, ap, ◌==◌, list_any, filter, Ordering, or_parts, or_from}
+use Rattle.sk_rests.proofs.Names.{list_any-append, filter-append, MarkedEffect, is_marked, hit, hits, dirt, dirtied}
+use Rattle.sk_rests.proofs.Names.{keep, touches, has, Event, Taken, Commit, Fail, marks, still_marked, is_fail}
+use Rattle.sk_rests.proofs.Names.{eqb_turned, or_no, Logged, failed_in, is_struck, kept}
 
 -- whether one of some steps rested on a guess
 abbrev pub rested : {N O : Type 0} → ℕ → List (Logged N O) → Bool

@@ -1,15 +1,8 @@
 -- The answers to the first of some steps, and what is told of the first of some events.
-use Rattle.std.proofs.Common.{◌≡◌, Bool, ℕ, List, [], ◌++◌, Option, refl, sym, append-nil}
-use Rattle.std.specs.Io.KnownBytes.{Keeps}
-use Rattle.std.proofs.KnownBytes.{Appends-kept, Appends-nil}
-use Rattle.sk_client.specs.WorldView.{WorldView}
-use Rattle.sk_client.specs.declared.world.WorldEvent.{WorldEvent}
-use Rattle.sk_kernel.specs.Kernel.{KernelView}
-use Rattle.sk_play.specs.Plays.{Answered}
-use Rattle.sk_play.specs.Worlds.{WorldAnswered}
-use Rattle.sk_run.specs.Listing.{beside}
-use Rattle.sk_run.specs.Run.{HasAnswered, HasHappened}
-use Rattle.sk_scenario.specs.declared.call.Call.{Call}
+use Rattle.sk_run.proofs.Names.{◌≡◌, Bool, ℕ, List, [], ◌++◌, Option, refl, sym, Keeps, Appends-kept, Appends-nil}
+use Rattle.sk_run.proofs.Names.{WorldView, WorldEvent, KernelView, Answered, WorldAnswered, beside, HasAnswered}
+use Rattle.sk_run.proofs.Names.{HasHappened, Call}
+use Rattle.std.proofs.Common.{append-nil}
 
 -- none is, where nothing is written
 pub none_answered : (is_listed : Bool) (steps : List Call) (held : List ℕ) (k : KernelView) (out : Option (List ℕ)) → HasAnswered is_listed steps held k out out

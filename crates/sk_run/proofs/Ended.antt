@@ -1,35 +1,14 @@
 -- What was done, once the buffer is written out.
-use Rattle.std.proofs.Common.{◌≡◌, inl, inr, ℕ, List, [], length, Option, Result, Ok, Err, refl, sym, subst}
-use Rattle.std.specs.Prelude.{OnOk}
-use Rattle.std.specs.Io.KnownBytes.{Appends}
-use Rattle.std.proofs.KnownBytes.{Appends-kept, Keeps-refl}
-use Rattle.sk_client.specs.declared.world.WorldEvent.{WorldEvent}
-use Rattle.sk_kernel.specs.Kernel.{KernelView}
-use Rattle.sk_store.specs.Start.{start_of}
-use Rattle.sk_plain.specs.Plain.{PlainView}
-use Rattle.sk_plain.specs.Replay.{FaultIn}
-use Rattle.sk_plain.specs.declared.replay.TraceFault.{TraceFault}
+use Rattle.sk_run.proofs.Names.{◌≡◌, inl, inr, ℕ, List, [], length, Option, Result, Ok, Err, refl, sym, subst, OnOk}
+use Rattle.sk_run.proofs.Names.{Appends, Appends-kept, Keeps-refl, WorldEvent, KernelView, start_of, PlainView, FaultIn}
+use Rattle.sk_run.proofs.Names.{TraceFault, BootView, Event, Declared, Call, plain_report_text, report_text, Stop, End}
+use Rattle.sk_run.proofs.Names.{Shows, IsFlushed, world_reported_kept, reported_kept, Reported, declared_kernel}
+use Rattle.sk_run.proofs.Names.{Replays, replayed, declared_world, WorldReported, beside, happened, left_by}
+use Rattle.sk_run.proofs.Names.{trace_fault_end, HasRun, HasSoundTrace, EndsReplayed, IsPlayed, IsWorldPlayed}
+use Rattle.sk_run.proofs.Names.{EndsReport, EndsPlain, EndsPlayed, EndsWorld, HasAnswered, HasHappened}
 use Rattle.sk_plain.specs.declared.replay.TraceFault.TheVariants as faults
-use Rattle.sk_script.specs.Boot.{BootView}
-use Rattle.sk_trace.specs.declared.event.Event.{Event}
-use Rattle.sk_scenario.specs.Declarations.{Declared}
-use Rattle.sk_scenario.specs.declared.call.Call.{Call}
-use Rattle.sk_report.specs.Report.{plain_report_text, report_text}
-use Rattle.sk_report.specs.declared.stop.Stop.{Stop}
 use Rattle.sk_report.specs.declared.stop.Stop.TheVariants as stops
-use Rattle.sk_command.specs.declared.end.End.{End}
 use Rattle.sk_command.specs.declared.end.End.TheVariants as ends
-use Rattle.sk_command.specs.declared.job.Shows.{Shows}
-use Rattle.sk_command.specs.Ends.{IsFlushed}
-use Rattle.sk_play.proofs.Happened.{world_reported_kept}
-use Rattle.sk_play.proofs.Turns.{reported_kept}
-use Rattle.sk_play.specs.Plays.{Reported, declared_kernel}
-use Rattle.sk_play.specs.Replays.{Replays, replayed}
-use Rattle.sk_play.specs.Worlds.{declared_world, WorldReported}
-use Rattle.sk_run.specs.Listing.{beside}
-use Rattle.sk_run.specs.Plainly.{happened, left_by, trace_fault_end, HasRun, HasSoundTrace}
-use Rattle.sk_run.specs.Replayed.{EndsReplayed}
-use Rattle.sk_run.specs.Run.{IsPlayed, IsWorldPlayed, EndsReport, EndsPlain, EndsPlayed, EndsWorld, HasAnswered, HasHappened}
 use Rattle.sk_run.proofs.Begun.{answered_kept, happened_kept}
 
 -- steps that were played

@@ -1,3 +1,4 @@
+pub mod Names
 mod Begun
 mod Ended
 pub mod Talked

@@ -1,17 +1,9 @@
 -- What was foreseen of a step is what is listed of it.
-use Rattle.std.proofs.Common.{◌≡◌, ℕ, [], Option, Some, None, Result, Ok, Err, refl, ap, ◌∙◌}
-use Rattle.std.specs.Prelude.{option_and_then}
-use Rattle.std.specs.Result.{result_ok}
-use Rattle.sk_ids.specs.declared.entity.Entity.TheVariants.{Proc}
-use Rattle.sk_script.specs.declared.instruction.Input.{Input}
-use Rattle.sk_plain.specs.declared.refusal.Refusal.{Refusal}
-use Rattle.sk_trace.specs.declared.event.Event.{Event}
+use Rattle.sk_run.proofs.Names.{◌≡◌, ℕ, [], Option, Some, None, Result, Ok, Err, refl, ap, ◌∙◌, option_and_then}
+use Rattle.sk_run.proofs.Names.{result_ok, Proc, Input, Refusal, Event, KernelView, effect_at, tags_at, footprint_of}
+use Rattle.sk_run.proofs.Names.{appended, IsForeseen, Footprint, touched_lines, event_lines, listed, touched, foreseen}
+use Rattle.sk_run.proofs.Names.{lines_of, foreseen_lines}
 use Rattle.sk_trace.specs.declared.event.Event.TheVariants as events
-use Rattle.sk_kernel.specs.Kernel.{KernelView, effect_at, tags_at}
-use Rattle.sk_kernel.specs.Footprint.{footprint_of, appended, IsForeseen}
-use Rattle.sk_kernel.specs.declared.footprint.Footprint.{Footprint}
-use Rattle.sk_report.specs.Footprints.{touched_lines, event_lines, listed}
-use Rattle.sk_run.specs.Listing.{touched, foreseen, lines_of, foreseen_lines}
 
 nothing : (f : Option Footprint) (k : KernelView) → lines_of f k None ≡ []
 nothing None k = refl

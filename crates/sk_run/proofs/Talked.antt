@@ -1,28 +1,14 @@
 -- The lines of a talk: how a reader gives them, and that one more is answered.
-use Rattle.std.proofs.Common.{◌≡◌, ◌⊎◌, inl, inr, ◌∙◌, ℕ, ◌+◌, ◌≤◌, true, false, eqb, List, [], ◌∷◌, ◌++◌, length, length-append, Option, Some, None, Result, Ok, Err, refl, sym, ap, subst, arith}
-use Rattle.std.specs.Prelude.{IfSome, IsSome, ⊤}
-use Rattle.std.specs.Io.BufRead.{take_through, drop_through, DropsThrough}
-use Rattle.std.specs.Io.Buffered.{reader_buffer, reader_capacity, reader_inner, reader_remaining}
-use Rattle.std.specs.Io.KnownBytes.{Appends, Keeps}
-use Rattle.std.specs.declared.io.buffered.BufReader.{BufReader}
-use Rattle.std.proofs.KnownBytes.{Appends-kept, Appends-trans}
-use Rattle.std.proofs.lemmas.Bool.{ne_eqb}
-use Rattle.std.proofs.lemmas.List.{append-nil, append_assoc}
-use Rattle.std.specs.Str.Lines.{lines}
-use Rattle.sk_words.specs.Lines.{parts}
-use Rattle.sk_words.proofs.Parts.{next_line}
-use Rattle.sk_words.specs.declared.fault.FaultKind.{FaultKind}
-use Rattle.sk_questions.specs.Questions.{asked_by}
-use Rattle.sk_questions.specs.declared.asked.Asked.{Asked}
+use Rattle.sk_run.proofs.Names.{◌≡◌, ◌⊎◌, inl, inr, ◌∙◌, ℕ, ◌+◌, ◌≤◌, true, false, eqb, List, [], ◌∷◌, ◌++◌, length}
+use Rattle.sk_run.proofs.Names.{length-append, Option, Some, None, Result, Ok, Err, refl, sym, ap, subst, arith, IfSome}
+use Rattle.sk_run.proofs.Names.{IsSome, ⊤, take_through, drop_through, DropsThrough, reader_buffer, reader_capacity}
+use Rattle.sk_run.proofs.Names.{reader_inner, reader_remaining, Appends, Keeps, BufReader, Appends-kept, Appends-trans}
+use Rattle.sk_run.proofs.Names.{ne_eqb, append-nil, append_assoc, lines, parts, next_line, FaultKind, asked_by, Asked}
+use Rattle.sk_run.proofs.Names.{Play, LineTold, End, IsWritten, Talk, is_end, talked, number_behind, AnswersAs, Answers}
+use Rattle.sk_run.proofs.Names.{Talks, begun, EndsTalk, EndsOpened, TakesLine}
 use Rattle.sk_questions.specs.declared.asked.Asked.TheVariants as asks
-use Rattle.sk_talk.specs.declared.play.Play.{Play}
-use Rattle.sk_talk.specs.declared.line.LineTold.{LineTold}
 use Rattle.sk_talk.specs.declared.line.LineTold.TheVariants as tells
-use Rattle.sk_command.specs.declared.end.End.{End}
 use Rattle.sk_command.specs.declared.end.End.TheVariants as ends
-use Rattle.sk_command.specs.Ends.{IsWritten}
-use Rattle.sk_run.specs.declared.talking.Talk.{Talk}
-use Rattle.sk_run.specs.Talk.{is_end, talked, number_behind, AnswersAs, Answers, Talks, begun, EndsTalk, EndsOpened, TakesLine}
 
 -- ---- a line is what a reader gives up to a line feed
 

@@ -1,17 +1,12 @@
 -- A line that begins a script has `script` as its first word: from the table of first words.
-use Rattle.std.proofs.Common.{◌≡◌, ℕ, List, [], ◌∷◌, Bool, true, false, Some, None, Result, Ok, Err, refl, ap, ◌∙◌}
-use Rattle.std.specs.Prelude.{if◌then◌else◌, bytes_eq, slice_index, codes, ◌==◌}
-use Rattle.sk_words.specs.declared.fault.FaultKind.{FaultKind}
-use Rattle.sk_words.specs.Faults.{◌>>=◌}
-use Rattle.sk_words.specs.Tables.{Rule, rule_in}
-use Rattle.sk_words.specs.Words.{words, first_of}
-use Rattle.sk_words.specs.Operands.{none_of}
-use Rattle.sk_scenario.specs.declared.declarations.Heading.{Heading}
+use Rattle.sk_scenario.proofs.Names.{◌≡◌, ℕ, List, [], ◌∷◌, Bool, true, false, Some, None, Result, Ok, Err, refl, ap}
+use Rattle.sk_scenario.proofs.Names.{◌∙◌, if◌then◌else◌, bytes_eq, slice_index, codes, ◌==◌, FaultKind, ◌>>=◌, Rule}
+use Rattle.sk_scenario.proofs.Names.{rule_in, words, first_of, none_of, Heading, Said, Declared, declares}
+use Rattle.sk_scenario.proofs.Names.{declared_next, heading_rule, line_said, new_script, begins_script}
+use Rattle.sk_scenario.proofs.Names.{begins_script_of}
 use Rattle.sk_scenario.specs.declared.declarations.Heading.TheVariants as headings
-use Rattle.sk_scenario.specs.declared.declarations.Said.{Said}
 use Rattle.sk_scenario.specs.declared.declarations.Said.TheVariants as says
-use Rattle.sk_scenario.specs.Declarations.{Declared, declares, declared_next, heading_rule, line_said, new_script, says_next}
-use Rattle.sk_scenario.specs.Scenario.{begins_script, begins_script_of}
+use Rattle.sk_scenario.specs.Declarations.{says_next}
 
 -- no script is begun
 abbrev NoScript : Result (Said × Declared) FaultKind → Type 0

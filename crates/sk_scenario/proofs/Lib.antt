@@ -1,3 +1,4 @@
+pub mod Names
 pub mod Heading
 pub mod Scripts
 pub mod Told

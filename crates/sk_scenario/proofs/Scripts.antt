@@ -1,13 +1,8 @@
 -- Where a script's lines end: from the lines before the first whose first word is `end`.
-use Rattle.std.proofs.Common.{◌≡◌, ℕ, zero, suc, ◌+◌, ◌-◌, Bool, true, false, not, ◌&&◌, List, [], ◌∷◌, ◌++◌, length, take, drop, Option, Some, None, Err, refl, sym, ap, ◌∙◌, arith}
-use Rattle.std.specs.Prelude.{MatchOption}
-use Rattle.std.specs.List.{list_all}
-use Rattle.std.proofs.lemmas.List.{append_assoc}
-use Rattle.std.proofs.lemmas.List.{append-nil}
-use Rattle.sk_words.specs.declared.fault.Fault.{Fault}
-use Rattle.sk_script.specs.Scripting.{script_from}
-use Rattle.sk_scenario.specs.Declarations.{Declared}
-use Rattle.sk_scenario.specs.Scenario.{Begun, is_end, scenario_from, script_ends, script_unended}
+use Rattle.sk_scenario.proofs.Names.{◌≡◌, ℕ, zero, suc, ◌+◌, ◌-◌, Bool, true, false, not, ◌&&◌, List, [], ◌∷◌, ◌++◌}
+use Rattle.sk_scenario.proofs.Names.{length, take, drop, Option, Some, None, Err, refl, sym, ap, ◌∙◌, arith}
+use Rattle.sk_scenario.proofs.Names.{MatchOption, list_all, append_assoc, append-nil, Fault, script_from, Declared}
+use Rattle.sk_scenario.proofs.Names.{Begun, is_end, scenario_from, script_ends, script_unended}
 
 -- ---- lists
 

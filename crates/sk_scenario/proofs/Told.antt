@@ -1,27 +1,17 @@
 -- What is told of the lines that are left is told of the scenario: from where its first fault can stand.
-use Rattle.std.proofs.Common.{◌≡◌, ◌<◌, ◌≤◌, inl, inr, ltb, ℕ, ◌+◌, ◌-◌, Bool, true, false, not, List, [], ◌∷◌, ◌++◌, length, Option, Some, None, Result, Ok, Err, refl, sym, ap, ◌∙◌, arith}
-use Rattle.std.specs.Prelude.{◌⊎◌, MatchOption, if◌then◌else◌}
-use Rattle.std.proofs.lemmas.Bool.{ltb-true, ltb-false}
-use Rattle.std.specs.List.{list_all}
-use Rattle.std.proofs.lemmas.List.{length-append, append_assoc, append-nil}
-use Rattle.sk_words.specs.declared.fault.FaultKind.{FaultKind}
+use Rattle.sk_scenario.proofs.Names.{◌≡◌, ◌<◌, ◌≤◌, inl, inr, ltb, ℕ, ◌+◌, ◌-◌, Bool, true, false, not, List, [], ◌∷◌}
+use Rattle.sk_scenario.proofs.Names.{◌++◌, length, Option, Some, None, Result, Ok, Err, refl, sym, ap, ◌∙◌, arith, ◌⊎◌}
+use Rattle.sk_scenario.proofs.Names.{MatchOption, if◌then◌else◌, ltb-true, ltb-false, list_all, length-append}
+use Rattle.sk_scenario.proofs.Names.{append_assoc, append-nil, FaultKind, Fault, words, first_of, at, read_from}
+use Rattle.sk_scenario.proofs.Names.{TellsKind, Tells, fault_at, fault_is_behind, Instruction, ComesFirst, TellsScript}
+use Rattle.sk_scenario.proofs.Names.{script_from, script_is_behind, Heading, Said, event_line, trace_from, step_line}
+use Rattle.sk_scenario.proofs.Names.{world_line, Declared, TellsNext, line_said, Begun, is_end, ended, more}
+use Rattle.sk_scenario.proofs.Names.{with_script, with_section, SectionView, Steps, World, Trace, section_from, goes_on}
+use Rattle.sk_scenario.proofs.Names.{scenario_from, script_ends, IsEdge, IsEdgeOf, IsScriptEdge, ComesBefore, TellsUpTo}
+use Rattle.sk_scenario.proofs.Names.{AreLeft}
 use Rattle.sk_words.specs.declared.fault.FaultKind.TheVariants as kinds
-use Rattle.sk_words.specs.declared.fault.Fault.{Fault}
-use Rattle.sk_words.specs.Words.{words, first_of}
-use Rattle.sk_words.specs.Reading.{at, read_from, TellsKind, Tells}
-use Rattle.sk_words.proofs.FirstFault.{fault_at, fault_is_behind}
-use Rattle.sk_script.specs.declared.instruction.Instruction.{Instruction}
-use Rattle.sk_script.specs.Scripting.{ComesFirst, TellsScript, script_from}
-use Rattle.sk_script.proofs.Told.{script_is_behind}
-use Rattle.sk_scenario.specs.declared.declarations.Heading.{Heading}
 use Rattle.sk_scenario.specs.declared.declarations.Heading.TheVariants as headings
-use Rattle.sk_scenario.specs.declared.declarations.Said.{Said}
 use Rattle.sk_scenario.specs.declared.declarations.Said.TheVariants as says
-use Rattle.sk_trace.specs.Lines.{event_line, trace_from}
-use Rattle.sk_scenario.specs.Calls.{step_line}
-use Rattle.sk_scenario.specs.WorldEvents.{world_line}
-use Rattle.sk_scenario.specs.Declarations.{Declared, TellsNext, line_said}
-use Rattle.sk_scenario.specs.Scenario.{Begun, is_end, ended, more, with_script, with_section, SectionView, Steps, World, Trace, section_from, goes_on, scenario_from, script_ends, IsEdge, IsEdgeOf, IsScriptEdge, ComesBefore, TellsUpTo, AreLeft}
 use Rattle.sk_scenario.proofs.Heading.{line_begins}
 use Rattle.sk_scenario.proofs.Scripts.{begun, cut_none, cut_end, faulty}
 

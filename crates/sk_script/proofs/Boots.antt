@@ -1,27 +1,13 @@
 -- Each declaration keeps what holds of every boot.
-use Rattle.std.proofs.Common.{◌≡◌, ◌≢◌, ◌<◌, ◌==◌, ℕ, Bool, true, false, ◌||◌, cond, List, [], ◌∷◌, length, get_or, Option, Some, is_some, refl, sym, ap, ◌∙◌, arith, length-append}
-use Rattle.std.specs.Prelude.{bytes_eq}
-use Rattle.std.specs.List.{list_any}
+use Rattle.sk_script.proofs.Names.{◌≡◌, ◌≢◌, ◌<◌, ◌==◌, ℕ, Bool, true, false, ◌||◌, cond, List, [], ◌∷◌, length, get_or}
+use Rattle.sk_script.proofs.Names.{Option, Some, is_some, refl, sym, ap, ◌∙◌, arith, length-append, bytes_eq, list_any}
+use Rattle.sk_script.proofs.Names.{get-insert, get-empty, eq_by_cmp, nat_cmp, eq_by_cmp_equiv, nat_cmp_total}
+use Rattle.sk_script.proofs.Names.{nat_list_cmp_total, false≢true, Decides-eqb, nat_tests, All-nil, All-push}
+use Rattle.sk_script.proofs.Names.{All-weaker, list_any_at, list_any-append, all_pairs_push, bytes_eq-Decides}
+use Rattle.sk_script.proofs.Names.{is_eq-slice_cmp, ContentView, name_order, ScriptMap, Instruction, ObjectKind}
+use Rattle.sk_script.proofs.Names.{BootObject, BootProcess, BootView, IsBoot, has_script, has_object, has_copy}
+use Rattle.sk_script.proofs.Names.{has_process, AreFound, with_script, with_object, with_copy, with_process}
 use Rattle.std.specs.FinMap as map
-use Rattle.std.specs.FinMap.{get-insert, get-empty}
-use Rattle.std.specs.Ordering.{eq_by_cmp, nat_cmp}
-use Rattle.std.specs.Cmp.{eq_by_cmp_equiv, nat_cmp_total}
-use Rattle.std.specs.Cmp.Lexicographic.{nat_list_cmp_total}
-use Rattle.std.proofs.lemmas.Bool.{false≢true}
-use Rattle.std.proofs.lemmas.Bool.Decides.{Decides-eqb, nat_tests}
-use Rattle.std.proofs.lemmas.List.Elements.{All-nil, All-push, All-weaker}
-use Rattle.std.proofs.lemmas.List.Folds.{list_any_at, list_any-append}
-use Rattle.std.proofs.lemmas.List.Quantifiers.{all_pairs_push}
-use Rattle.std.proofs.lemmas.Slice.Eq.{bytes_eq-Decides}
-use Rattle.std.proofs.lemmas.Map.Text.{is_eq-slice_cmp}
-use Rattle.sk_objects.specs.Content.{ContentView}
-use Rattle.sk_ids.specs.Name.{name_order}
-use Rattle.sk_script.specs.Scripts.{ScriptMap}
-use Rattle.sk_script.specs.declared.instruction.Instruction.{Instruction}
-use Rattle.sk_script.specs.declared.boot.ObjectKind.{ObjectKind}
-use Rattle.sk_script.specs.declared.boot.BootObject.{BootObject}
-use Rattle.sk_script.specs.declared.boot.BootProcess.{BootProcess}
-use Rattle.sk_script.specs.Boot.{BootView, IsBoot, has_script, has_object, has_copy, has_process, AreFound, with_script, with_object, with_copy, with_process}
 
 -- where no element passes a test, none does
 none_passes : {X : Type 0} (p : X → Bool) (xs : List X) → list_any p xs ≡ false → (k : ℕ) (d : X) → k < length xs → p (get_or xs k d) ≡ true → ⊥

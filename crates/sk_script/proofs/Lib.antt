@@ -1,3 +1,4 @@
+pub mod Names
 pub mod Boots
 pub mod Marks
 pub mod Told

@@ -1,10 +1,7 @@
 -- Labels as they are kept, and the lines that declare them one after the other: from the definition of labels.
-use Rattle.std.proofs.Common.{◌≡◌, ◌≤◌, ℕ, List, [], ◌∷◌, ◌++◌, map, sym, append_assoc, arith}
-use Rattle.std.proofs.lemmas.List.{append-nil}
-use Rattle.sk_script.specs.declared.parse.labels.Mark.{Mark}
-use Rattle.sk_words.specs.Words.{words}
-use Rattle.sk_script.specs.Instructions.{Labels}
-use Rattle.sk_script.specs.Scripting.{Line, Ignored, Declares, Does, line_of, labels_of, next_place, labels_from}
+use Rattle.sk_script.proofs.Names.{◌≡◌, ◌≤◌, ℕ, List, [], ◌∷◌, ◌++◌, map, sym, append_assoc, arith, append-nil, Mark}
+use Rattle.sk_script.proofs.Names.{words, Labels, Line, Ignored, Declares, Does, line_of, labels_of, next_place}
+use Rattle.sk_script.specs.Scripting.{labels_from}
 
 abbrev pub seen : List Mark → Labels
 seen marks = map (λ m. (m.name, m.place)) marks

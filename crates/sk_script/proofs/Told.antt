@@ -1,11 +1,8 @@
 -- What is told of a script's lines is told of the script: from the reader of lines.
-use Rattle.std.proofs.Common.{◌≡◌, ◌<◌, ◌≤◌, inl, inr, ℕ, List, Result, Ok, Err, refl, arith}
-use Rattle.std.specs.Prelude.{◌⊎◌}
+use Rattle.sk_script.proofs.Names.{◌≡◌, ◌<◌, ◌≤◌, inl, inr, ℕ, List, Result, Ok, Err, refl, arith, ◌⊎◌, Fault}
+use Rattle.sk_script.proofs.Names.{read_from, Tells, fault_is_behind, ScriptState, ComesFirst, TellsScript}
+use Rattle.sk_script.proofs.Names.{instructions_in, opening, script_from, script_line}
 use Rattle.sk_words.specs.declared.fault.FaultKind.TheVariants as kinds
-use Rattle.sk_words.specs.declared.fault.Fault.{Fault}
-use Rattle.sk_words.specs.Reading.{read_from, Tells}
-use Rattle.sk_words.proofs.FirstFault.{fault_is_behind}
-use Rattle.sk_script.specs.Scripting.{ScriptState, ComesFirst, TellsScript, instructions_in, opening, script_from, script_line}
 
 comes_first : (first last : ℕ) (f g : Fault) → ((f ≡ g) ⊎ ((f.kind ≡ kinds.Memory) × (first ≤ f.line) × (f.line < g.line)))
     → (f ≡ g) ⊎ ((f.kind ≡ kinds.Memory) × ComesFirst first f g)

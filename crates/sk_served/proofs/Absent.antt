@@ -1,27 +1,16 @@
 -- A key that is absent and rests on no guess when an entry is taken is absent in each plain run of what is left, at that entry.
-use Rattle.std.proofs.Common.{◌≡◌, ℕ, Bool, true, false, ◌||◌, List, [], ◌∷◌, ◌++◌, map, Option, Some, None, Result, Ok, Err, IsOk, inl, inr, refl, sym, ap, subst, ◌∙◌}
-use Rattle.std.specs.Prelude.{◌==◌}
-use Rattle.std.specs.List.{list_any}
-use Rattle.std.specs.Cmp.{IsTotalOrder}
-use Rattle.std.specs.Ordering.{eq_by_cmp}
-use Rattle.std.specs.FinMap.{FinMap, get, IsAntisymmetric}
-use Rattle.std.proofs.lemmas.Bool.{or_parts, or_from, or_cases, true≢false, false≢true, eqb-true, false_from_ne_true}
-use Rattle.std.proofs.lemmas.List.{append_assoc}
-use Rattle.std.proofs.lemmas.List.Folds.{list_any-append}
-use Rattle.sk_record.specs.Step.{Effect}
-use Rattle.sk_record.specs.Effects.{MarkedEffect, is_in, is_marked, hit, hits, dirt, dirtied, keep, writes, touches}
-use Rattle.sk_record.specs.Run.{System, outcome, after, marked_effect, put_all, run, IsLegal, effects}
-use Rattle.sk_record.specs.Strike.{strike}
-use Rattle.sk_record.specs.Notes.{has, without}
-use Rattle.sk_record.specs.Trace.{Event, Taken, Commit, Fail, IsTagOf, IsSound, record_of, marks, still_marked, Record, recorded, all_recorded, no_record, IsFresh}
-use Rattle.sk_record.proofs.Chains.{dirt_is}
-use Rattle.sk_record.proofs.Later.{SameOff, any_same, dirtied_other, dirtied_same}
-use Rattle.sk_record.proofs.Machine.{has_filter, nil_right, own_dirt}
-use Rattle.sk_record.proofs.Runs.{AgreeOn, Alike, same_accepted}
-use Rattle.sk_record.proofs.Sets.{none_of_both, get-put_all_other, get-put_all_same}
-use Rattle.sk_record.proofs.Sound.{each_event, entries_are, fresh_from, sound_before, undecided_is}
-use Rattle.sk_record.proofs.Tidy.{recorded_more}
-use Rattle.sk_record.proofs.UndoStates.{and_both}
+use Rattle.sk_served.proofs.Names.{◌≡◌, ℕ, Bool, true, false, ◌||◌, List, ◌∷◌, ◌++◌, map, Option, Some, None, Result}
+use Rattle.sk_served.proofs.Names.{Ok, Err, IsOk, inl, inr, refl, sym, ap, subst, ◌∙◌, ◌==◌, list_any, IsTotalOrder}
+use Rattle.sk_served.proofs.Names.{eq_by_cmp, FinMap, get, IsAntisymmetric, or_parts, or_from, or_cases, true≢false}
+use Rattle.sk_served.proofs.Names.{false≢true, eqb-true, false_from_ne_true, append_assoc, list_any-append, Effect}
+use Rattle.sk_served.proofs.Names.{MarkedEffect, is_in, is_marked, hit, hits, dirt, dirtied, keep, writes, touches}
+use Rattle.sk_served.proofs.Names.{System, outcome, after, marked_effect, put_all, run, IsLegal, effects, strike, has}
+use Rattle.sk_served.proofs.Names.{without, Event, Taken, Commit, Fail, IsTagOf, IsSound, record_of, marks}
+use Rattle.sk_served.proofs.Names.{still_marked, Record, recorded, all_recorded, no_record, IsFresh, dirt_is, SameOff}
+use Rattle.sk_served.proofs.Names.{any_same, dirtied_other, dirtied_same, has_filter, nil_right, own_dirt, AgreeOn}
+use Rattle.sk_served.proofs.Names.{Alike, same_accepted, none_of_both, get-put_all_other, get-put_all_same, each_event}
+use Rattle.sk_served.proofs.Names.{entries_are, fresh_from, sound_before, undecided_is, recorded_more, and_both}
+use Rattle.std.proofs.Common.{[]}
 
 none_in : {E : Type 0} (p : E → Bool) (es : List E) → ((e : E) → p e ≡ false) → list_any p es ≡ false
 none_in p [] h = refl

@@ -1,23 +1,10 @@
 -- What a batch logs rests on its guess.
-use Rattle.std.proofs.Common.{◌≡◌, ◌<◌, ℕ, suc, true, List, [], ◌∷◌, ◌++◌, map, slice_get, Option, Some, Ok, refl, ap, ◌∙◌}
-use Rattle.std.specs.Prelude.{zero}
-use Rattle.std.specs.Ordering.{eq_by_cmp}
-use Rattle.std.specs.FinMap.{FinMap, get}
-use Rattle.std.specs.List.{list_any}
-use Rattle.std.proofs.lemmas.Bool.{or_left, or_right}
-use Rattle.std.proofs.lemmas.List.Folds.{list_any-append}
-use Rattle.std.proofs.lemmas.Slice.Eq.{bytes_eq-Decides}
-use Rattle.sk_record.specs.Effects.{Dep, fed, itself, is_in, touches, writes, MarkedEffect}
-use Rattle.sk_record.specs.Run.{after, effects, marked_effect, outcome}
-use Rattle.sk_record.proofs.Chains.{in_from}
-use Rattle.sk_deeds.specs.Deed.{effect_of}
-use Rattle.sk_commands.specs.declared.work.Answer.{Answer}
-use Rattle.sk_commands.specs.Table.{Have}
-use Rattle.sk_commands.specs.Work.{looks_at}
-use Rattle.sk_plain_store.specs.Plain.{bytes_cmp}
-use Rattle.sk_plain_store.proofs.Kept.{bytes_same, bytes_total, tied_is}
-use Rattle.sk_reserved.specs.Keys.{batch_key}
-use Rattle.sk_served.specs.Served.{batch_keys, deed, mark, served, Asked, Entry, Opens, Runs}
+use Rattle.sk_served.proofs.Names.{◌≡◌, ◌<◌, ℕ, suc, true, List, [], ◌∷◌, ◌++◌, map, slice_get, Option, Some, Ok, refl}
+use Rattle.sk_served.proofs.Names.{ap, ◌∙◌, zero, eq_by_cmp, FinMap, get, list_any, or_left, or_right, list_any-append}
+use Rattle.sk_served.proofs.Names.{bytes_eq-Decides, Dep, fed, itself, is_in, touches, writes, MarkedEffect, after}
+use Rattle.sk_served.proofs.Names.{effects, marked_effect, outcome, in_from, effect_of, Answer, Have, looks_at}
+use Rattle.sk_served.proofs.Names.{bytes_cmp, bytes_same, bytes_total, tied_is, batch_key, batch_keys, deed, mark}
+use Rattle.sk_served.proofs.Names.{served, Asked, Entry, Opens, Runs}
 use Rattle.sk_served.proofs.Steps.{acts}
 
 -- what an entry leaves, where keys have this

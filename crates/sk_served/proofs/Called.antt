@@ -1,28 +1,12 @@
 -- What is known of a store after each of its calls.
-use Rattle.std.proofs.Common.{◌≡◌, ℕ, List, [], ◌∷◌, ◌++◌, map, refl, sym, ap, subst, append_assoc, ◌∙◌}
-use Rattle.std.specs.List.{AllByRecursion}
-use Rattle.std.specs.FinMap.{FinMap}
-use Rattle.std.proofs.lemmas.Bool.{true≢false}
-use Rattle.std.proofs.lemmas.List.{append-nil}
-use Rattle.sk_record.specs.Notes.{has}
-use Rattle.sk_record.specs.Strike.{struck}
-use Rattle.sk_record.specs.Trace.{Event, Taken, Commit, Fail, all_recorded, no_record, record_after, record_of}
-use Rattle.sk_record.specs.Merged.{MergedStands}
-use Rattle.sk_record.proofs.Merged.{merged_run}
-use Rattle.sk_record.proofs.Sound.{record_more}
-use Rattle.sk_record.proofs.UndoStates.{and_both}
-use Rattle.sk_deeds.specs.Moves.{Moves, Starts}
-use Rattle.sk_deeds.specs.Told.{moves_of, told_more, with_told, Call, Does, Tells, Told}
-use Rattle.sk_deeds.proofs.Runs.{first, one}
-use Rattle.sk_deeds.proofs.Told.{commits_told, fails_told, stands_told, takes_told}
-use Rattle.sk_commands.specs.declared.work.Answer.{Answer}
-use Rattle.sk_plain_store.specs.Plain.{held, Entries}
-use Rattle.sk_plain_store.proofs.Kept.{bytes_total, tied_is}
-use Rattle.sk_served.specs.Served.{served, Entry, Opens, Runs}
-use Rattle.sk_served.specs.Names.{NamesNoReserved}
-use Rattle.sk_served.specs.Plain.{entries_after, replies_to}
-use Rattle.sk_served.specs.Laws.{HoldsSame}
-use Rattle.sk_served.specs.Calls.{IsProper, Kernel, StoreCalls}
+use Rattle.sk_served.proofs.Names.{◌≡◌, ℕ, List, [], ◌∷◌, ◌++◌, map, refl, sym, ap, subst, ◌∙◌, AllByRecursion, FinMap}
+use Rattle.sk_served.proofs.Names.{true≢false, append-nil, has, struck, Event, Taken, Commit, Fail, all_recorded}
+use Rattle.sk_served.proofs.Names.{no_record, record_after, record_of, MergedStands, merged_run, record_more, and_both}
+use Rattle.sk_served.proofs.Names.{Moves, Starts, moves_of, told_more, with_told, Call, Does, Tells, Told, first, one}
+use Rattle.sk_served.proofs.Names.{commits_told, fails_told, stands_told, takes_told, Answer, held, Entries}
+use Rattle.sk_served.proofs.Names.{bytes_total, tied_is, served, Entry, Opens, Runs, NamesNoReserved, entries_after}
+use Rattle.sk_served.proofs.Names.{replies_to, HoldsSame, IsProper, Kernel, StoreCalls}
+use Rattle.std.proofs.Common.{append_assoc}
 use Rattle.sk_served.proofs.Absent.{after_event, clean_record, CleanAt, StandsClean}
 use Rattle.sk_served.proofs.Runs.{runs_plain}
 use Rattle.sk_served.proofs.Stored.{all_kept, lacks, not_true, one_longer, told_all, told_first, Rises}

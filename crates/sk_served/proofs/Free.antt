@@ -1,23 +1,15 @@
 -- What names no reserved key writes none.
-use Rattle.std.proofs.Common.{◌≡◌, ℕ, ℤ, Bool, true, false, List, [], ◌∷◌, ◌++◌, map, Option, Some, None, bytes_eq, nat_le, length, if◌then◌else◌, refl, sym, subst, ◌∙◌}
-use Rattle.std.specs.Prelude.{◌+ℤ◌}
-use Rattle.std.specs.List.{list_any}
-use Rattle.std.proofs.lemmas.Bool.{or_parts, true≢false}
-use Rattle.std.proofs.lemmas.Slice.Eq.{bytes_eq-Decides}
-use Rattle.sk_commands.specs.declared.command.Command.{Command}
-use Rattle.sk_commands.specs.declared.command.Command.TheVariants.{Get, Set, Del, Exists, Add, Append, StrLen, MGet, MSet, DbSize, KeysWith, FlushAll, Ping, Echo, Wrong}
-use Rattle.sk_commands.specs.declared.reply.Reply.{Reply}
-use Rattle.sk_commands.specs.declared.reply.Reply.TheVariants.{Error}
-use Rattle.sk_commands.specs.declared.fault.Fault.TheVariants.{TooLong}
-use Rattle.sk_commands.specs.declared.run.TheConstants.{VALUE_LIMIT}
-use Rattle.sk_commands.specs.declared.work.Work.{Work}
+use Rattle.sk_served.proofs.Names.{◌≡◌, ℕ, ℤ, Bool, true, false, List, [], ◌∷◌, ◌++◌, map, Option, Some, None, bytes_eq}
+use Rattle.sk_served.proofs.Names.{nat_le, length, if◌then◌else◌, refl, sym, subst, ◌∙◌, ◌+ℤ◌, list_any, or_parts}
+use Rattle.sk_served.proofs.Names.{true≢false, bytes_eq-Decides, Command, Get, Set, Del, Exists, Add, Append, StrLen}
+use Rattle.sk_served.proofs.Names.{MGet, MSet, DbSize, KeysWith, FlushAll, Ping, Echo, Wrong, Reply, Error, TooLong}
+use Rattle.sk_served.proofs.Names.{VALUE_LIMIT, Work, fitting, added, bytes_of, counted, joined, may_set, number_at}
+use Rattle.sk_served.proofs.Names.{pairs_of, present, puts, removals, replies, set, set_reply, there, counts, Have}
+use Rattle.sk_served.proofs.Names.{Written, comes_to, each, known_after, with_value, is_reserved}
+use Rattle.sk_served.proofs.Names.{command_names_reserved, names_reserved, HasNoReserved}
 use Rattle.sk_commands.specs.declared.work.Work.TheVariants as works
-use Rattle.sk_commands.specs.Numbers.{fitting}
-use Rattle.sk_commands.specs.Table.{added, bytes_of, counted, joined, may_set, number_at, outcome, pairs_of, present, puts, removals, replies, set, set_reply, there, counts, Have, Written}
-use Rattle.sk_commands.specs.Work.{after, comes_to, each, known_after, with_value}
-use Rattle.sk_reserved.specs.Keys.{is_reserved}
-use Rattle.sk_served.specs.Names.{command_names_reserved, names_reserved}
-use Rattle.sk_served.specs.Known.{HasNoReserved}
+use Rattle.sk_commands.specs.Table.{outcome}
+use Rattle.sk_commands.specs.Work.{after}
 
 -- What is written to a reserved key makes it absent.
 abbrev pub AreFree : Written → Type 0

@@ -1,28 +1,20 @@
 -- Which absent keys are known too changes nothing.
-use Rattle.std.proofs.Common.{◌≡◌, ℕ, Bool, true, false, ◌&&◌, ◌||◌, cond, T, List, [], ◌∷◌, map, filter, length, count_by, Option, Some, None, is_some, bytes_eq, refl, sym, ap, subst, ◌∙◌}
-use Rattle.std.specs.Ordering.{is_lt}
-use Rattle.std.specs.FinMap.{is_sorted, put}
-use Rattle.std.specs.FinMap.Entries.{below_all, by_order, find-put, find-where_key, is_sorted-put, is_sorted-where_key, same_entries, where_key}
-use Rattle.std.specs.List.{list_any, AllByRecursion}
+use Rattle.sk_served.proofs.Names.{◌≡◌, ℕ, Bool, true, false, ◌&&◌, ◌||◌, cond, T, List, [], ◌∷◌, map, filter, length}
+use Rattle.sk_served.proofs.Names.{count_by, Option, Some, None, is_some, bytes_eq, refl, sym, ap, subst, ◌∙◌, is_lt}
+use Rattle.sk_served.proofs.Names.{is_sorted, put, below_all, by_order, find-put, find-where_key, is_sorted-put}
+use Rattle.sk_served.proofs.Names.{is_sorted-where_key, same_entries, where_key, list_any, AllByRecursion, Ordering}
+use Rattle.sk_served.proofs.Names.{Less, Equal, Greater, or_parts, true≢false, length-filter, Command, Get, Set, Del}
+use Rattle.sk_served.proofs.Names.{Exists, Add, Append, StrLen, MGet, MSet, DbSize, KeysWith, FlushAll, Ping, Echo}
+use Rattle.sk_served.proofs.Names.{Wrong, Reply, Array, Work, begins_with, counts, flushed, is_among, is_told_of_all}
+use Rattle.sk_served.proofs.Names.{listed, present, replies, Have, Outcome, Written, answered, comes_to, each, followed}
+use Rattle.sk_served.proofs.Names.{known_after, wants_all, with_known, with_value, alone, bytes_cmp, held, keys_of}
+use Rattle.sk_served.proofs.Names.{Entries, bytes_same, bytes_total, knows, tied_is, is_reserved, HasNoReserved}
+use Rattle.sk_served.proofs.Names.{KnowsAll}
 use Rattle.std.specs.List.Sorted.{IsStrictlySortedBy}
-use Rattle.std.specs.declared.cmp.Ordering.{Ordering}
-use Rattle.std.specs.declared.cmp.Ordering.TheVariants.{Less, Equal, Greater}
-use Rattle.std.proofs.lemmas.Bool.{or_parts, true≢false}
-use Rattle.std.proofs.lemmas.List.Sums.{length-filter}
-use Rattle.sk_commands.specs.declared.command.Command.{Command}
-use Rattle.sk_commands.specs.declared.command.Command.TheVariants.{Get, Set, Del, Exists, Add, Append, StrLen, MGet, MSet, DbSize, KeysWith, FlushAll, Ping, Echo, Wrong}
-use Rattle.sk_commands.specs.declared.reply.Reply.{Reply}
-use Rattle.sk_commands.specs.declared.reply.Reply.TheVariants.{Array}
-use Rattle.sk_commands.specs.declared.work.Work.{Work}
 use Rattle.sk_commands.specs.declared.work.Work.TheVariants as works
 use Rattle.sk_commands.specs.declared.work.Answer.TheVariants as answers
-use Rattle.sk_commands.specs.Table.{begins_with, counts, flushed, is_among, is_told_of_all, listed, outcome, present, replies, Have, Outcome, Written}
-use Rattle.sk_commands.specs.Work.{after, answered, comes_to, each, followed, known_after, wants_all, with_known, with_value}
-use Rattle.sk_commands.proofs.Queued.{alone}
-use Rattle.sk_plain_store.specs.Plain.{bytes_cmp, held, keys_of, Entries}
-use Rattle.sk_plain_store.proofs.Kept.{bytes_same, bytes_total, knows, tied_is}
-use Rattle.sk_reserved.specs.Keys.{is_reserved}
-use Rattle.sk_served.specs.Known.{HasNoReserved, KnowsAll}
+use Rattle.sk_commands.specs.Table.{outcome}
+use Rattle.sk_commands.specs.Work.{after}
 
 -- keys as entries that have nothing
 abbrev marked : List (List ℕ) → Entries

@@ -1,3 +1,4 @@
+pub mod Names
 pub mod Steps
 pub mod Known
 pub mod Free

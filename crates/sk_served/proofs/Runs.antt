@@ -1,25 +1,13 @@
 -- The plain run of entries is a plain store's.
-use Rattle.std.proofs.Common.{◌≡◌, ℕ, suc, Bool, true, false, cond, List, [], ◌∷◌, ◌++◌, map, Option, Some, None, if◌then◌else◌, refl, sym, ap, subst, ◌∙◌}
-use Rattle.std.specs.Prelude.{◌==◌}
-use Rattle.std.specs.List.{AllByRecursion}
-use Rattle.std.specs.Ordering.{eq_by_cmp}
-use Rattle.std.specs.FinMap.{FinMap, get}
-use Rattle.std.proofs.lemmas.Slice.Eq.{bytes_eq-Decides}
-use Rattle.sk_record.specs.Run.{after, effects, marked_effect, outcome, put, put_all, run}
-use Rattle.sk_record.specs.Release.{said_by, said_from}
-use Rattle.sk_record.proofs.Sets.{get-put}
-use Rattle.sk_record.proofs.Texts.{map_append}
-use Rattle.sk_commands.specs.declared.work.Answer.{Answer}
-use Rattle.sk_commands.specs.Table.{Outcome, Written}
-use Rattle.sk_commands.specs.Work.{after as written_after, comes_to, wants_all, with_value}
-use Rattle.sk_plain_store.specs.Plain.{bytes_cmp, held, keys_of, Entries}
-use Rattle.sk_plain_store.proofs.Kept.{bytes_same, bytes_total, holds_written, stays_in_order}
-use Rattle.sk_reserved.specs.Keys.{batch_key, is_reserved}
-use Rattle.sk_served.specs.Served.{deed, mark, served, Asked, Entry, Opens, Runs}
-use Rattle.sk_served.specs.Names.{NamesNoReserved}
-use Rattle.sk_served.specs.Plain.{entries_after, entry_after, replies_to, reply_to}
-use Rattle.sk_served.specs.Known.{AreTold, IsTold, KnowsAll}
-use Rattle.sk_served.specs.Laws.{HoldsSame}
+use Rattle.sk_served.proofs.Names.{◌≡◌, ℕ, suc, Bool, true, false, cond, List, [], ◌∷◌, ◌++◌, map, Option, Some, None}
+use Rattle.sk_served.proofs.Names.{if◌then◌else◌, refl, sym, ap, subst, ◌∙◌, ◌==◌, AllByRecursion, eq_by_cmp, FinMap}
+use Rattle.sk_served.proofs.Names.{get, bytes_eq-Decides, after, effects, marked_effect, outcome, put_all, run, said_by}
+use Rattle.sk_served.proofs.Names.{said_from, get-put, map_append, Answer, Outcome, Written, written_after, comes_to}
+use Rattle.sk_served.proofs.Names.{wants_all, with_value, bytes_cmp, held, keys_of, Entries, bytes_same, bytes_total}
+use Rattle.sk_served.proofs.Names.{holds_written, stays_in_order, batch_key, is_reserved, deed, mark, served, Asked}
+use Rattle.sk_served.proofs.Names.{Entry, Opens, Runs, NamesNoReserved, entries_after, entry_after, replies_to}
+use Rattle.sk_served.proofs.Names.{reply_to, AreTold, IsTold, KnowsAll, HoldsSame}
+use Rattle.sk_record.specs.Run.{put}
 use Rattle.sk_served.proofs.Steps.{acts}
 use Rattle.sk_served.proofs.Known.{alone_work, more_known, store_knows}
 use Rattle.sk_served.proofs.Free.{free_after, work_free}

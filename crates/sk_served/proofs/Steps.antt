@@ -1,15 +1,8 @@
 -- The step of an entry does what its deed says.
-use Rattle.std.proofs.Common.{◌≡◌, ℕ, List, [], ◌∷◌, ◌++◌, map, Option, Some, Result, Ok, Err, refl, sym, ap, ◌∙◌}
-use Rattle.std.specs.Option.{option_map}
-use Rattle.sk_record.specs.Step.{perform, with_read, Effect, Step, Ask, Refuse, Done}
-use Rattle.sk_record.proofs.Texts.{map_append}
-use Rattle.sk_deeds.specs.Deed.{asking, effect_of}
-use Rattle.sk_commands.specs.declared.work.Answer.{Answer}
-use Rattle.sk_commands.specs.Table.{Have}
-use Rattle.sk_commands.specs.Work.{comes_to, looks_at}
-use Rattle.sk_commands.specs.Law.{act as works}
-use Rattle.sk_commands.proofs.Asked.{act_does}
-use Rattle.sk_served.specs.Served.{act, batch_keys, deed, logged, Asked, Entry, Opens, Runs}
+use Rattle.sk_served.proofs.Names.{◌≡◌, ℕ, List, [], ◌∷◌, ◌++◌, map, Option, Some, Result, Ok, Err, refl, sym, ap, ◌∙◌}
+use Rattle.sk_served.proofs.Names.{option_map, perform, with_read, Effect, Step, Ask, Refuse, Done, map_append, asking}
+use Rattle.sk_served.proofs.Names.{effect_of, Answer, Have, comes_to, looks_at, works, act_does, act, batch_keys, deed}
+use Rattle.sk_served.proofs.Names.{logged, Asked, Entry, Opens, Runs}
 
 -- what keys have
 abbrev values : List (List ℕ) → Have → List (List ℕ × Option (List ℕ))

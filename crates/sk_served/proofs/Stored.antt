@@ -1,28 +1,11 @@
 -- What the calls of a kernel over entries come to.
-use Rattle.std.proofs.Common.{◌≡◌, ℕ, Bool, true, false, not, ◌&&◌, List, [], ◌∷◌, ◌++◌, map, is_some, refl, sym, ap, subst, ◌∙◌}
-use Rattle.std.specs.List.{AllByRecursion, fold}
-use Rattle.std.specs.List.Sorted.{IsStrictlySortedBy}
-use Rattle.std.specs.FinMap.{FinMap, get}
-use Rattle.std.proofs.lemmas.Bool.{true≢false}
-use Rattle.std.proofs.lemmas.List.{append_assoc}
-use Rattle.sk_record.specs.Effects.{keep}
-use Rattle.sk_record.specs.Run.{after, marked_effect, outcome}
-use Rattle.sk_record.specs.Strike.{struck}
-use Rattle.sk_record.specs.Trace.{Event, Taken, Commit, Fail, IsSound, record_after, record_of}
-use Rattle.sk_record.specs.Machine.{Machine, IsPlainRun}
-use Rattle.sk_record.proofs.UndoStates.{and_both}
-use Rattle.sk_deeds.specs.Told.{with_told, Told}
-use Rattle.sk_commands.specs.declared.work.Answer.{Answer}
-use Rattle.sk_commands.specs.Table.{is_among}
-use Rattle.sk_commands.specs.Work.{wants_all}
-use Rattle.sk_plain_store.specs.Plain.{bytes_cmp, held, Entries}
-use Rattle.sk_plain_store.proofs.Kept.{bytes_total, tied_is}
-use Rattle.sk_reserved.specs.Keys.{is_reserved}
-use Rattle.sk_served.specs.Served.{served, Entry, Opens, Runs}
-use Rattle.sk_served.specs.Names.{NamesNoReserved, NoneTakenNamesReserved}
-use Rattle.sk_served.specs.Plain.{entries_after, replies_to}
-use Rattle.sk_served.specs.Known.{AreTold, IsTold, LeaveOutNothing}
-use Rattle.sk_served.specs.Laws.{HoldsSame}
+use Rattle.sk_served.proofs.Names.{◌≡◌, ℕ, Bool, true, false, not, ◌&&◌, List, [], ◌∷◌, ◌++◌, map, is_some, refl, sym}
+use Rattle.sk_served.proofs.Names.{ap, subst, ◌∙◌, AllByRecursion, fold, IsStrictlySortedBy, FinMap, get, true≢false}
+use Rattle.sk_served.proofs.Names.{append_assoc, keep, after, marked_effect, outcome, struck, Event, Taken, Commit}
+use Rattle.sk_served.proofs.Names.{Fail, IsSound, record_after, record_of, Machine, IsPlainRun, and_both, with_told}
+use Rattle.sk_served.proofs.Names.{Told, Answer, is_among, wants_all, bytes_cmp, held, Entries, bytes_total, tied_is}
+use Rattle.sk_served.proofs.Names.{is_reserved, served, Entry, Opens, Runs, NamesNoReserved, NoneTakenNamesReserved}
+use Rattle.sk_served.proofs.Names.{entries_after, replies_to, AreTold, IsTold, LeaveOutNothing, HoldsSame}
 use Rattle.sk_served.proofs.Absent.{left_absent, AllClean, LacksClean, TakenClean, dirtier}
 use Rattle.sk_served.proofs.Runs.{runs_plain}
 

@@ -1,11 +1,7 @@
 -- What may not write leaves what was there.
-use Rattle.std.proofs.Common.{◌≡◌, Bool, true, false, List, [], ◌∷◌, if◌then◌else◌, refl, ap, ◌∙◌}
-use Rattle.sk_commands.specs.declared.work.Work.{Work}
-use Rattle.sk_commands.specs.Work.{may_write_some}
-use Rattle.sk_commands.proofs.Unwritten.{nothing_done}
-use Rattle.sk_plain_store.specs.Plain.{held, keys_of, written_to, Entries}
-use Rattle.sk_served.specs.Served.{Entry, Opens, Runs}
-use Rattle.sk_served.specs.Plain.{after_work, entries_after, works_after, writing}
+use Rattle.sk_served.proofs.Names.{◌≡◌, Bool, true, false, List, [], ◌∷◌, if◌then◌else◌, refl, ap, ◌∙◌, Work}
+use Rattle.sk_served.proofs.Names.{may_write_some, nothing_done, held, keys_of, written_to, Entries, Entry, Opens, Runs}
+use Rattle.sk_served.proofs.Names.{after_work, entries_after, works_after, writing}
 
 unchanged : (work : Work) (entries : Entries) → may_write_some work ≡ false → after_work work entries ≡ entries
 unchanged work entries is = ap (λ ws. written_to ws entries) (nothing_done work (keys_of entries) (held entries) is)

@@ -1,9 +1,7 @@
 -- What an answer tells of the request.
-use Rattle.std.proofs.Common.{◌≡◌, Bool, true, false, is_some, if◌then◌else◌, sym, ap, ◌∙◌}
-use Rattle.sk_server.specs.Server.{ServerView, remembered, is_dropped, judged, answer_to, refused_by, is_new_file, adds}
-use Rattle.sk_server.specs.declared.request.Request.{Request}
-use Rattle.sk_server.specs.declared.reply.Answer.{Answer}
-use Rattle.sk_server.specs.declared.reply.Answer.TheVariants.{Yes, No, Copy, Dropped}
+use Rattle.sk_server.proofs.Names.{◌≡◌, Bool, true, false, is_some, if◌then◌else◌, sym, ap, ◌∙◌, ServerView, remembered}
+use Rattle.sk_server.proofs.Names.{is_dropped, judged, answer_to, refused_by, is_new_file, adds, Request, Answer, Yes}
+use Rattle.sk_server.proofs.Names.{No, Copy, Dropped}
 
 not_dropped : (b : Bool) (a : Answer) → (if b then Dropped else a) ≡ Yes → a ≡ Yes
 not_dropped true a h = cc

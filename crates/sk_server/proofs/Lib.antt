@@ -1,2 +1,3 @@
+pub mod Names
 mod Remembered
 mod Judged

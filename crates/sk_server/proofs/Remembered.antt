@@ -1,6 +1,5 @@
 -- Tests of the elements that a filter leaves.
-use Rattle.std.proofs.Common.{◌≡◌, Bool, true, false, cond, ◌&&◌, ◌||◌, List, [], ◌∷◌, refl, ap}
-use Rattle.std.specs.List.{filter, list_any}
+use Rattle.sk_server.proofs.Names.{◌≡◌, Bool, true, false, cond, ◌&&◌, ◌||◌, List, [], ◌∷◌, refl, ap, filter, list_any}
 
 first_left : {X : Type 0} (p : X → Bool) (b : Bool) (x : X) (ys : List X) (r : Bool) → list_any p ys ≡ r → list_any p (cond b (x ∷ ys) ys) ≡ ((b && p x) || r)
 first_left p true x ys r h = ap (λ v. p x || v) h

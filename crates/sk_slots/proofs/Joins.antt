@@ -1,11 +1,8 @@
 -- Notes that have the tags of the note before them are left out, one after another.
-use Rattle.std.proofs.Common.{◌≡◌, ℕ, zero, suc, ◌<◌, ◌≤◌, length, take, Bool, true, false, not, cond, inr, List, [], ◌∷◌, Option, refl, sym, ◌∙◌, ap, subst, arith}
-use Rattle.std.specs.Prelude.{◌==◌, slice_index_or}
+use Rattle.sk_slots.proofs.Names.{◌≡◌, ℕ, zero, suc, ◌<◌, ◌≤◌, length, take, Bool, true, false, not, cond, inr, List}
+use Rattle.sk_slots.proofs.Names.{[], ◌∷◌, Option, refl, sym, ◌∙◌, ap, subst, arith, ◌==◌, slice_index_or, exact_bytes}
+use Rattle.sk_slots.proofs.Names.{Note, has, without, noted, last_tags, committed, Merges, merged, same_tags, past}
 use Rattle.std.specs.List.{remove}
-use Rattle.sk_ids.proofs.Same.{exact_bytes}
-use Rattle.sk_record.specs.Notes.{Note, has, without, noted, last_tags, committed}
-use Rattle.sk_record.specs.Merged.{Merges, merged, same_tags}
-use Rattle.sk_record.proofs.Merged.{past}
 
 abbrev pub HasTags : List ℕ → Type 0
 HasTags [] = ⊥

@@ -1,12 +1,8 @@
 -- Notes: the newest, the first that rests on a guess, and those that a commit leaves.
-use Rattle.std.proofs.Common.{◌≡◌, ℕ, zero, suc, ◌+◌, ◌-◌, ◌<◌, ◌≤◌, length, take, Bool, true, false, not, cond, List, [], ◌∷◌, ◌++◌, Option, refl, sym, ◌∙◌, ap, subst, arith}
-use Rattle.std.specs.Prelude.{slice_index_or}
-use Rattle.std.specs.List.{prefix_len}
-use Rattle.std.specs.List.Retain.{RetainsInTurn}
-use Rattle.sk_ids.proofs.Same.{exact_bytes}
-use Rattle.sk_record.specs.Notes.{Note, has, without, noted, last_tags, unwound, cut, committed}
-use Rattle.sk_record.specs.Merged.{same_tags}
-use Rattle.sk_slots.specs.Slot.{is_empty, goes_unnoted, noted_on}
+use Rattle.sk_slots.proofs.Names.{◌≡◌, ℕ, zero, suc, ◌+◌, ◌-◌, ◌<◌, ◌≤◌, length, take, Bool, true, false, not, cond}
+use Rattle.sk_slots.proofs.Names.{List, [], ◌∷◌, ◌++◌, Option, refl, sym, ◌∙◌, ap, subst, arith, slice_index_or}
+use Rattle.sk_slots.proofs.Names.{prefix_len, RetainsInTurn, exact_bytes, Note, has, without, noted, last_tags, unwound}
+use Rattle.sk_slots.proofs.Names.{cut, committed, same_tags, is_empty, goes_unnoted, noted_on}
 
 module _ {V : Type 0} where
   pub last_at : (t : List ℕ) (log : List (Note V)) (n : Note V) (i : ℕ) → i + 1 ≡ length log → n ≡ slice_index_or log i n → n.tags ≡ last_tags t log

@@ -1,19 +1,11 @@
 -- One slot of all is changed.
-use Rattle.std.proofs.Common.{◌≡◌, ℕ, List, [], ◌∷◌, Bool, true, false, cond, ◌||◌, ◌&&◌, not, Option, Some, None, ◌+◌, ◌<◌, length, drop, refl, sym, ◌∙◌, ap, subst}
-use Rattle.std.specs.Prelude.{◌==◌, get_or, is_none, Result, Ok, Err, OnOk, OnErr}
-use Rattle.std.specs.Ordering.{eq_by_cmp}
-use Rattle.std.specs.declared.cmp.Ordering.{Ordering}
-use Rattle.std.specs.Cmp.{IsTotalOrder, eq_by_cmp_equiv, Equal-is}
-use Rattle.std.specs.FinMap.{FinMap, IsAntisymmetric, get, insert, remove, get-insert, get-remove}
-use Rattle.std.proofs.lemmas.Bool.{true≢false}
-use Rattle.sk_record.specs.Effects.{is_in}
-use Rattle.sk_record.specs.Notes.{Note, has, without, noted, unwound, cut, committed}
-use Rattle.std.proofs.Math.Seq.{drop-cons}
-use Rattle.std.proofs.Math.Numerals.{suc-eq-add-one}
-use Rattle.sk_record.proofs.UndoStates.{and_both}
-use Rattle.std.specs.Option.{unwrap_or}
-use Rattle.sk_slots.specs.Slot.{SlotView, is_bare, is_empty, is_settled, IsPrepared}
-use Rattle.sk_slots.specs.Slots.{slot_in, HasPrepared}
+use Rattle.sk_slots.proofs.Names.{◌≡◌, ℕ, List, [], ◌∷◌, Bool, true, false, cond, ◌||◌, ◌&&◌, not, Option, Some, None}
+use Rattle.sk_slots.proofs.Names.{◌+◌, ◌<◌, length, drop, refl, sym, ◌∙◌, ap, subst, ◌==◌, get_or, is_none, Result, Ok}
+use Rattle.sk_slots.proofs.Names.{Err, OnOk, OnErr, eq_by_cmp, Ordering, IsTotalOrder, eq_by_cmp_equiv, Equal-is}
+use Rattle.sk_slots.proofs.Names.{FinMap, IsAntisymmetric, get, insert, remove, get-insert, get-remove, true≢false}
+use Rattle.sk_slots.proofs.Names.{is_in, Note, has, without, noted, unwound, cut, committed, drop-cons, suc-eq-add-one}
+use Rattle.sk_slots.proofs.Names.{and_both, unwrap_or, SlotView, is_bare, is_empty, is_settled, IsPrepared, slot_in}
+use Rattle.sk_slots.proofs.Names.{HasPrepared}
 
 empty_is : {A : Type 0} (xs : List A) → is_empty xs ≡ true → xs ≡ []
 empty_is [] is = refl

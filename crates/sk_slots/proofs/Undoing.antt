@@ -1,16 +1,11 @@
 -- Notes as they are kept: what is seen of them where one is added, joined with another, left out or put back.
-use Rattle.std.proofs.Common.{◌≡◌, ℕ, zero, suc, ◌+◌, ◌-◌, ◌<◌, ◌≤◌, length, take, drop, Bool, true, false, not, cond, List, [], ◌∷◌, ◌++◌, Option, Some, None, refl, sym, ◌∙◌, ap, subst, arith}
-use Rattle.std.specs.Prelude.{◌==◌, is_none, is_some, slice_index_or, slice_set}
-use Rattle.std.specs.List.{prefix_len, remove}
-use Rattle.std.proofs.lemmas.Bool.{true≢false, eqb-true}
-use Rattle.sk_record.specs.Notes.{Note, has, without, noted, last_tags, unwound, committed}
-use Rattle.sk_record.specs.Merged.{merged, same_tags}
-use Rattle.sk_inversion.specs.Undone.{value_before, CanJoin, FitsBefore}
-use Rattle.sk_inversion.specs.declared.before.Before.{Before}
-use Rattle.sk_inversion.specs.declared.before.Before.TheVariants.{Was, Changed}
-use Rattle.sk_slots.specs.declared.notes.Kept.{Kept}
-use Rattle.sk_slots.specs.Kept.{newest_tags, rewound, seen, CanGoBack}
-use Rattle.sk_slots.specs.Slot.{is_empty, goes_unnoted, noted_on}
+use Rattle.sk_slots.proofs.Names.{◌≡◌, ℕ, zero, suc, ◌+◌, ◌-◌, ◌<◌, ◌≤◌, length, take, drop, Bool, true, false, not}
+use Rattle.sk_slots.proofs.Names.{cond, List, [], ◌∷◌, ◌++◌, Option, Some, None, refl, sym, ◌∙◌, ap, subst, arith, ◌==◌}
+use Rattle.sk_slots.proofs.Names.{is_none, is_some, slice_index_or, slice_set, prefix_len, true≢false, eqb-true, Note}
+use Rattle.sk_slots.proofs.Names.{has, without, noted, last_tags, unwound, committed, merged, same_tags, value_before}
+use Rattle.sk_slots.proofs.Names.{CanJoin, FitsBefore, Before, Was, Changed, Kept, newest_tags, rewound, seen}
+use Rattle.sk_slots.proofs.Names.{CanGoBack, is_empty, goes_unnoted, noted_on}
+use Rattle.std.specs.List.{remove}
 use Rattle.sk_slots.proofs.Joins.{AllFree, HasTags, without_twice}
 
 module _ {V U : Type 0} (undone : U → V → V) where

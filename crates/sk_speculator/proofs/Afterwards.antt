@@ -1,54 +1,31 @@
 -- The parts of a kernel after each call, and what they then are.
-use Rattle.std.proofs.Common.{◌≡◌, ℕ, ◌<◌, ◌≤◌, ◌+◌, Bool, true, false, not, cond, ◌||◌, ◌&&◌, length, List, [], ◌∷◌, ◌++◌, map, Option, Some, None, Result, Ok, Err, inl, inr, refl, sym, ◌∙◌, ap, subst, arith}
-use Rattle.std.specs.Prelude.{◌==◌, ◌↔◌, IfSome}
-use Rattle.std.specs.List.{list_any, filter}
-use Rattle.std.specs.List.Sorted.{IsStrictlySortedBy}
-use Rattle.std.specs.Ordering.{eq_by_cmp, nat_cmp}
-use Rattle.std.specs.declared.cmp.Ordering.{Ordering}
-use Rattle.std.specs.Cmp.{IsTotalOrder, Equal-is}
-use Rattle.std.specs.FinMap.{FinMap, IsAntisymmetric, empty, get-empty}
-use Rattle.std.proofs.Math.Bool.{or_assoc}
-use Rattle.std.proofs.lemmas.Bool.{true≢false, false≢true, eqb-true, eq-eqb, or_left, or_right, or_cases, or_parts}
-use Rattle.std.proofs.lemmas.List.{append-nil}
-use Rattle.std.proofs.lemmas.List.Folds.{list_any-append}
-use Rattle.std.proofs.lemmas.Map.Keys.{sorted_from_strictly_increasing}
-use Rattle.std.specs.Option.{unwrap_or}
-use Rattle.sk_record.specs.Effects.{MarkedEffect, is_in, is_marked, written_value, writes}
-use Rattle.sk_record.specs.Run.{System, marked_effect}
-use Rattle.sk_record.specs.Release.{said_by}
-use Rattle.sk_record.specs.Notes.{Note, has, without, noted, last_tags, unwound, cut, committed}
-use Rattle.sk_record.specs.Trace.{Event, StatusIs, Taken, Commit, Fail, marks, all_recorded, no_record}
-use Rattle.sk_record.specs.UndoState.{Open, numbers, tags_at, step_tags, opened, still_open, not_struck, IsTidy, IsGrowing}
-use Rattle.sk_record.specs.Machine.{Machine, Fails, Tagged, lightened, not_dropped, with_status, with_drawn, with_failure}
-use Rattle.sk_record.specs.Merged.{Merges, MergedTakes, MergedCommits, MergedStands, merged as joined}
-use Rattle.sk_record.specs.declared.status.Status.{Status}
-use Rattle.sk_record.specs.declared.status.Status.TheVariants.{Undecided, Struck}
+use Rattle.sk_speculator.proofs.Names.{◌≡◌, ℕ, ◌<◌, ◌≤◌, ◌+◌, Bool, true, false, not, cond, ◌||◌, ◌&&◌, length, List}
+use Rattle.sk_speculator.proofs.Names.{[], ◌∷◌, ◌++◌, map, Option, Some, None, Result, Ok, Err, inl, inr, refl, sym}
+use Rattle.sk_speculator.proofs.Names.{◌∙◌, ap, subst, arith, ◌==◌, ◌↔◌, IfSome, list_any, filter, IsStrictlySortedBy}
+use Rattle.sk_speculator.proofs.Names.{eq_by_cmp, nat_cmp, Ordering, IsTotalOrder, Equal-is, FinMap, IsAntisymmetric}
+use Rattle.sk_speculator.proofs.Names.{empty, get-empty, or_assoc, true≢false, false≢true, eqb-true, eq-eqb, or_left}
+use Rattle.sk_speculator.proofs.Names.{or_right, or_cases, or_parts, append-nil, list_any-append}
+use Rattle.sk_speculator.proofs.Names.{sorted_from_strictly_increasing, unwrap_or, MarkedEffect, is_in, is_marked}
+use Rattle.sk_speculator.proofs.Names.{written_value, writes, System, marked_effect, said_by, Note, has, without, noted}
+use Rattle.sk_speculator.proofs.Names.{last_tags, unwound, cut, committed, Event, StatusIs, Taken, Commit, Fail, marks}
+use Rattle.sk_speculator.proofs.Names.{all_recorded, no_record, Open, numbers, tags_at, step_tags, opened, still_open}
+use Rattle.sk_speculator.proofs.Names.{not_struck, IsTidy, IsGrowing, Machine, Fails, Tagged, lightened, not_dropped}
+use Rattle.sk_speculator.proofs.Names.{with_status, with_drawn, with_failure, Merges, MergedTakes, MergedCommits}
+use Rattle.sk_speculator.proofs.Names.{MergedStands, joined, Status, Undecided, Struck, union_is_tags, AllSome, tidy_of}
+use Rattle.sk_speculator.proofs.Names.{grows_of, rests_of, no_tags, tags_by, with_tags, AllExact, AllAlmostExact}
+use Rattle.sk_speculator.proofs.Names.{Covers, with_entities, redeemed_at, KeptView, AreStatuses, forgotten, known}
+use Rattle.sk_speculator.proofs.Names.{none_drawn, one_drawn, redeemed_kept, with_struck, keys_of, Token, Redeemed}
+use Rattle.sk_speculator.proofs.Names.{OpenGuess, opens_of, dependents_of, but, not_resting, after_commit, open_in}
+use Rattle.sk_speculator.proofs.Names.{open_is, named_more, carries, none_carried, uncut, exact_as, exact_at}
+use Rattle.sk_speculator.proofs.Names.{exact_more, begun, tags_written, committed_exact, failed_almost, Deed, Entry}
+use Rattle.sk_speculator.proofs.Names.{effect_of, again, step_of, IsNext, with_told, told_more, untagged, takes_told}
+use Rattle.sk_speculator.proofs.Names.{commits_told, fails_told, stands_told, performs, allowed, first, SlotView}
+use Rattle.sk_speculator.proofs.Names.{look_at, log_at, merges, Said, said_at, Parts, undo_state_of, machine_of}
+use Rattle.sk_speculator.proofs.Names.{any_rests, Performed, IsWhole, IsSound, IsSame, says, drawn_by, next_of, Takes}
+use Rattle.sk_speculator.proofs.Names.{Commits, FailsIn, Forgets}
 use Rattle.sk_record.specs.declared.status.Status.TheVariants as status_as
 use Rattle.sk_record.proofs.Merged as merged
-use Rattle.sk_record.proofs.Rising.{union_is_tags}
-use Rattle.sk_record.proofs.Tidy.{AllSome, tidy_of, grows_of, rests_of}
-use Rattle.sk_record.proofs.UndoStates.{no_tags}
-use Rattle.sk_guesses.specs.Dependents.{tags_by, with_tags, AllExact, AllAlmostExact, Covers}
-use Rattle.sk_guesses.specs.EntitySet.{with_entities}
-use Rattle.sk_guesses.specs.Calls.{redeemed_at}
-use Rattle.sk_guesses.specs.Kept.{KeptView, AreStatuses, forgotten, known, none_drawn, one_drawn, redeemed_kept, with_struck, keys_of}
-use Rattle.sk_guesses.specs.Token.{Token}
-use Rattle.sk_guesses.specs.declared.guess.Redeemed.{Redeemed}
 use Rattle.sk_guesses.specs.declared.guess.Redeemed.TheVariants as redeemed_as
-use Rattle.sk_guesses.specs.Opens.{OpenGuess, opens_of, dependents_of, but, not_resting, after_commit, open_in}
-use Rattle.sk_guesses.proofs.Opens.{open_is, named_more}
-use Rattle.sk_guesses.proofs.Listed.{carries, none_carried, uncut, exact_as, exact_at, exact_more, begun, tags_written, committed_exact, failed_almost}
-use Rattle.sk_deeds.specs.Deed.{Deed, Entry, effect_of, again, step_of}
-use Rattle.sk_deeds.specs.Moves.{IsNext}
-use Rattle.sk_deeds.specs.Told.{with_told, told_more, untagged}
-use Rattle.sk_deeds.proofs.Told.{takes_told, commits_told, fails_told, stands_told}
-use Rattle.sk_deeds.proofs.Runs.{performs, allowed, first}
-use Rattle.sk_slots.specs.Slot.{SlotView}
-use Rattle.sk_slots.specs.Slots.{look_at, log_at}
-use Rattle.sk_slots.proofs.Joins.{merges}
-use Rattle.sk_outputs.specs.Said.{Said, said_at}
-use Rattle.sk_speculator.specs.Parts.{Parts, undo_state_of, machine_of, any_rests, Performed, IsWhole, IsSound, IsSame, says}
-use Rattle.sk_speculator.specs.Calls.{drawn_by, next_of, Takes, Commits, FailsIn, Forgets}
 use Rattle.sk_speculator.proofs.Saying.{says_at, lightened_at, dropped_at}
 
 -- ---- tags

@@ -1,30 +1,14 @@
 -- Each call is a move of the machine, for statuses that agree with what is kept of guesses.
-use Rattle.std.proofs.Common.{◌≡◌, ℕ, ◌<◌, ◌≤◌, List, [], ◌∷◌, Option, Some, None, inl, inr, refl, sym, ◌∙◌, ap, subst, arith}
-use Rattle.std.specs.Prelude.{◌==◌, ◌⊎◌}
-use Rattle.std.specs.Option.{unwrap_or}
-use Rattle.std.specs.FinMap.{FinMap, IsAntisymmetric}
-use Rattle.std.specs.Cmp.{IsTotalOrder}
-use Rattle.std.proofs.lemmas.Bool.{false≢true}
-use Rattle.sk_record.specs.Notes.{has, without}
-use Rattle.sk_record.specs.Run.{System}
-use Rattle.sk_record.specs.Trace.{Event, Taken, Commit, Fail}
-use Rattle.sk_record.specs.UndoState.{numbers}
-use Rattle.sk_record.specs.Machine.{Machine, IsPlainRun, with_drawn, with_failure, with_status}
-use Rattle.sk_record.specs.declared.status.Status.{Status}
+use Rattle.sk_speculator.proofs.Names.{◌≡◌, ℕ, ◌<◌, ◌≤◌, List, [], ◌∷◌, Option, Some, None, inl, inr, refl, sym, ◌∙◌}
+use Rattle.sk_speculator.proofs.Names.{ap, subst, arith, ◌==◌, ◌⊎◌, unwrap_or, FinMap, IsAntisymmetric, IsTotalOrder}
+use Rattle.sk_speculator.proofs.Names.{false≢true, has, without, System, Event, Taken, Commit, Fail, numbers, Machine}
+use Rattle.sk_speculator.proofs.Names.{IsPlainRun, with_drawn, with_failure, with_status, Status, has_filter, and_both}
+use Rattle.sk_speculator.proofs.Names.{KeptView, AreStatuses, open_is, IsNext, Moves, Starts, Told, TakenOut, with_told}
+use Rattle.sk_speculator.proofs.Names.{told_more, tells, look_at, log_at, said_at, Parts, machine_of, next_of, Takes}
+use Rattle.sk_speculator.proofs.Names.{Commits, FailsIn, Forgets, Call, Does, Tells, Returns, events_of, TakesOut}
+use Rattle.sk_speculator.proofs.Names.{Hands, Happens, Calls, IsFirst, OwnRunsAsPlain}
 use Rattle.sk_record.specs.declared.status.Status.TheVariants as status_as
-use Rattle.sk_record.proofs.Machine.{has_filter}
-use Rattle.sk_record.proofs.UndoStates.{and_both}
-use Rattle.sk_guesses.specs.Kept.{KeptView, AreStatuses}
-use Rattle.sk_guesses.proofs.Opens.{open_is}
-use Rattle.sk_deeds.specs.Moves.{IsNext, Moves, Starts}
-use Rattle.sk_deeds.specs.Told.{Told, TakenOut, with_told, told_more}
 use Rattle.sk_deeds.specs.Told as deeds
-use Rattle.sk_deeds.proofs.Told.{tells}
-use Rattle.sk_slots.specs.Slots.{look_at, log_at}
-use Rattle.sk_outputs.specs.Said.{said_at}
-use Rattle.sk_speculator.specs.Parts.{Parts, machine_of}
-use Rattle.sk_speculator.specs.Calls.{next_of, Takes, Commits, FailsIn, Forgets}
-use Rattle.sk_speculator.specs.Law.{Call, Does, Tells, Returns, events_of, TakesOut, Hands, Happens, Calls, IsFirst, OwnRunsAsPlain}
 
 -- without the tokens that come back
 abbrev told_of : {N O : Type 0} → List (Call N O) → List (deeds.Call N O)

@@ -1,3 +1,4 @@
+pub mod Names
 pub mod Writing
 pub mod Saying
 pub mod Afterwards

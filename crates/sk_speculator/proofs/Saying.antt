@@ -1,14 +1,7 @@
 -- What is said to each channel, after a step and a decision.
-use Rattle.std.proofs.Common.{◌≡◌, ℕ, Bool, true, false, not, cond, List, [], ◌∷◌, ◌++◌, Option, Some, None, refl, sym, ◌∙◌, ap}
-use Rattle.std.specs.Prelude.{◌==◌}
-use Rattle.std.specs.declared.cmp.Ordering.{Ordering}
-use Rattle.std.proofs.lemmas.List.{append-nil}
-use Rattle.sk_record.specs.Notes.{has, without}
-use Rattle.sk_record.specs.Machine.{Tagged, lightened, not_dropped}
-use Rattle.sk_record.specs.Release.{said_by}
-use Rattle.sk_deeds.specs.Deed.{again}
-use Rattle.sk_outputs.specs.Said.{Said, said_at}
-use Rattle.sk_speculator.specs.Parts.{says}
+use Rattle.sk_speculator.proofs.Names.{◌≡◌, ℕ, Bool, true, false, not, cond, List, [], ◌∷◌, ◌++◌, Option, Some, None}
+use Rattle.sk_speculator.proofs.Names.{refl, sym, ◌∙◌, ap, ◌==◌, Ordering, append-nil, has, without, Tagged, lightened}
+use Rattle.sk_speculator.proofs.Names.{not_dropped, said_by, again, Said, said_at, says}
 
 said_more : {O : Type 0} (t : ℕ) (xs : Said O) (x : Tagged (ℕ × O)) → said_at (xs ++ x ∷ []) t ≡ said_at xs t ++ said_at (x ∷ []) t
 said_more t [] x = refl

@@ -1,31 +1,13 @@
 -- A step that is taken, with a guess of its own or none, and one that is refused.
-use Rattle.std.proofs.Common.{◌≡◌, ℕ, suc, length, ◌<◌, ◌≤◌, ◌+◌, Bool, true, false, nat_lt, ◌||◌, List, [], ◌∷◌, ◌++◌, Option, Some, None, refl, sym, ◌∙◌, ap, subst, arith}
-use Rattle.std.specs.List.Sorted.{IsStrictlySortedBy}
-use Rattle.std.specs.Ordering.{nat_cmp}
-use Rattle.std.specs.declared.cmp.Ordering.{Ordering}
-use Rattle.std.specs.Cmp.{IsTotalOrder}
-use Rattle.std.specs.FinMap.{IsAntisymmetric}
-use Rattle.std.proofs.lemmas.Bool.{false≢true, eq-eqb, ltb-true, ltb-false, or_left, or_right}
-use Rattle.std.proofs.lemmas.List.{append-nil}
-use Rattle.sk_record.specs.Effects.{is_in, is_marked}
-use Rattle.sk_record.specs.Notes.{has, last_tags}
-use Rattle.sk_record.specs.Machine.{with_drawn}
-use Rattle.sk_record.specs.Trace.{marks}
-use Rattle.sk_record.specs.UndoState.{Open, numbers}
-use Rattle.sk_record.specs.declared.status.Status.{Status}
-use Rattle.sk_record.specs.declared.status.Status.TheVariants.{Undecided}
-use Rattle.sk_guesses.specs.Dependents.{tags_by, with_tags, AllExact}
-use Rattle.sk_guesses.specs.EntitySet.{with_entities}
-use Rattle.sk_guesses.specs.Kept.{KeptView, AreStatuses, one_drawn, keys_of}
-use Rattle.sk_guesses.specs.Opens.{OpenGuess, open_in, opens_of}
-use Rattle.sk_guesses.proofs.Listed.{exact_as}
-use Rattle.sk_guesses.proofs.Opens.{more_rises, open_is}
-use Rattle.sk_deeds.specs.Deed.{Deed}
-use Rattle.sk_slots.specs.Slot.{SlotView}
-use Rattle.sk_slots.specs.Slots.{look_at, log_at, AllSettled}
-use Rattle.sk_outputs.specs.Said.{Said}
-use Rattle.sk_speculator.specs.Parts.{Parts, any_rests, Performed, IsSame, IsSound, says}
-use Rattle.sk_speculator.specs.Calls.{next_of, Takes}
+use Rattle.sk_speculator.proofs.Names.{◌≡◌, ℕ, suc, length, ◌<◌, ◌≤◌, ◌+◌, Bool, true, false, nat_lt, ◌||◌, List, []}
+use Rattle.sk_speculator.proofs.Names.{◌∷◌, ◌++◌, Option, Some, None, refl, sym, ◌∙◌, ap, subst, arith}
+use Rattle.sk_speculator.proofs.Names.{IsStrictlySortedBy, nat_cmp, Ordering, IsTotalOrder, IsAntisymmetric, false≢true}
+use Rattle.sk_speculator.proofs.Names.{eq-eqb, ltb-true, ltb-false, or_left, or_right, append-nil, is_in, is_marked}
+use Rattle.sk_speculator.proofs.Names.{has, last_tags, with_drawn, marks, Open, numbers, Status, Undecided, tags_by}
+use Rattle.sk_speculator.proofs.Names.{with_tags, AllExact, with_entities, KeptView, AreStatuses, one_drawn, keys_of}
+use Rattle.sk_speculator.proofs.Names.{OpenGuess, open_in, opens_of, exact_as, more_rises, open_is, Deed, SlotView}
+use Rattle.sk_speculator.proofs.Names.{look_at, log_at, AllSettled, Said, Parts, any_rests, Performed, IsSame, IsSound}
+use Rattle.sk_speculator.proofs.Names.{says, next_of, Takes}
 use Rattle.sk_speculator.proofs.Afterwards.{clean_at, exact_guessed, exact_taken, next_above, next_closed, no_next, opens_rise, performed_same, tags_are, takes_so, tidy, whole_same, whole_taken}
 
 -- an undecided guess was drawn

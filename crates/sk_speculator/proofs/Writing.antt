@@ -1,27 +1,13 @@
 -- Writes, one after another, and the tags of keys.
-use Rattle.std.proofs.Common.{◌≡◌, ℕ, zero, suc, ◌+◌, ◌<◌, ◌≤◌, length, take, drop, arith, Bool, true, false, cond, ◌||◌, ◌&&◌, List, [], ◌∷◌, ◌++◌, map, Option, Some, None, inl, inr, refl, sym, ◌∙◌, ap, subst}
-use Rattle.std.specs.Prelude.{◌==◌, get_or, slice_set, Result, Ok, Err, IfOk, OnOk, OnErr}
-use Rattle.std.specs.Result.{is_err}
-use Rattle.std.proofs.Math.Seq.{drop-cons}
-use Rattle.std.proofs.Math.Numerals.{suc-eq-add-one}
-use Rattle.std.specs.List.{list_any}
-use Rattle.std.specs.Ordering.{eq_by_cmp}
-use Rattle.std.specs.declared.cmp.Ordering.{Ordering}
-use Rattle.std.specs.Cmp.{IsTotalOrder, eq_by_cmp_equiv, Equal-is}
-use Rattle.std.specs.FinMap.{IsAntisymmetric}
-use Rattle.std.proofs.Math.Bool.{or_assoc}
-use Rattle.std.proofs.lemmas.Bool.{true≢false, eqb-true, or_left, or_right}
-use Rattle.std.proofs.lemmas.List.{append-nil}
-use Rattle.sk_ids.proofs.Same.{exact_bytes}
-use Rattle.sk_record.specs.Effects.{is_in, written_value}
-use Rattle.sk_record.specs.Notes.{Note, has, noted, last_tags}
-use Rattle.sk_record.specs.Merged.{same_tags, Merges}
-use Rattle.sk_record.proofs.Merged.{all_kept, left_out}
-use Rattle.sk_slots.specs.Slot.{SlotView, goes_unnoted, noted_on}
-use Rattle.sk_slots.specs.Slots.{look_at, log_at, IsReady}
-use Rattle.sk_slots.proofs.Logs.{noted_again}
-use Rattle.sk_guesses.specs.Kept.{keys_of}
-use Rattle.sk_speculator.specs.Parts.{made_by, Performed}
+use Rattle.sk_speculator.proofs.Names.{◌≡◌, ℕ, zero, suc, ◌+◌, ◌<◌, ◌≤◌, length, take, drop, arith, Bool, true, false}
+use Rattle.sk_speculator.proofs.Names.{cond, ◌||◌, ◌&&◌, List, [], ◌∷◌, ◌++◌, map, Option, Some, None, inl, inr, refl}
+use Rattle.sk_speculator.proofs.Names.{sym, ◌∙◌, ap, subst, ◌==◌, get_or, slice_set, IfOk, OnOk, OnErr, is_err}
+use Rattle.sk_speculator.proofs.Names.{drop-cons, suc-eq-add-one, list_any, eq_by_cmp, Ordering, IsTotalOrder}
+use Rattle.sk_speculator.proofs.Names.{eq_by_cmp_equiv, Equal-is, IsAntisymmetric, or_assoc, true≢false, eqb-true}
+use Rattle.sk_speculator.proofs.Names.{or_left, or_right, append-nil, exact_bytes, is_in, written_value, Note, has}
+use Rattle.sk_speculator.proofs.Names.{noted, last_tags, same_tags, Merges, all_kept, left_out, SlotView, goes_unnoted}
+use Rattle.sk_speculator.proofs.Names.{noted_on, look_at, log_at, IsReady, noted_again, keys_of, made_by, Performed}
+use Rattle.std.specs.Prelude.{Result, Ok, Err}
 
 module _ {V : Type 0} where
   -- a note for a write, or what stands for it

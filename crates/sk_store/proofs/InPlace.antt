@@ -1,18 +1,9 @@
 -- A value of the store changed where it stands: from what a finite map reads after its writes.
-use Rattle.std.proofs.Common.{◌≡◌, Bool, true, false, cond, Some, None, refl, sym, ◌∙◌, ap, subst}
-use Rattle.std.specs.Ordering.{eq_by_cmp}
-use Rattle.std.specs.Cmp.{Equal-is}
-use Rattle.sk_ids.specs.Entity.{entity_cmp}
-use Rattle.std.specs.FinMap.{get, insert, remove, get-insert, get-remove, same_map}
-use Rattle.sk_ids.specs.declared.entity.Entity.{Entity}
-use Rattle.sk_ids.proofs.Entities.{entity_total, entity_exact}
-use Rattle.sk_changes.specs.declared.change.Change.{Change}
-use Rattle.sk_changes.specs.declared.change.Undo.{Undo}
-use Rattle.sk_store.specs.State.{State}
-use Rattle.sk_store.specs.Changed.{changed, StateFits, state_undone}
-use Rattle.sk_store.specs.declared.entity_state.EntityState.{EntityState}
+use Rattle.sk_store.proofs.Names.{◌≡◌, Bool, true, false, cond, Some, None, refl, sym, ◌∙◌, ap, subst, eq_by_cmp}
+use Rattle.sk_store.proofs.Names.{Equal-is, entity_cmp, get, insert, remove, get-insert, get-remove, same_map, Entity}
+use Rattle.sk_store.proofs.Names.{entity_total, entity_exact, Change, Undo, State, changed, StateFits, state_undone}
+use Rattle.sk_store.proofs.Names.{EntityState, CanChangeBack, changed_back}
 use Rattle.sk_store.proofs.Puts.{at_same, insert_back}
-use Rattle.sk_store.specs.Back.{CanChangeBack, changed_back}
 
 -- the value after its change stands where it was
 pub put_changed : (s : State) (e : Entity) (v w : EntityState) (c : Change) → Some v ≡ get s e → w ≡ changed (Some v) c → insert s e w ≡ insert s e (changed (get s e) c)

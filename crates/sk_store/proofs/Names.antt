@@ -1,72 +1,36 @@
--- A directory has one count of names, which goes up and down with them, and which a state's names have.
-use Rattle.std.proofs.Common.{◌≡◌, ℕ, ◌+◌, ◌-◌, Bool, true, false, not, cond, ◌&&◌, ◌||◌, List, [], ◌∷◌, Some, None, refl, sym, ◌∙◌, ap}
-use Rattle.std.specs.declared.cmp.Ordering.{Ordering}
-use Rattle.std.specs.declared.cmp.Ordering.TheVariants.{Less, Equal, Greater}
-use Rattle.std.specs.Ordering.{eq_by_cmp, is_eq, ordering_then}
-use Rattle.std.specs.List.{list_any}
-use Rattle.std.specs.Cmp.{IsTotalOrder}
-use Rattle.std.specs.Cmp.Lexicographic.{nat_list_cmp_total}
-use Rattle.std.specs.FinMap as map
-use Rattle.std.specs.FinSet.{insert, remove, len, from_list, contains-insert, contains-remove, contains-from_list, len-insert, len-remove, same_set}
-use Rattle.std.proofs.lemmas.Map.Lookups.{exact_bytes}
-use Rattle.sk_ids.specs.Name.{name_order}
-use Rattle.sk_ids.specs.Entity.{entity_cmp, object_cmp}
-use Rattle.sk_ids.specs.declared.pid.ObjId.{ObjId}
-use Rattle.sk_ids.specs.declared.entity.Entity.{Entity}
-use Rattle.sk_ids.specs.declared.entity.Entity.TheVariants.{Proc, Sig, Exit, Obj, Link, Copy}
-use Rattle.sk_store.specs.State.{State}
-use Rattle.sk_store.specs.Names.{IsCount, name_there, with_name, names_among, names_in}
-
-total : IsTotalOrder name_order
-total = nat_list_cmp_total
-
-pub one_count : (there : ObjId → List ℕ → Bool) (d : ObjId) (m n : ℕ) → IsCount there d m → IsCount there d n → m ≡ n
-one_count there d m n a b = sym a.count ∙ ap len (same_set total exact_bytes a.names b.names (λ q. a.all q ∙ sym (b.all q))) ∙ b.count
-
--- a name appears
-pub one_more : (there after : ObjId → List ℕ → Bool) (d : ObjId) (name : List ℕ) (n : ℕ) → there d name ≡ false → ((q : List ℕ) → after d q ≡ (eq_by_cmp name_order q name || there d q))
-    → IsCount there d n → IsCount after d (n + 1)
-one_more there after d name n absent all a = record {
-  names = insert a.names name;
-  all = λ q. contains-insert total a.names name q ∙ ap (λ b. eq_by_cmp name_order q name || b) (a.all q) ∙ sym (all q);
-  count = len-insert total a.names name ∙ ap (λ b. cond b (len a.names) (len a.names + 1)) (a.all name ∙ absent) ∙ ap (λ (k : ℕ). k + 1) a.count;
-}
-
--- a name goes
-pub one_less : (there after : ObjId → List ℕ → Bool) (d : ObjId) (name : List ℕ) (n : ℕ) → there d name ≡ true → ((q : List ℕ) → after d q ≡ (not (eq_by_cmp name_order q name) && there d q))
-    → IsCount there d n → IsCount after d (n - 1)
-one_less there after d name n present all a = record {
-  names = remove a.names name;
-  all = λ q. contains-remove total a.names name q ∙ ap (λ b. not (eq_by_cmp name_order q name) && b) (a.all q) ∙ sym (all q);
-  count = len-remove total a.names name ∙ ap (λ b. cond b (len a.names - 1) (len a.names)) (a.all name ∙ present) ∙ ap (λ (k : ℕ). k - 1) a.count;
-}
-
--- the same names are there
-pub as_many : (there after : ObjId → List ℕ → Bool) (d : ObjId) (n : ℕ) → ((q : List ℕ) → after d q ≡ there d q) → IsCount there d n → IsCount after d n
-as_many there after d n same a = record { names = a.names; all = λ q. a.all q ∙ sym (same q); count = a.count }
-
--- ---- in a state
-at_link : (d o : ObjId) (q name : List ℕ) (rest : List (List ℕ)) (more : Bool) → list_any (eq_by_cmp name_order q) rest ≡ more
-    → list_any (eq_by_cmp name_order q) (with_name (cond (eq_by_cmp object_cmp d o) (Some name) None) rest) ≡ (eq_by_cmp entity_cmp (Link d q) (Link o name) || more)
-at_link d o q name rest more same =
-    elim (object_cmp d o) as (λ (r : Ordering). list_any (eq_by_cmp name_order q) (with_name (cond (is_eq r) (Some name) None) rest) ≡ (is_eq (ordering_then r (name_order q name)) || more)) [
-      | Less ↦ same
-      | Equal ↦ ap (λ b. eq_by_cmp name_order q name || b) same
-      | Greater ↦ same
-    ]
-
-among_is : (d : ObjId) (q : List ℕ) (es : List Entity) → list_any (eq_by_cmp name_order q) (names_among d es) ≡ list_any (eq_by_cmp entity_cmp (Link d q)) es
-among_is d q [] = refl
-among_is d q (Proc p ∷ es) = among_is d q es
-among_is d q (Sig p ∷ es) = among_is d q es
-among_is d q (Exit p ∷ es) = among_is d q es
-among_is d q (Obj o ∷ es) = among_is d q es
-among_is d q (Link o name ∷ es) = at_link d o q name (names_among d es) (list_any (eq_by_cmp entity_cmp (Link d q)) es) (among_is d q es)
-among_is d q (Copy n ∷ es) = among_is d q es
-
-pub names_counted : (s : State) (d : ObjId) → IsCount (name_there (map.get s)) d (names_in s d)
-names_counted s d = record {
-  names = from_list (names_among d (map.keys s));
-  all = λ q. contains-from_list total (names_among d (map.keys s)) q ∙ among_is d q (map.keys s) ∙ sym (map.contains_key-keys s (Link d q));
-  count = refl;
-}
+-- What the proofs of this crate cite from outside of them, passed on from one place. Declares nothing.
+pub use Rattle.std.proofs.Common.{List, ◌-◌, ◌+◌, ℕ, ap, ◌&&◌, refl, rules, ◌∷◌, None, false, drop, sym, ◌∙◌, ◌||◌, not}
+pub use Rattle.std.proofs.Common.{subst, Option, ◌≡◌, true, Some, Bool, IsSome, [], cond}
+pub use Rattle.std.proofs.lemmas.Bool.Decides.{Decides-at}
+pub use Rattle.std.proofs.lemmas.Map.Lookups.{exact_bytes}
+pub use Rattle.std.proofs.lemmas.Result.{IfOk-weaker}
+pub use Rattle.std.specs.Cmp.{Equal-is, IsTotalOrder, eq_by_cmp_equiv}
+pub use Rattle.std.specs.Cmp.Lexicographic.{nat_list_cmp_total}
+pub use Rattle.std.specs.FinMap.{remove, get, get-remove, same_map, get-insert, FinMap, insert}
+pub use Rattle.std.specs.FinSet.{len, contains-from_list, len-remove, same_set, contains-remove, contains-insert}
+pub use Rattle.std.specs.FinSet.{len-insert, from_list}
+pub use Rattle.std.specs.List.{list_any}
+pub use Rattle.std.specs.Ordering.{eq_by_cmp, ordering_then, is_eq}
+pub use Rattle.std.specs.Prelude.{IfOk, OnSome, is_some}
+pub use Rattle.std.specs.declared.cmp.Ordering.{Ordering}
+pub use Rattle.std.specs.declared.cmp.Ordering.TheVariants.{Less, Equal, Greater}
+pub use Rattle.sk_changes.specs.declared.change.Change.{Change}
+pub use Rattle.sk_changes.specs.declared.change.Undo.{Undo}
+pub use Rattle.sk_ids.proofs.Entities.{entity_exact, entity_total}
+pub use Rattle.sk_ids.specs.Entity.{entity_cmp, object_cmp}
+pub use Rattle.sk_ids.specs.Name.{name_order}
+pub use Rattle.sk_ids.specs.declared.entity.Entity.{Entity}
+pub use Rattle.sk_ids.specs.declared.entity.Entity.TheVariants.{Proc, Obj, Link, Exit, Sig, Copy}
+pub use Rattle.sk_ids.specs.declared.pid.ObjId.{ObjId}
+pub use Rattle.sk_map.specs.Seen.{seen}
+pub use Rattle.sk_record.specs.Effects.{is_in}
+pub use Rattle.sk_store.specs.Back.{changed_back, CanChangeBack}
+pub use Rattle.sk_store.specs.Changed.{changed, state_undone, StateFits}
+pub use Rattle.sk_store.specs.Names.{names_in, name_there, IsCount, names_among, with_name}
+pub use Rattle.sk_store.specs.OthersLaw.{put_others}
+pub use Rattle.sk_store.specs.Processes.{CanBecome, became}
+pub use Rattle.sk_store.specs.Same.{same_state}
+pub use Rattle.sk_store.specs.SameLemma.{exact_state}
+pub use Rattle.sk_store.specs.Start.{with_processes, with_objects, with_copies, with_links}
+pub use Rattle.sk_store.specs.State.{State}
+pub use Rattle.sk_store.specs.declared.entity_state.EntityState.{EntityState}

@@ -1,24 +1,11 @@
 -- The text by which the report names an entity is read as that entity: it is that of its words.
-use Rattle.std.proofs.Common.{◌≡◌, ℕ, true, false, List, [], ◌∷◌, Option, Some, None, Result, Ok, Err, is_some, refl, ap, sym, subst, ◌∙◌}
-use Rattle.std.specs.List.{find, list_any, AllByRecursion}
+use Rattle.sk_talk.proofs.Names.{◌≡◌, ℕ, true, false, List, [], ◌∷◌, Option, Some, None, Result, Ok, Err, is_some, refl}
+use Rattle.sk_talk.proofs.Names.{ap, sym, subst, ◌∙◌, find, list_any, AllByRecursion, eq_by_cmp, Equal-is}
+use Rattle.sk_talk.proofs.Names.{eq_by_cmp_equiv, true≢false, or_parts, bytes_eq-Decides, entity_cmp, entity_total}
+use Rattle.sk_talk.proofs.Names.{entity_exact, EntityState, KernelView, state_at, Entity, Proc, Sig, Exit, Obj, Link}
+use Rattle.sk_talk.proofs.Names.{Copy, FaultKind, spaced, words, entity, entity_words, IsEntity, entity_again}
+use Rattle.sk_talk.proofs.Names.{words_cut_again, entity_text, is_named, present_as, named_by, named}
 use Rattle.std.specs.FinMap as map
-use Rattle.std.specs.Ordering.{eq_by_cmp}
-use Rattle.std.specs.Cmp.{Equal-is, eq_by_cmp_equiv}
-use Rattle.std.proofs.lemmas.Bool.{true≢false, or_parts}
-use Rattle.std.proofs.lemmas.Slice.Eq.{bytes_eq-Decides}
-use Rattle.sk_ids.specs.Entity.{entity_cmp}
-use Rattle.sk_ids.proofs.Entities.{entity_total, entity_exact}
-use Rattle.sk_store.specs.declared.entity_state.EntityState.{EntityState}
-use Rattle.sk_kernel.specs.Kernel.{KernelView, state_at}
-use Rattle.sk_ids.specs.declared.entity.Entity.{Entity}
-use Rattle.sk_ids.specs.declared.entity.Entity.TheVariants.{Proc, Sig, Exit, Obj, Link, Copy}
-use Rattle.sk_words.specs.declared.fault.FaultKind.{FaultKind}
-use Rattle.sk_words.specs.Spelling.{spaced}
-use Rattle.sk_words.specs.Words.{words}
-use Rattle.sk_questions.specs.Named.{entity, entity_words, IsEntity}
-use Rattle.sk_questions.proofs.Again.{entity_again, words_cut_again}
-use Rattle.sk_report.specs.Printed.{entity_text}
-use Rattle.sk_talk.specs.Asked.{is_named, present_as, named_by, named}
 
 text_is_words : (e : Entity) → entity_text e ≡ spaced (entity_words e)
 text_is_words (Proc p) = refl

@@ -1,20 +1,13 @@
 -- Terminals after a decision that looked at some of them, and what is listed for them then.
-use Rattle.std.proofs.Common.{◌≡◌, ℕ, ◌<◌, ◌+◌, length, take, Bool, true, false, cond, not, ◌||◌, ◌&&◌, List, [], ◌∷◌, ◌++◌, Option, Some, None, Result, Ok, Err, inl, inr, refl, sym, ◌∙◌, ap, subst}
-use Rattle.std.specs.Prelude.{◌==◌, slice_index_or, OnOk, OnErr}
-use Rattle.std.specs.Option.{option_map, unwrap_or}
+use Rattle.sk_terminal.proofs.Names.{◌≡◌, ℕ, ◌<◌, ◌+◌, length, take, Bool, true, false, cond, not, ◌||◌, ◌&&◌, List, []}
+use Rattle.sk_terminal.proofs.Names.{◌∷◌, ◌++◌, Option, Some, None, Result, inl, inr, refl, sym, ◌∙◌, ap, subst, ◌==◌}
+use Rattle.sk_terminal.proofs.Names.{slice_index_or, OnOk, OnErr, option_map, unwrap_or, both_ways, false≢true}
+use Rattle.sk_terminal.proofs.Names.{or_cases, or_parts, or_left, or_right, eqb-true, eq-eqb, append-nil}
+use Rattle.sk_terminal.proofs.Names.{list_any-append, has, without, lightened, not_dropped, has_filter, and_both}
+use Rattle.sk_terminal.proofs.Names.{TaggedText, any_rests, TerminalMap, texts_at, said_to, Listing, is_listed}
+use Rattle.sk_terminal.proofs.Names.{rests_at, AreListed, ListsAtMost, NoneListed}
+use Rattle.std.proofs.Common.{Ok, Err}
 use Rattle.std.specs.FinMap as map
-use Rattle.std.specs.Cmp.{both_ways}
-use Rattle.std.proofs.lemmas.Bool.{false≢true, or_cases, or_parts, or_left, or_right, eqb-true, eq-eqb}
-use Rattle.std.proofs.lemmas.List.{append-nil}
-use Rattle.std.proofs.lemmas.List.Folds.{list_any-append}
-use Rattle.sk_record.specs.Notes.{has, without}
-use Rattle.sk_record.specs.Machine.{lightened, not_dropped}
-use Rattle.sk_record.proofs.Machine.{has_filter}
-use Rattle.sk_record.proofs.UndoStates.{and_both}
-use Rattle.sk_terminal.specs.Terminal.{TaggedText, any_rests}
-use Rattle.sk_terminal.specs.Terminals.{TerminalMap, texts_at, said_to}
-use Rattle.sk_terminal.specs.declared.listing.Listing.{Listing}
-use Rattle.sk_terminal.specs.Listing.{is_listed, rests_at, AreListed, ListsAtMost, NoneListed}
 use Rattle.sk_terminal.proofs.SaidTo.{texts_said}
 use Rattle.sk_terminal.proofs.Listed.{has_more, flipped}
 

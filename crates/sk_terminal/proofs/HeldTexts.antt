@@ -1,17 +1,10 @@
 -- Held texts after a pass back to those said before a guess was drawn.
-use Rattle.std.proofs.Common.{◌≡◌, ℕ, zero, suc, ◌<◌, ◌≤◌, ◌+◌, length, take, drop, Bool, true, false, cond, not, ◌&&◌, ◌||◌, List, [], ◌∷◌, ◌++◌, map, refl, sym, ◌∙◌, ap, subst, arith}
-use Rattle.std.specs.Prelude.{◌==◌, slice_index_or, slice_set}
-use Rattle.std.specs.List.{list_any, list_all, filter, prefix_len}
-use Rattle.std.proofs.lemmas.Bool.{or_parts, or_from, or_left, or_right}
-use Rattle.std.proofs.lemmas.List.{take-append-drop}
-use Rattle.std.proofs.lemmas.List.Folds.{list_any-append}
-use Rattle.sk_record.specs.Notes.{has, without}
-use Rattle.sk_record.specs.Machine.{lightened, not_dropped}
-use Rattle.sk_record.proofs.Machine.{has_filter}
-use Rattle.sk_record.proofs.UndoStates.{and_both}
-use Rattle.sk_terminal.specs.Terminal.{TaggedText, any_rests, is_clear}
-use Rattle.sk_terminal.specs.Held.{texts_of, AreBounded}
-use Rattle.sk_terminal.specs.declared.terminal.Held.{Held}
+use Rattle.sk_terminal.proofs.Names.{◌≡◌, ℕ, zero, suc, ◌<◌, ◌≤◌, ◌+◌, length, take, drop, Bool, true, false, cond, not}
+use Rattle.sk_terminal.proofs.Names.{◌&&◌, ◌||◌, List, [], ◌∷◌, ◌++◌, map, refl, sym, ◌∙◌, ap, subst, arith, ◌==◌}
+use Rattle.sk_terminal.proofs.Names.{slice_index_or, slice_set, list_any, list_all, filter, prefix_len, or_parts}
+use Rattle.sk_terminal.proofs.Names.{or_from, or_left, or_right, take-append-drop, list_any-append, has, without}
+use Rattle.sk_terminal.proofs.Names.{lightened, not_dropped, has_filter, and_both, TaggedText, any_rests, is_clear}
+use Rattle.sk_terminal.proofs.Names.{texts_of, AreBounded, Held}
 
 -- ---- numbers
 pub bounded_more : (low high n : ℕ) (hs : List Held) (x : Held) → AreBounded low hs high → high ≤ n → x.newest ≡ n → ((g : ℕ) → has g x.said.1 ≡ true → g ≤ n) → AreBounded low (hs ++ x ∷ []) n

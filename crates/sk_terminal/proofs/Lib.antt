@@ -1,3 +1,4 @@
+pub mod Names
 pub mod Views
 pub mod TerminalMaps
 pub mod SaidTo

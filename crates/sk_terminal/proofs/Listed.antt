@@ -1,15 +1,10 @@
 -- What is listed for each guess, after one terminal more was listed, a list taken out, or terminals taken off.
-use Rattle.std.proofs.Common.{◌≡◌, ℕ, zero, suc, ◌<◌, ◌≤◌, ◌+◌, length, take, Bool, true, false, cond, not, ◌||◌, ◌&&◌, List, [], ◌∷◌, ◌++◌, Result, Ok, Err, refl, sym, ◌∙◌, ap, subst, arith}
-use Rattle.std.specs.List.{prefix_len, remove}
-use Rattle.std.specs.List.Retain.{RetainsInTurn}
-use Rattle.std.specs.Prelude.{◌==◌, slice_index_or, slice_set, OnErr}
-use Rattle.std.proofs.lemmas.Bool.{false≢true, eqb-true, eq-eqb, or_left}
-use Rattle.std.proofs.lemmas.List.Folds.{list_any-append}
-use Rattle.sk_record.specs.Notes.{has, without}
-use Rattle.sk_record.proofs.Machine.{has_filter}
-use Rattle.sk_terminal.specs.Terminals.{TerminalMap}
-use Rattle.sk_terminal.specs.declared.listing.Listing.{Listing}
-use Rattle.sk_terminal.specs.Listing.{is_listed, rests_at, AreTidy, HasNone, ListsAtMost}
+use Rattle.sk_terminal.proofs.Names.{◌≡◌, ℕ, zero, suc, ◌<◌, ◌≤◌, ◌+◌, length, take, Bool, true, false, cond, not, ◌||◌}
+use Rattle.sk_terminal.proofs.Names.{◌&&◌, List, [], ◌∷◌, ◌++◌, Result, refl, sym, ◌∙◌, ap, subst, arith, prefix_len}
+use Rattle.sk_terminal.proofs.Names.{remove, RetainsInTurn, ◌==◌, slice_index_or, slice_set, OnErr, false≢true}
+use Rattle.sk_terminal.proofs.Names.{eqb-true, eq-eqb, or_left, list_any-append, has, without, has_filter, TerminalMap}
+use Rattle.sk_terminal.proofs.Names.{Listing, is_listed, rests_at, AreTidy, HasNone, ListsAtMost}
+use Rattle.std.proofs.Common.{Ok, Err}
 use Rattle.sk_terminal.proofs.Numbers.{or_none}
 
 -- ---- lists of numbers

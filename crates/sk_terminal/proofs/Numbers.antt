@@ -1,17 +1,10 @@
 -- A number put into a list of numbers that rises.
-use Rattle.std.proofs.Common.{◌≡◌, ℕ, zero, suc, ◌<◌, ◌≤◌, length, Bool, true, false, nat_lt, ◌||◌, List, [], ◌∷◌, refl, sym, ◌∙◌, ap, subst, arith}
-use Rattle.std.specs.Prelude.{◌==◌, get_or, Ok, Err}
-use Rattle.std.specs.List.{AllByRecursion, insert}
-use Rattle.std.specs.List.Sorted.{IsStrictlySortedBy, IsBinarySearchResult}
-use Rattle.std.specs.Ordering.{nat_cmp}
-use Rattle.std.specs.declared.cmp.Ordering.TheVariants.{Less}
-use Rattle.std.specs.Cmp.{nat_cmp_is}
-use Rattle.std.proofs.Math.Bool.{or_assoc}
-use Rattle.std.proofs.lemmas.Bool.{ltb-true, ltb-false, eqb-true}
-use Rattle.std.proofs.lemmas.List.Kept.{AllPairs-from_increasing}
-use Rattle.std.proofs.lemmas.List.Sorted.{searched}
-use Rattle.std.proofs.lemmas.Map.Keys.{IsStrictlyIncreasing-from_sorted}
-use Rattle.sk_record.specs.Notes.{has}
+use Rattle.sk_terminal.proofs.Names.{◌≡◌, ℕ, zero, suc, ◌<◌, ◌≤◌, length, Bool, true, false, nat_lt, ◌||◌, List, []}
+use Rattle.sk_terminal.proofs.Names.{◌∷◌, refl, sym, ◌∙◌, ap, subst, arith, ◌==◌, get_or, Ok, Err, AllByRecursion}
+use Rattle.sk_terminal.proofs.Names.{insert, IsBinarySearchResult, nat_cmp, Less, nat_cmp_is, or_assoc, ltb-true}
+use Rattle.sk_terminal.proofs.Names.{ltb-false, eqb-true, AllPairs-from_increasing, searched}
+use Rattle.sk_terminal.proofs.Names.{IsStrictlyIncreasing-from_sorted, has}
+use Rattle.std.specs.List.Sorted.{IsStrictlySortedBy}
 
 pub or_none : (b : Bool) → (b || false) ≡ b
 or_none true = refl

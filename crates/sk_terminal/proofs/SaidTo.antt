@@ -1,14 +1,8 @@
 -- The texts of each terminal after one more was said.
-use Rattle.std.proofs.Common.{◌≡◌, ℕ, true, false, cond, [], ◌∷◌, ◌++◌, Some, refl, sym, ◌∙◌, ap}
-use Rattle.std.specs.Prelude.{◌==◌}
-use Rattle.std.specs.Ordering.{nat_cmp, eq_by_cmp}
-use Rattle.std.specs.Option.{unwrap_or}
-use Rattle.std.specs.Cmp.{nat_cmp_total, eq_by_cmp_equiv, Equal-is}
+use Rattle.sk_terminal.proofs.Names.{◌≡◌, ℕ, true, false, cond, [], ◌∷◌, ◌++◌, Some, refl, sym, ◌∙◌, ap, ◌==◌, nat_cmp}
+use Rattle.sk_terminal.proofs.Names.{eq_by_cmp, unwrap_or, nat_cmp_total, eq_by_cmp_equiv, Equal-is, true≢false}
+use Rattle.sk_terminal.proofs.Names.{eqb-true, eq-eqb, append-nil, TaggedText, TerminalMap, texts_at, said_to}
 use Rattle.std.specs.FinMap as map
-use Rattle.std.proofs.lemmas.Bool.{true≢false, eqb-true, eq-eqb}
-use Rattle.std.proofs.lemmas.List.{append-nil}
-use Rattle.sk_terminal.specs.Terminal.{TaggedText}
-use Rattle.sk_terminal.specs.Terminals.{TerminalMap, texts_at, said_to}
 
 pub others : (t k : ℕ) → (k == t) ≡ false → eq_by_cmp nat_cmp t k ≡ false
 others t k apart = elim (eq_by_cmp nat_cmp t k) as (λ b. eq_by_cmp nat_cmp t k ≡ b → b ≡ false) [

@@ -1,18 +1,9 @@
 -- The test of two terminals from those of their released texts and of those that wait.
+use Rattle.sk_terminal.proofs.Names.{one_answer, pointwise, pointwise_decides, ap, sym, ◌∙◌, Decides-and, Decides-like}
+use Rattle.sk_terminal.proofs.Names.{append_cancel_left, released, exact_text, texts_of, same_said, same_texts}
+use Rattle.sk_terminal.proofs.Names.{exact_texts, TaggedText, clear, Held}
 use Rattle.std.specs.Prelude.{◌≡◌, ℕ, ◌&&◌, List, [], ◌∷◌, ◌++◌, map, refl}
-use Rattle.std.specs.Bool.{one_answer}
-use Rattle.std.specs.Cmp.Lexicographic.{pointwise, pointwise_decides}
-use Rattle.std.proofs.Common.{ap, sym, ◌∙◌}
-use Rattle.std.proofs.lemmas.Bool.Decides.{Decides-and, Decides-like}
-use Rattle.std.proofs.lemmas.List.{append_cancel_left}
-use Rattle.sk_record.specs.Machine.{released}
-use Rattle.sk_ids.proofs.Same.{exact_text}
 use Rattle.sk_ids.specs.contracts.text.TextPartialEq.TheImpl as text
-use Rattle.sk_terminal.specs.Held.{texts_of}
-use Rattle.sk_terminal.specs.Same.{same_said, same_texts}
-use Rattle.sk_terminal.specs.SameLemma.{exact_texts}
-use Rattle.sk_terminal.specs.Terminal.{TaggedText, clear}
-use Rattle.sk_terminal.specs.declared.terminal.Held.{Held}
 use Rattle.sk_terminal.proofs.Views.{released-clear}
 
 -- the test of two texts that wait is that of what was said

@@ -1,14 +1,8 @@
 -- What the map of terminals has at a number after a change.
-use Rattle.std.proofs.Common.{◌≡◌, ℕ, true, false, cond, List, [], Option, Some, None, refl, sym, ◌∙◌, ap}
-use Rattle.std.specs.Ordering.{nat_cmp, eq_by_cmp}
-use Rattle.std.specs.Option.{option_map, unwrap_or}
-use Rattle.std.specs.Cmp.{nat_cmp_total, eq_by_cmp_equiv}
+use Rattle.sk_terminal.proofs.Names.{◌≡◌, ℕ, true, false, cond, List, [], Option, Some, None, refl, sym, ◌∙◌, ap}
+use Rattle.sk_terminal.proofs.Names.{nat_cmp, eq_by_cmp, option_map, unwrap_or, nat_cmp_total, eq_by_cmp_equiv}
+use Rattle.sk_terminal.proofs.Names.{eqb-true, ◌==◌, tells_apart, TaggedText, TerminalMap}
 use Rattle.std.specs.FinMap as map
-use Rattle.std.proofs.lemmas.Bool.{eqb-true}
-use Rattle.std.specs.Prelude.{◌==◌}
-use Rattle.std.proofs.lemmas.Map.Views.{tells_apart}
-use Rattle.sk_terminal.specs.Terminal.{TaggedText}
-use Rattle.sk_terminal.specs.Terminals.{TerminalMap}
 use Rattle.sk_terminal.proofs.SaidTo.{others}
 
 -- the texts that are there, put again

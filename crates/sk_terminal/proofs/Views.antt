@@ -1,11 +1,8 @@
 -- A terminal as its released texts and its waiting ones, against the one list of all: by recursion over the released ones.
-use Rattle.std.specs.Prelude.{◌≡◌, ℕ, suc, ◌+◌, ◌==◌, false, List, [], ◌∷◌, ◌++◌, length, map, take, drop}
-use Rattle.std.proofs.Common.{arith, refl, ap, sym, zero-add, append_assoc}
-use Rattle.std.specs.List.{prefix_len}
-use Rattle.std.proofs.lemmas.Bool.{ne_eqb}
-use Rattle.std.proofs.lemmas.List.{map-append}
-use Rattle.sk_record.specs.Machine.{released, lightened, not_dropped}
-use Rattle.sk_terminal.specs.Terminal.{TaggedText, any_rests, is_clear, clear, waiting_of}
+use Rattle.sk_terminal.proofs.Names.{◌==◌, arith, refl, ap, sym, zero-add, append_assoc, prefix_len, ne_eqb, map-append}
+use Rattle.sk_terminal.proofs.Names.{released, lightened, not_dropped, TaggedText, any_rests, is_clear, clear}
+use Rattle.sk_terminal.proofs.Names.{waiting_of}
+use Rattle.std.specs.Prelude.{◌≡◌, ℕ, suc, ◌+◌, false, List, [], ◌∷◌, ◌++◌, length, map, take, drop}
 
 -- the released texts are those before the first that rests on a guess
 pub prefix-released : (xs : List TaggedText) → prefix_len is_clear xs ≡ length (released xs)

@@ -1,33 +1,17 @@
 -- A printed event is read again: from what is known of printed words, operand by operand, and then of lines.
-use Rattle.std.proofs.Common.{◌≡◌, ◌<◌, ◌^◌, ℕ, List, [], ◌∷◌, ◌++◌, Result, Ok, Err, refl, sym, ap, ◌∙◌, arith}
-use Rattle.std.specs.Prelude.{All, codes, decimal}
-use Rattle.std.specs.List.{AllByRecursion}
-use Rattle.sk_ids.specs.Pid.{IsPath}
-use Rattle.sk_ids.specs.Guess.{IsGuessNumber}
-use Rattle.sk_objects.specs.Content.{ContentView}
-use Rattle.sk_objects.specs.Value.{IsContent}
-use Rattle.sk_words.specs.declared.fault.FaultKind.{FaultKind}
-use Rattle.sk_words.specs.declared.fault.Fault.{Fault}
-use Rattle.sk_words.specs.Words.{words, first_of}
-use Rattle.sk_words.specs.Tables.{with_line}
-use Rattle.sk_words.specs.Literals.{literal}
-use Rattle.sk_words.specs.Operands.{natural, positive, pid, none_of, one_of, the_two, both, two_of}
-use Rattle.sk_words.specs.Spelling.{spelled, pid_word}
-use Rattle.sk_words.specs.Printed.{AreBytes, IsWord, IsReadAgain}
-use Rattle.sk_words.proofs.WordsAgain.{bare_word, words_again, words_closed, spaced_line}
-use Rattle.sk_words.proofs.LiteralAgain.{literal_again, literal_word}
-use Rattle.sk_words.proofs.NumberAgain.{natural_again, positive_again, number_word}
-use Rattle.sk_words.proofs.PidAgain.{pid_again, pid_is_word}
-use Rattle.sk_words.proofs.ItemsAgain.{text_again, each, by_recursion}
-use Rattle.sk_script.specs.declared.instruction.Input.{Input}
+use Rattle.sk_trace.proofs.Names.{◌≡◌, ◌<◌, ◌^◌, ℕ, List, [], ◌∷◌, ◌++◌, Result, Ok, Err, refl, sym, ap, ◌∙◌, arith}
+use Rattle.sk_trace.proofs.Names.{All, codes, decimal, AllByRecursion, IsPath, IsGuessNumber, ContentView, IsContent}
+use Rattle.sk_trace.proofs.Names.{FaultKind, Fault, words, first_of, with_line, literal, natural, positive, pid}
+use Rattle.sk_trace.proofs.Names.{spelled, pid_word, AreBytes, IsWord, IsReadAgain, bare_word, words_again}
+use Rattle.sk_trace.proofs.Names.{words_closed, spaced_line, literal_again, literal_word, natural_again, positive_again}
+use Rattle.sk_trace.proofs.Names.{number_word, pid_again, pid_is_word, text_again, each, by_recursion, Input}
+use Rattle.sk_trace.proofs.Names.{content_words, input_words, Event, IsEvent, IsInput, event_line, trace_of}
+use Rattle.sk_trace.proofs.Names.{event_words, event_text, trace_text}
+use Rattle.sk_words.specs.Operands.{none_of, one_of, the_two, both, two_of}
 use Rattle.sk_script.specs.declared.instruction.Input.TheVariants as inputs
-use Rattle.sk_script.specs.StepInput.{content, input, content_words, input_words}
-use Rattle.sk_trace.specs.declared.event.Event.{Event}
+use Rattle.sk_script.specs.StepInput.{content, input}
 use Rattle.sk_trace.specs.declared.event.Event.TheVariants as events
-use Rattle.sk_trace.specs.Event.{IsEvent}
-use Rattle.sk_trace.specs.Kept.{IsInput}
-use Rattle.sk_trace.specs.Lines.{step, numbered_step, event, event_line, trace_of}
-use Rattle.sk_trace.specs.Text.{event_words, event_text, trace_text}
+use Rattle.sk_trace.specs.Lines.{step, numbered_step, event}
 
 -- ---- one word, or two, of which each says something
 

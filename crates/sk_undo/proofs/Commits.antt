@@ -1,17 +1,9 @@
 -- What a commit leaves of a log.
-use Rattle.std.proofs.Common.{◌≡◌, ℕ, Bool, true, false, cond, not, ◌&&◌, List, [], ◌∷◌, ◌++◌, Option, inl, inr, refl, sym, ◌∙◌, ap, subst}
-use Rattle.std.specs.Prelude.{◌==◌, reverse}
-use Rattle.std.specs.List.{list_all}
-use Rattle.std.proofs.lemmas.Bool.{true≢false, or_left, or_parts, eq-eqb}
-use Rattle.std.proofs.lemmas.Grind.{reverse_onto}
-use Rattle.std.proofs.lemmas.List.{reverse-reverse}
-use Rattle.sk_record.specs.Notes.{Note, has, without, noted, carried, committed}
-use Rattle.sk_record.specs.Merged.{Merges}
-use Rattle.sk_record.specs.UndoState.{IsGrowing}
-use Rattle.sk_record.proofs.UndoStates.{and_both}
-use Rattle.sk_record.proofs.Machine.{has_filter}
-use Rattle.sk_undo.specs.declared.log.Note.{Note as RawNote}
-use Rattle.sk_undo.specs.Log.{is_empty, seen, CanGoBack, lightened, dropped, carries}
+use Rattle.sk_undo.proofs.Cites.{◌≡◌, ℕ, Bool, true, false, cond, not, ◌&&◌, List, [], ◌∷◌, ◌++◌, Option, inl, inr}
+use Rattle.sk_undo.proofs.Cites.{refl, sym, ◌∙◌, ap, subst, ◌==◌, reverse, list_all, true≢false, or_left, or_parts}
+use Rattle.sk_undo.proofs.Cites.{eq-eqb, reverse_onto, reverse-reverse, Note, has, without, noted, carried, committed}
+use Rattle.sk_undo.proofs.Cites.{Merges, IsGrowing, and_both, has_filter, RawNote, is_empty, seen, CanGoBack, lightened}
+use Rattle.sk_undo.proofs.Cites.{dropped, carries}
 use Rattle.sk_undo.proofs.SeenNotes.{AllSeen, grow_head, grow_tail}
 
 -- ---- tags

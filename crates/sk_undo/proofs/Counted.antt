@@ -1,26 +1,12 @@
 -- Notes counted: as many are seen as are there, and none are counted exactly where no entity has one.
-use Rattle.std.proofs.Common.{◌≡◌, ℕ, ◌+◌, suc, length, Bool, true, false, cond, ◌&&◌, List, [], ◌∷◌, Option, Some, None, refl, sym, ◌∙◌, ap, arith}
-use Rattle.std.specs.Prelude.{◌↔◌, map as each, T, min, ◌-◌, ◌^◌, reverse}
-use Rattle.std.specs.List.{sum_by}
+use Rattle.sk_undo.proofs.Cites.{◌≡◌, ℕ, ◌+◌, suc, length, Bool, true, false, cond, ◌&&◌, List, [], ◌∷◌, Option, Some}
+use Rattle.sk_undo.proofs.Cites.{None, refl, sym, ◌∙◌, ap, arith, ◌↔◌, each, T, reverse, sum_by, find, is_sorted}
+use Rattle.sk_undo.proofs.Cites.{below_all, eq_by_cmp, is_lt, is_eq, Ordering, Less, Equal, Greater, Equal-is}
+use Rattle.sk_undo.proofs.Cites.{eq_by_cmp_equiv, and_parts, length-reverse, sum_by-cons, entity_cmp, Entity}
+use Rattle.sk_undo.proofs.Cites.{entity_total, entity_exact, Note, EntityState, RawNote, seen, SlotView, SlotMap}
+use Rattle.sk_undo.proofs.Cites.{slot_in, note_count, notes_in, AreUnnoted}
+use Rattle.std.specs.Prelude.{min, ◌-◌, ◌^◌}
 use Rattle.std.specs.FinMap as map
-use Rattle.std.specs.FinMap.Entries.{find, is_sorted, below_all}
-use Rattle.std.specs.Ordering.{eq_by_cmp, is_lt, is_eq}
-use Rattle.std.specs.declared.cmp.Ordering.{Ordering}
-use Rattle.std.specs.declared.cmp.Ordering.TheVariants.{Less, Equal, Greater}
-use Rattle.std.specs.Cmp.{Equal-is, eq_by_cmp_equiv}
-use Rattle.std.proofs.lemmas.Bool.{and_parts}
-use Rattle.std.proofs.lemmas.List.{length-reverse}
-use Rattle.std.proofs.lemmas.List.Sums.{sum_by-cons}
-use Rattle.sk_ids.specs.Entity.{entity_cmp}
-use Rattle.sk_ids.specs.declared.entity.Entity.{Entity}
-use Rattle.sk_ids.proofs.Entities.{entity_total, entity_exact}
-use Rattle.sk_record.specs.Notes.{Note}
-use Rattle.sk_store.specs.declared.entity_state.EntityState.{EntityState}
-use Rattle.sk_undo.specs.declared.log.Note.{Note as RawNote}
-use Rattle.sk_undo.specs.Log.{seen}
-use Rattle.sk_undo.specs.Slot.{SlotView}
-use Rattle.sk_undo.specs.Logs.{SlotMap, slot_in}
-use Rattle.sk_undo.specs.Count.{note_count, notes_in, AreUnnoted}
 
 -- ---- notes that are there, and notes that are seen
 module _ {U V : Type 0} (undone : U → Option V → Option V) where

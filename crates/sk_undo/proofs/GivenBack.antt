@@ -1,21 +1,11 @@
 -- A guess that is taken back gives each entity what it had before the first write that rests on it.
-use Rattle.std.proofs.Common.{◌≡◌, ℕ, List, [], ◌∷◌, ◌++◌, reverse, Bool, true, false, cond, not, ◌||◌, ◌&&◌, Option, Some, None, refl, sym, ◌∙◌, ap, subst}
-use Rattle.std.specs.Ordering.{eq_by_cmp}
-use Rattle.std.specs.Cmp.{Equal-is}
-use Rattle.std.specs.FinMap.{get, insert, remove, get-insert, get-remove}
-use Rattle.std.proofs.lemmas.Bool.{true≢false}
-use Rattle.std.proofs.lemmas.List.{reverse-append}
-use Rattle.sk_ids.specs.declared.entity.Entity.{Entity}
-use Rattle.sk_ids.specs.Entity.{entity_cmp}
-use Rattle.sk_ids.proofs.Entities.{entity_total, entity_exact}
-use Rattle.sk_ids.proofs.Same.{exact_bytes}
-use Rattle.sk_record.specs.Notes.{Note, has, cut, unwound}
-use Rattle.sk_record.specs.Merged.{same_tags}
-use Rattle.sk_store.specs.declared.entity_state.EntityState.{EntityState}
-use Rattle.sk_undo.specs.Log.{is_empty, carries}
-use Rattle.sk_undo.specs.Slot.{SlotView, slot_of, slot_wrote, is_bare, is_whole, goes_unnoted}
-use Rattle.sk_undo.specs.Logs.{SlotMap, slot_in, placed, slots_wrote, look_at, log_at}
-use Rattle.sk_undo.specs.Laws.{Write, all_wrote, AllRestOn, GivesBack}
+use Rattle.sk_undo.proofs.Cites.{◌≡◌, ℕ, List, [], ◌∷◌, ◌++◌, Bool, true, false, cond, not, ◌||◌, ◌&&◌, Option, Some}
+use Rattle.sk_undo.proofs.Cites.{None, refl, sym, ◌∙◌, ap, subst, eq_by_cmp, Equal-is, get, insert, remove, get-insert}
+use Rattle.sk_undo.proofs.Cites.{get-remove, true≢false, reverse-append, Entity, entity_cmp, entity_total, entity_exact}
+use Rattle.sk_undo.proofs.Cites.{exact_bytes, Note, has, cut, unwound, same_tags, EntityState, is_empty, carries}
+use Rattle.sk_undo.proofs.Cites.{SlotView, slot_of, slot_wrote, is_bare, is_whole, goes_unnoted, SlotMap, slot_in}
+use Rattle.sk_undo.proofs.Cites.{placed, slots_wrote, look_at, log_at, Write, all_wrote, AllRestOn, GivesBack}
+use Rattle.std.proofs.Common.{reverse}
 use Rattle.sk_undo.proofs.Notes.{any_reverse}
 
 -- ---- a log, the oldest note first

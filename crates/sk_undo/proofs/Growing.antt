@@ -1,13 +1,7 @@
 -- Notes that are there grow as those that are seen.
-use Rattle.std.proofs.Common.{◌≡◌, ℕ, true, false, cond, ◌&&◌, List, [], ◌∷◌, ◌++◌, Option, refl, ◌∙◌, sym, ap, subst}
-use Rattle.std.specs.Prelude.{reverse}
-use Rattle.std.specs.List.{list_all}
-use Rattle.std.proofs.lemmas.Grind.{reverse_onto}
-use Rattle.sk_record.specs.Notes.{has, carried}
-use Rattle.sk_record.specs.UndoState.{IsGrowing}
-use Rattle.sk_record.proofs.UndoStates.{and_both}
-use Rattle.sk_undo.specs.declared.log.Note.{Note as RawNote}
-use Rattle.sk_undo.specs.Log.{log_of, newest_tags, from_first, Grows, Covers}
+use Rattle.sk_undo.proofs.Cites.{◌≡◌, ℕ, true, false, cond, ◌&&◌, List, [], ◌∷◌, ◌++◌, Option, refl, ◌∙◌, sym, ap}
+use Rattle.sk_undo.proofs.Cites.{subst, reverse, list_all, reverse_onto, has, carried, IsGrowing, and_both, RawNote}
+use Rattle.sk_undo.proofs.Cites.{log_of, newest_tags, from_first, Grows, Covers}
 use Rattle.sk_undo.proofs.Commits.{in_order, order_is}
 
 module _ {U V : Type 0} (undone : U → Option V → Option V) where

@@ -1,21 +1,11 @@
 -- What a commit leaves of the notes that are there, as it is seen.
-use Rattle.std.proofs.Common.{◌≡◌, ℕ, zero, suc, ◌+◌, true, false, cond, not, ◌&&◌, ◌||◌, List, [], ◌∷◌, Option, Some, None, refl, sym, ◌∙◌, ap, subst, arith}
-use Rattle.std.specs.Prelude.{◌==◌, reverse}
-use Rattle.std.specs.List.{list_all, prefix_len}
-use Rattle.std.proofs.lemmas.Bool.{true≢false, or_left, or_parts, eq-eqb}
-use Rattle.std.proofs.lemmas.List.{reverse-reverse}
-use Rattle.sk_record.specs.Notes.{Note, has, without, noted, committed}
-use Rattle.sk_record.specs.Merged.{same_tags, merged}
-use Rattle.sk_record.specs.UndoState.{IsGrowing}
-use Rattle.sk_record.proofs.UndoStates.{and_both}
-use Rattle.sk_record.proofs.Machine.{has_filter}
-use Rattle.sk_store.specs.Changed.{StateFits, state_undone}
-use Rattle.sk_store.specs.declared.entity_state.EntityState.{EntityState}
-use Rattle.sk_store.specs.declared.back.PutBack.{PutBack}
-use Rattle.sk_undo.specs.declared.log.Note.{Note as RawNote}
-use Rattle.sk_undo.specs.Log.{is_empty, seen, CanGoBack, EachRests, is_covered, joined_from, lightened, dropped, carries}
-use Rattle.sk_undo.specs.Slot.{undone, Fits, is_process, is_whole, is_needless, joined, committed_joined}
-use Rattle.sk_undo.specs.Kept.{is_apart}
+use Rattle.sk_undo.proofs.Cites.{◌≡◌, ℕ, zero, suc, ◌+◌, true, false, cond, not, ◌&&◌, ◌||◌, List, [], ◌∷◌, Option}
+use Rattle.sk_undo.proofs.Cites.{Some, None, refl, sym, ◌∙◌, ap, subst, arith, ◌==◌, reverse, list_all, prefix_len}
+use Rattle.sk_undo.proofs.Cites.{true≢false, or_left, or_parts, eq-eqb, reverse-reverse, Note, has, without, noted}
+use Rattle.sk_undo.proofs.Cites.{committed, same_tags, merged, IsGrowing, and_both, has_filter, StateFits, state_undone}
+use Rattle.sk_undo.proofs.Cites.{EntityState, PutBack, RawNote, is_empty, seen, CanGoBack, EachRests, is_covered}
+use Rattle.sk_undo.proofs.Cites.{joined_from, lightened, dropped, carries, undone, Fits, is_process, is_whole}
+use Rattle.sk_undo.proofs.Cites.{is_needless, joined, committed_joined, is_apart}
 use Rattle.sk_undo.proofs.SeenNotes.{AllSeen, grow_head}
 use Rattle.sk_undo.proofs.Commits.{value_before, in_order, order_is, without_free, none_gone, light_before, commit_order, is_settled, all_settled, kept_one, not_true}
 use Rattle.sk_undo.proofs.Joins.{CanInOrder, in_turn, note_same, same_before}

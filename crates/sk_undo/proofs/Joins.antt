@@ -1,20 +1,9 @@
 -- Notes left out, for which the note before them stands: what is left is seen as before, but for these.
-use Rattle.std.proofs.Common.{◌≡◌, ℕ, zero, suc, ◌<◌, ◌≤◌, length, take, drop, Bool, true, false, cond, ◌&&◌, List, [], ◌∷◌, ◌++◌, Option, Some, None, inr, refl, sym, ap, subst, arith}
-use Rattle.std.specs.Prelude.{reverse, slice_index_or}
-use Rattle.std.specs.List.{list_all}
-use Rattle.std.proofs.lemmas.Bool.{true≢false}
-use Rattle.std.proofs.lemmas.Grind.{reverse_onto}
-use Rattle.std.proofs.lemmas.List.{reverse-reverse}
-use Rattle.sk_ids.proofs.Same.{exact_bytes}
-use Rattle.sk_changes.specs.declared.change.Undo.{Undo}
-use Rattle.sk_store.specs.declared.back.PutBack.{PutBack}
-use Rattle.sk_store.specs.declared.back.PutBack.TheVariants.{Was, Changed}
-use Rattle.sk_record.specs.Notes.{Note}
-use Rattle.sk_record.specs.Merged.{Merges}
-use Rattle.sk_record.proofs.Merged.{past}
-use Rattle.sk_record.proofs.UndoStates.{and_both}
-use Rattle.sk_undo.specs.declared.log.Note.{Note as RawNote}
-use Rattle.sk_undo.specs.Log.{seen, CanGoBack, undone_by, FitsBy, restores, stands_for, is_covered, repeats, joined_from}
+use Rattle.sk_undo.proofs.Cites.{◌≡◌, ℕ, zero, suc, ◌<◌, ◌≤◌, length, take, drop, Bool, true, false, cond, ◌&&◌, List}
+use Rattle.sk_undo.proofs.Cites.{[], ◌∷◌, ◌++◌, Option, Some, None, inr, refl, sym, ap, subst, arith, reverse}
+use Rattle.sk_undo.proofs.Cites.{slice_index_or, list_all, true≢false, reverse_onto, reverse-reverse, exact_bytes, Undo}
+use Rattle.sk_undo.proofs.Cites.{PutBack, Was, Changed, Note, Merges, past, and_both, RawNote, seen, CanGoBack}
+use Rattle.sk_undo.proofs.Cites.{undone_by, FitsBy, restores, stands_for, is_covered, repeats, joined_from}
 use Rattle.sk_undo.proofs.Commits.{value_before, in_order, before_more, order_is}
 
 -- ---- one place after another

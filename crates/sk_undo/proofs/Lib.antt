@@ -1,3 +1,4 @@
+pub mod Cites
 pub mod Notes
 pub mod SeenNotes
 pub mod Maps

@@ -1,19 +1,9 @@
 -- Writes to the map of slots, and what takes them back.
-use Rattle.std.proofs.Common.{◌≡◌, ℕ, List, [], ◌∷◌, Bool, true, false, cond, Option, Some, None, refl, sym, ◌∙◌, ap, subst}
-use Rattle.std.specs.Prelude.{is_some}
-use Rattle.std.specs.Ordering.{eq_by_cmp}
-use Rattle.std.specs.Cmp.{eq_by_cmp_equiv, Equal-is}
-use Rattle.std.specs.FinMap.{get, insert, remove, get-insert, get-remove, same_map}
-use Rattle.std.proofs.lemmas.Bool.{true≢false}
-use Rattle.sk_ids.specs.declared.entity.Entity.{Entity}
-use Rattle.sk_undo.specs.Log.{is_empty}
-use Rattle.sk_undo.specs.Slot.{SlotView, slot_of, slot_wrote, is_bare, slot_back, CanGoBackOnce}
-use Rattle.sk_undo.specs.Logs.{SlotMap, slot_in, placed, slots_wrote, CanUndoLast}
-use Rattle.sk_undo.specs.Decisions.{ChangedAt}
-use Rattle.sk_store.specs.declared.back.PutBack.{PutBack}
-use Rattle.sk_store.specs.declared.entity_state.EntityState.{EntityState}
-use Rattle.sk_ids.specs.Entity.{entity_cmp}
-use Rattle.sk_ids.proofs.Entities.{entity_total, entity_exact}
+use Rattle.sk_undo.proofs.Cites.{◌≡◌, ℕ, List, [], ◌∷◌, Bool, true, false, cond, Option, Some, None, refl, sym, ◌∙◌, ap}
+use Rattle.sk_undo.proofs.Cites.{subst, is_some, eq_by_cmp, eq_by_cmp_equiv, Equal-is, get, insert, remove, get-insert}
+use Rattle.sk_undo.proofs.Cites.{get-remove, same_map, true≢false, Entity, is_empty, SlotView, slot_of, slot_wrote}
+use Rattle.sk_undo.proofs.Cites.{is_bare, slot_back, CanGoBackOnce, SlotMap, slot_in, placed, slots_wrote, CanUndoLast}
+use Rattle.sk_undo.proofs.Cites.{ChangedAt, PutBack, EntityState, entity_cmp, entity_total, entity_exact}
 
 at_same : (m : SlotMap) (e : Entity) (v : SlotView) → get (insert m e v) e ≡ Some v
 at_same m e v = get-insert entity_total m e v e ∙ ap (λ b. cond b (Some v) (get m e)) ((eq_by_cmp_equiv entity_total).refl e)

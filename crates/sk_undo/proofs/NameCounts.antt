@@ -1,38 +1,21 @@
 -- How many names each directory has, after one entity was written.
-use Rattle.std.proofs.Common.{◌≡◌, ◌≤◌, ℕ, zero, suc, ◌+◌, ◌-◌, Bool, true, false, not, cond, ◌&&◌, ◌||◌, List, [], ◌∷◌, Option, Some, None, Result, Ok, Err, refl, sym, ◌∙◌, ap, subst, arith}
-use Rattle.std.specs.Prelude.{is_some, OnOk, OnErr}
-use Rattle.std.specs.Option.{unwrap_or}
-use Rattle.std.specs.declared.cmp.Ordering.{Ordering}
-use Rattle.std.specs.declared.cmp.Ordering.TheVariants.{Less, Equal, Greater}
-use Rattle.std.specs.Ordering.{eq_by_cmp, is_eq, ordering_then}
-use Rattle.std.specs.Cmp.{IsTotalOrder, Equal-is, eq_by_cmp_equiv, tied_itself}
-use Rattle.std.specs.Cmp.Lexicographic.{nat_list_cmp_total}
-use Rattle.std.specs.List.{list_any}
+use Rattle.sk_undo.proofs.Cites.{◌≡◌, ◌≤◌, ℕ, zero, suc, ◌+◌, ◌-◌, Bool, true, false, not, cond, ◌&&◌, ◌||◌, List, []}
+use Rattle.sk_undo.proofs.Cites.{◌∷◌, Option, Some, None, Result, Ok, Err, refl, sym, ◌∙◌, ap, subst, arith, is_some}
+use Rattle.sk_undo.proofs.Cites.{OnOk, OnErr, unwrap_or, Ordering, Less, Equal, Greater, eq_by_cmp, is_eq}
+use Rattle.sk_undo.proofs.Cites.{ordering_then, IsTotalOrder, Equal-is, eq_by_cmp_equiv, tied_itself}
+use Rattle.sk_undo.proofs.Cites.{nat_list_cmp_total, list_any, FinSet, contains, items, len, empty, contains-items}
+use Rattle.sk_undo.proofs.Cites.{contains-empty, contains-remove, len-empty, len-remove, same_set, true≢false}
+use Rattle.sk_undo.proofs.Cites.{name_order, entity_cmp, object_cmp, ObjId, total-law, Entity, Proc, Sig, Exit, Obj}
+use Rattle.sk_undo.proofs.Cites.{Link, Copy, entity_total, entity_exact, object_same, object_exact, IsCount, name_there}
+use Rattle.sk_undo.proofs.Cites.{one_more, one_less, as_many, EntityState, Change, FitsAt, changed, PutBack, TakeBack}
+use Rattle.sk_undo.proofs.Cites.{DropSlot, UndoLast, SlotView, is_bare, slot_wrote, slot_back, SlotMap, slot_in}
+use Rattle.sk_undo.proofs.Cites.{look_at, placed, slots_wrote, slots_back, CanTakeBack, CanUndoLast, ChangedAt}
+use Rattle.sk_undo.proofs.Cites.{SlotUnwound, IsWithin, NameMap, IsCounted, count_in, count_for, with_count, with_place}
+use Rattle.sk_undo.proofs.Cites.{made_for, recounted, recounted_at, link_there}
 use Rattle.std.specs.FinMap as map
-use Rattle.std.specs.FinSet.{FinSet, contains, items, remove, len, empty, contains-items, contains-empty, contains-remove, len-empty, len-remove, same_set}
-use Rattle.std.proofs.lemmas.Bool.{true≢false}
+use Rattle.std.specs.FinSet.{remove}
 use Rattle.std.proofs.lemmas.Map.Lookups.{exact_bytes}
-use Rattle.sk_ids.specs.Name.{name_order}
-use Rattle.sk_ids.specs.Entity.{entity_cmp, object_cmp}
-use Rattle.sk_ids.specs.declared.pid.ObjId.{ObjId}
-use Rattle.sk_ids.specs.contracts.pid.ObjIdOrd.TheImpl.Laws.{total-law}
-use Rattle.sk_ids.specs.declared.entity.Entity.{Entity}
-use Rattle.sk_ids.specs.declared.entity.Entity.TheVariants.{Proc, Sig, Exit, Obj, Link, Copy}
-use Rattle.sk_ids.proofs.Entities.{entity_total, entity_exact}
-use Rattle.sk_map.specs.KeyLemma.{object_same, object_exact}
-use Rattle.sk_store.specs.Names.{IsCount, name_there}
-use Rattle.sk_store.proofs.Names.{one_more, one_less, as_many}
-use Rattle.sk_store.specs.declared.entity_state.EntityState.{EntityState}
-use Rattle.sk_changes.specs.declared.change.Change.{Change}
-use Rattle.sk_store.specs.Changed.{FitsAt, changed}
-use Rattle.sk_store.specs.declared.back.PutBack.{PutBack}
-use Rattle.sk_undo.specs.declared.slots.TakeBack.{TakeBack}
-use Rattle.sk_undo.specs.declared.slots.TakeBack.TheVariants.{DropSlot, UndoLast}
-use Rattle.sk_undo.specs.Slot.{SlotView, is_bare, slot_wrote, slot_back}
-use Rattle.sk_undo.specs.Logs.{SlotMap, slot_in, look_at, placed, slots_wrote, slots_back, CanTakeBack, CanUndoLast}
-use Rattle.sk_undo.specs.Decisions.{ChangedAt, SlotUnwound, IsWithin}
 use Rattle.sk_undo.proofs.Passes.{placed_at, placed_get, same_elsewhere}
-use Rattle.sk_undo.specs.Names.{NameMap, IsCounted, count_in, count_for, with_count, with_place, made_for, recounted, recounted_at, link_there}
 
 names_total : IsTotalOrder name_order
 names_total = nat_list_cmp_total

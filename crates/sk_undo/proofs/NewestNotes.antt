@@ -1,13 +1,9 @@
 -- What a commit's pass from the newest note back leaves.
-use Rattle.std.proofs.Common.{◌≡◌, ℕ, zero, suc, ◌<◌, ◌≤◌, ◌+◌, length, take, drop, true, false, cond, not, ◌&&◌, List, [], ◌∷◌, ◌++◌, Option, refl, sym, ◌∙◌, ap, subst, arith}
-use Rattle.std.specs.Prelude.{reverse, slice_index_or, slice_set}
-use Rattle.std.specs.List.{list_all, prefix_len}
-use Rattle.std.proofs.lemmas.Bool.{true≢false}
-use Rattle.std.proofs.lemmas.List.{reverse-append, take-append-drop}
-use Rattle.sk_record.specs.Notes.{has, without}
-use Rattle.sk_record.proofs.UndoStates.{and_both}
-use Rattle.sk_undo.specs.declared.log.Note.{Note as RawNote}
-use Rattle.sk_undo.specs.Log.{is_empty, CanGoBack, rests_last, newest_tags, lightened, dropped, from_first, Grows}
+use Rattle.sk_undo.proofs.Cites.{◌≡◌, ℕ, zero, suc, ◌<◌, ◌≤◌, ◌+◌, length, take, drop, true, false, cond, not, ◌&&◌}
+use Rattle.sk_undo.proofs.Cites.{List, [], ◌∷◌, ◌++◌, Option, refl, sym, ◌∙◌, ap, subst, arith, reverse, slice_index_or}
+use Rattle.sk_undo.proofs.Cites.{slice_set, list_all, prefix_len, true≢false, reverse-append, take-append-drop, has}
+use Rattle.sk_undo.proofs.Cites.{without, and_both, RawNote, is_empty, CanGoBack, rests_last, newest_tags, lightened}
+use Rattle.sk_undo.proofs.Cites.{dropped, from_first, Grows}
 use Rattle.sk_undo.proofs.Commits.{without_free, light_reverse, dropped_can}
 use Rattle.sk_undo.proofs.Growing.{AllRest, last_on, last_rests, newest_last, newest_is}
 

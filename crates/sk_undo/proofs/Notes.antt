@@ -1,8 +1,7 @@
 -- An entity is found among those that were written, whichever is looked at first.
-use Rattle.std.proofs.Common.{◌≡◌, Bool, true, false, ◌||◌, List, [], ◌∷◌, reverse, refl, ◌∙◌, ap}
-use Rattle.std.specs.List.{list_any}
-use Rattle.std.proofs.lemmas.List.{reverse-append}
-use Rattle.std.proofs.lemmas.List.Folds.{list_any-append}
+use Rattle.sk_undo.proofs.Cites.{◌≡◌, Bool, true, false, ◌||◌, List, [], ◌∷◌, refl, ◌∙◌, ap, list_any, reverse-append}
+use Rattle.sk_undo.proofs.Cites.{list_any-append}
+use Rattle.std.proofs.Common.{reverse}
 
 either_way : (a b : Bool) → (a || (b || false)) ≡ (b || a)
 either_way true true = refl

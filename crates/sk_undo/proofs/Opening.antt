@@ -1,25 +1,11 @@
 -- What a store has, moved over into slots.
-use Rattle.std.proofs.Common.{◌≡◌, ◌≤◌, ℕ, length, drop, true, false, cond, ◌||◌, List, [], ◌∷◌, Option, Some, None, IsSome, refl, sym, ◌∙◌, ap, subst}
-use Rattle.std.specs.Prelude.{reverse, is_some}
-use Rattle.std.specs.Option.{option_map}
-use Rattle.std.specs.List.{AllByRecursion}
-use Rattle.std.specs.List.Sorted.{IsStrictlySortedBy}
-use Rattle.std.specs.Ordering.{eq_by_cmp}
-use Rattle.std.specs.declared.cmp.Ordering.TheVariants.{Less}
-use Rattle.std.specs.Cmp.{eq_by_cmp_equiv, Equal-is}
+use Rattle.sk_undo.proofs.Cites.{◌≡◌, ◌≤◌, ℕ, length, drop, true, false, cond, ◌||◌, List, [], ◌∷◌, Option, Some, None}
+use Rattle.sk_undo.proofs.Cites.{IsSome, refl, sym, ◌∙◌, ap, subst, reverse, is_some, option_map, AllByRecursion}
+use Rattle.sk_undo.proofs.Cites.{IsStrictlySortedBy, eq_by_cmp, Less, eq_by_cmp_equiv, Equal-is, true≢false, or_left}
+use Rattle.sk_undo.proofs.Cites.{or_right, sorted_head, sorted_tail, drop_all, entity_cmp, Entity, entity_total}
+use Rattle.sk_undo.proofs.Cites.{entity_exact, is_in, State, EntityState, SlotView, slot_of, slot_wrote, is_bare}
+use Rattle.sk_undo.proofs.Cites.{SlotMap, slot_in, look_at, log_at, placed, moved, NoneBare}
 use Rattle.std.specs.FinMap as map
-use Rattle.std.proofs.lemmas.Bool.{true≢false, or_left, or_right}
-use Rattle.std.proofs.lemmas.Map.Keys.{sorted_head, sorted_tail}
-use Rattle.std.proofs.lemmas.List.{drop_all}
-use Rattle.sk_ids.specs.Entity.{entity_cmp}
-use Rattle.sk_ids.specs.declared.entity.Entity.{Entity}
-use Rattle.sk_ids.proofs.Entities.{entity_total, entity_exact}
-use Rattle.sk_record.specs.Effects.{is_in}
-use Rattle.sk_store.specs.State.{State}
-use Rattle.sk_store.specs.declared.entity_state.EntityState.{EntityState}
-use Rattle.sk_undo.specs.Slot.{SlotView, slot_of, slot_wrote, is_bare}
-use Rattle.sk_undo.specs.Logs.{SlotMap, slot_in, look_at, log_at, placed, moved}
-use Rattle.sk_undo.specs.Decisions.{NoneBare}
 
 -- a slot of which nothing is noted
 abbrev pub holding : EntityState → SlotView

@@ -1,26 +1,13 @@
 -- What a pass over the listed entities leaves of the slots.
-use Rattle.std.proofs.Common.{◌≡◌, ℕ, ◌+◌, ◌<◌, length, drop, get_or, Bool, true, false, cond, ◌||◌, ◌&&◌, List, [], ◌∷◌, Option, Some, None, refl, sym, ◌∙◌, ap, subst}
-use Rattle.std.specs.Prelude.{reverse, is_none, is_some}
-use Rattle.std.specs.List.{list_all}
-use Rattle.std.specs.Ordering.{eq_by_cmp}
-use Rattle.std.specs.Cmp.{Equal-is}
+use Rattle.sk_undo.proofs.Cites.{◌≡◌, ℕ, ◌+◌, ◌<◌, length, drop, get_or, Bool, true, false, cond, ◌||◌, ◌&&◌, List, []}
+use Rattle.sk_undo.proofs.Cites.{◌∷◌, Option, Some, None, refl, sym, ◌∙◌, ap, subst, reverse, is_none, is_some}
+use Rattle.sk_undo.proofs.Cites.{list_all, eq_by_cmp, Equal-is, true≢false, drop-cons, suc-eq-add-one, entity_cmp}
+use Rattle.sk_undo.proofs.Cites.{Entity, entity_total, entity_exact, is_in, Note, has, cut, unwound, committed, Merges}
+use Rattle.sk_undo.proofs.Cites.{IsGrowing, all_kept, in_turn, both_committed, grow_in, EntityState, is_empty, carries}
+use Rattle.sk_undo.proofs.Cites.{EachRests, SlotView, slot_of, slot_wrote, is_bare, committed_joined, SlotMap, slot_in}
+use Rattle.sk_undo.proofs.Cites.{slots_wrote, placed, look_at, log_at, SlotUnwound, SlotCommitted, ChangedAt, IsWithin}
+use Rattle.sk_undo.proofs.Cites.{Unwound, Lightened, AreListed, AllRest, AllGrow, NoneBare}
 use Rattle.std.specs.FinMap as map
-use Rattle.std.proofs.lemmas.Bool.{true≢false}
-use Rattle.std.proofs.Math.Seq.{drop-cons}
-use Rattle.std.proofs.Math.Numerals.{suc-eq-add-one}
-use Rattle.sk_ids.specs.Entity.{entity_cmp}
-use Rattle.sk_ids.specs.declared.entity.Entity.{Entity}
-use Rattle.sk_ids.proofs.Entities.{entity_total, entity_exact}
-use Rattle.sk_record.specs.Effects.{is_in}
-use Rattle.sk_record.specs.Notes.{Note, has, cut, unwound, committed}
-use Rattle.sk_record.specs.Merged.{Merges}
-use Rattle.sk_record.specs.UndoState.{IsGrowing}
-use Rattle.sk_record.proofs.Merged.{all_kept, in_turn, both_committed, grow_in}
-use Rattle.sk_store.specs.declared.entity_state.EntityState.{EntityState}
-use Rattle.sk_undo.specs.Log.{is_empty, carries, EachRests}
-use Rattle.sk_undo.specs.Slot.{SlotView, slot_of, slot_wrote, is_bare, committed_joined}
-use Rattle.sk_undo.specs.Logs.{SlotMap, slot_in, slots_wrote, placed, look_at, log_at}
-use Rattle.sk_undo.specs.Decisions.{SlotUnwound, SlotCommitted, ChangedAt, IsWithin, Unwound, Lightened, AreListed, AllRest, AllGrow, NoneBare}
 use Rattle.sk_undo.proofs.Joined.{joined_free, settled_rests, settled_none}
 use Rattle.sk_undo.proofs.SeenNotes.{none_is, none_off, grow_cut}
 use Rattle.sk_undo.proofs.Commits.{committed_free, committed_twice, grow_commit, is_settled, settled_free, all_settled, all_merged}

@@ -1,17 +1,8 @@
 -- The entities of slots that have a value: of the keys of the map those are kept whose slots do.
-use Rattle.std.proofs.Common.{◌≡◌, Bool, true, false, ◌&&◌, Option, Some, None, refl, sym, ◌∙◌, ap}
-use Rattle.std.specs.Prelude.{is_some}
-use Rattle.std.specs.List.{filter}
+use Rattle.sk_undo.proofs.Cites.{◌≡◌, Bool, true, false, ◌&&◌, Option, Some, None, refl, sym, ◌∙◌, ap, is_some, filter}
+use Rattle.sk_undo.proofs.Cites.{Equal-is, eq_by_cmp, any-filter_same, entity_cmp, Entity, entity_exact, is_in}
+use Rattle.sk_undo.proofs.Cites.{SlotView, SlotMap, slot_in, look_at}
 use Rattle.std.specs.FinMap as map
-use Rattle.std.specs.Cmp.{Equal-is}
-use Rattle.std.specs.Ordering.{eq_by_cmp}
-use Rattle.std.proofs.lemmas.Map.Views.{any-filter_same}
-use Rattle.sk_ids.specs.Entity.{entity_cmp}
-use Rattle.sk_ids.specs.declared.entity.Entity.{Entity}
-use Rattle.sk_ids.proofs.Entities.{entity_exact}
-use Rattle.sk_record.specs.Effects.{is_in}
-use Rattle.sk_undo.specs.Slot.{SlotView}
-use Rattle.sk_undo.specs.Logs.{SlotMap, slot_in, look_at}
 
 abbrev pub has_value : SlotMap → Entity → Bool
 has_value m e = is_some (look_at m e)

@@ -1,20 +1,11 @@
 -- The runs of a process, noted on, cut, committed and joined, as the notes that they are seen as.
-use Rattle.std.proofs.Common.{◌≡◌, ℕ, zero, suc, length, Bool, true, false, cond, not, ◌&&◌, List, [], ◌∷◌, ◌++◌, Option, Some, None, inr, refl, sym, ◌∙◌, ap, subst}
-use Rattle.std.specs.Prelude.{reverse}
-use Rattle.std.proofs.lemmas.Bool.{true≢false}
-use Rattle.sk_ids.proofs.Same.{exact_bytes}
-use Rattle.sk_script.specs.declared.process.Process.{Process}
-use Rattle.sk_store.specs.declared.back.PutBack.{PutBack}
-use Rattle.sk_store.specs.declared.back.PutBack.TheVariants.{Was, Changed}
-use Rattle.sk_record.specs.Notes.{Note, has, last_tags, cut, committed}
-use Rattle.sk_record.specs.UndoState.{IsGrowing}
-use Rattle.sk_record.specs.Merged.{Merges, same_tags, merged}
-use Rattle.sk_record.proofs.Merged.{past, same_last, grow_in, committed_some}
-use Rattle.sk_record.proofs.Tidy.{AllSome}
-use Rattle.sk_record.proofs.UndoStates.{and_both}
-use Rattle.sk_undo.specs.declared.log.Note.{Note as RawNote}
-use Rattle.sk_undo.specs.Log.{is_empty, log_of, CanGoBack, undone_by, FitsBy, restores, newest_tags, lightened, dropped, Grows, goes_unnoted_raw, joined_from}
-use Rattle.sk_undo.specs.Kept.{is_process_whole, process_changed_back, ProcessFits, was, run_of, runs_of, AllSet, is_apart}
+use Rattle.sk_undo.proofs.Cites.{◌≡◌, ℕ, zero, suc, length, Bool, true, false, cond, not, ◌&&◌, List, [], ◌∷◌, ◌++◌}
+use Rattle.sk_undo.proofs.Cites.{Option, Some, None, inr, refl, sym, ◌∙◌, ap, subst, reverse, true≢false, exact_bytes}
+use Rattle.sk_undo.proofs.Cites.{Process, PutBack, Was, Changed, Note, has, last_tags, cut, committed, IsGrowing}
+use Rattle.sk_undo.proofs.Cites.{Merges, same_tags, merged, past, same_last, grow_in, committed_some, AllSome, and_both}
+use Rattle.sk_undo.proofs.Cites.{RawNote, is_empty, log_of, CanGoBack, undone_by, FitsBy, restores, newest_tags}
+use Rattle.sk_undo.proofs.Cites.{lightened, dropped, Grows, goes_unnoted_raw, joined_from, is_process_whole}
+use Rattle.sk_undo.proofs.Cites.{process_changed_back, ProcessFits, was, run_of, runs_of, AllSet, is_apart}
 use Rattle.sk_undo.proofs.SeenNotes.{tags_seen, all_reverse, grow_cut}
 use Rattle.sk_undo.proofs.Commits.{value_before, in_order, order_is, commit_seen, grow_commit}
 use Rattle.sk_undo.proofs.Growing.{grows_seen, grows_there}

@@ -1,14 +1,8 @@
 -- Notes that are there, notes that are seen, and logs that grow.
-use Rattle.std.proofs.Common.{◌≡◌, ℕ, Bool, true, false, cond, ◌&&◌, ◌||◌, List, [], ◌∷◌, ◌++◌, Option, refl, ◌∙◌, sym, ap, subst}
-use Rattle.std.specs.Prelude.{reverse}
-use Rattle.std.specs.List.{list_all}
-use Rattle.std.proofs.lemmas.Bool.{true≢false, or_parts}
-use Rattle.std.proofs.lemmas.Grind.{reverse_onto}
-use Rattle.sk_record.specs.Notes.{Note, has, last_tags, cut, carried, unwound}
-use Rattle.sk_record.specs.UndoState.{IsGrowing}
-use Rattle.sk_record.proofs.UndoStates.{and_both}
-use Rattle.sk_undo.specs.declared.log.Note.{Note as RawNote}
-use Rattle.sk_undo.specs.Log.{is_empty, seen, CanGoBack, less, before_last, HasNote, newest_tags, rests_last, carries}
+use Rattle.sk_undo.proofs.Cites.{◌≡◌, ℕ, Bool, true, false, cond, ◌&&◌, ◌||◌, List, [], ◌∷◌, ◌++◌, Option, refl, ◌∙◌}
+use Rattle.sk_undo.proofs.Cites.{sym, ap, subst, reverse, list_all, true≢false, or_parts, reverse_onto, Note, has}
+use Rattle.sk_undo.proofs.Cites.{last_tags, cut, carried, unwound, IsGrowing, and_both, RawNote, is_empty, seen}
+use Rattle.sk_undo.proofs.Cites.{CanGoBack, less, before_last, HasNote, newest_tags, rests_last, carries}
 
 -- ---- no notes
 more_is_some : {A : Type 0} (xs : List A) (x : A) → is_empty (xs ++ x ∷ []) ≡ false

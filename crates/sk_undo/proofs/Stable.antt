@@ -1,20 +1,11 @@
 -- Where the newest note puts back what was there whatever stands there now, the log is the same over any value.
-use Rattle.std.proofs.Common.{◌≡◌, ℕ, ◌≤◌, length, true, cond, ◌&&◌, List, [], ◌∷◌, Option, Some, None, refl, sym, ◌∙◌, ap, subst, arith}
-use Rattle.std.specs.Prelude.{reverse, nat_le}
-use Rattle.std.specs.Cmp.{first_so}
-use Rattle.std.proofs.lemmas.Bool.{eqb-true, leb-true}
-use Rattle.sk_ids.proofs.Same.{exact_bytes}
-use Rattle.sk_record.specs.Notes.{Note, last_tags}
-use Rattle.sk_record.proofs.UndoStates.{and_both}
-use Rattle.sk_record.specs.Merged.{same_tags}
-use Rattle.sk_store.specs.declared.entity_state.EntityState.{EntityState}
+use Rattle.sk_undo.proofs.Cites.{◌≡◌, ℕ, ◌≤◌, length, true, cond, ◌&&◌, List, [], ◌∷◌, Option, Some, None, refl, sym}
+use Rattle.sk_undo.proofs.Cites.{◌∙◌, ap, subst, arith, reverse, nat_le, first_so, eqb-true, leb-true, exact_bytes}
+use Rattle.sk_undo.proofs.Cites.{Note, last_tags, and_both, same_tags, EntityState, PutBack, Was, Changed, RawNote}
+use Rattle.sk_undo.proofs.Cites.{seen, CanGoBack, restores, goes_on_raw, goes_unnoted_raw, StateFits, state_undone}
+use Rattle.sk_undo.proofs.Cites.{undone, Fits, is_process, is_whole, goes_on, goes_unnoted, noted_on, is_stable}
+use Rattle.sk_undo.proofs.Cites.{is_stable_raw}
 use Rattle.sk_store.specs.declared.entity_state.EntityState.TheVariants as stored
-use Rattle.sk_store.specs.declared.back.PutBack.{PutBack}
-use Rattle.sk_store.specs.declared.back.PutBack.TheVariants.{Was, Changed}
-use Rattle.sk_undo.specs.declared.log.Note.{Note as RawNote}
-use Rattle.sk_undo.specs.Log.{seen, CanGoBack, restores, goes_on_raw, goes_unnoted_raw}
-use Rattle.sk_store.specs.Changed.{StateFits, state_undone}
-use Rattle.sk_undo.specs.Slot.{undone, Fits, is_process, is_whole, goes_on, goes_unnoted, noted_on, is_stable, is_stable_raw}
 use Rattle.sk_undo.proofs.Joins.{same_undone, fits_any}
 use Rattle.sk_undo.proofs.SeenNotes.{newest_of}
 

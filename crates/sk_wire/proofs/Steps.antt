@@ -1,12 +1,9 @@
 -- Each step of a pass keeps the rule of a wire.
-use Rattle.std.proofs.Common.{◌≡◌, ◌≢◌, ℕ, zero, suc, ◌+◌, true, false, true≢false, List, [], ◌∷◌, ◌++◌, length, set, sym, refl, ap, ◌∙◌, subst, ⊎_elim, append_assoc, arith, length-append, zero-le, ◌<◌}
-use mathlib.Core.Option.{some, some-ne-none}
-use lib.ListN.{get_elem?}
-use Rattle.crossbeam_queue.specs.Fifo.{Pushes, Pops, Forks, Merges, Learns}
-use Rattle.crossbeam_queue.proofs.Lists.{at_set, at_snoc}
-use Rattle.sk_wire.specs.declared.rule.PassView.{PassView}
-use Rattle.sk_wire.specs.declared.rule.TheConstants.{WIRE_ITEMS}
-use Rattle.sk_wire.specs.Rule.{known, sender, receiver, with_sent, with_received, joined, IsLeft, IsNext, KnowsAll, AreNumbered, IsInTurn}
+use Rattle.sk_wire.proofs.Names.{◌≡◌, ◌≢◌, ℕ, zero, suc, ◌+◌, true, false, true≢false, List, [], ◌∷◌, ◌++◌, length, set}
+use Rattle.sk_wire.proofs.Names.{sym, refl, ap, ◌∙◌, subst, ⊎_elim, append_assoc, arith, length-append, zero-le, ◌<◌}
+use Rattle.sk_wire.proofs.Names.{some, some-ne-none, get_elem?, Pushes, Pops, Forks, Merges, Learns, at_set, at_snoc}
+use Rattle.sk_wire.proofs.Names.{PassView, WIRE_ITEMS, known, sender, receiver, with_sent, with_received, joined}
+use Rattle.sk_wire.proofs.Names.{IsLeft, IsNext, KnowsAll, AreNumbered, IsInTurn}
 
 off : false ≡ true → ⊥
 off e = true≢false (sym e)

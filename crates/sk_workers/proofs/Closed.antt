@@ -1,13 +1,9 @@
 -- What the checks of a close show.
-use Rattle.std.proofs.Common.{◌≡◌, ℕ, zero, suc, ◌<◌, List, [], ◌∷◌, ◌++◌, length, refl, sym, ap, ◌∙◌, subst}
-use Rattle.std.specs.Prelude.{Option, Some, None, MatchOption, slice_get}
-use Rattle.std.proofs.lemmas.Option.{slice_get_within}
-use Rattle.sk_client.specs.Desk.{DeskView, pending}
-use Rattle.sk_workers.specs.declared.entry.HistoryEntry.{HistoryEntry}
-use Rattle.sk_workers.specs.declared.entry.Receipt.{Receipt}
-use Rattle.sk_workers.specs.Views.{BookView, WorkerView, SharedView}
-use Rattle.sk_workers.specs.History.{AreOwn, AreFresh, IsLegal}
-use Rattle.sk_workers.specs.Closing.{Agrees, IsFirstBad, Stands, AllStand, AreDistinct, AreApart, IsFrom, IsClosed, receipts_of, numbers}
+use Rattle.sk_workers.proofs.Names.{◌≡◌, ℕ, zero, suc, ◌<◌, List, [], ◌∷◌, ◌++◌, length, refl, sym, ap, ◌∙◌, subst}
+use Rattle.sk_workers.proofs.Names.{Option, Some, None, MatchOption, slice_get, slice_get_within, DeskView, pending}
+use Rattle.sk_workers.proofs.Names.{HistoryEntry, Receipt, BookView, WorkerView, SharedView, AreOwn, AreFresh, IsLegal}
+use Rattle.sk_workers.proofs.Names.{Agrees, IsFirstBad, Stands, AllStand, AreDistinct, AreApart, IsFrom, IsClosed}
+use Rattle.sk_workers.proofs.Names.{receipts_of, numbers}
 
 -- what was found of a worker's receipts, or that all stand
 pub found : (h : List HistoryEntry) (w : WorkerView) (rs : List Receipt) (o : Option ℕ) → rs ≡ w.receipts → AreOwn w.number w.receipts

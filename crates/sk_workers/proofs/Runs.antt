@@ -1,10 +1,7 @@
 -- A legal history stays legal where a call is entered, and where a request is taken.
-use Rattle.std.proofs.Common.{◌≡◌, ℕ, zero, suc, List, [], ◌∷◌, ◌++◌, ◌+◌, length, length-append, arith, refl, sym, ap, ◌∙◌, subst}
-use Rattle.sk_client.specs.Desk.{DeskView, first_taken, requests_taken}
-use Rattle.sk_workers.specs.declared.entry.HistoryEntry.{HistoryEntry}
-use Rattle.sk_workers.specs.declared.entry.Receipt.{Receipt}
-use Rattle.sk_workers.specs.History.{as_opened, CallPost, Runs, IsLegal, AreOwn}
-use Rattle.sk_workers.specs.Invariants.{IsTidyBook, IsTidyWorker}
+use Rattle.sk_workers.proofs.Names.{◌≡◌, ℕ, zero, suc, List, [], ◌∷◌, ◌++◌, ◌+◌, length, length-append, arith, refl}
+use Rattle.sk_workers.proofs.Names.{sym, ap, ◌∙◌, subst, DeskView, first_taken, requests_taken, HistoryEntry, Receipt}
+use Rattle.sk_workers.proofs.Names.{as_opened, CallPost, Runs, IsLegal, AreOwn, IsTidyBook, IsTidyWorker}
 use Rattle.sk_workers.proofs.Steps.{step_keeps, taken_keeps}
 
 -- one call more at the end

@@ -1,30 +1,17 @@
 -- What no call of a desk changes.
-use Rattle.std.proofs.Common.{ℕ, ◌≡◌, inl, inr, length, Bool, true, false, cond, List, [], ◌∷◌, Option, Some, None, Result, Ok, Err, refl, sym, ap, ◌∙◌, subst}
-use Rattle.std.specs.Prelude.{IfErr}
-use Rattle.sk_plain.specs.declared.refusal.Refusal.{Refusal}
-use Rattle.sk_script.specs.declared.instruction.Input.{Input}
-use Rattle.sk_server.specs.declared.reply.Reply.{Reply}
-use Rattle.sk_server.specs.declared.reply.Answer.{Answer}
-use Rattle.sk_script.specs.Lease.{LeaseView, after_private}
-use Rattle.sk_record.specs.Notes.{has}
-use Rattle.sk_kernel.specs.declared.hand_in.HandIn.{HandIn}
-use Rattle.sk_kernel.specs.declared.hand_in.HandIn.TheVariants.{Stale, TraceFull, Memory}
-use Rattle.sk_kernel.specs.Kernel.{undecided_at, step_refused}
-use Rattle.sk_client.specs.declared.pending.PendingRequest.{PendingRequest}
-use Rattle.sk_client.specs.declared.rule.Rule.{Rule}
+use Rattle.sk_workers.proofs.Names.{ℕ, ◌≡◌, inl, inr, length, Bool, true, false, cond, List, [], ◌∷◌, Result, Ok, Err}
+use Rattle.sk_workers.proofs.Names.{refl, sym, ap, ◌∙◌, subst, IfErr, Refusal, Input, Reply, Answer, LeaseView}
+use Rattle.sk_workers.proofs.Names.{after_private, has, HandIn, Stale, TraceFull, Memory, undecided_at, step_refused}
+use Rattle.sk_workers.proofs.Names.{PendingRequest, Rule, Turn, Given, ReplyRefusal, DeskView, rule, turned, given}
+use Rattle.sk_workers.proofs.Names.{given_to, decided, answered, stepped, is_void, input_of, first_taken}
+use Rattle.sk_workers.proofs.Names.{requests_taken, TurnPost, ByRule, ReplyPost, DeskTakesIn, DeskHandInPost, DeskCall}
+use Rattle.sk_workers.proofs.Names.{Answered, Turned, Replied, HandedIn, BookView, WorkerView, as_opened, HandsIn}
+use Rattle.sk_workers.proofs.Names.{CallPost, TakesInAdds, HandInAdds, TurnAdds, TakesAny, TurnTold, HandInTold}
+use Rattle.sk_workers.proofs.Names.{AnyTold, with_reply, without_reply, without_lease}
+use Rattle.std.proofs.Common.{Option, Some, None}
 use Rattle.sk_client.specs.declared.rule.Rule.TheVariants as rules
-use Rattle.sk_client.specs.declared.desk.Turn.{Turn}
-use Rattle.sk_client.specs.declared.desk.Given.{Given}
-use Rattle.sk_client.specs.declared.desk.ReplyRefusal.{ReplyRefusal}
-use Rattle.sk_client.specs.Desk.{DeskView, rule, turned, given, given_to, decided, answered, stepped, is_void, input_of, entry, first_taken, requests_taken}
-use Rattle.sk_client.specs.DeskCalls.{TurnPost, ByRule, ReplyPost}
-use Rattle.sk_client.specs.Leasing.{DeskTakesIn, DeskHandInPost}
-use Rattle.sk_workers.specs.declared.entry.DeskCall.{DeskCall}
+use Rattle.sk_client.specs.Desk.{entry}
 use Rattle.sk_workers.specs.declared.entry.DeskCall.TheVariants as calls
-use Rattle.sk_workers.specs.declared.entry.Answered.{Answered}
-use Rattle.sk_workers.specs.declared.entry.Answered.TheVariants.{Turned, Replied, HandedIn}
-use Rattle.sk_workers.specs.Views.{BookView, WorkerView}
-use Rattle.sk_workers.specs.History.{as_opened, HandsIn, CallPost, TakesInAdds, HandInAdds, TurnAdds, TakesAny, TurnTold, HandInTold, AnyTold, with_reply, without_reply, without_lease}
 
 -- the opening stays
 abbrev Keeps : DeskView → DeskView → Type 0

@@ -1,21 +1,10 @@
 -- What reading a file and then its text comes to.
-use Rattle.std.proofs.Common.{◌≡◌, ◌≢◌, ◌≤◌, inr, ℕ, List, length, Option, Some, None, Result, Ok, Err, sym, subst}
-use Rattle.std.specs.Prelude.{IfSome}
-use Rattle.sk_words.specs.declared.fault.Fault.{Fault}
-use Rattle.sk_words.specs.declared.fault.FaultKind.{FaultKind}
-use Rattle.sk_words.specs.declared.fault.FaultKind.TheVariants.{Word, Operand, Label, TooLong, Memory}
-use Rattle.sk_scenario.specs.Declarations.{Declared}
-use Rattle.sk_scenario.specs.Scenario.{section_view, SectionView, Steps, World, Trace}
-use Rattle.sk_scenario.specs.declared.scenario.Scenario.{Scenario}
-use Rattle.sk_command.specs.declared.end.End.{End}
+use Rattle.speculate.proofs.Names.{◌≡◌, ◌≢◌, ◌≤◌, inr, ℕ, List, length, Option, Some, None, Result, Ok, Err, sym, subst}
+use Rattle.speculate.proofs.Names.{IfSome, Fault, FaultKind, Word, Operand, Label, TooLong, Memory, Declared}
+use Rattle.speculate.proofs.Names.{section_view, SectionView, Steps, World, Trace, Scenario, End, Wish, Play, Talk}
+use Rattle.speculate.proofs.Names.{Plain, Replay, Work, fault_end, INPUT_LIMIT, opened_in, Talking, EndsOpened}
+use Rattle.speculate.proofs.Names.{EndsFile, EndsInSection, EndsRead, EndsText}
 use Rattle.sk_command.specs.declared.end.End.TheVariants as ends
-use Rattle.sk_command.specs.CommandLine.{Wish, Play, Talk, Plain, Replay, Work}
-use Rattle.sk_command.specs.Ends.{fault_end}
-use Rattle.sk_command.specs.ReadAll.{INPUT_LIMIT}
-use Rattle.sk_talk.specs.Played.{opened_in}
-use Rattle.sk_talk.specs.declared.play.Play.{Play as Talking}
-use Rattle.sk_run.specs.Talk.{EndsOpened}
-use Rattle.speculate.specs.Program.{EndsFile, EndsInSection, EndsRead, EndsText}
 
 -- a text never ends a run as faulty words do
 fault_no_usage : (kind : FaultKind) → fault_end kind ≢ ends.Usage

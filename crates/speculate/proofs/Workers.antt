@@ -1,12 +1,7 @@
 -- What workers' runs come to.
-use Rattle.std.proofs.Common.{ℕ, List, ◌++◌, Option}
-use Rattle.sk_server.specs.Server.{ServerView}
-use Rattle.sk_client.specs.Desk.{DeskView}
-use Rattle.sk_scenario.specs.Declarations.{Declared}
-use Rattle.sk_report.specs.Report.{desk_report_text, workers_line}
-use Rattle.sk_command.specs.declared.end.End.{End}
+use Rattle.speculate.proofs.Names.{ℕ, List, ◌++◌, Option, ServerView, DeskView, Declared, desk_report_text}
+use Rattle.speculate.proofs.Names.{workers_line, End, CanLeave, EndsWork, IsTold}
 use Rattle.sk_command.specs.declared.end.End.TheVariants as ends
-use Rattle.speculate.specs.Work.{CanLeave, EndsWork, IsTold}
 
 -- what is told of a desk that a crew left
 pub worked_out : (workers turns : ℕ) (d : Declared) (calls : ℕ) (desk : DeskView) (server : ServerView) (end : End) (old new : Option (List ℕ))

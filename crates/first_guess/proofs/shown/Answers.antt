@@ -1,8 +1,6 @@
 -- As many texts are released of a terminal's as of the record's: by recursion over the texts.
-use Rattle.std.proofs.Common.{◌≡◌, ℕ, suc, List, [], ◌∷◌, length, ap, refl, sym, ◌∙◌}
-use Rattle.hidewillow.specs.Machine.{released}
-use Rattle.hidewillow.specs.Parts.{said_at}
-use Rattle.hidewillow.specs.Terminal.{TaggedText}
+use Rattle.first_guess.proofs.Names.{◌≡◌, ℕ, suc, List, [], ◌∷◌, length, ap, refl, sym, ◌∙◌, released, said_at}
+use Rattle.first_guess.proofs.Names.{TaggedText}
 use Rattle.first_guess.proofs.shown.Goals as goal
 
 as_many : (t : ℕ) (texts : List TaggedText) → length (released texts) ≡ length (released (said_at t texts))

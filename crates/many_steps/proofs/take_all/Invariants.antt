@@ -1,6 +1,5 @@
 -- No guess is drawn or decided.
-use Rattle.std.proofs.Common.{◌≡◌}
-use Rattle.hidewillow.specs.UndoState.{numbers}
+use Rattle.many_steps.proofs.Names.{◌≡◌, numbers}
 use Rattle.many_steps.proofs.take_all.Given as goal
 
 abbrev pub invariant-loop-turn : goal.invariant-loop-turn

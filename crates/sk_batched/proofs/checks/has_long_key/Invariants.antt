@@ -1,7 +1,5 @@
 -- None of the first keys is too long.
-use Rattle.std.proofs.Common.{◌≡◌, false, take}
-use Rattle.std.specs.List.{list_any}
-use Rattle.sk_bytes.specs.Calls.{is_long}
+use Rattle.sk_batched.proofs.Names.{◌≡◌, false, take, list_any, is_long}
 use Rattle.sk_batched.proofs.checks.has_long_key.Given as goal
 
 abbrev pub invariant-loop-key : goal.invariant-loop-key

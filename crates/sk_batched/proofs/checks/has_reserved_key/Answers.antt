@@ -1,6 +1,6 @@
 -- One key more is none.
-use Rattle.std.proofs.Common.{◌≡◌, ◌<◌, false, length, slice_index_or, sym, ap, ◌∙◌, arith}
-use Rattle.sk_batched.specs.Keys.{is_batch_key}
+use Rattle.sk_batched.proofs.Names.{◌≡◌, ◌<◌, false, length, sym, ap, ◌∙◌, arith, is_batch_key}
+use Rattle.std.proofs.Common.{slice_index_or}
 use Rattle.sk_batched.proofs.Touched.{any_next}
 use Rattle.sk_batched.proofs.checks.has_reserved_key.Goals as goal
 

@@ -1,7 +1,5 @@
 -- None of the first keys begins as those of batches do.
-use Rattle.std.proofs.Common.{◌≡◌, false, take}
-use Rattle.std.specs.List.{list_any}
-use Rattle.sk_batched.specs.Keys.{is_batch_key}
+use Rattle.sk_batched.proofs.Names.{◌≡◌, false, take, list_any, is_batch_key}
 use Rattle.sk_batched.proofs.checks.has_reserved_key.Given as goal
 
 abbrev pub invariant-loop-key : goal.invariant-loop-key

@@ -1,7 +1,5 @@
 -- The guesses so far, with those that are left.
-use Rattle.std.proofs.Common.{◌≡◌, ℕ, ◌||◌, ◌&&◌, not, drop}
-use Rattle.std.specs.Prelude.{◌==◌}
-use Rattle.sk_record.specs.Notes.{has}
+use Rattle.sk_batched.proofs.Names.{◌≡◌, ℕ, ◌||◌, ◌&&◌, not, drop, ◌==◌, has}
 use Rattle.sk_batched.proofs.rests.add_all.Given as goal
 
 abbrev pub invariant-loop-id : goal.invariant-loop-id

@@ -1,13 +1,6 @@
 -- All keys were gone through.
-use Rattle.std.proofs.Common.{◌≡◌, ◌||◌, ◌&&◌, not, ℕ, List, [], Option, drop, sym, ◌∙◌, ap, arith}
-use Rattle.std.specs.Prelude.{◌==◌}
-use Rattle.std.specs.List.{list_any}
-use Rattle.std.specs.Global.{Vec}
-use Rattle.std.proofs.lemmas.List.{drop_all}
-use Rattle.sk_record.specs.Notes.{has}
-use Rattle.sk_record.specs.UndoState.{tags_at}
-use Rattle.sk_index.specs.Index.{bytes_cmp}
-use Rattle.sk_speculator.specs.Parts.{undo_state_of}
+use Rattle.sk_batched.proofs.Names.{◌≡◌, ◌||◌, ◌&&◌, not, ℕ, List, [], Option, drop, sym, ◌∙◌, ap, arith, ◌==◌}
+use Rattle.sk_batched.proofs.Names.{list_any, Vec, drop_all, has, tags_at, bytes_cmp, undo_state_of}
 use Rattle.sk_batched.proofs.Touched.{any_touched, or_no}
 use Rattle.sk_batched.proofs.rests.rests_of.Goals as goal
 

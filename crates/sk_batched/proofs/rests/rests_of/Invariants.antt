@@ -1,12 +1,6 @@
 -- What the keys so far rest on is there, with what those rest on that are left.
-use Rattle.std.proofs.Common.{◌≡◌, ℕ, List, ◌||◌, ◌&&◌, not, drop}
-use Rattle.std.specs.Prelude.{◌==◌}
-use Rattle.std.specs.List.{list_any}
-use Rattle.std.specs.Global.{Vec}
-use Rattle.sk_record.specs.Notes.{has}
-use Rattle.sk_record.specs.UndoState.{tags_at}
-use Rattle.sk_index.specs.Index.{bytes_cmp}
-use Rattle.sk_speculator.specs.Parts.{undo_state_of}
+use Rattle.sk_batched.proofs.Names.{◌≡◌, ℕ, List, ◌||◌, ◌&&◌, not, drop, ◌==◌, list_any, Vec, has, tags_at, bytes_cmp}
+use Rattle.sk_batched.proofs.Names.{undo_state_of}
 use Rattle.sk_batched.proofs.rests.rests_of.Given as goal
 
 abbrev pub invariant-loop-key : goal.invariant-loop-key

@@ -1,10 +1,7 @@
 -- The queue takes the frame's payload into the room behind the head, which is sealed in front of it.
-use Rattle.std.proofs.Common.{◌≡◌, ◌+◌, ◌-◌, length, drop, take, sym, ap, ◌∙◌}
-use borrow.Rule.Slice.PartMut.{put_mid}
-use Rattle.sk_log.specs.Frame.{frame}
-use Rattle.sk_batches.specs.Frames.{next_payload, sealed_of}
+use Rattle.sk_batches.proofs.Names.{◌≡◌, ◌+◌, ◌-◌, length, drop, take, sym, ap, ◌∙◌, put_mid, frame, next_payload}
+use Rattle.sk_batches.proofs.Names.{sealed_of, Sealed}
 use Rattle.sk_batches.specs.Places.{behind}
-use Rattle.sk_batches.specs.declared.frames.Sealed.{Sealed}
 use Rattle.sk_batches.proofs.Sealing.{framed, refused_frame}
 use Rattle.sk_batches.proofs.frames.take_frame.Goals as goal
 

@@ -1,10 +1,6 @@
 -- One batch more is counted.
-use Rattle.std.proofs.Common.{◌+◌, ◌<◌, length, drop, ◌∙◌, ap, arith}
-use Rattle.std.specs.List.{sum_by}
-use Rattle.std.proofs.lemmas.List.{drop_all}
-use Rattle.std.proofs.lemmas.List.Sums.{sum_by-cons}
-use Rattle.sk_batches.specs.Records.{payload}
-use Rattle.sk_batches.specs.declared.batch.Batch.{Batch}
+use Rattle.sk_batches.proofs.Names.{◌+◌, ◌<◌, length, drop, ◌∙◌, ap, arith, sum_by, drop_all, sum_by-cons, payload}
+use Rattle.sk_batches.proofs.Names.{Batch}
 use Rattle.sk_batches.proofs.Lists.{next_at}
 use Rattle.sk_batches.proofs.list.bytes_of.Goals as goal
 

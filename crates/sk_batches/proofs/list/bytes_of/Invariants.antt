@@ -1,8 +1,5 @@
 -- The bytes so far, with those that are left.
-use Rattle.std.proofs.Common.{◌≡◌, ◌+◌, drop, length}
-use Rattle.std.specs.List.{sum_by}
-use Rattle.sk_batches.specs.Records.{payload}
-use Rattle.sk_batches.specs.declared.batch.Batch.{Batch}
+use Rattle.sk_batches.proofs.Names.{◌≡◌, ◌+◌, drop, length, sum_by, payload, Batch}
 use Rattle.sk_batches.proofs.list.bytes_of.Given as goal
 
 abbrev pub invariant-loop-batch : goal.invariant-loop-batch

@@ -1,8 +1,6 @@
 -- The first of those that are left.
-use Rattle.std.proofs.Common.{◌+◌, ◌<◌, length, drop, cond, Some, sym, ◌∙◌, ap, arith}
-use Rattle.std.proofs.lemmas.List.{drop_all}
-use Rattle.sk_batches.specs.declared.queue.Cut.{Cut}
-use Rattle.sk_batches.specs.Queue.{first_failed, last_in}
+use Rattle.sk_batches.proofs.Names.{◌+◌, ◌<◌, length, drop, cond, Some, sym, ◌∙◌, ap, arith, drop_all, Cut}
+use Rattle.sk_batches.proofs.Names.{first_failed, last_in}
 use Rattle.sk_batches.proofs.Lists.{next_at}
 use Rattle.sk_batches.proofs.list.first_failed.Goals as goal
 

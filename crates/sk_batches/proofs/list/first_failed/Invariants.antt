@@ -1,6 +1,5 @@
 -- None so far.
-use Rattle.std.proofs.Common.{◌≡◌, drop}
-use Rattle.sk_batches.specs.Queue.{first_failed}
+use Rattle.sk_batches.proofs.Names.{◌≡◌, drop, first_failed}
 use Rattle.sk_batches.proofs.list.first_failed.Given as goal
 
 abbrev pub invariant-loop-place : goal.invariant-loop-place

@@ -1,7 +1,5 @@
 -- The first of those that are left.
-use Rattle.std.proofs.Common.{◌+◌, ◌<◌, length, drop, cond, Some, sym, ◌∙◌, ap, arith}
-use Rattle.std.proofs.lemmas.List.{drop_all}
-use Rattle.sk_batches.specs.Queue.{first_taken}
+use Rattle.sk_batches.proofs.Names.{◌+◌, ◌<◌, length, drop, cond, Some, sym, ◌∙◌, ap, arith, drop_all, first_taken}
 use Rattle.sk_batches.proofs.Lists.{next_at}
 use Rattle.sk_batches.proofs.list.first_taken.Goals as goal
 

@@ -1,6 +1,5 @@
 -- None so far.
-use Rattle.std.proofs.Common.{◌≡◌, drop}
-use Rattle.sk_batches.specs.Queue.{first_taken}
+use Rattle.sk_batches.proofs.Names.{◌≡◌, drop, first_taken}
 use Rattle.sk_batches.proofs.list.first_taken.Given as goal
 
 abbrev pub invariant-loop-batch : goal.invariant-loop-batch

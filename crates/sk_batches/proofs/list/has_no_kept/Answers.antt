@@ -1,8 +1,5 @@
 -- A batch with a record, or none.
-use Rattle.std.proofs.Common.{◌+◌, ◌<◌, length, drop, sym, ◌∙◌, ap, arith}
-use Rattle.std.specs.Prelude.{◌==◌}
-use Rattle.std.proofs.lemmas.List.{drop_all}
-use Rattle.sk_batches.specs.Queue.{kept_of, kept_records}
+use Rattle.sk_batches.proofs.Names.{◌+◌, ◌<◌, length, drop, sym, ◌∙◌, ap, arith, ◌==◌, drop_all, kept_of, kept_records}
 use Rattle.sk_batches.proofs.Lists.{some_kept, none_kept, next_at}
 use Rattle.sk_batches.proofs.list.has_no_kept.Goals as goal
 

@@ -1,6 +1,5 @@
 -- None so far.
-use Rattle.std.proofs.Common.{◌≡◌, drop, length}
-use Rattle.sk_batches.specs.Queue.{kept_records}
+use Rattle.sk_batches.proofs.Names.{◌≡◌, drop, length, kept_records}
 use Rattle.sk_batches.proofs.list.has_no_kept.Given as goal
 
 abbrev pub invariant-loop-batch : goal.invariant-loop-batch

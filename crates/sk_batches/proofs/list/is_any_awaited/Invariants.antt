@@ -1,7 +1,5 @@
 -- None so far.
-use Rattle.std.proofs.Common.{◌≡◌, drop}
-use Rattle.std.specs.List.{list_any}
-use Rattle.sk_batches.specs.Queue.{awaits}
+use Rattle.sk_batches.proofs.Names.{◌≡◌, drop, list_any, awaits}
 use Rattle.sk_batches.proofs.list.is_any_awaited.Given as goal
 
 abbrev pub invariant-loop-batch : goal.invariant-loop-batch

@@ -1,8 +1,5 @@
 -- None so far.
-use Rattle.std.proofs.Common.{◌≡◌, drop}
-use Rattle.std.specs.List.{list_any}
-use Rattle.sk_batches.specs.Queue.{is_sent}
-use Rattle.sk_batches.specs.declared.batch.Batch.{Batch}
+use Rattle.sk_batches.proofs.Names.{◌≡◌, drop, list_any, is_sent, Batch}
 use Rattle.sk_batches.proofs.list.is_any_sent.Given as goal
 
 abbrev pub invariant-loop-batch : goal.invariant-loop-batch

@@ -1,8 +1,5 @@
 -- One batch more is counted.
-use Rattle.std.proofs.Common.{◌+◌, ◌<◌, length, drop, ◌∙◌, ap, arith}
-use Rattle.std.proofs.lemmas.List.{drop_all}
-use Rattle.sk_batches.specs.Records.{payload}
-use Rattle.sk_batches.specs.Queue.{kept_of, kept_records}
+use Rattle.sk_batches.proofs.Names.{◌+◌, ◌<◌, length, drop, ◌∙◌, ap, arith, drop_all, payload, kept_of, kept_records}
 use Rattle.sk_batches.proofs.Lists.{both_length, next_at}
 use Rattle.sk_batches.proofs.list.kept_len.Goals as goal
 

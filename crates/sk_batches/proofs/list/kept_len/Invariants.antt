@@ -1,7 +1,5 @@
 -- The bytes so far, with those that are left.
-use Rattle.std.proofs.Common.{◌≡◌, ◌+◌, drop, length}
-use Rattle.sk_batches.specs.Records.{payload}
-use Rattle.sk_batches.specs.Queue.{kept_records}
+use Rattle.sk_batches.proofs.Names.{◌≡◌, ◌+◌, drop, length, payload, kept_records}
 use Rattle.sk_batches.proofs.list.kept_len.Given as goal
 
 abbrev pub invariant-loop-batch : goal.invariant-loop-batch

@@ -1,7 +1,5 @@
 -- The last of those that are left.
-use Rattle.std.proofs.Common.{◌∙◌, ap, sym, arith}
-use Rattle.std.proofs.lemmas.List.{drop_all}
-use Rattle.sk_batches.specs.Queue.{last_in}
+use Rattle.sk_batches.proofs.Names.{◌∙◌, ap, sym, arith, drop_all, last_in}
 use Rattle.sk_batches.proofs.list.last_in.Goals as goal
 
 pub returns : goal.returns

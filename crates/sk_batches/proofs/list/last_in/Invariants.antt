@@ -1,6 +1,5 @@
 -- The last of those so far.
-use Rattle.std.proofs.Common.{◌≡◌, drop}
-use Rattle.sk_batches.specs.Queue.{last_in}
+use Rattle.sk_batches.proofs.Names.{◌≡◌, drop, last_in}
 use Rattle.sk_batches.proofs.list.last_in.Given as goal
 
 abbrev pub invariant-loop-batch : goal.invariant-loop-batch

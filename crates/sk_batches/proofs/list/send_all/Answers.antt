@@ -1,6 +1,5 @@
 -- A change is made of one after the other.
-use Rattle.std.proofs.Common.{arith}
-use Rattle.sk_batches.specs.Queue.{send}
+use Rattle.sk_batches.proofs.Names.{arith, send}
 use Rattle.sk_batches.proofs.Lists.{none_mapped, one_mapped, all_mapped}
 use Rattle.sk_batches.proofs.list.send_all.Goals as goal
 

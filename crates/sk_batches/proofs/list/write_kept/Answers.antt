@@ -1,8 +1,6 @@
 -- One piece stands behind the other.
-use Rattle.std.proofs.Common.{◌≡◌, ◌+◌, ◌<◌, ◌++◌, length, take, drop, sym, ◌∙◌, ap, subst, arith}
-use Rattle.std.proofs.lemmas.List.{drop_all}
-use Rattle.sk_batches.specs.Records.{payload}
-use Rattle.sk_batches.specs.Queue.{kept_of, kept_records}
+use Rattle.sk_batches.proofs.Names.{◌≡◌, ◌+◌, ◌<◌, ◌++◌, length, take, drop, sym, ◌∙◌, ap, subst, arith, drop_all}
+use Rattle.sk_batches.proofs.Names.{payload, kept_of, kept_records}
 use Rattle.sk_batches.proofs.Lists.{IsWritten, both_length, payload_append, next_at, none_written, one_written, all_written}
 use Rattle.sk_batches.proofs.list.write_kept.Goals as goal
 

@@ -1,7 +1,5 @@
 -- The bytes so far stand at the front, and behind them all is as it was.
-use Rattle.std.proofs.Common.{take, drop}
-use Rattle.sk_batches.specs.Records.{payload}
-use Rattle.sk_batches.specs.Queue.{kept_records}
+use Rattle.sk_batches.proofs.Names.{take, drop, payload, kept_records}
 use Rattle.sk_batches.proofs.Lists.{IsWritten}
 use Rattle.sk_batches.proofs.list.write_kept.Given as goal
 

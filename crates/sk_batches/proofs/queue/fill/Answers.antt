@@ -1,7 +1,5 @@
 -- Both stand one behind the other.
-use Rattle.std.proofs.Common.{◌≡◌, ◌++◌, length, drop, sym, subst}
-use Rattle.sk_batches.specs.Records.{payload}
-use Rattle.sk_batches.specs.Queue.{kept_records}
+use Rattle.sk_batches.proofs.Names.{◌≡◌, ◌++◌, length, drop, sym, subst, payload, kept_records}
 use Rattle.sk_batches.proofs.Lists.{payload_append, filled}
 use Rattle.sk_batches.proofs.queue.fill.Goals as goal
 

@@ -1,7 +1,5 @@
 -- None so far.
-use Rattle.std.proofs.Common.{◌≡◌, ◌&&◌, ℕ, drop}
-use Rattle.std.specs.Prelude.{nat_le}
-use Rattle.std.specs.List.{list_any}
+use Rattle.sk_batches.proofs.Names.{◌≡◌, ◌&&◌, ℕ, drop, nat_le, list_any}
 use Rattle.sk_batches.proofs.record.is_any_within.Given as goal
 
 abbrev pub invariant-loop-number : goal.invariant-loop-number

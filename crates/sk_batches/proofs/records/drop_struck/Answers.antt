@@ -1,6 +1,5 @@
 -- What the pass leaves.
-use Rattle.std.proofs.Common.{rules}
-use Rattle.std.proofs.lemmas.Fn.{filter_same}
+use Rattle.sk_batches.proofs.Names.{rules, filter_same}
 use Rattle.sk_batches.proofs.records.drop_struck.Goals as goal
 
 pub returns : goal.returns

@@ -1,7 +1,5 @@
 -- One record more is counted.
-use Rattle.std.proofs.Common.{◌+◌, ◌<◌, length, drop, ◌∙◌, ap, arith}
-use Rattle.std.proofs.lemmas.List.{drop_all, length-append}
-use Rattle.sk_batches.specs.Records.{payload}
+use Rattle.sk_batches.proofs.Names.{◌+◌, ◌<◌, length, drop, ◌∙◌, ap, arith, drop_all, length-append, payload}
 use Rattle.sk_batches.proofs.Lists.{next_at}
 use Rattle.sk_batches.proofs.records.len_of.Goals as goal
 

@@ -1,6 +1,5 @@
 -- The bytes so far, with those that are left.
-use Rattle.std.proofs.Common.{◌≡◌, ◌+◌, drop, length}
-use Rattle.sk_batches.specs.Records.{payload}
+use Rattle.sk_batches.proofs.Names.{◌≡◌, ◌+◌, drop, length, payload}
 use Rattle.sk_batches.proofs.records.len_of.Given as goal
 
 abbrev pub invariant-loop-record : goal.invariant-loop-record

@@ -1,6 +1,5 @@
 -- The kernel inside refuses alike.
-use Rattle.std.proofs.Common.{sym, subst}
-use Rattle.sk_bytes.specs.Calls.{RefusesNext}
+use Rattle.sk_bytes.proofs.Names.{sym, subst, RefusesNext}
 use Rattle.sk_bytes.proofs.Fitting.{next_refused}
 use Rattle.sk_bytes.proofs.bytes.next_number.Goals as goal
 

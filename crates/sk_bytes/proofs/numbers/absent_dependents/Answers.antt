@@ -1,8 +1,5 @@
 -- One number more.
-use Rattle.std.proofs.Common.{take, sym, ap, ◌∙◌, subst}
-use Rattle.std.specs.Ordering.{nat_cmp}
-use Rattle.sk_record.specs.Effects.{is_in}
-use Rattle.sk_speculator.proofs.Writing.{take_all, take_next}
+use Rattle.sk_bytes.proofs.Names.{take, sym, ap, ◌∙◌, subst, nat_cmp, is_in, take_all, take_next}
 use Rattle.sk_bytes.proofs.Moves.{AbsentIn, one_more_absent}
 use Rattle.sk_bytes.proofs.numbers.absent_dependents.Goals as goal
 

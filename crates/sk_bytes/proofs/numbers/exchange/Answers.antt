@@ -1,6 +1,5 @@
 -- One place more.
-use Rattle.std.proofs.Common.{◌<◌, length, get_or, arith, ap, ◌∙◌}
-use Rattle.std.specs.Prelude.{slice_set}
+use Rattle.sk_bytes.proofs.Names.{◌<◌, length, get_or, arith, ap, ◌∙◌, slice_set}
 use Rattle.sk_bytes.proofs.Moves.{swapped_all, swapped_at, swapped_more}
 use Rattle.sk_bytes.proofs.numbers.exchange.Goals as goal
 

@@ -1,6 +1,5 @@
 -- What stands behind the first names is exchanged.
-use Rattle.std.proofs.Common.{◌≡◌}
-use Rattle.std.specs.Vec.{vec_capacity}
+use Rattle.sk_bytes.proofs.Names.{◌≡◌, vec_capacity}
 use Rattle.sk_bytes.proofs.Moves.{swapped}
 use Rattle.sk_bytes.proofs.numbers.exchange.Given as goal
 

@@ -1,9 +1,5 @@
 -- One number more.
-use Rattle.std.proofs.Common.{take, sym, subst}
-use Rattle.std.specs.Ordering.{nat_cmp}
-use Rattle.sk_record.specs.Effects.{is_in}
-use Rattle.sk_speculator.proofs.Writing.{take_all, take_next}
-use Rattle.sk_bytes.specs.Numbers.{LetsGo}
+use Rattle.sk_bytes.proofs.Names.{take, sym, subst, nat_cmp, is_in, take_all, take_next, LetsGo}
 use Rattle.sk_bytes.proofs.Moves.{none_goes, one_more_goes}
 use Rattle.sk_bytes.proofs.numbers.give_back_all.Goals as goal
 

@@ -1,8 +1,5 @@
 -- The first numbers are given back.
-use Rattle.std.proofs.Common.{take}
-use Rattle.std.specs.Ordering.{nat_cmp}
-use Rattle.sk_record.specs.Effects.{is_in}
-use Rattle.sk_bytes.specs.Numbers.{LetsGo}
+use Rattle.sk_bytes.proofs.Names.{take, nat_cmp, is_in, LetsGo}
 use Rattle.sk_bytes.proofs.numbers.give_back_all.Given as goal
 
 abbrev pub invariant-loop-number : goal.invariant-loop-number

@@ -1,8 +1,5 @@
 -- Those that are listed are given back.
-use Rattle.std.proofs.Common.{sym, subst}
-use Rattle.std.specs.Ordering.{nat_cmp}
-use Rattle.sk_record.specs.Effects.{is_in}
-use Rattle.sk_bytes.specs.Numbers.{listed, LetsGo}
+use Rattle.sk_bytes.proofs.Names.{sym, subst, nat_cmp, is_in, listed, LetsGo}
 use Rattle.sk_bytes.proofs.numbers.give_back_any.Goals as goal
 
 pub returns-in-Ok : goal.returns-in-Ok

@@ -1,8 +1,5 @@
 -- One number more.
-use Rattle.std.proofs.Common.{◌∷◌, [], arith}
-use Rattle.std.specs.Prelude.{◌||◌}
-use Rattle.std.specs.Ordering.{nat_cmp}
-use Rattle.sk_record.specs.Effects.{is_in}
+use Rattle.sk_bytes.proofs.Names.{◌∷◌, [], arith, ◌||◌, nat_cmp, is_in}
 use Rattle.sk_bytes.proofs.Moves.{all_go, both_go, first_more, none_goes}
 use Rattle.sk_bytes.proofs.numbers.give_back_unused.Goals as goal
 

@@ -1,9 +1,6 @@
 -- A key without tags has no notes.
-use Rattle.std.proofs.Common.{◌≡◌, List, ℕ, length, None, sym, ap, ◌∙◌}
-use Rattle.std.specs.Prelude.{◌==◌, is_none}
-use Rattle.std.specs.Ordering.{nat_cmp}
-use Rattle.sk_slots.specs.Slots.{look_at, log_at}
-use Rattle.sk_bytes.specs.Told.{shown}
+use Rattle.sk_bytes.proofs.Names.{◌≡◌, List, ℕ, length, None, sym, ap, ◌∙◌, ◌==◌, is_none, nat_cmp, look_at, log_at}
+use Rattle.sk_bytes.proofs.Names.{shown}
 use Rattle.sk_bytes.proofs.Moves.{bare_told, map_none}
 use Rattle.sk_bytes.proofs.numbers.is_bare.Goals as goal
 

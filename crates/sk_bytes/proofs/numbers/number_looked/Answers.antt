@@ -1,9 +1,6 @@
 -- One key more.
-use Rattle.std.proofs.Common.{◌≡◌, ◌+◌, ◌++◌, ◌∷◌, [], map, take, sym, ap, ◌∙◌}
-use Rattle.std.specs.Vec.{vec_items}
-use Rattle.sk_renamed.specs.Renamed.{at_key, keys_of}
-use Rattle.sk_index.specs.Index.{number_of}
-use Rattle.sk_speculator.proofs.Writing.{take_next}
+use Rattle.sk_bytes.proofs.Names.{◌≡◌, ◌+◌, ◌++◌, ◌∷◌, [], map, take, sym, ap, ◌∙◌, vec_items, at_key, keys_of}
+use Rattle.sk_bytes.proofs.Names.{number_of, take_next}
 use Rattle.sk_bytes.proofs.Moves.{keys_push, map_push}
 use Rattle.sk_bytes.proofs.numbers.number_looked.Goals as goal
 

@@ -1,9 +1,6 @@
 -- One key more.
-use Rattle.std.proofs.Common.{◌≡◌, ◌+◌, ◌++◌, ◌∷◌, [], None, map, take, sym, ap, ◌∙◌, subst}
-use Rattle.std.specs.Vec.{vec_items}
-use Rattle.sk_index.specs.Index.{number_of}
-use Rattle.sk_speculator.proofs.Writing.{take_next}
-use Rattle.sk_bytes.specs.Numbers.{names, AreNames, Gains}
+use Rattle.sk_bytes.proofs.Names.{◌≡◌, ◌+◌, ◌++◌, ◌∷◌, [], None, map, take, sym, ap, ◌∙◌, subst, vec_items, number_of}
+use Rattle.sk_bytes.proofs.Names.{take_next, names, AreNames, Gains}
 use Rattle.sk_bytes.proofs.Moves.{map_push, names_kept, names_more, names_push, one_more_comes}
 use Rattle.sk_bytes.proofs.numbers.number_written.Goals as goal
 

@@ -1,8 +1,5 @@
 -- The first keys have numbers.
-use Rattle.std.proofs.Common.{◌≡◌, map, take}
-use Rattle.std.specs.Vec.{vec_items}
-use Rattle.sk_index.specs.Index.{number_of}
-use Rattle.sk_bytes.specs.Numbers.{names, AreNames, Gains}
+use Rattle.sk_bytes.proofs.Names.{◌≡◌, map, take, vec_items, number_of, names, AreNames, Gains}
 use Rattle.sk_bytes.proofs.numbers.number_written.Given as goal
 
 abbrev pub invariant-loop-write : goal.invariant-loop-write

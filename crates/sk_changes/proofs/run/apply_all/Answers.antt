@@ -1,7 +1,6 @@
 -- One more change made and noted: going back from here ends where it did.
-use Rattle.std.proofs.Math.Seq.{drop-cons}
-use Rattle.std.proofs.Common.{◌+◌, drop, get_or, refl, sym, add-one, ◌≡◌, List, ◌∷◌, [], ◌++◌, ap, ◌∙◌}
-use Rattle.sk_changes.specs.declared.change.Undo.{Undo}
+use Rattle.sk_changes.proofs.Names.{drop-cons, ◌+◌, drop, get_or, refl, sym, add-one, ◌≡◌, ap, ◌∙◌, Undo}
+use Rattle.std.proofs.Common.{List, ◌∷◌, [], ◌++◌}
 use Rattle.sk_changes.proofs.GoingBack.{back_push, CanGoBack-push}
 use Rattle.sk_changes.proofs.run.apply_all.Goals as goal
 

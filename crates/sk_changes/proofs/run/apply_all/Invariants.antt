@@ -1,7 +1,5 @@
 -- What is left to do fits, and leads on, as the whole list did; going back leads where it did.
-use Rattle.std.proofs.Common.{◌≡◌, drop}
-use Rattle.sk_changes.specs.Back.{back, CanGoBack}
-use Rattle.sk_changes.specs.InTurn.{all_fit, after_all}
+use Rattle.sk_changes.proofs.Names.{◌≡◌, drop, back, CanGoBack, all_fit, after_all}
 use Rattle.sk_changes.proofs.run.apply_all.Given as goal
 
 abbrev pub invariant-loop-change : goal.invariant-loop-change

@@ -1,6 +1,5 @@
 -- The last undo may be given back, and going back goes on from what it leaves.
-use Rattle.std.proofs.Common.{ap, sym, subst, ◌∙◌}
-use Rattle.sk_changes.specs.Back.{back, CanGoBack}
+use Rattle.sk_changes.proofs.Names.{ap, sym, subst, ◌∙◌, back, CanGoBack}
 use Rattle.sk_changes.proofs.GoingBack.{back_push, CanGoBack-last}
 use Rattle.sk_changes.proofs.run.undo_all.Goals as goal
 

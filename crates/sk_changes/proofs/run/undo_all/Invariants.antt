@@ -1,6 +1,5 @@
 -- Going back from here ends where going back from the start does.
-use Rattle.std.proofs.Common.{◌≡◌, vec_len}
-use Rattle.sk_changes.specs.Back.{back, CanGoBack}
+use Rattle.sk_changes.proofs.Names.{◌≡◌, vec_len, back, CanGoBack}
 use Rattle.sk_changes.proofs.run.undo_all.Given as goal
 
 abbrev pub invariant-loop-undo : goal.invariant-loop-undo

@@ -1,5 +1,5 @@
-use Rattle.std.proofs.Common.{◌≡◌, flat_map}
-use Rattle.sk_channels.specs.Telling.{refused, told_text}
+use Rattle.sk_channels.proofs.Names.{◌≡◌, refused, told_text}
+use Rattle.std.proofs.Common.{flat_map}
 use Rattle.sk_channels.proofs.outlet.lost_lines.Given as goal
 
 abbrev pub invariant-loop-ticket : goal.invariant-loop-ticket

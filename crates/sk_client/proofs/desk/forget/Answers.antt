@@ -1,6 +1,5 @@
 -- What stays is a filter: from std's lemma on `retain`.
-use Rattle.std.proofs.Common.{rules}
-use Rattle.std.proofs.lemmas.Fn.{filter_same}
+use Rattle.sk_client.proofs.Names.{rules, filter_same}
 use Rattle.sk_client.proofs.desk.forget.Goals as goal
 
 pub returns-clause-items : goal.returns-clause-items

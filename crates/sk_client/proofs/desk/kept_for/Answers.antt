@@ -1,7 +1,5 @@
 -- What is left to look at has the answer.
-use Rattle.std.proofs.Common.{true, false, ◌∙◌, sym, refl, ap}
-use Rattle.std.proofs.lemmas.List.{drop_all}
-use Rattle.sk_client.specs.Desk.{kept_for}
+use Rattle.sk_client.proofs.Names.{true, false, ◌∙◌, sym, refl, ap, drop_all, kept_for}
 use Rattle.sk_client.proofs.DeskFacts.{kept_at}
 use Rattle.sk_client.proofs.desk.kept_for.Goals as goal
 

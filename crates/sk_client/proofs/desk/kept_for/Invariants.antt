@@ -1,5 +1,4 @@
-use Rattle.std.proofs.Common.{◌≡◌, drop}
-use Rattle.sk_client.specs.Desk.{kept_for}
+use Rattle.sk_client.proofs.Names.{◌≡◌, drop, kept_for}
 use Rattle.sk_client.proofs.desk.kept_for.Given as goal
 
 abbrev pub invariant-loop-one : goal.invariant-loop-one

@@ -1,10 +1,5 @@
 -- A number of 16 bits is read of each process; that it is from 1 on is known of every boot.
-use Rattle.std.proofs.Common.{◌∙◌, ◌<◌, sym, subst}
-use Rattle.std.specs.Prelude.{All}
-use Rattle.std.proofs.lemmas.List.{take_all}
-use Rattle.std.proofs.lemmas.List.Elements.{All-more}
-use Rattle.sk_script.specs.declared.boot.BootProcess.{BootProcess}
-use Rattle.sk_client.specs.Table.{HasNumber}
+use Rattle.sk_client.proofs.Names.{◌∙◌, ◌<◌, sym, subst, All, take_all, All-more, BootProcess, HasNumber}
 use Rattle.sk_client.proofs.laws.numbered.Goals as goal
 
 pub loop-process-preserved : goal.loop-process-preserved

@@ -1,6 +1,5 @@
 -- What was copied is cut off again.
-use Rattle.std.proofs.Common.{map, take, sym, ap, ◌∙◌}
-use Rattle.std.specs.Vec.{vec_items}
+use Rattle.sk_commands.proofs.Names.{map, take, sym, ap, ◌∙◌, vec_items}
 use Rattle.sk_commands.proofs.Deleted.{cut_back, where_err}
 use Rattle.sk_commands.proofs.asking.copy_keys.Goals as goal
 

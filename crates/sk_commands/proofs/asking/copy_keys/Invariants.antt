@@ -1,6 +1,5 @@
 -- Copies of the keys so far stand behind what was listed.
-use Rattle.std.proofs.Common.{◌≡◌, ◌++◌, take, map}
-use Rattle.std.specs.Vec.{vec_items}
+use Rattle.sk_commands.proofs.Names.{◌≡◌, ◌++◌, take, map, vec_items}
 use Rattle.sk_commands.proofs.asking.copy_keys.Given as goal
 
 abbrev pub invariant-loop-key : goal.invariant-loop-key

@@ -1,6 +1,4 @@
-use Rattle.std.proofs.Common.{◌≡◌, drop}
-use Rattle.std.specs.Prelude.{find}
-use Rattle.sk_commands.specs.Names.{is_alike, text_of}
+use Rattle.sk_commands.proofs.Names.{◌≡◌, drop, find, is_alike, text_of}
 use Rattle.sk_commands.proofs.name.first_alike.Given as goal
 
 abbrev pub invariant-loop-name : goal.invariant-loop-name

@@ -1,6 +1,5 @@
 -- Both tests tell the same.
-use Rattle.std.proofs.lemmas.Bool.Decides.{same_from_decides}
-use Rattle.std.proofs.lemmas.Slice.Eq.{bytes_eq-Decides}
+use Rattle.sk_commands.proofs.Names.{same_from_decides, bytes_eq-Decides}
 use Rattle.sk_commands.proofs.name.is_alike.Goals as goal
 
 pub returns : goal.returns

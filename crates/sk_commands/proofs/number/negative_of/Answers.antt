@@ -1,6 +1,5 @@
 -- It is there just where it has 64 bits.
-use Rattle.std.proofs.Common.{rules, arith}
-use Rattle.std.proofs.lemmas.Int.{to_z-of_z}
+use Rattle.sk_commands.proofs.Names.{rules, arith, to_z-of_z}
 use Rattle.sk_commands.proofs.Numbers.{fitting_is}
 use Rattle.sk_commands.proofs.number.negative_of.Goals as goal
 

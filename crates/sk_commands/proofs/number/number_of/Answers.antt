@@ -1,7 +1,5 @@
 -- The text is that of the integer that was read, or of none.
-use Rattle.std.proofs.Common.{◌≡◌, None, arith}
-use Rattle.sk_commands.specs.Numbers.{number_of}
-use Rattle.std.proofs.lemmas.Int.{to_z-of_z}
+use Rattle.sk_commands.proofs.Names.{◌≡◌, None, arith, number_of, to_z-of_z}
 use Rattle.sk_commands.proofs.Numbers.{number_none, number_other, number_some}
 use Rattle.sk_commands.proofs.number.number_of.Goals as goal
 

@@ -1,8 +1,5 @@
 -- A text that is not read is the decimal text of none.
-use Rattle.std.proofs.Common.{ℤ, ℕ, List, Option, sym, subst}
-use Rattle.std.specs.Prelude.{IfNone}
-use Rattle.std.specs.Result.{result_ok}
-use Rattle.sk_commands.specs.Numbers.{IsNoNumber}
+use Rattle.sk_commands.proofs.Names.{ℤ, ℕ, List, Option, sym, subst, IfNone, result_ok, IsNoNumber}
 use Rattle.sk_commands.proofs.Numbers.{no_utf8, none_of_parse}
 use Rattle.sk_commands.proofs.number.parsed.Goals as goal
 

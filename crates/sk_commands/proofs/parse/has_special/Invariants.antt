@@ -1,6 +1,4 @@
-use Rattle.std.proofs.Common.{◌≡◌, drop}
-use Rattle.std.specs.List.{list_any}
-use Rattle.sk_commands.specs.Parsing.{is_special}
+use Rattle.sk_commands.proofs.Names.{◌≡◌, drop, list_any, is_special}
 use Rattle.sk_commands.proofs.parse.has_special.Given as goal
 
 abbrev pub invariant-loop-byte : goal.invariant-loop-byte

@@ -1,7 +1,5 @@
 -- What the words that are left make of the options so far is what all make of none.
-use Rattle.std.proofs.Common.{◌≡◌, drop, map, Some}
-use Rattle.std.specs.Vec.{vec_items}
-use Rattle.sk_commands.specs.Parsing.{plainly, with_options}
+use Rattle.sk_commands.proofs.Names.{◌≡◌, drop, map, Some, vec_items, plainly, with_options}
 use Rattle.sk_commands.proofs.parse.options_of.Given as goal
 
 abbrev pub invariant-loop-word : goal.invariant-loop-word

@@ -1,7 +1,5 @@
 -- The text so far, with the requests that are left, is that of all.
-use Rattle.std.proofs.Common.{◌≡◌, ◌++◌, drop, flat_map, map}
-use Rattle.sk_requests.specs.Request.{array}
-use Rattle.sk_commands.specs.Requests.{words_for}
+use Rattle.sk_commands.proofs.Names.{◌≡◌, ◌++◌, drop, flat_map, map, array, words_for}
 use Rattle.sk_commands.proofs.requests.write_each.Given as goal
 
 abbrev pub invariant-loop-command : goal.invariant-loop-command

@@ -1,7 +1,5 @@
 -- The text so far, with the words that are left, is that of all.
-use Rattle.std.proofs.Common.{◌≡◌, ◌++◌, drop, map}
-use Rattle.std.specs.Vec.{vec_items}
-use Rattle.sk_requests.specs.Request.{bulks}
+use Rattle.sk_commands.proofs.Names.{◌≡◌, ◌++◌, drop, map, vec_items, bulks}
 use Rattle.sk_commands.proofs.requests.write_words.Given as goal
 
 abbrev pub invariant-loop-word : goal.invariant-loop-word

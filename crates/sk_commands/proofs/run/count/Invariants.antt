@@ -1,5 +1,4 @@
-use Rattle.std.proofs.Common.{◌≡◌, ◌+◌, ℕ, ◌≤◌, pos, drop, map, count_by, is_some}
-use Rattle.std.specs.Vec.{vec_items}
+use Rattle.sk_commands.proofs.Names.{◌≡◌, ◌+◌, ℕ, ◌≤◌, pos, drop, map, count_by, is_some, vec_items}
 use Rattle.sk_commands.proofs.run.count.Given as goal
 
 abbrev pub invariant-loop-key : goal.invariant-loop-key

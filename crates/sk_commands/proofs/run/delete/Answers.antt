@@ -1,8 +1,6 @@
 -- Each key that is taken is made absent where it is there and not among those that were.
-use Rattle.std.proofs.Common.{◌≡◌, ◌+◌, ◌≤◌, [], ◌∷◌, is_some, vec_len, refl, sym, ap, ◌∙◌, arith}
-use Rattle.std.specs.Vec.{vec_capacity}
-use Rattle.std.proofs.lemmas.List.{append-nil}
-use Rattle.sk_commands.specs.Table.{there}
+use Rattle.sk_commands.proofs.Names.{◌≡◌, ◌+◌, ◌≤◌, [], ◌∷◌, is_some, vec_len, refl, sym, ap, ◌∙◌, arith, vec_capacity}
+use Rattle.sk_commands.proofs.Names.{append-nil, there}
 use Rattle.sk_commands.proofs.Deleted.{pops, some_copied, steps}
 use Rattle.sk_commands.proofs.run.delete.Goals as goal
 

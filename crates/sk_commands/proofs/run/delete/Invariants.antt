@@ -1,8 +1,6 @@
 -- Those of the keys that were taken so far which are there, each once, are written behind what was.
-use Rattle.std.proofs.Common.{◌≡◌, ◌+◌, ◌≤◌, ℕ, List, Option, ◌++◌, map, vec_len}
-use Rattle.std.specs.Vec.{vec_items, vec_capacity}
-use Rattle.std.specs.Global.{Vec}
-use Rattle.sk_commands.specs.Table.{removals, there, told}
+use Rattle.sk_commands.proofs.Names.{◌≡◌, ◌+◌, ◌≤◌, ℕ, List, Option, ◌++◌, map, vec_len, vec_items, vec_capacity, Vec}
+use Rattle.sk_commands.proofs.Names.{removals, there, told}
 use Rattle.sk_commands.proofs.run.delete.Given as goal
 
 abbrev pub invariant-loop-key : goal.invariant-loop-key

@@ -1,7 +1,5 @@
 -- The keys so far that are there, and those of the keys that are left, are those of all.
-use Rattle.std.proofs.Common.{◌≡◌, ◌++◌, drop, map}
-use Rattle.std.specs.Vec.{vec_items}
-use Rattle.sk_commands.specs.Table.{present, removals, told}
+use Rattle.sk_commands.proofs.Names.{◌≡◌, ◌++◌, drop, map, vec_items, present, removals, told}
 use Rattle.sk_commands.proofs.run.flush.Given as goal
 
 abbrev pub invariant-loop-key : goal.invariant-loop-key

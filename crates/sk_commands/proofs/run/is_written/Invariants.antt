@@ -1,6 +1,4 @@
-use Rattle.std.proofs.Common.{◌≡◌, drop, map, bytes_eq}
-use Rattle.std.specs.Vec.{vec_items}
-use Rattle.std.specs.List.{list_any}
+use Rattle.sk_commands.proofs.Names.{◌≡◌, drop, map, bytes_eq, vec_items, list_any}
 use Rattle.sk_commands.proofs.run.is_written.Given as goal
 
 abbrev pub invariant-loop-write : goal.invariant-loop-write

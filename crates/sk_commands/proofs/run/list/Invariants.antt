@@ -1,7 +1,5 @@
 -- The values so far, and those of the keys that are left, are those of all.
-use Rattle.std.proofs.Common.{◌≡◌, ◌++◌, drop, map, Some}
-use Rattle.std.specs.Vec.{vec_items}
-use Rattle.sk_commands.specs.Table.{listed}
+use Rattle.sk_commands.proofs.Names.{◌≡◌, ◌++◌, drop, map, Some, vec_items, listed}
 use Rattle.sk_commands.proofs.run.list.Given as goal
 
 abbrev pub invariant-loop-key : goal.invariant-loop-key

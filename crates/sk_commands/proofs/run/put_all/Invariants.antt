@@ -1,8 +1,6 @@
 -- What is written, with the pairs of the words that are left, is what was and all pairs.
-use Rattle.std.proofs.Common.{◌≡◌, ◌+◌, ◌≤◌, ◌++◌, map, vec_len}
-use Rattle.std.specs.Vec.{vec_capacity, vec_items}
-use Rattle.std.specs.Vec.Iter.{into_iter_items, into_iter_len}
-use Rattle.sk_commands.specs.Table.{pairs_of, told}
+use Rattle.sk_commands.proofs.Names.{◌≡◌, ◌+◌, ◌≤◌, ◌++◌, map, vec_len, vec_capacity, vec_items, into_iter_items}
+use Rattle.sk_commands.proofs.Names.{into_iter_len, pairs_of, told}
 use Rattle.sk_commands.proofs.run.put_all.Given as goal
 
 abbrev pub invariant-loop-key : goal.invariant-loop-key

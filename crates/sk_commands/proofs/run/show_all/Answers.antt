@@ -1,6 +1,5 @@
 -- The values of all keys.
-use Rattle.std.proofs.Common.{ap, ◌∙◌}
-use Rattle.sk_commands.specs.declared.reply.Reply.TheVariants.{Array}
+use Rattle.sk_commands.proofs.Names.{ap, ◌∙◌, Array}
 use Rattle.sk_commands.proofs.Shown.{all_shown}
 use Rattle.sk_commands.proofs.run.show_all.Goals as goal
 

@@ -1,6 +1,4 @@
-use Rattle.std.proofs.Common.{◌≡◌, drop}
-use Rattle.std.specs.List.{list_any}
-use Rattle.sk_commands.specs.Table.{is_told_of_all}
+use Rattle.sk_commands.proofs.Names.{◌≡◌, drop, list_any, is_told_of_all}
 use Rattle.sk_commands.proofs.work.are_told_of_all.Given as goal
 
 abbrev pub invariant-loop-command : goal.invariant-loop-command

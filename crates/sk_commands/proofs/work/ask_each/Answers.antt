@@ -1,6 +1,5 @@
 -- What was copied is cut off again.
-use Rattle.std.proofs.Common.{map, sym, ap, ◌∙◌}
-use Rattle.std.specs.Vec.{vec_items}
+use Rattle.sk_commands.proofs.Names.{map, sym, ap, ◌∙◌, vec_items}
 use Rattle.sk_commands.proofs.Deleted.{cut_back, where_err}
 use Rattle.sk_commands.proofs.work.ask_each.Goals as goal
 

@@ -1,7 +1,5 @@
 -- The keys of the commands so far stand behind what was listed.
-use Rattle.std.proofs.Common.{◌≡◌, ◌++◌, List, ℕ, drop, map, flat_map}
-use Rattle.std.specs.Vec.{vec_items}
-use Rattle.sk_commands.specs.Table.{asks}
+use Rattle.sk_commands.proofs.Names.{◌≡◌, ◌++◌, List, ℕ, drop, map, flat_map, vec_items, asks}
 use Rattle.sk_commands.proofs.work.ask_each.Given as goal
 
 abbrev pub invariant-loop-command : goal.invariant-loop-command

@@ -1,8 +1,5 @@
 -- The keys so far, with those that are written yet, are all.
-use Rattle.std.proofs.Common.{◌≡◌, drop, map}
-use Rattle.std.specs.Vec.{vec_items}
-use Rattle.sk_commands.specs.Table.{told}
-use Rattle.sk_commands.specs.Work.{known_after}
+use Rattle.sk_commands.proofs.Names.{◌≡◌, drop, map, vec_items, told, known_after}
 use Rattle.sk_commands.proofs.work.known_after.Given as goal
 
 abbrev pub invariant-loop-write : goal.invariant-loop-write

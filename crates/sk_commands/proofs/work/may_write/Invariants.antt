@@ -1,6 +1,4 @@
-use Rattle.std.proofs.Common.{◌≡◌, drop}
-use Rattle.std.specs.List.{list_any}
-use Rattle.sk_commands.specs.Table.{may_write}
+use Rattle.sk_commands.proofs.Names.{◌≡◌, drop, list_any, may_write}
 use Rattle.sk_commands.proofs.work.may_write.Given as goal
 
 abbrev pub invariant-loop-command : goal.invariant-loop-command

@@ -1,8 +1,5 @@
 -- The key is that of a place.
-use Rattle.std.proofs.Common.{◌≡◌, ◌<◌, length, get_or, rules, arith, sym, ap, ◌∙◌}
-use Rattle.std.specs.Ordering.{nat_cmp}
-use Rattle.std.specs.Cmp.Lexicographic.{slice_cmp}
-use Rattle.std.specs.declared.cmp.Ordering.TheVariants.{Equal}
+use Rattle.sk_commands.proofs.Names.{◌≡◌, ◌<◌, length, get_or, rules, arith, sym, ap, ◌∙◌, nat_cmp, slice_cmp, Equal}
 use Rattle.sk_commands.proofs.Placed.{stands_at}
 use Rattle.sk_commands.proofs.work.place_of.Goals as goal
 

@@ -1,8 +1,5 @@
 -- One command more is carried out.
-use Rattle.std.proofs.Common.{◌≡◌, ◌∷◌, ◌++◌, map, sym, ap, ◌∙◌}
-use Rattle.std.specs.Vec.{vec_items}
-use Rattle.std.specs.Vec.Iter.{into_iter_items}
-use Rattle.sk_commands.specs.Table.{told}
+use Rattle.sk_commands.proofs.Names.{◌≡◌, ◌∷◌, ◌++◌, map, sym, ap, ◌∙◌, vec_items, into_iter_items, told}
 use Rattle.sk_commands.proofs.Queued.{left_over, replies_on, writes_on}
 use Rattle.sk_commands.proofs.work.run_each.Goals as goal
 

@@ -1,9 +1,5 @@
 -- What is written and replied so far, with what comes of the commands that are left, is what comes of all.
-use Rattle.std.proofs.Common.{◌≡◌, ◌++◌, map}
-use Rattle.std.specs.Vec.{vec_items}
-use Rattle.std.specs.Vec.Iter.{into_iter_items}
-use Rattle.sk_commands.specs.Table.{told}
-use Rattle.sk_commands.specs.Work.{each}
+use Rattle.sk_commands.proofs.Names.{◌≡◌, ◌++◌, map, vec_items, into_iter_items, told, each}
 use Rattle.sk_commands.proofs.Queued.{left_over}
 use Rattle.sk_commands.proofs.work.run_each.Given as goal
 

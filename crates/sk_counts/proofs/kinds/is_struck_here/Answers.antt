@@ -1,6 +1,5 @@
 -- The trace has no guess of an earlier epoch, and the status of another is that of the trace.
-use Rattle.std.proofs.Common.{◌≡◌, ◌+◌, ◌∙◌, length, ap, arith}
-use Rattle.sk_kernel.specs.Opening.{OpeningView}
+use Rattle.sk_counts.proofs.Names.{◌≡◌, ◌+◌, ◌∙◌, length, ap, arith, OpeningView}
 use Rattle.sk_counts.proofs.Struck.{none_earlier, status_test}
 use Rattle.sk_counts.proofs.kinds.is_struck_here.Goals as goal
 

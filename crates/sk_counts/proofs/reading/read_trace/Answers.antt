@@ -1,12 +1,6 @@
 -- An event more stands behind those that were read; at the end all do.
-use Rattle.std.proofs.Common.{◌≡◌, ◌∙◌, ◌<◌, ◌≤◌, ◌+◌, List, get_or, ap, sym, length, rules, subst}
-use Rattle.std.proofs.lemmas.List.{length-append}
-use Rattle.sk_record.specs.Trace.{Record, recorded}
-use Rattle.sk_trace.specs.Entry.{EntryView}
-use Rattle.sk_trace.specs.declared.event.Event.{Event}
-use Rattle.sk_plain.specs.Act.{Scripts, plain}
-use Rattle.sk_plain.specs.Replay.{image}
-use Rattle.sk_plain.specs.Standing.{seen, GoesOn}
+use Rattle.sk_counts.proofs.Names.{◌≡◌, ◌∙◌, ◌<◌, ◌≤◌, ◌+◌, List, get_or, ap, sym, length, rules, subst, length-append}
+use Rattle.sk_counts.proofs.Names.{Record, recorded, EntryView, Event, Scripts, plain, image, seen, GoesOn}
 use Rattle.sk_counts.proofs.Along.{after_first, one_more, most_more, all_entries, fits_next}
 use Rattle.sk_counts.proofs.reading.read_trace.Goals as goal
 

@@ -1,10 +1,5 @@
 -- What stands after the first events is what the trace of these comes to.
-use Rattle.std.proofs.Common.{◌≡◌, map, take}
-use Rattle.sk_record.specs.Trace.{all_recorded, no_record}
-use Rattle.sk_plain.specs.Act.{plain}
-use Rattle.sk_plain.specs.Replay.{image}
-use Rattle.sk_counts.specs.Counts.{most_up_to}
-use Rattle.sk_plain.specs.Standing.{seen, Stands}
+use Rattle.sk_counts.proofs.Names.{◌≡◌, map, take, all_recorded, no_record, plain, image, most_up_to, seen, Stands}
 use Rattle.sk_counts.proofs.reading.read_trace.Given as goal
 
 abbrev pub invariant-loop-event : goal.invariant-loop-event

@@ -1,7 +1,6 @@
 -- Worker 0 leads, and its replies are its own to give.
-use Rattle.std.proofs.Common.{◌∙◌, ap, sym, subst, List, ◌++◌}
-use Rattle.sk_workers.specs.Views.{WorkerView}
-use Rattle.sk_crew.specs.Duties.{AllKeepTo, AllTookTurns}
+use Rattle.sk_crew.proofs.Names.{◌∙◌, ap, sym, subst, WorkerView, AllKeepTo, AllTookTurns}
+use Rattle.std.proofs.Common.{List, ◌++◌}
 use Rattle.sk_crew.proofs.Duties.{served_keep, served_took}
 use Rattle.sk_crew.proofs.crew.run_served.Goals as goal
 

@@ -1,6 +1,4 @@
-use Rattle.std.proofs.Common.{◌≡◌}
-use Rattle.sk_crew.specs.Duties.{OnlyReplies}
-use Rattle.sk_crew.specs.Served.{IsServed}
+use Rattle.sk_crew.proofs.Names.{◌≡◌, OnlyReplies, IsServed}
 use Rattle.sk_crew.proofs.remaining.serve_received.Given as goal
 
 abbrev pub invariant-loop : goal.invariant-loop

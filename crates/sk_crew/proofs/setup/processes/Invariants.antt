@@ -1,6 +1,4 @@
-use Rattle.std.proofs.Common.{◌≡◌, flat_map}
-use Rattle.std.specs.Prelude.{take}
-use Rattle.sk_crew.specs.Processes.{process_of}
+use Rattle.sk_crew.proofs.Names.{◌≡◌, flat_map, take, process_of}
 use Rattle.sk_crew.proofs.setup.processes.Given as goal
 
 abbrev pub invariant-loop-entity : goal.invariant-loop-entity

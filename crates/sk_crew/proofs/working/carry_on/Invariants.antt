@@ -1,5 +1,4 @@
-use Rattle.std.proofs.Common.{◌≡◌}
-use Rattle.sk_crew.specs.Duties.{OnlyReplies}
+use Rattle.sk_crew.proofs.Names.{◌≡◌, OnlyReplies}
 use Rattle.sk_crew.proofs.working.carry_on.Given as goal
 
 abbrev pub invariant-loop : goal.invariant-loop

@@ -1,5 +1,4 @@
-use Rattle.std.proofs.Common.{◌≡◌}
-use Rattle.sk_crew.specs.Duties.{KeepsTo, IsNew}
+use Rattle.sk_crew.proofs.Names.{◌≡◌, KeepsTo, IsNew}
 use Rattle.sk_crew.proofs.Turns.{Goes, HasBegun}
 use Rattle.sk_crew.proofs.working.lead_rounds.Given as goal
 

@@ -1,8 +1,5 @@
 -- The turn is of the process at the worker's place.
-use Rattle.std.proofs.Common.{refl, ap, ◌∙◌, sym, subst, arith}
-use Rattle.sk_workers.specs.Views.{WorkerView}
-use Rattle.sk_crew.specs.declared.rounds.Rounds.{Rounds}
-use Rattle.sk_crew.specs.Duties.{KeepsTo}
+use Rattle.sk_crew.proofs.Names.{refl, ap, ◌∙◌, sym, subst, arith, WorkerView, Rounds, KeepsTo}
 use Rattle.sk_crew.proofs.Ahead.{is_due, lent_first}
 use Rattle.sk_crew.proofs.Turns.{Goes, begins_as, goes_on, new_begun, begun_one, over_begun}
 use Rattle.sk_crew.proofs.Duties.{turn_number, round_keeps}

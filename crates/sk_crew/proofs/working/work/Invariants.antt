@@ -1,7 +1,4 @@
-use Rattle.std.proofs.Common.{◌≡◌}
-use Rattle.std.specs.Prelude.{IfSome}
-use Rattle.sk_crew.specs.Ahead.{IsLentNext}
-use Rattle.sk_crew.specs.Duties.{KeepsTo, IsNew}
+use Rattle.sk_crew.proofs.Names.{◌≡◌, IfSome, IsLentNext, KeepsTo, IsNew}
 use Rattle.sk_crew.proofs.Turns.{Goes, HasBegun}
 use Rattle.sk_crew.proofs.working.work.Given as goal
 

@@ -1,6 +1,5 @@
 -- The keys of the places so far.
-use Rattle.std.proofs.Common.{◌≡◌, map}
-use Rattle.std.specs.Vec.{vec_items}
+use Rattle.sk_durable.proofs.Names.{◌≡◌, map, vec_items}
 use Rattle.sk_durable.proofs.Listed.{listed}
 use Rattle.sk_durable.proofs.known.known_keys.Given as goal
 

@@ -1,6 +1,5 @@
 -- What is against the step is against the work.
-use Rattle.std.proofs.Common.{sym, ◌∙◌, subst}
-use Rattle.sk_durable.specs.Works.{IsHanded, Kernel}
+use Rattle.sk_durable.proofs.Names.{sym, ◌∙◌, subst, IsHanded, Kernel}
 use Rattle.sk_durable.proofs.Causes.{logged, not_logged, not_taken, taken, told_so}
 use Rattle.sk_durable.proofs.works.take_in.Goals as goal
 

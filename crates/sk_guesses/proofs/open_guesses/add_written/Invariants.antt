@@ -1,6 +1,4 @@
-use Rattle.std.proofs.Common.{◌≡◌, ◌≤◌, ◌+◌, length, drop}
-use Rattle.sk_guesses.specs.EntitySet.{with_entities}
-use Rattle.sk_guesses.specs.Kept.{keys_of}
+use Rattle.sk_guesses.proofs.Names.{◌≡◌, ◌≤◌, ◌+◌, length, drop, with_entities, keys_of}
 use Rattle.sk_guesses.proofs.open_guesses.add_written.Given as goal
 
 abbrev pub invariant-loop-write : goal.invariant-loop-write

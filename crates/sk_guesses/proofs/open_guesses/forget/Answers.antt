@@ -1,6 +1,5 @@
 -- What the pass leaves.
-use Rattle.std.proofs.Common.{rules}
-use Rattle.std.proofs.lemmas.Fn.{filter_same}
+use Rattle.sk_guesses.proofs.Names.{rules, filter_same}
 use Rattle.sk_guesses.proofs.open_guesses.forget.Goals as goal
 
 pub returns-clause-struck : goal.returns-clause-struck

@@ -1,10 +1,7 @@
 -- None is above the newest of the set.
-use Rattle.std.proofs.Common.{◌≡◌, ◌≤◌, ltb, true, false, length, arith, subst, sym, ◌∙◌, refl}
-use Rattle.std.specs.Prelude.{◌-◌, slice_index_or}
-use Rattle.std.specs.Ordering.{nat_cmp}
-use Rattle.std.specs.List.Sorted.{IsStrictlySortedBy}
-use Rattle.std.proofs.lemmas.Bool.{true≢false, leb-true, ltb-true, ltb-false}
-use Rattle.sk_ids.proofs.Newest.{none_above}
+use Rattle.sk_guesses.proofs.Names.{◌≡◌, ◌≤◌, ltb, true, false, length, arith, subst, sym, ◌∙◌, refl, slice_index_or}
+use Rattle.sk_guesses.proofs.Names.{nat_cmp, IsStrictlySortedBy, true≢false, leb-true, ltb-true, ltb-false, none_above}
+use Rattle.std.specs.Prelude.{◌-◌}
 use Rattle.sk_guesses.proofs.open_guesses.stays_below.Goals as goal
 
 pub returns-clause-drawn : goal.returns-clause-drawn

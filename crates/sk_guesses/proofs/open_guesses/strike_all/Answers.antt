@@ -1,7 +1,6 @@
 -- One guess more is noted, or is not struck.
-use Rattle.std.proofs.Common.{◌≡◌, ◌<◌, ◌+◌, ◌++◌, ◌∷◌, drop, length, map, sym, ◌∙◌, ap, refl, arith}
-use Rattle.sk_guesses.specs.Kept.{struck_with}
-use Rattle.sk_guesses.specs.Opens.{opens_of}
+use Rattle.sk_guesses.proofs.Names.{◌≡◌, ◌<◌, ◌+◌, ◌++◌, ◌∷◌, drop, length, map, sym, ◌∙◌, ap, refl, arith, struck_with}
+use Rattle.sk_guesses.proofs.Names.{opens_of}
 use Rattle.sk_guesses.proofs.Kept.{strike_next}
 use Rattle.sk_guesses.proofs.Opens.{guess_of}
 use Rattle.sk_guesses.proofs.Passes.{next_of_all, none_struck_before}

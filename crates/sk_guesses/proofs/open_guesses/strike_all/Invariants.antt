@@ -1,9 +1,6 @@
 -- What is noted, with what is left to note, and the room for it.
-use Rattle.std.proofs.Common.{◌≡◌, ◌≤◌, ◌+◌, ◌++◌, length, map, drop}
+use Rattle.sk_guesses.proofs.Names.{◌≡◌, ◌≤◌, ◌+◌, ◌++◌, length, map, drop, vec_capacity, struck_with, opens_of}
 use Rattle.std.specs.Prelude.{◌-◌}
-use Rattle.std.specs.Vec.{vec_capacity}
-use Rattle.sk_guesses.specs.Kept.{struck_with}
-use Rattle.sk_guesses.specs.Opens.{opens_of}
 use Rattle.sk_guesses.proofs.Opens.{guess_of}
 use Rattle.sk_guesses.proofs.open_guesses.strike_all.Given as goal
 

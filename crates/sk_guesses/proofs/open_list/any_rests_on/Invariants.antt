@@ -1,7 +1,4 @@
-use Rattle.std.proofs.Common.{◌≡◌, drop}
-use Rattle.std.specs.List.{list_any}
-use Rattle.sk_record.specs.Notes.{has}
-use Rattle.sk_guesses.specs.Room.{Listing}
+use Rattle.sk_guesses.proofs.Names.{◌≡◌, drop, list_any, has, Listing}
 use Rattle.sk_guesses.proofs.open_list.any_rests_on.Given as goal
 
 abbrev pub invariant-loop-place : goal.invariant-loop-place

@@ -1,9 +1,6 @@
 -- The newest of these is below the oldest in the set, or the set has none.
-use Rattle.std.proofs.Common.{◌≡◌, ◌≤◌, ◌<◌, ◌-◌, ◌∙◌, ap, length, arith, subst}
-use Rattle.std.specs.Prelude.{slice_index_or}
-use Rattle.std.specs.Ordering.{nat_cmp}
-use Rattle.std.specs.List.Sorted.{IsStrictlySortedBy}
-use Rattle.std.proofs.lemmas.Bool.{ltb-true}
+use Rattle.sk_guesses.proofs.Names.{◌≡◌, ◌≤◌, ◌<◌, ◌-◌, ◌∙◌, ap, length, arith, subst, slice_index_or, nat_cmp}
+use Rattle.sk_guesses.proofs.Names.{IsStrictlySortedBy, ltb-true}
 use Rattle.sk_guesses.proofs.Earlier.{all_earlier, of_no_tags}
 use Rattle.sk_guesses.proofs.open_list.are_earlier.Goals as goal
 

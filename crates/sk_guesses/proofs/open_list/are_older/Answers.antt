@@ -1,7 +1,5 @@
 -- The newest was drawn before it.
-use Rattle.std.proofs.Common.{◌<◌, ◌-◌, ◌∙◌, ap, length, arith}
-use Rattle.std.specs.Prelude.{slice_index_or}
-use Rattle.std.proofs.lemmas.Bool.{ltb-true}
+use Rattle.sk_guesses.proofs.Names.{◌<◌, ◌-◌, ◌∙◌, ap, length, arith, slice_index_or, ltb-true}
 use Rattle.sk_guesses.proofs.Older.{rests_none}
 use Rattle.sk_guesses.proofs.open_list.are_older.Goals as goal
 

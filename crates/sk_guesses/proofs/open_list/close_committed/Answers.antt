@@ -1,8 +1,5 @@
 -- The tag goes, and then its guess.
-use Rattle.std.proofs.Common.{◌∙◌, ap, map, sym, subst}
-use Rattle.std.specs.Ordering.{nat_cmp}
-use Rattle.std.specs.List.Sorted.{IsStrictlySortedBy}
-use Rattle.sk_guesses.specs.Opens.{but}
+use Rattle.sk_guesses.proofs.Names.{◌∙◌, ap, map, sym, subst, nat_cmp, IsStrictlySortedBy, but}
 use Rattle.sk_guesses.proofs.Opens.{guess_of, named, same_named}
 use Rattle.sk_guesses.proofs.Passes.{but_without}
 use Rattle.sk_guesses.proofs.open_list.close_committed.Goals as goal

@@ -1,9 +1,6 @@
 -- At the front of all a filter of them is left.
-use Rattle.std.proofs.Common.{◌≡◌, ◌++◌, ◌∙◌, length, take, drop, ap, map, not, arith}
-use Rattle.std.specs.List.{filter}
-use Rattle.sk_record.specs.Notes.{has}
-use Rattle.sk_guesses.specs.Opens.{OpenGuess}
-use Rattle.sk_guesses.specs.Room.{Listing}
+use Rattle.sk_guesses.proofs.Names.{◌≡◌, ◌++◌, ◌∙◌, length, take, drop, ap, map, not, arith, filter, has, OpenGuess}
+use Rattle.sk_guesses.proofs.Names.{Listing}
 use Rattle.sk_guesses.proofs.Opens.{guess_of, seen_filter}
 use Rattle.sk_guesses.proofs.Passes.{fewer, rest_of_all}
 use Rattle.sk_guesses.proofs.open_list.close_resting.Goals as goal

@@ -1,7 +1,4 @@
-use Rattle.std.proofs.Common.{◌≡◌, ◌≤◌, ◌++◌, length, take, drop, not}
-use Rattle.std.specs.List.{filter}
-use Rattle.sk_record.specs.Notes.{has}
-use Rattle.sk_guesses.specs.Room.{Listing}
+use Rattle.sk_guesses.proofs.Names.{◌≡◌, ◌≤◌, ◌++◌, length, take, drop, not, filter, has, Listing}
 use Rattle.sk_guesses.proofs.open_list.close_resting.Given as goal
 
 abbrev pub invariant-loop-back : goal.invariant-loop-back

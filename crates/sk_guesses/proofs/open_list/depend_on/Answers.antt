@@ -1,7 +1,6 @@
 -- One list more has the entity.
-use Rattle.std.proofs.Common.{◌≡◌, ◌+◌, ◌<◌, ◌++◌, ◌∙◌, suc, length, length-set, map, take, drop, subst, arith}
-use Rattle.std.specs.Prelude.{slice_set}
-use Rattle.sk_guesses.specs.Opens.{depending}
+use Rattle.sk_guesses.proofs.Names.{◌≡◌, ◌+◌, ◌<◌, ◌++◌, ◌∙◌, suc, length, length-set, map, take, drop, subst, arith}
+use Rattle.sk_guesses.proofs.Names.{slice_set, depending}
 use Rattle.sk_guesses.proofs.Opens.{guess_of, set_after, done_more}
 use Rattle.sk_guesses.proofs.open_list.depend_on.Goals as goal
 

@@ -1,7 +1,4 @@
-use Rattle.std.proofs.Common.{◌≡◌, ◌≤◌, ◌++◌, ℕ, map, length, take, drop}
-use Rattle.std.specs.Prelude.{slice_index_or}
-use Rattle.sk_guesses.specs.Opens.{depending}
-use Rattle.sk_guesses.specs.Room.{Listing}
+use Rattle.sk_guesses.proofs.Names.{◌≡◌, ◌≤◌, ◌++◌, ℕ, map, length, take, drop, slice_index_or, depending, Listing}
 use Rattle.sk_guesses.proofs.Opens.{guess_of}
 use Rattle.sk_guesses.proofs.open_list.depend_on.Given as goal
 

@@ -1,6 +1,5 @@
 -- A change is made of one after the other.
-use Rattle.std.proofs.Common.{arith}
-use Rattle.sk_guesses.specs.Opens.{left_to}
+use Rattle.sk_guesses.proofs.Names.{arith, left_to}
 use Rattle.sk_guesses.proofs.Passes.{none_done, one_done, all_done}
 use Rattle.sk_guesses.proofs.open_list.leave_to.Goals as goal
 

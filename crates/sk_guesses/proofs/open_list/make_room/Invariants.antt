@@ -1,7 +1,4 @@
-use Rattle.std.proofs.Common.{◌≡◌, ◌<◌, ℕ, true, map, length}
-use Rattle.std.specs.Prelude.{slice_index_or}
-use Rattle.sk_record.specs.Notes.{has}
-use Rattle.sk_guesses.specs.Room.{Listing}
+use Rattle.sk_guesses.proofs.Names.{◌≡◌, ◌<◌, ℕ, true, map, length, slice_index_or, has, Listing}
 use Rattle.sk_guesses.proofs.Opens.{guess_of}
 use Rattle.sk_guesses.proofs.open_list.make_room.Given as goal
 

@@ -1,7 +1,5 @@
 -- The half where the guess may stand.
-use Rattle.std.proofs.Common.{◌≢◌, ◌<◌, ◌+◌, ◌-◌, length, sym, ◌∙◌, arith}
-use Rattle.std.specs.Prelude.{◌/◌}
-use Rattle.std.proofs.lemmas.Bool.{true≢false, eqb-true, eq-eqb}
+use Rattle.sk_guesses.proofs.Names.{◌≢◌, ◌<◌, ◌+◌, ◌-◌, length, sym, ◌∙◌, arith, ◌/◌, true≢false, eqb-true, eq-eqb}
 use Rattle.sk_guesses.proofs.Passes.{at_place, further_back, further_on, nowhere}
 use Rattle.sk_guesses.proofs.open_list.place_of.Goals as goal
 

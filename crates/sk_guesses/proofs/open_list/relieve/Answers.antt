@@ -1,6 +1,5 @@
 -- A change is made of one after the other.
-use Rattle.std.proofs.Common.{arith}
-use Rattle.sk_guesses.specs.Opens.{relieved}
+use Rattle.sk_guesses.proofs.Names.{arith, relieved}
 use Rattle.sk_guesses.proofs.Passes.{none_done, one_done, all_done}
 use Rattle.sk_guesses.proofs.open_list.relieve.Goals as goal
 

@@ -1,6 +1,5 @@
 -- A change is made of one after the other.
-use Rattle.std.proofs.Common.{arith}
-use Rattle.sk_guesses.specs.Opens.{without_tag}
+use Rattle.sk_guesses.proofs.Names.{arith, without_tag}
 use Rattle.sk_guesses.proofs.Passes.{from_there, one_done, all_done}
 use Rattle.sk_guesses.proofs.open_list.withdraw.Goals as goal
 

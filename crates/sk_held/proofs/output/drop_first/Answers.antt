@@ -1,6 +1,5 @@
 -- The one at the place that was found goes, if there is one.
-use Rattle.std.proofs.Common.{rules, ◌≡◌, ◌<◌, ◌≤◌, length, ◌∙◌}
-use Rattle.std.specs.List.{prefix_len}
+use Rattle.sk_held.proofs.Names.{rules, ◌≡◌, ◌<◌, ◌≤◌, length, ◌∙◌, prefix_len}
 use Rattle.sk_held.proofs.Outputs.{but_at, but_none, is_other}
 use Rattle.sk_held.proofs.output.drop_first.Goals as goal
 

@@ -1,6 +1,5 @@
 -- None of the outputs so far is of the channel.
-use Rattle.std.proofs.Common.{◌≡◌, ◌+◌, drop}
-use Rattle.std.specs.List.{prefix_len}
+use Rattle.sk_held.proofs.Names.{◌≡◌, ◌+◌, drop, prefix_len}
 use Rattle.sk_held.proofs.Outputs.{is_other}
 use Rattle.sk_held.proofs.output.place_of.Given as goal
 

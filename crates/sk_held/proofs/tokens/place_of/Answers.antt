@@ -1,13 +1,6 @@
 -- The search among tokens is one among their numbers.
-use Rattle.std.proofs.Common.{rules, ◌≡◌, Some, sym, ◌∙◌, subst}
-use Rattle.std.specs.Prelude.{slice_get}
-use Rattle.std.specs.Ordering.{nat_cmp}
-use Rattle.std.specs.Option.{IfSome}
-use Rattle.std.specs.List.Sorted.{IsBinarySearchResult}
-use Rattle.std.proofs.lemmas.List.Sorted.{answers_always}
-use Rattle.sk_guesses.specs.Token.{Token}
-use Rattle.sk_ids.proofs.Searches.{tells}
-use Rattle.sk_held.specs.Tokens.{ids}
+use Rattle.sk_held.proofs.Names.{rules, ◌≡◌, Some, sym, ◌∙◌, subst, slice_get, nat_cmp, IfSome, IsBinarySearchResult}
+use Rattle.sk_held.proofs.Names.{answers_always, Token, tells, ids}
 use Rattle.sk_held.proofs.Found.{among_numbers, there}
 use Rattle.sk_held.proofs.tokens.place_of.Goals as goal
 

@@ -1,6 +1,5 @@
 -- Their ends are the same, and nothing is left out between them.
-use Rattle.std.proofs.Common.{arith}
-use Rattle.std.proofs.lemmas.Bool.{ltb-true}
+use Rattle.sk_ids.proofs.Names.{arith, ltb-true}
 use Rattle.sk_ids.proofs.Runs.{same_run}
 use Rattle.sk_ids.proofs.tags.is_same_run.Goals as goal
 

@@ -1,6 +1,5 @@
 -- The guesses rise, so that none is below the first, nor above the last.
-use Rattle.std.proofs.Common.{◌<◌, arith}
-use Rattle.std.proofs.lemmas.Bool.{leb-false}
+use Rattle.sk_ids.proofs.Names.{◌<◌, arith, leb-false}
 use Rattle.sk_ids.proofs.Newest.{none_above, none_below}
 use Rattle.sk_ids.proofs.tags.spans.Goals as goal
 

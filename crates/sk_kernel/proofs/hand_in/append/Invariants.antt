@@ -1,7 +1,5 @@
 -- As many steps were added as were counted, each into one place.
-use Rattle.std.proofs.Common.{◌≡◌, ◌+◌, ◌++◌}
-use Rattle.std.specs.Prelude.{replicate}
-use Rattle.sk_kernel.specs.HandIn.{alone_step}
+use Rattle.sk_kernel.proofs.Names.{◌≡◌, ◌+◌, ◌++◌, replicate, alone_step}
 use Rattle.sk_kernel.proofs.hand_in.append.Given as goal
 
 abbrev pub invariant-loop : goal.invariant-loop

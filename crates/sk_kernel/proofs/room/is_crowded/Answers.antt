@@ -1,12 +1,6 @@
 -- A directory has one count of names.
-use Rattle.std.proofs.Common.{Option, sym, ap, subst, ◌∙◌}
-use Rattle.std.specs.Prelude.{nat_le}
-use Rattle.sk_ids.specs.declared.pid.ObjId.{ObjId}
-use Rattle.sk_store.specs.Names.{name_there}
-use Rattle.sk_store.proofs.Names.{one_count}
-use Rattle.sk_undo.specs.Logs.{look_at}
-use Rattle.sk_kernel.specs.Room.{TellsRoom}
-use Rattle.sk_kernel.specs.declared.room.TheConstants.{DIRECTORY_LIMIT}
+use Rattle.sk_kernel.proofs.Names.{Option, sym, ap, subst, ◌∙◌, nat_le, ObjId, name_there, one_count, look_at}
+use Rattle.sk_kernel.proofs.Names.{TellsRoom, DIRECTORY_LIMIT}
 use Rattle.sk_kernel.proofs.room.is_crowded.Goals as goal
 
 pub returns-in-Some : goal.returns-in-Some

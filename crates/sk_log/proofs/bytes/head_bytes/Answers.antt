@@ -1,6 +1,6 @@
-use Rattle.std.proofs.Common.{◌≡◌, ℕ, ◌+◌, ◌-◌, ◌/◌, ◌%◌, List, [], ◌∷◌, ◌++◌, sum, slice_set, refl, ◌∙◌, ap, arith}
-use Rattle.std.proofs.lemmas.List.Sums.{sum_by-append}
-use Rattle.sk_log.specs.Frame.{digits, front, head_of}
+use Rattle.sk_log.proofs.Names.{◌≡◌, ℕ, ◌+◌, ◌-◌, ◌/◌, ◌%◌, List, [], ◌∷◌, ◌++◌, sum, slice_set, refl, ◌∙◌, ap, arith}
+use Rattle.sk_log.proofs.Names.{sum_by-append, front}
+use Rattle.sk_log.specs.Frame.{digits, head_of}
 use Rattle.sk_log.proofs.bytes.head_bytes.Goals as goal
 
 -- two zeros add nothing

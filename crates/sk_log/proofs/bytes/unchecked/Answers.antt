@@ -1,4 +1,4 @@
-use Rattle.std.proofs.Common.{refl}
+use Rattle.sk_log.proofs.Names.{refl}
 use Rattle.sk_log.specs.Frame.{digits}
 use Rattle.sk_log.proofs.bytes.unchecked.Goals as goal
 

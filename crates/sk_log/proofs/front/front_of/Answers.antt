@@ -1,5 +1,4 @@
-use Rattle.std.proofs.Common.{◌≡◌, ◌+◌, ◌-◌, take, drop, sum, sym, ◌∙◌, ap, arith}
-use Rattle.std.proofs.lemmas.Bool.{false≢true}
+use Rattle.sk_log.proofs.Names.{◌≡◌, ◌+◌, ◌-◌, take, drop, sum, sym, ◌∙◌, ap, arith, false≢true}
 use Rattle.sk_log.proofs.Told.{other_head, short_payload, other_sum, whole}
 use Rattle.sk_log.proofs.front.front_of.Goals as goal
 

@@ -1,5 +1,4 @@
-use Rattle.std.proofs.Common.{slice_index, inl, inr, arith}
-use Rattle.std.proofs.lemmas.Nat.{and_le_r}
+use Rattle.sk_log.proofs.Names.{slice_index, inl, inr, arith, and_le_r}
 use Rattle.sk_log.proofs.laws.fade_law.Goals as goal
 
 pub returns-clause-bytes : goal.returns-clause-bytes

@@ -1,10 +1,6 @@
 -- A rising list of undecided guesses that is as long as that of all.
-use Rattle.std.proofs.Common.{length, ap, sym, subst, ◌∙◌}
-use Rattle.std.specs.Ordering.{nat_cmp}
-use Rattle.std.specs.List.Sorted.{IsStrictlySortedBy}
-use Rattle.std.proofs.lemmas.Bool.{eqb-true}
-use Rattle.sk_record.specs.UndoState.{numbers}
-use Rattle.sk_guesses.specs.Opens.{opens_of}
+use Rattle.sk_machine.proofs.Names.{length, ap, sym, subst, ◌∙◌, nat_cmp, IsStrictlySortedBy, eqb-true, numbers}
+use Rattle.sk_machine.proofs.Names.{opens_of}
 use Rattle.sk_machine.proofs.AsProcess.{as_long, count_is}
 use Rattle.sk_machine.proofs.alike.are_all.Goals as goal
 

@@ -1,6 +1,5 @@
 -- Sets that are the same have the same list.
-use Rattle.std.proofs.Common.{sym, ◌∙◌}
-use Rattle.sk_ids.proofs.Same.{exact_bytes}
+use Rattle.sk_machine.proofs.Names.{sym, ◌∙◌, exact_bytes}
 use Rattle.sk_machine.proofs.alike.is_alike.Goals as goal
 
 pub returns : goal.returns

@@ -1,7 +1,5 @@
 -- It rests on nothing, or on guesses that are all there.
-use Rattle.std.proofs.Common.{ap, sym, ◌∙◌}
-use Rattle.sk_record.specs.Notes.{has}
-use Rattle.sk_machine.specs.Dependents.{tags_in}
+use Rattle.sk_machine.proofs.Names.{ap, sym, ◌∙◌, has, tags_in}
 use Rattle.sk_machine.proofs.AsProcess.{covers_one, none_within}
 use Rattle.sk_machine.proofs.alike.is_within.Goals as goal
 

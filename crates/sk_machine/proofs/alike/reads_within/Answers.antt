@@ -1,7 +1,5 @@
 -- The process rests on just these, and the rest on none but these.
-use Rattle.sk_trace.specs.Kept.{input_in}
-use Rattle.sk_plain.specs.Seen.{looked, looks_of}
-use Rattle.sk_machine.specs.Dependents.{tags_in}
+use Rattle.sk_machine.proofs.Names.{input_in, looked, looks_of, tags_in}
 use Rattle.sk_machine.proofs.AsProcess.{covers_reads}
 use Rattle.sk_machine.proofs.alike.reads_within.Goals as goal
 

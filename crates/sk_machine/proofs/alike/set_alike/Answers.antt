@@ -1,14 +1,6 @@
 -- Where no guess is open nothing rests on any, and where all are the process's nothing rests on others.
-use Rattle.std.proofs.Common.{◌≡◌, [], ap, subst, sym, ◌∙◌}
-use Rattle.sk_record.specs.Notes.{has}
-use Rattle.sk_record.specs.UndoState.{numbers}
-use Rattle.sk_guesses.specs.Opens.{opens_of}
-use Rattle.sk_ids.specs.declared.entity.Entity.TheVariants.{Proc}
-use Rattle.sk_undo.specs.Logs.{LogsView}
-use Rattle.sk_trace.specs.Kept.{input_in}
-use Rattle.sk_plain.specs.Planned.{read_by}
-use Rattle.sk_plain.specs.Seen.{looked, looks_of}
-use Rattle.sk_machine.specs.Dependents.{Covers, tags_in}
+use Rattle.sk_machine.proofs.Names.{◌≡◌, [], ap, subst, sym, ◌∙◌, has, numbers, opens_of, Proc, LogsView, input_in}
+use Rattle.sk_machine.proofs.Names.{read_by, looked, looks_of, Covers, tags_in}
 use Rattle.sk_machine.proofs.Listed.{no_length}
 use Rattle.sk_machine.proofs.AsProcess.{open_covered, untagged}
 use Rattle.sk_machine.proofs.alike.set_alike.Goals as goal

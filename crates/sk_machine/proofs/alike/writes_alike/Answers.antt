@@ -1,6 +1,5 @@
 -- The process rests on just these guesses, and so does the copy that it gets.
-use Rattle.sk_ids.specs.declared.entity.Entity.TheVariants.{Copy, Proc}
-use Rattle.sk_machine.specs.Dependents.{tags_in}
+use Rattle.sk_machine.proofs.Names.{Copy, Proc, tags_in}
 use Rattle.sk_machine.proofs.AsProcess.{alike_two}
 use Rattle.sk_machine.proofs.alike.writes_alike.Goals as goal
 

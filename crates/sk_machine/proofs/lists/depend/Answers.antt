@@ -1,12 +1,8 @@
 -- It is in them already, or is added to those that it does not rest on.
-use Rattle.std.proofs.Common.{◌≡◌, Bool, true, false, not, ◌&&◌, ◌||◌, List, [], ◌∷◌, refl, sym, ◌∙◌, ap}
+use Rattle.sk_machine.proofs.Names.{◌≡◌, Bool, true, false, not, ◌&&◌, ◌||◌, List, [], ◌∷◌, refl, sym, ◌∙◌, ap}
+use Rattle.sk_machine.proofs.Names.{false≢true, or_left, or_right, entity_cmp, Entity, has, and_both, OpenGuess}
+use Rattle.sk_machine.proofs.Names.{depending}
 use Rattle.std.specs.Prelude.{map}
-use Rattle.std.proofs.lemmas.Bool.{false≢true, or_left, or_right}
-use Rattle.sk_ids.specs.Entity.{entity_cmp}
-use Rattle.sk_ids.specs.declared.entity.Entity.{Entity}
-use Rattle.sk_record.specs.Notes.{has}
-use Rattle.sk_record.proofs.UndoStates.{and_both}
-use Rattle.sk_guesses.specs.Opens.{OpenGuess, depending}
 use Rattle.sk_machine.proofs.Given.{then_ok}
 use Rattle.sk_machine.proofs.lists.depend.Goals as goal
 

@@ -1,7 +1,5 @@
 -- One entity more is in the lists of all the guesses; without memory all are taken out again.
-use Rattle.std.proofs.Common.{take, sym, ◌∙◌, ap, subst}
-use Rattle.sk_guesses.specs.Opens.{opens_of}
-use Rattle.sk_machine.specs.Dependents.{AllAlmostExact, AllExact, tags_in, with_tags}
+use Rattle.sk_machine.proofs.Names.{take, sym, ◌∙◌, ap, subst, opens_of, AllAlmostExact, AllExact, tags_in, with_tags}
 use Rattle.sk_machine.proofs.Given.{from_ok, from_err}
 use Rattle.sk_machine.proofs.Listed.{almost_of, depends_exact, depends_opens, in_front, in_place, take_all, take_next}
 use Rattle.sk_machine.proofs.lists.depend_all.Goals as goal

@@ -1,6 +1,4 @@
-use Rattle.std.proofs.Common.{◌≡◌, take}
-use Rattle.sk_guesses.specs.Opens.{opens_of}
-use Rattle.sk_machine.specs.Dependents.{AllExact, tags_in, with_tags}
+use Rattle.sk_machine.proofs.Names.{◌≡◌, take, opens_of, AllExact, tags_in, with_tags}
 use Rattle.sk_machine.proofs.lists.depend_all.Given as goal
 
 abbrev pub invariant-loop-entity : goal.invariant-loop-entity

@@ -1,6 +1,5 @@
 -- What rests on it is its list.
-use Rattle.std.proofs.Common.{◌∷◌, [], subst}
-use Rattle.sk_machine.specs.Dependents.{Covers, tags_in}
+use Rattle.sk_machine.proofs.Names.{◌∷◌, [], subst, Covers, tags_in}
 use Rattle.sk_machine.proofs.lists.is_alone.Goals as goal
 
 pub returns : goal.returns

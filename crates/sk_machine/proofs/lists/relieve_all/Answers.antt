@@ -1,10 +1,6 @@
 -- One entity more is in the lists of its guesses alone.
-use Rattle.std.proofs.Common.{◌≡◌, ◌+◌, suc, ◌∷◌, drop, sym, ◌∙◌, ap, subst, arith}
-use Rattle.std.proofs.Math.Seq.{drop-cons}
-use Rattle.sk_ids.specs.Entity.{entity_cmp}
-use Rattle.sk_guesses.specs.Opens.{opens_of, left_to}
-use Rattle.sk_guesses.proofs.Opens.{same_opens, left_to_keeps}
-use Rattle.sk_machine.specs.Dependents.{AllAlmostExact, tags_in}
+use Rattle.sk_machine.proofs.Names.{◌≡◌, ◌+◌, suc, ◌∷◌, drop, sym, ◌∙◌, ap, subst, arith, drop-cons, entity_cmp}
+use Rattle.sk_machine.proofs.Names.{opens_of, left_to, same_opens, left_to_keeps, AllAlmostExact, tags_in}
 use Rattle.sk_machine.proofs.Listed.{drop_all, left_more, none_left}
 use Rattle.sk_machine.proofs.lists.relieve_all.Goals as goal
 

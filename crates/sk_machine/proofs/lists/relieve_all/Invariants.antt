@@ -1,6 +1,4 @@
-use Rattle.std.proofs.Common.{◌≡◌, drop}
-use Rattle.sk_guesses.specs.Opens.{opens_of}
-use Rattle.sk_machine.specs.Dependents.{AllAlmostExact, tags_in}
+use Rattle.sk_machine.proofs.Names.{◌≡◌, drop, opens_of, AllAlmostExact, tags_in}
 use Rattle.sk_machine.proofs.lists.relieve_all.Given as goal
 
 abbrev pub invariant-loop-entity : goal.invariant-loop-entity

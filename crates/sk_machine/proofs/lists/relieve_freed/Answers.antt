@@ -1,6 +1,5 @@
 -- There is no list, or what is in the lists rests on their guesses.
-use Rattle.std.proofs.Common.{sym, subst, arith}
-use Rattle.sk_machine.specs.Dependents.{AllExact, tags_in}
+use Rattle.sk_machine.proofs.Names.{sym, subst, arith, AllExact, tags_in}
 use Rattle.sk_machine.proofs.Listed.{no_length}
 use Rattle.sk_machine.proofs.lists.relieve_freed.Goals as goal
 

@@ -1,6 +1,5 @@
 -- One entity more, and at the end all.
-use Rattle.std.proofs.Common.{◌∷◌, [], take, sym, subst}
-use Rattle.sk_machine.specs.Dependents.{Covers, tags_in}
+use Rattle.sk_machine.proofs.Names.{◌∷◌, [], take, sym, subst, Covers, tags_in}
 use Rattle.sk_machine.proofs.AsProcess.{covers_both, covers_none}
 use Rattle.sk_machine.proofs.Listed.{take_all, take_next}
 use Rattle.sk_machine.proofs.lists.rest_alone.Goals as goal

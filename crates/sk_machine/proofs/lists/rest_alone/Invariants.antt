@@ -1,6 +1,5 @@
 -- Each before the loop's place rests on the guess alone.
-use Rattle.std.proofs.Common.{◌∷◌, [], take}
-use Rattle.sk_machine.specs.Dependents.{Covers, tags_in}
+use Rattle.sk_machine.proofs.Names.{◌∷◌, [], take, Covers, tags_in}
 use Rattle.sk_machine.proofs.lists.rest_alone.Given as goal
 
 abbrev pub invariant-loop-entity : goal.invariant-loop-entity

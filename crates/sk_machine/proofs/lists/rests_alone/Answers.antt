@@ -1,7 +1,5 @@
 -- The one guess of its set is that one.
-use Rattle.std.proofs.Common.{◌≡◌, length, sym, ◌∙◌, arith}
-use Rattle.std.proofs.lemmas.Bool.{eqb-true}
-use Rattle.sk_machine.specs.Dependents.{tags_in}
+use Rattle.sk_machine.proofs.Names.{◌≡◌, length, sym, ◌∙◌, arith, eqb-true, tags_in}
 use Rattle.sk_machine.proofs.AsProcess.{one_within}
 use Rattle.sk_machine.proofs.lists.rests_alone.Goals as goal
 

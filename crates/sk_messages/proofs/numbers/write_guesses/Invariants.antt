@@ -1,6 +1,5 @@
 -- What was written, with the numbers that are left, is that of all.
-use Rattle.std.proofs.Common.{◌≡◌, ◌++◌, drop}
-use Rattle.sk_messages.specs.Numbers.{number_bytes}
+use Rattle.sk_messages.proofs.Names.{◌≡◌, ◌++◌, drop, number_bytes}
 use Rattle.sk_messages.proofs.numbers.write_guesses.Given as goal
 
 abbrev pub invariant-loop-guess : goal.invariant-loop-guess

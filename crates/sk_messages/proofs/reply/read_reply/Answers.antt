@@ -1,8 +1,6 @@
 -- The parts are those that stand in front, and the content behind them.
-use Rattle.std.proofs.Common.{rules, ◌≡◌, nat_lt, cond, false, None, ◌-◌, length, take, drop, sym, ap, ◌∙◌, le_of_eq}
-use Rattle.std.proofs.lemmas.List.{length-drop, take_all}
-use Rattle.sk_messages.specs.Numbers.{number_at}
-use Rattle.sk_messages.specs.Replies.{reply_from}
+use Rattle.sk_messages.proofs.Names.{rules, ◌≡◌, nat_lt, cond, false, None, ◌-◌, length, take, drop, sym, ap, ◌∙◌}
+use Rattle.sk_messages.proofs.Names.{le_of_eq, length-drop, take_all, number_at, reply_from}
 use Rattle.sk_messages.proofs.reply.read_reply.Goals as goal
 
 pub returns : goal.returns

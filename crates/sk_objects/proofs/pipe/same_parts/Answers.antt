@@ -1,9 +1,6 @@
 -- The parts are compared one after another.
-use Rattle.std.proofs.Common.{◌≡◌, ◌≤◌, ◌++◌, Bool, true, false, List, ℕ, length, take, drop, rules, arith, sym, ap, ◌∙◌}
-use Rattle.std.specs.Prelude.{◌&&◌}
-use Rattle.std.proofs.lemmas.Bool.Decides.{same_from_decides}
-use Rattle.sk_objects.specs.Same.{same_bytes}
-use Rattle.sk_objects.specs.SameLemma.{exact_bytes}
+use Rattle.sk_objects.proofs.Names.{◌≡◌, ◌≤◌, ◌++◌, Bool, true, false, List, ℕ, length, take, drop, rules, arith, sym}
+use Rattle.sk_objects.proofs.Names.{ap, ◌∙◌, ◌&&◌, same_from_decides, same_bytes, exact_bytes}
 use Rattle.sk_objects.proofs.Rings.{parts_decided}
 use Rattle.sk_objects.proofs.pipe.same_parts.Goals as goal
 

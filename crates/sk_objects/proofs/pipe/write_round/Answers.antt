@@ -1,7 +1,5 @@
-use Rattle.std.proofs.Common.{◌≡◌, ◌+◌, ◌-◌, ◌++◌, List, ℕ, length, take, drop, arith, ap, ◌∙◌}
-use Rattle.std.proofs.lemmas.List.{take-append-drop, length-take-le, length-drop}
-use Rattle.sk_objects.specs.File.{overwritten}
-use Rattle.sk_objects.specs.Ring.{turned}
+use Rattle.sk_objects.proofs.Names.{◌≡◌, ◌+◌, ◌-◌, ◌++◌, List, ℕ, length, take, drop, arith, ap, ◌∙◌, take-append-drop}
+use Rattle.sk_objects.proofs.Names.{length-take-le, length-drop, overwritten, turned}
 use Rattle.sk_objects.proofs.Rings.{written_high}
 use Rattle.sk_objects.proofs.pipe.write_round.Goals as goal
 

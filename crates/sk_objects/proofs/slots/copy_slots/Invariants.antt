@@ -1,5 +1,4 @@
-use Rattle.std.proofs.Common.{◌≡◌, ◌≤◌, length, take, vec_len}
-use Rattle.std.specs.Vec.{vec_capacity}
+use Rattle.sk_objects.proofs.Names.{◌≡◌, ◌≤◌, length, take, vec_len, vec_capacity}
 use Rattle.sk_objects.proofs.slots.copy_slots.Given as goal
 
 abbrev pub invariant-loop-block : goal.invariant-loop-block

@@ -1,7 +1,5 @@
-use Rattle.std.proofs.Common.{◌≡◌, ◌+◌, ◌*◌, ◌/◌, ◌%◌, List, ℕ, [], ◌∷◌, ◌++◌, take, replicate, length, arith, sym, ap, subst, ◌∙◌}
-use Rattle.std.proofs.lemmas.List.Elements.{All-cons}
-use Rattle.sk_objects.specs.File.{held}
-use Rattle.sk_objects.specs.Blocks.{joined, AreBlocks, blank}
+use Rattle.sk_objects.proofs.Names.{◌≡◌, ◌+◌, ◌*◌, ◌/◌, ◌%◌, List, ℕ, [], ◌∷◌, ◌++◌, take, replicate, length, arith}
+use Rattle.sk_objects.proofs.Names.{sym, ap, subst, ◌∙◌, All-cons, held, joined, AreBlocks, blank}
 use Rattle.sk_objects.proofs.Joined.{blanks_are}
 use Rattle.sk_objects.proofs.Seen.{cut_made, start_len}
 use Rattle.sk_objects.proofs.slots.cut_blocks.Goals as goal

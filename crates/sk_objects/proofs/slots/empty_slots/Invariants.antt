@@ -1,6 +1,4 @@
-use Rattle.std.proofs.Common.{◌≡◌, ◌≤◌, replicate, vec_len}
-use Rattle.std.specs.Vec.{vec_capacity}
-use Rattle.sk_objects.specs.Blocks.{blank}
+use Rattle.sk_objects.proofs.Names.{◌≡◌, ◌≤◌, replicate, vec_len, vec_capacity, blank}
 use Rattle.sk_objects.proofs.slots.empty_slots.Given as goal
 
 abbrev pub invariant-loop : goal.invariant-loop

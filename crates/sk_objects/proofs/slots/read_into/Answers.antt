@@ -1,7 +1,5 @@
 -- Bytes of one block are those of the file.
-use Rattle.std.proofs.Common.{◌≡◌, ◌+◌, ◌-◌, ◌*◌, ◌/◌, ◌%◌, List, ℕ, arith, rules, ap, ◌∙◌}
-use Rattle.sk_objects.specs.File.{part}
-use Rattle.sk_objects.specs.Blocks.{joined}
+use Rattle.sk_objects.proofs.Names.{◌≡◌, ◌+◌, ◌-◌, ◌*◌, ◌/◌, ◌%◌, List, ℕ, arith, rules, ap, ◌∙◌, part, joined}
 use Rattle.sk_objects.proofs.Seen.{block_mid}
 use Rattle.sk_objects.proofs.slots.read_into.Goals as goal
 

@@ -1,6 +1,5 @@
-use Rattle.std.proofs.Common.{◌≡◌, ◌+◌, ◌-◌, ◌*◌, ◌/◌, ◌%◌, ◌++◌, List, ℕ, length, take, arith, ap, ap₂, ◌∙◌}
-use Rattle.sk_objects.specs.File.{part}
-use Rattle.sk_objects.specs.Blocks.{joined}
+use Rattle.sk_objects.proofs.Names.{◌≡◌, ◌+◌, ◌-◌, ◌*◌, ◌/◌, ◌%◌, ◌++◌, List, ℕ, length, take, arith, ap, ap₂, ◌∙◌}
+use Rattle.sk_objects.proofs.Names.{part, joined}
 use Rattle.sk_objects.proofs.Seen.{block_mid, block_part, parts_joined}
 use Rattle.sk_objects.proofs.slots.read_slots.Goals as goal
 

@@ -1,5 +1,4 @@
-use Rattle.std.specs.Cmp.Lexicographic.{pointwise_decides}
-use Rattle.sk_objects.specs.SameLemma.{exact_bytes}
+use Rattle.sk_objects.proofs.Names.{pointwise_decides, exact_bytes}
 use Rattle.sk_objects.proofs.slots.same_slots.Goals as goal
 
 pub returns : goal.returns

@@ -1,7 +1,6 @@
-use Rattle.std.proofs.Common.{◌≡◌, ◌+◌, ◌-◌, ◌*◌, ◌/◌, ◌%◌, ◌≤◌, inl, inr, ℕ, length, take, arith, refl, sym, ap, ◌∙◌, get_or-take}
-use Rattle.std.proofs.lemmas.List.{append-nil, length-take-le}
-use Rattle.sk_objects.specs.File.{overwritten, part}
-use Rattle.sk_objects.specs.Blocks.{joined}
+use Rattle.sk_objects.proofs.Names.{◌≡◌, ◌+◌, ◌-◌, ◌*◌, ◌/◌, ◌%◌, ◌≤◌, inl, inr, ℕ, length, take, arith, refl, sym, ap}
+use Rattle.sk_objects.proofs.Names.{◌∙◌, append-nil, length-take-le, overwritten, part, joined}
+use Rattle.std.proofs.Common.{get_or-take}
 use Rattle.sk_objects.proofs.Seen.{first_block, second_block, two_blocks, under_one, under_two}
 use Rattle.sk_objects.proofs.slots.written_blocks.Goals as goal
 

@@ -1,7 +1,5 @@
 -- What was counted so far, with what is left.
-use Rattle.std.proofs.Common.{◌≡◌, ◌+◌, ℕ, get_or, length, drop}
-use Rattle.sk_record.specs.Machine.{not_dropped}
-use Rattle.sk_outputs.specs.Said.{said_at}
+use Rattle.sk_outputs.proofs.Names.{◌≡◌, ◌+◌, ℕ, get_or, length, drop, not_dropped, said_at}
 use Rattle.sk_outputs.proofs.outputs.count_without.Given as goal
 
 abbrev pub invariant-loop-place : goal.invariant-loop-place

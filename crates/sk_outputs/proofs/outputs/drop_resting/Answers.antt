@@ -1,6 +1,5 @@
 -- What the pass leaves.
-use Rattle.std.proofs.Common.{rules}
-use Rattle.std.proofs.lemmas.Fn.{filter_same}
+use Rattle.sk_outputs.proofs.Names.{rules, filter_same}
 use Rattle.sk_outputs.proofs.outputs.drop_resting.Goals as goal
 
 pub returns : goal.returns

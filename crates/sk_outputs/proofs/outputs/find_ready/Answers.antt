@@ -1,6 +1,6 @@
 -- Each output decides over those behind it.
-use Rattle.std.proofs.Common.{◌≡◌, ◌<◌, ◌-◌, zero, suc, length, drop, subst, arith}
-use Rattle.sk_outputs.specs.Ready.{AreReady}
+use Rattle.sk_outputs.proofs.Names.{◌≡◌, ◌<◌, zero, suc, length, drop, subst, arith, AreReady}
+use Rattle.std.proofs.Common.{◌-◌}
 use Rattle.sk_outputs.proofs.Ready.{decided}
 use Rattle.sk_outputs.proofs.outputs.find_ready.Goals as goal
 

@@ -1,6 +1,5 @@
 -- What the outputs from a place on say.
-use Rattle.std.proofs.Common.{◌≤◌, ◌+◌, length, drop}
-use Rattle.sk_outputs.specs.Ready.{AreReady}
+use Rattle.sk_outputs.proofs.Names.{◌≤◌, ◌+◌, length, drop, AreReady}
 use Rattle.sk_outputs.proofs.outputs.find_ready.Given as goal
 
 abbrev pub invariant-loop-place : goal.invariant-loop-place

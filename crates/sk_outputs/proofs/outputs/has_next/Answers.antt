@@ -1,6 +1,5 @@
 -- One that has no output has none to take.
-use Rattle.std.proofs.Common.{◌≡◌, get_or, sym, ◌∙◌, ap, arith}
-use Rattle.std.specs.Prelude.{nat_lt}
+use Rattle.sk_outputs.proofs.Names.{◌≡◌, get_or, sym, ◌∙◌, ap, arith, nat_lt}
 use Rattle.sk_outputs.proofs.Counted.{none_ready}
 use Rattle.sk_outputs.proofs.outputs.has_next.Goals as goal
 

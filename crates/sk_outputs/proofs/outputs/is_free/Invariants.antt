@@ -1,5 +1,4 @@
-use Rattle.std.proofs.Common.{◌≡◌, drop}
-use Rattle.sk_outputs.specs.Ready.{is_ready}
+use Rattle.sk_outputs.proofs.Names.{◌≡◌, drop, is_ready}
 use Rattle.sk_outputs.proofs.outputs.is_free.Given as goal
 
 abbrev pub invariant-loop-place : goal.invariant-loop-place

@@ -1,7 +1,5 @@
 -- Its channel has no output yet.
-use Rattle.std.proofs.Common.{◌≡◌, ◌&&◌, true, get_or, sym, ◌∙◌, ap}
-use Rattle.std.specs.Prelude.{◌==◌}
-use Rattle.sk_outputs.specs.Said.{is_empty}
+use Rattle.sk_outputs.proofs.Names.{◌≡◌, ◌&&◌, true, get_or, sym, ◌∙◌, ap, ◌==◌, is_empty}
 use Rattle.sk_outputs.proofs.Firsts.{not_false}
 use Rattle.sk_outputs.proofs.outputs.is_next.Goals as goal
 

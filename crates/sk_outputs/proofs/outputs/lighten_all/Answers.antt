@@ -1,6 +1,5 @@
 -- What the pass takes out of each.
-use Rattle.std.proofs.Common.{rules}
-use Rattle.sk_record.specs.Notes.{without}
+use Rattle.sk_outputs.proofs.Names.{rules, without}
 use Rattle.sk_outputs.proofs.Passes.{all_changed}
 use Rattle.sk_outputs.proofs.outputs.lighten_all.Goals as goal
 

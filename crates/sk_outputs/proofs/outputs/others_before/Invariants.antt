@@ -1,6 +1,5 @@
 -- Those so far are of other channels.
-use Rattle.std.proofs.Common.{◌≡◌, ◌+◌, drop}
-use Rattle.std.specs.List.{prefix_len}
+use Rattle.sk_outputs.proofs.Names.{◌≡◌, ◌+◌, drop, prefix_len}
 use Rattle.sk_outputs.proofs.Firsts.{other}
 use Rattle.sk_outputs.proofs.outputs.others_before.Given as goal
 

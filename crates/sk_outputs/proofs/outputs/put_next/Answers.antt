@@ -1,7 +1,6 @@
 -- It is the next of its channel, or another is, or it waits.
-use Rattle.std.proofs.Common.{◌==◌, ◌||◌, ◌&&◌, sym, ◌∙◌, ap}
-use Rattle.sk_record.specs.Notes.{has}
-use Rattle.sk_outputs.specs.Said.{is_empty}
+use Rattle.sk_outputs.proofs.Names.{◌||◌, ◌&&◌, sym, ◌∙◌, ap, has, is_empty}
+use Rattle.std.proofs.Common.{◌==◌}
 use Rattle.sk_outputs.proofs.Counted.{none_counted}
 use Rattle.sk_outputs.proofs.Ready.{said_next, said_behind}
 use Rattle.sk_outputs.proofs.outputs.put_next.Goals as goal

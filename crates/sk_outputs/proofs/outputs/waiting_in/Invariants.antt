@@ -1,6 +1,5 @@
 -- What is counted, with what is left to count.
-use Rattle.std.proofs.Common.{◌≡◌, ◌≤◌, drop}
-use Rattle.sk_outputs.specs.Said.{said_at, waiting_of}
+use Rattle.sk_outputs.proofs.Names.{◌≡◌, ◌≤◌, drop, said_at, waiting_of}
 use Rattle.sk_outputs.proofs.Waiting.{left_of}
 use Rattle.sk_outputs.proofs.outputs.waiting_in.Given as goal
 

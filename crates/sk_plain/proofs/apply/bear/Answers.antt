@@ -1,10 +1,6 @@
-use Rattle.std.proofs.Common.{Some, None, [], ap, ◌∙◌}
-use Rattle.sk_ids.specs.declared.entity.Entity.TheVariants.{Proc, Sig, Exit}
+use Rattle.sk_plain.proofs.Cites.{Some, None, [], ap, ◌∙◌, Proc, Sig, Exit, Process, CanFork, forked, child_of}
 use Rattle.sk_objects.specs.declared.value.Value.TheVariants as values
-use Rattle.sk_script.specs.declared.process.Process.{Process}
 use Rattle.sk_store.specs.declared.entity_state.EntityState.TheVariants as stored
-use Rattle.sk_plain.specs.Forked.{CanFork, forked}
-use Rattle.sk_plain.specs.Planned.{child_of}
 use Rattle.sk_plain.proofs.Others.{apart_from_child, can_still, from_ok, then_more}
 use Rattle.sk_plain.proofs.apply.bear.Goals as goal
 

@@ -1,8 +1,6 @@
-use Rattle.std.proofs.Common.{Some, None, [], refl, rules}
-use Rattle.sk_ids.specs.declared.entity.Entity.TheVariants.{Sig, Exit}
+use Rattle.sk_plain.proofs.Cites.{Some, None, [], refl, rules, Sig, Exit, CanFork, forked}
 use Rattle.sk_objects.specs.declared.value.Value.TheVariants as values
 use Rattle.sk_store.specs.declared.entity_state.EntityState.TheVariants as stored
-use Rattle.sk_plain.specs.Forked.{CanFork, forked}
 use Rattle.sk_plain.proofs.Others.{can_still, from_ok, then_more}
 use Rattle.sk_plain.proofs.apply.write_child_queue.Goals as goal
 

@@ -1,7 +1,5 @@
-use Rattle.std.proofs.Common.{refl}
-use Rattle.sk_ids.specs.declared.entity.Entity.TheVariants.{Exit}
+use Rattle.sk_plain.proofs.Cites.{refl, Exit, CanFork, forked}
 use Rattle.sk_plain.proofs.Others.{can_still, then_becomes, then_ok}
-use Rattle.sk_plain.specs.Forked.{CanFork, forked}
 use Rattle.sk_plain.proofs.apply.write_child_slot.Goals as goal
 
 pub write_last-requires-clause-can : goal.write_last-requires-clause-can

@@ -1,5 +1,4 @@
-use Rattle.std.proofs.Common.{refl}
-use Rattle.sk_ids.specs.declared.entity.Entity.TheVariants.{Copy}
+use Rattle.sk_plain.proofs.Cites.{refl, Copy}
 use Rattle.sk_plain.proofs.Others.{can_still, then_becomes, then_ok}
 use Rattle.sk_plain.proofs.apply.write_copy.Goals as goal
 

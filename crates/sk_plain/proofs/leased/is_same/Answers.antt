@@ -1,7 +1,6 @@
 -- The test of processes is exact.
-use Rattle.std.proofs.lemmas.Bool.Decides.{Decides-at}
+use Rattle.sk_plain.proofs.Cites.{Decides-at, exact_process}
 use Rattle.sk_script.specs.contracts.process.ProcessPartialEq.TheImpl as process
-use Rattle.sk_script.proofs.Same.{exact_process}
 use Rattle.sk_plain.proofs.leased.is_same.Goals as goal
 
 pub returns : goal.returns

@@ -1,7 +1,5 @@
 -- It is there already.
-use Rattle.std.proofs.Common.{◌≡◌, true, rules}
-use Rattle.sk_record.specs.Effects.{is_in}
-use Rattle.sk_ids.specs.Entity.{entity_cmp}
+use Rattle.sk_plain.proofs.Cites.{◌≡◌, true, rules, is_in, entity_cmp}
 use Rattle.sk_plain.proofs.Alike.{there_is}
 use Rattle.sk_plain.proofs.record.mark_one.Goals as goal
 

@@ -1,7 +1,6 @@
 -- Each event goes on, or has its fault, as its own call says.
-use Rattle.std.proofs.Common.{sym}
+use Rattle.sk_plain.proofs.Cites.{sym, EntryView}
 use Rattle.std.specs.Prelude.{Some, None}
-use Rattle.sk_trace.specs.Entry.{EntryView}
 use Rattle.sk_plain.proofs.Replays.{taken_goes, commit_goes, fail_goes}
 use Rattle.sk_plain.proofs.replay.take_event.Goals as goal
 

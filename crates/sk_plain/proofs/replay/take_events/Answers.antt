@@ -1,7 +1,5 @@
 -- An event that does not go on is the first fault: the events before it were taken.
-use Rattle.std.proofs.Common.{◌+◌, map, take}
-use Rattle.sk_plain.specs.Standing.{image}
-use Rattle.sk_plain.specs.Replay.{IsRefused, IsTaken, IsUnknown}
+use Rattle.sk_plain.proofs.Cites.{◌+◌, map, take, image, IsRefused, IsTaken, IsUnknown}
 use Rattle.sk_plain.proofs.Replays.{first_fault}
 use Rattle.sk_plain.proofs.replay.take_events.Goals as goal
 

@@ -1,8 +1,5 @@
 -- The events before this one were taken.
-use Rattle.std.proofs.Common.{◌≡◌, [], map, take}
-use Rattle.sk_store.specs.State.{State}
-use Rattle.sk_plain.specs.Standing.{image}
-use Rattle.sk_plain.specs.Replay.{IsReplay}
+use Rattle.sk_plain.proofs.Cites.{◌≡◌, [], map, take, State, image, IsReplay}
 use Rattle.sk_plain.proofs.replay.take_events.Given as goal
 
 abbrev pub invariant-loop-event : goal.invariant-loop-event

@@ -1,15 +1,9 @@
 -- The bytes of the copy that is there are read whole.
-use Rattle.std.proofs.Common.{◌≡◌, ◌<◌, ◌^◌, Ok, Some, sym, ◌∙◌, ap, subst, arith, rules}
-use Rattle.sk_record.specs.Step.{Ask}
-use Rattle.sk_ids.specs.declared.entity.Entity.TheVariants.{Copy}
+use Rattle.sk_plain.proofs.Cites.{◌≡◌, ◌<◌, ◌^◌, Ok, Some, sym, ◌∙◌, ap, subst, arith, rules, Ask, Copy, from_copy}
+use Rattle.sk_plain.proofs.Cites.{PlansRow, Row, ProcessChange, Fills}
 use Rattle.sk_objects.specs.declared.value.Value.TheVariants as values
 use Rattle.sk_store.specs.declared.entity_state.EntityState.TheVariants as stored
-use Rattle.sk_plain.specs.Replies.{from_copy}
-use Rattle.sk_plain.specs.Seen.{PlansRow}
-use Rattle.sk_plain.specs.declared.plan.Row.{Row}
 use Rattle.sk_plain.specs.declared.plan.Looks.TheVariants as looks
-use Rattle.sk_plain.specs.declared.plan.ProcessChange.{ProcessChange}
-use Rattle.sk_plain.specs.declared.plan.ProcessChange.TheVariants.{Fills}
 use Rattle.sk_plain.specs.declared.plan.Beside.TheVariants as beside
 use Rattle.sk_plain.proofs.Reading.{fetch_plans}
 use Rattle.sk_plain.proofs.replies.from_copy.Goals as goal

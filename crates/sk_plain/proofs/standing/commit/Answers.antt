@@ -1,9 +1,5 @@
 -- What is kept of the undecided guesses is all but the committed one.
-use Rattle.std.proofs.Common.{◌≡◌, not, refl, rules}
-use Rattle.std.specs.Prelude.{◌==◌}
-use Rattle.std.proofs.lemmas.Fn.{filter_same}
-use Rattle.sk_record.specs.Notes.{without}
-use Rattle.sk_plain.specs.declared.standing.Standing.{Standing}
+use Rattle.sk_plain.proofs.Cites.{◌≡◌, not, refl, rules, ◌==◌, filter_same, without, Standing}
 use Rattle.sk_plain.proofs.Settled.{commits}
 use Rattle.sk_plain.proofs.standing.commit.Goals as goal
 

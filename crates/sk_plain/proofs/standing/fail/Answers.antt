@@ -1,9 +1,5 @@
 -- What can be settled is, and the rest is struck out.
-use Rattle.std.proofs.Common.{◌≡◌, true, ◌∙◌, ap}
-use Rattle.sk_record.specs.Notes.{has}
-use Rattle.sk_record.specs.Trace.{Record, Fail, recorded}
-use Rattle.sk_trace.specs.Entry.{EntryView}
-use Rattle.sk_plain.specs.Act.{plain}
+use Rattle.sk_plain.proofs.Cites.{◌≡◌, true, ◌∙◌, ap, has, Record, Fail, recorded, EntryView, plain}
 use Rattle.sk_plain.proofs.Settled.{on_one}
 use Rattle.sk_plain.proofs.standing.fail.Goals as goal
 

@@ -1,7 +1,5 @@
 -- From here the rest of the record comes to where all of it does.
-use Rattle.std.proofs.Common.{◌≡◌, drop}
-use Rattle.sk_record.specs.Run.{run}
-use Rattle.sk_plain.specs.Act.{plain}
+use Rattle.sk_plain.proofs.Cites.{◌≡◌, drop, run, plain}
 use Rattle.sk_plain.proofs.standing.run_on.Given as goal
 
 abbrev pub invariant-loop-entry : goal.invariant-loop-entry

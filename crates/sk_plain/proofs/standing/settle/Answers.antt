@@ -1,11 +1,6 @@
 -- What is moved over is what was run on, and none of it made an undecided guess.
-use Rattle.std.proofs.Common.{◌≡◌, List, ◌∙◌, take, ap, refl, rules}
-use Rattle.std.specs.List.{prefix_len}
-use Rattle.sk_record.specs.Run.{run}
-use Rattle.sk_trace.specs.Entry.{EntryView}
-use Rattle.sk_plain.specs.Act.{plain}
-use Rattle.sk_plain.specs.declared.standing.Standing.{Standing}
-use Rattle.sk_plain.specs.Standing.{is_settled}
+use Rattle.sk_plain.proofs.Cites.{◌≡◌, List, ◌∙◌, take, ap, refl, rules, prefix_len, run, EntryView, plain, Standing}
+use Rattle.sk_plain.proofs.Cites.{is_settled}
 use Rattle.sk_plain.proofs.Settled.{settles, ran, on_two}
 use Rattle.sk_plain.proofs.standing.settle.Goals as goal
 

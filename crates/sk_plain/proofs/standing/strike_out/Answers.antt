@@ -1,11 +1,5 @@
 -- What is kept of the undecided guesses is what the entries that are left behind made.
-use Rattle.std.proofs.Common.{◌≡◌, refl, rules}
-use Rattle.std.specs.List.{filter}
-use Rattle.std.proofs.lemmas.Fn.{filter_same}
-use Rattle.sk_record.specs.Strike.{strike}
-use Rattle.sk_plain.specs.Act.{plain}
-use Rattle.sk_plain.specs.Standing.{is_made}
-use Rattle.sk_plain.specs.declared.standing.Standing.{Standing}
+use Rattle.sk_plain.proofs.Cites.{◌≡◌, refl, rules, filter, filter_same, strike, plain, is_made, Standing}
 use Rattle.sk_plain.proofs.Settled.{fails}
 use Rattle.sk_plain.proofs.standing.strike_out.Goals as goal
 

@@ -1,10 +1,7 @@
 -- A private instruction is done, and another one is a row.
-use Rattle.std.proofs.Common.{◌≡◌, Ok, Some, [], sym, ap, subst}
-use Rattle.std.specs.Option.{option_copied, is_some}
+use Rattle.sk_plain.proofs.Cites.{◌≡◌, Ok, Some, [], sym, ap, subst, option_copied, does, PlansAfter, told, Private}
+use Rattle.std.specs.Option.{is_some}
 use Rattle.sk_script.specs.declared.instruction.Input.TheVariants as inputs
-use Rattle.sk_plain.specs.Act.{does}
-use Rattle.sk_plain.specs.Seen.{PlansAfter, told}
-use Rattle.sk_plain.specs.declared.plan.Plan.TheVariants.{Private}
 use Rattle.sk_plain.proofs.Plans.{private_done, row_done}
 use Rattle.sk_plain.proofs.step.does.Goals as goal
 

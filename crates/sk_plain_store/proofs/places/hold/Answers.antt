@@ -1,6 +1,5 @@
 -- A place is held for a key that has none.
-use Rattle.std.proofs.Common.{◌≡◌, None, sym, ap, ◌∙◌}
-use Rattle.sk_plain_store.specs.Places.{entries_of, has_place, place_of}
+use Rattle.sk_plain_store.proofs.Names.{◌≡◌, None, sym, ap, ◌∙◌, entries_of, has_place, place_of}
 use Rattle.sk_plain_store.proofs.Placed.{holds_place, keeps_held, not_some}
 use Rattle.sk_plain_store.proofs.places.hold.Goals as goal
 

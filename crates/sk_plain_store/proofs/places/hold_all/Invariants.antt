@@ -1,7 +1,5 @@
 -- The writes so far have places, and the entries are as they were.
-use Rattle.std.proofs.Common.{◌≡◌, take}
-use Rattle.sk_commands.specs.Table.{told}
-use Rattle.sk_plain_store.specs.Places.{entries_of, HavePlaces}
+use Rattle.sk_plain_store.proofs.Names.{◌≡◌, take, told, entries_of, HavePlaces}
 use Rattle.sk_plain_store.proofs.places.hold_all.Given as goal
 
 abbrev pub invariant-loop-write : goal.invariant-loop-write

@@ -1,6 +1,5 @@
 -- Nothing stood at the place that is let go.
-use Rattle.std.proofs.Common.{Some, sym, ap, ◌∙◌}
-use Rattle.sk_plain_store.specs.Places.{entries_of}
+use Rattle.sk_plain_store.proofs.Names.{Some, sym, ap, ◌∙◌, entries_of}
 use Rattle.sk_plain_store.proofs.Placed.{lets_go}
 use Rattle.sk_plain_store.proofs.places.let_go.Goals as goal
 

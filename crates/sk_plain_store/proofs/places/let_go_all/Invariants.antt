@@ -1,6 +1,5 @@
 -- The entries are as they were.
-use Rattle.std.proofs.Common.{◌≡◌}
-use Rattle.sk_plain_store.specs.Places.{entries_of}
+use Rattle.sk_plain_store.proofs.Names.{◌≡◌, entries_of}
 use Rattle.sk_plain_store.proofs.places.let_go_all.Given as goal
 
 abbrev pub invariant-loop-key : goal.invariant-loop-key

@@ -1,6 +1,5 @@
 -- What stands at the place of the key is written there.
-use Rattle.std.proofs.Common.{ap, ◌∙◌}
-use Rattle.sk_plain_store.specs.Places.{entries_of, has_place}
+use Rattle.sk_plain_store.proofs.Names.{ap, ◌∙◌, entries_of, has_place}
 use Rattle.sk_plain_store.proofs.Placed.{keeps_set, sets_place}
 use Rattle.sk_plain_store.proofs.places.set.Goals as goal
 

@@ -1,7 +1,5 @@
 -- What is put in, or taken out, is what the key gets.
-use Rattle.std.proofs.Common.{sym, ap, ◌∙◌}
-use Rattle.sk_plain_store.specs.Plain.{written_at}
-use Rattle.sk_plain_store.specs.Places.{entries_of}
+use Rattle.sk_plain_store.proofs.Names.{sym, ap, ◌∙◌, written_at, entries_of}
 use Rattle.sk_plain_store.proofs.Placed.{puts_in, takes_out}
 use Rattle.sk_plain_store.proofs.places.write_one.Goals as goal
 

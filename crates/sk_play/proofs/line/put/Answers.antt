@@ -1,6 +1,5 @@
 -- No number is longer than its places.
-use Rattle.std.proofs.Common.{rules, arith, ◌≤◌, length, decimal}
-use Rattle.std.proofs.lemmas.Fmt.{length-decimal-le}
+use Rattle.sk_play.proofs.Names.{rules, arith, ◌≤◌, length, decimal, length-decimal-le}
 use Rattle.sk_play.proofs.line.put.Goals as goal
 
 pub write_digits-requires : goal.write_digits-requires

@@ -1,7 +1,6 @@
 -- One event more happens, or is the first that does not; at the end all have happened.
-use Rattle.std.proofs.Common.{rules, ◌≡◌, ◌+◌, take, get_or, sym, ◌∙◌, refl, subst}
-use Rattle.std.proofs.lemmas.List.{take_more, take_all}
-use Rattle.sk_play.specs.Replays.{Replays, told_by}
+use Rattle.sk_play.proofs.Names.{rules, ◌≡◌, ◌+◌, take, get_or, sym, ◌∙◌, refl, subst, take_more, take_all, Replays}
+use Rattle.sk_play.proofs.Names.{told_by}
 use Rattle.sk_play.proofs.Replayed.{replays_more, stops_at, leaves}
 use Rattle.sk_play.proofs.replaying.replay.Goals as goal
 

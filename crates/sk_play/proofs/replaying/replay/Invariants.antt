@@ -1,6 +1,5 @@
 -- The events before the loop's place happen.
-use Rattle.std.proofs.Common.{take}
-use Rattle.sk_play.specs.Replays.{Replays}
+use Rattle.sk_play.proofs.Names.{take, Replays}
 use Rattle.sk_play.proofs.replaying.replay.Given as goal
 
 abbrev pub invariant-loop-place : goal.invariant-loop-place

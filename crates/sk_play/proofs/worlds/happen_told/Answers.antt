@@ -1,12 +1,7 @@
 -- What came of the event is what is told; what was served is the newest reply.
-use Rattle.std.proofs.Common.{rules, ◌≡◌, Result, Ok, subst}
-use Rattle.sk_server.specs.declared.reply.Reply.{Reply}
-use Rattle.sk_client.specs.declared.world.Cause.{Cause}
-use Rattle.sk_client.specs.declared.world.WorldNews.{WorldNews}
+use Rattle.sk_play.proofs.Names.{rules, ◌≡◌, Result, Ok, subst, Reply, Cause, WorldNews, EventPost, NewsPost, newest_is}
 use Rattle.sk_client.specs.declared.world.WorldNews.TheVariants as news
 use Rattle.sk_client.specs.declared.world.WorldAnswer.TheVariants as answers
-use Rattle.sk_client.specs.WorldView.{EventPost, NewsPost}
-use Rattle.sk_client.proofs.WorldFacts.{newest_is}
 use Rattle.sk_play.proofs.Happened.{told_answer}
 use Rattle.sk_play.proofs.worlds.happen_told.Goals as goal
 

@@ -1,7 +1,5 @@
 -- The files that are left are seeded from here; no request was answered.
-use Rattle.std.proofs.Common.{◌≡◌, drop}
-use Rattle.sk_server.specs.Server.{new_server}
-use Rattle.sk_play.specs.Worlds.{seeded}
+use Rattle.sk_play.proofs.Names.{◌≡◌, drop, new_server, seeded}
 use Rattle.sk_play.proofs.worlds.seeded.Given as goal
 
 abbrev pub invariant-loop-remote : goal.invariant-loop-remote

@@ -1,7 +1,6 @@
 -- What is no text is none of the words.
-use Rattle.std.proofs.Common.{refl}
-use Rattle.sk_words.proofs.Unknown.{skipped, no_text}
-use Rattle.sk_questions.specs.Questions.{asked_with, question_rules, no_question}
+use Rattle.sk_questions.proofs.Names.{refl, skipped, no_text, question_rules, no_question}
+use Rattle.sk_questions.specs.Questions.{asked_with}
 use Rattle.sk_questions.proofs.asked.asked_behind.Goals as goal
 
 pub returns-in-Err : goal.returns-in-Err

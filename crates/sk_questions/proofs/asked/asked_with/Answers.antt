@@ -1,7 +1,6 @@
 -- A word that begins no question asks nothing.
-use Rattle.std.proofs.Common.{refl, rules}
-use Rattle.sk_words.proofs.Unknown.{skipped}
-use Rattle.sk_questions.specs.Questions.{asked_with, question_rules, no_question}
+use Rattle.sk_questions.proofs.Names.{refl, rules, skipped, question_rules, no_question}
+use Rattle.sk_questions.specs.Questions.{asked_with}
 use Rattle.sk_questions.proofs.asked.asked_with.Goals as goal
 
 pub returns-in_default : goal.returns-in_default

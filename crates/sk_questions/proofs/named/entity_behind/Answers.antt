@@ -1,8 +1,6 @@
 -- What is no text is none of the words.
-use Rattle.std.proofs.Common.{refl}
-use Rattle.sk_words.specs.Tables.{unknown}
-use Rattle.sk_words.proofs.Unknown.{skipped, no_text}
-use Rattle.sk_questions.specs.Named.{entity_of, entity_rules}
+use Rattle.sk_questions.proofs.Names.{refl, unknown, skipped, no_text, entity_rules}
+use Rattle.sk_questions.specs.Named.{entity_of}
 use Rattle.sk_questions.proofs.named.entity_behind.Goals as goal
 
 pub returns-in-Err : goal.returns-in-Err

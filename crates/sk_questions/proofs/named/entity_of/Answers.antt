@@ -1,8 +1,6 @@
 -- A word that begins no name is unknown.
-use Rattle.std.proofs.Common.{refl, rules}
-use Rattle.sk_words.specs.Tables.{unknown}
-use Rattle.sk_words.proofs.Unknown.{skipped}
-use Rattle.sk_questions.specs.Named.{entity_of, entity_rules}
+use Rattle.sk_questions.proofs.Names.{refl, rules, unknown, skipped, entity_rules}
+use Rattle.sk_questions.specs.Named.{entity_of}
 use Rattle.sk_questions.proofs.named.entity_of.Goals as goal
 
 pub returns-in_default : goal.returns-in_default

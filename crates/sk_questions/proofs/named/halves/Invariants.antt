@@ -1,6 +1,5 @@
 -- The bytes so far lie in the first half.
-use Rattle.std.proofs.Common.{◌≡◌, take, drop}
-use Rattle.sk_questions.specs.Named.{halves}
+use Rattle.sk_questions.proofs.Names.{◌≡◌, take, drop, halves}
 use Rattle.sk_questions.proofs.Halves.{behind}
 use Rattle.sk_questions.proofs.named.halves.Given as goal
 

@@ -1,6 +1,5 @@
 -- The least number of those that were seen.
-use Rattle.std.proofs.Common.{◌≡◌, ◌≤◌, drop, length}
-use Rattle.sk_recovered.specs.Segments.{least}
+use Rattle.sk_recovered.proofs.Names.{◌≡◌, ◌≤◌, drop, length, least}
 use Rattle.sk_recovered.proofs.heads.least.Given as goal
 
 abbrev pub invariant-loop-i : goal.invariant-loop-i

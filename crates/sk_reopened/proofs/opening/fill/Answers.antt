@@ -1,8 +1,6 @@
 -- One entry more is set; at the end none is left.
-use Rattle.std.proofs.Common.{rules, arith, ◌≡◌, ◌+◌, ◌<◌, ◌≤◌, ◌||◌, ◌∷◌, [], false, drop, length, get_or, sym, ap, subst, ◌∙◌}
-use Rattle.std.proofs.lemmas.List.{drop_all, drop_more}
-use Rattle.sk_plain_store.specs.Plain.{Entries}
-use Rattle.sk_reopened.specs.Reopened.{has_wrong, is_wrong}
+use Rattle.sk_reopened.proofs.Names.{rules, arith, ◌≡◌, ◌+◌, ◌<◌, ◌≤◌, ◌||◌, ◌∷◌, [], false, drop, length, get_or, sym}
+use Rattle.sk_reopened.proofs.Names.{ap, subst, ◌∙◌, drop_all, drop_more, Entries, has_wrong, is_wrong}
 use Rattle.sk_reopened.proofs.Filled.{all_set, one_more, HasSome}
 use Rattle.sk_reopened.proofs.opening.fill.Goals as goal
 

@@ -1,6 +1,5 @@
 -- The entries so far are set, and a wrong one is among all just where it is among those that are left.
-use Rattle.std.proofs.Common.{◌≡◌, drop}
-use Rattle.sk_reopened.specs.Reopened.{has_wrong}
+use Rattle.sk_reopened.proofs.Names.{◌≡◌, drop, has_wrong}
 use Rattle.sk_reopened.proofs.Filled.{HasSome}
 use Rattle.sk_reopened.proofs.opening.fill.Given as goal
 

@@ -1,15 +1,8 @@
 -- The new store has the entries, and the head is in the room.
-use Rattle.std.proofs.Common.{rules, ◌≡◌, ◌+◌, ◌≤◌, ◌++◌, [], true, false, drop, length, map, sym, ap, subst, ◌∙◌}
-use Rattle.sk_log.specs.Frame.{frame}
-use Rattle.sk_batches.specs.declared.frames.Sealed.{Sealed}
-use Rattle.sk_plain_store.specs.Plain.{Entries}
-use Rattle.sk_replay.specs.Snapshot.{after_works, set_of}
-use Rattle.sk_replay.proofs.Restored.{restored}
-use Rattle.sk_durable.specs.declared.limits.Limits.{Limits}
-use Rattle.sk_durable.specs.Limits.{are_sound}
-use Rattle.sk_durable.specs.Store.{IsNew}
+use Rattle.sk_reopened.proofs.Names.{rules, ◌≡◌, ◌+◌, ◌≤◌, ◌++◌, [], true, false, drop, length, map, sym, ap, subst}
+use Rattle.sk_reopened.proofs.Names.{◌∙◌, frame, Sealed, Entries, after_works, set_of, restored, Limits, are_sound}
+use Rattle.sk_reopened.proofs.Names.{IsNew, has_wrong, head_of, next_of, HasNumbers}
 use Rattle.sk_reopened.proofs.Filled.{front_has_none}
-use Rattle.sk_reopened.specs.Reopened.{has_wrong, head_of, next_of, HasNumbers}
 use Rattle.sk_reopened.proofs.opening.reopen.Goals as goal
 
 pub returns : goal.returns

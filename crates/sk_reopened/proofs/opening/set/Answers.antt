@@ -1,11 +1,5 @@
 -- The work that was carried out sets the entry.
-use Rattle.std.proofs.Common.{rules, ◌≡◌, false, subst}
-use Rattle.sk_commands.specs.declared.work.Work.{Work}
-use Rattle.sk_plain_store.specs.Plain.{Entries}
-use Rattle.sk_replay.specs.Snapshot.{after_work, set_of}
-use Rattle.sk_durable.specs.declared.store.Next.{Next}
-use Rattle.sk_durable.specs.Store.{IsNew}
-use Rattle.sk_reopened.specs.Reopened.{is_wrong}
+use Rattle.sk_reopened.proofs.Names.{rules, ◌≡◌, false, subst, Work, Entries, after_work, set_of, Next, IsNew, is_wrong}
 use Rattle.sk_reopened.proofs.opening.set.Goals as goal
 
 pub returns-in-Ok : goal.returns-in-Ok

@@ -1,6 +1,5 @@
 -- So many bytes were read.
-use Rattle.std.proofs.Common.{◌-◌, length}
-use Rattle.sk_replay.specs.Works.{HasCome}
+use Rattle.sk_replay.proofs.Names.{◌-◌, length, HasCome}
 use Rattle.sk_replay.proofs.payload.read.Given as goal
 
 abbrev pub invariant-loop-reading : goal.invariant-loop-reading

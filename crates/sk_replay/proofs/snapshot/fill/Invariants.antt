@@ -1,6 +1,5 @@
 -- The entries so far were written, and have room.
-use Rattle.std.proofs.Common.{◌≡◌, ◌<◌, ◌≤◌, length, take}
-use Rattle.sk_replay.specs.Snapshot.{entries_text}
+use Rattle.sk_replay.proofs.Names.{◌≡◌, ◌<◌, ◌≤◌, length, take, entries_text}
 use Rattle.sk_replay.proofs.snapshot.fill.Given as goal
 
 abbrev pub invariant-loop-i : goal.invariant-loop-i

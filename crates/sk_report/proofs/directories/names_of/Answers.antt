@@ -1,9 +1,6 @@
-use Rattle.std.proofs.Common.{rules, of_calls, ◌≡◌, ◌-◌, ◌≤◌, length, true, false, List, take, drop, subst, sym, ap, ◌∙◌}
-use Rattle.std.specs.List.Sorted.{IsPartitionPoint, IsPartitionedBy}
-use Rattle.std.proofs.lemmas.List.{take_rest}
-use Rattle.std.proofs.lemmas.List.Sorted.{IsPartitionPoint-from_clause}
-use Rattle.sk_ids.specs.declared.entity.Entity.{Entity}
-use Rattle.sk_report.specs.Directories.{is_before, is_name_of}
+use Rattle.sk_report.proofs.Names.{rules, of_calls, ◌≡◌, ◌-◌, ◌≤◌, length, true, false, List, take, drop, subst, sym}
+use Rattle.sk_report.proofs.Names.{ap, ◌∙◌, IsPartitionPoint, IsPartitionedBy, take_rest, IsPartitionPoint-from_clause}
+use Rattle.sk_report.proofs.Names.{Entity, is_before, is_name_of}
 use Rattle.sk_report.proofs.Sideways.{parted_before, parted_rest, side_by_side}
 use Rattle.sk_report.proofs.directories.names_of.Goals as goal
 

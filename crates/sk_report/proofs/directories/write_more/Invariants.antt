@@ -1,8 +1,5 @@
 -- The names before the loop's place are written.
-use Rattle.std.proofs.Common.{take, ◌∷◌}
-use Rattle.std.specs.Prelude.{flat_map}
-use Rattle.std.specs.Io.KnownBytes.{Appends}
-use Rattle.sk_report.specs.Directories.{link_text}
+use Rattle.sk_report.proofs.Names.{take, ◌∷◌, flat_map, Appends, link_text}
 use Rattle.sk_report.proofs.directories.write_more.Given as goal
 
 abbrev pub invariant-loop-link : goal.invariant-loop-link

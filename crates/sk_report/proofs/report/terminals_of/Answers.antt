@@ -1,8 +1,6 @@
 -- No entity is left, so the set has the terminals of all; what is collected are its keys.
-use Rattle.std.proofs.Common.{rules, arith, ◌≡◌, ◌≤◌, [], length, List, IfOk, sym, ◌∙◌}
-use Rattle.std.proofs.lemmas.List.{at_drop_all}
-use Rattle.sk_ids.specs.declared.entity.Entity.{Entity}
-use Rattle.sk_report.specs.Report.{with_terminals}
+use Rattle.sk_report.proofs.Names.{rules, arith, ◌≡◌, ◌≤◌, [], length, List, IfOk, sym, ◌∙◌, at_drop_all, Entity}
+use Rattle.sk_report.proofs.Names.{with_terminals}
 use Rattle.sk_report.proofs.report.terminals_of.Goals as goal
 
 pub returns : goal.returns

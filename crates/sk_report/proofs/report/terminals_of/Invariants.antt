@@ -1,6 +1,5 @@
 -- The entities that are left add the same from here.
-use Rattle.std.proofs.Common.{◌≡◌, [], drop}
-use Rattle.sk_report.specs.Report.{with_terminals}
+use Rattle.sk_report.proofs.Names.{◌≡◌, [], drop, with_terminals}
 use Rattle.sk_report.proofs.report.terminals_of.Given as goal
 
 abbrev pub invariant-loop-entity : goal.invariant-loop-entity

@@ -1,8 +1,5 @@
 -- The lines of the entities before the loop's place are written.
-use Rattle.std.proofs.Common.{take}
-use Rattle.std.specs.Prelude.{flat_map}
-use Rattle.std.specs.Io.KnownBytes.{Appends}
-use Rattle.sk_report.specs.Report.{line_of}
+use Rattle.sk_report.proofs.Names.{take, flat_map, Appends, line_of}
 use Rattle.sk_report.proofs.report.write_entities.Given as goal
 
 abbrev pub invariant-loop-entity : goal.invariant-loop-entity

@@ -1,7 +1,5 @@
 -- The lines of the terminals before the loop's place are written.
-use Rattle.std.proofs.Common.{take}
-use Rattle.std.specs.Prelude.{flat_map}
-use Rattle.std.specs.Io.KnownBytes.{Appends}
+use Rattle.sk_report.proofs.Names.{take, flat_map, Appends}
 use Rattle.sk_report.proofs.report.write_terminals.Given as goal
 
 abbrev pub invariant-loop-terminal : goal.invariant-loop-terminal

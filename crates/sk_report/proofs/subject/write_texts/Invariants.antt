@@ -1,7 +1,5 @@
 -- The lines of the texts before the loop's place are written.
-use Rattle.std.proofs.Common.{take}
-use Rattle.std.specs.Io.KnownBytes.{Appends}
-use Rattle.sk_report.specs.Report.{texts_lines}
+use Rattle.sk_report.proofs.Names.{take, Appends, texts_lines}
 use Rattle.sk_report.proofs.subject.write_texts.Given as goal
 
 abbrev pub invariant-loop-text : goal.invariant-loop-text

@@ -1,7 +1,5 @@
 -- The counts are those of the kernel and of the requests that the desk has.
-use Rattle.std.proofs.Common.{subst}
-use Rattle.std.specs.Prelude.{OnOk}
-use Rattle.std.specs.Io.KnownBytes.{Appends}
+use Rattle.sk_report.proofs.Names.{subst, OnOk, Appends}
 use Rattle.sk_report.proofs.Counted.{counted}
 use Rattle.sk_report.proofs.world_report.write_desk_line.Goals as goal
 

@@ -1,8 +1,5 @@
 -- The desk and the server are those of the world.
-use Rattle.std.proofs.Common.{ap₂, subst}
-use Rattle.std.specs.Prelude.{OnOk}
-use Rattle.std.specs.Io.KnownBytes.{Appends}
-use Rattle.sk_report.specs.Report.{desk_report_text}
+use Rattle.sk_report.proofs.Names.{ap₂, subst, OnOk, Appends, desk_report_text}
 use Rattle.sk_report.proofs.world_report.write_world_report.Goals as goal
 
 pub returns : goal.returns

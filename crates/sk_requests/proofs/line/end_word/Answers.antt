@@ -1,7 +1,5 @@
-use Rattle.std.proofs.Common.{◌≡◌, ℕ, List, [], ◌∷◌, ◌++◌, length, sym, ◌∙◌, ap}
-use Rattle.std.proofs.lemmas.Bool.{eqb-true, false≢true, eq-eqb}
-use Rattle.std.proofs.lemmas.List.{map-append}
-use Rattle.sk_requests.specs.Reading.{words_of}
+use Rattle.sk_requests.proofs.Names.{◌≡◌, ℕ, List, [], ◌∷◌, ◌++◌, length, sym, ◌∙◌, ap, eqb-true, false≢true, eq-eqb}
+use Rattle.sk_requests.proofs.Names.{map-append, words_of}
 use Rattle.sk_requests.proofs.Typed.{ended_none, ended_some}
 use Rattle.sk_requests.proofs.line.end_word.Goals as goal
 

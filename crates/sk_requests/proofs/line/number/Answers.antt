@@ -1,6 +1,5 @@
-use Rattle.std.proofs.Common.{◌≡◌, ℕ, ◌+◌, ◌-◌, ◌*◌, ◌<◌, List, length, slice_index, drop, sym, ◌∙◌, ap, arith}
-use Rattle.std.proofs.lemmas.List.{at_drop_more, at_drop_all}
-use Rattle.sk_requests.specs.Lines.{value_from}
+use Rattle.sk_requests.proofs.Names.{◌≡◌, ℕ, ◌+◌, ◌-◌, ◌*◌, ◌<◌, List, length, slice_index, drop, sym, ◌∙◌, ap, arith}
+use Rattle.sk_requests.proofs.Names.{at_drop_more, at_drop_all, value_from}
 use Rattle.sk_requests.proofs.Lines.{value_from-le}
 use Rattle.sk_requests.proofs.line.number.Goals as goal
 

@@ -1,5 +1,4 @@
-use Rattle.std.proofs.Common.{◌≡◌, ◌≤◌, drop}
-use Rattle.sk_requests.specs.Lines.{value_from}
+use Rattle.sk_requests.proofs.Names.{◌≡◌, ◌≤◌, drop, value_from}
 use Rattle.sk_requests.proofs.line.number.Given as goal
 
 -- the digits that are left lead to the same number

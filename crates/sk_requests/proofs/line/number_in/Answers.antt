@@ -1,6 +1,5 @@
-use Rattle.std.proofs.Common.{◌≡◌, ℕ, ◌-◌, ◌<◌, ◌≤◌, ◌^◌, List, length, take, drop, decimal, sym, ◌∙◌, ap, arith}
-use Rattle.std.proofs.lemmas.Bool.{false≢true}
-use Rattle.sk_requests.specs.Lines.{said, value_from}
+use Rattle.sk_requests.proofs.Names.{◌≡◌, ℕ, ◌-◌, ◌<◌, ◌≤◌, ◌^◌, List, length, take, drop, decimal, sym, ◌∙◌, ap, arith}
+use Rattle.sk_requests.proofs.Names.{false≢true, said, value_from}
 use Rattle.sk_requests.proofs.Lines.{digits_said, value-decimal, says}
 use Rattle.sk_requests.proofs.Typed.{said_long, said_first, said_last}
 use Rattle.sk_requests.proofs.line.number_in.Goals as goal

@@ -1,6 +1,4 @@
-use Rattle.std.proofs.Common.{◌++◌, refl, ◌∙◌, ap}
-use Rattle.sk_requests.specs.Inline.{ended}
-use Rattle.sk_requests.specs.Reading.{words_of}
+use Rattle.sk_requests.proofs.Names.{◌++◌, refl, ◌∙◌, ap, ended, words_of}
 use Rattle.sk_requests.proofs.Typed.{space_ends, byte_on}
 use Rattle.sk_requests.proofs.line.take_byte.Goals as goal
 

@@ -1,5 +1,4 @@
-use Rattle.std.proofs.Common.{length, sym, ◌∙◌}
-use Rattle.std.proofs.lemmas.Bool.{eqb-true}
+use Rattle.sk_requests.proofs.Names.{length, sym, ◌∙◌, eqb-true}
 use Rattle.sk_requests.proofs.Typed.{without_none, without_some, without_other}
 use Rattle.sk_requests.proofs.line.trimmed.Goals as goal
 

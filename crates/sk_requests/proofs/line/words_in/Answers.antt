@@ -1,7 +1,5 @@
-use Rattle.std.proofs.Common.{◌≡◌, ◌+◌, [], ◌∷◌, ◌++◌, slice_index, drop, sym, ◌∙◌, ap, arith}
-use Rattle.std.proofs.lemmas.List.{at_drop_more, at_drop_all}
-use Rattle.sk_requests.specs.Inline.{words_from}
-use Rattle.sk_requests.specs.Reading.{words_of}
+use Rattle.sk_requests.proofs.Names.{◌≡◌, ◌+◌, [], ◌∷◌, ◌++◌, slice_index, drop, sym, ◌∙◌, ap, arith, at_drop_more}
+use Rattle.sk_requests.proofs.Names.{at_drop_all, words_from, words_of}
 use Rattle.sk_requests.proofs.line.words_in.Goals as goal
 
 pub loop-byte-init : goal.loop-byte-init

@@ -1,6 +1,4 @@
-use Rattle.std.proofs.Common.{◌≡◌, [], ◌++◌, drop}
-use Rattle.sk_requests.specs.Inline.{words_from}
-use Rattle.sk_requests.specs.Reading.{words_of}
+use Rattle.sk_requests.proofs.Names.{◌≡◌, [], ◌++◌, drop, words_from, words_of}
 use Rattle.sk_requests.proofs.line.words_in.Given as goal
 
 -- the words so far and those of the bytes that are left are the line's

@@ -1,5 +1,4 @@
-use Rattle.std.proofs.Common.{sym, ◌∙◌}
-use Rattle.std.proofs.lemmas.Bool.{false≢true}
+use Rattle.sk_requests.proofs.Names.{sym, ◌∙◌, false≢true}
 use Rattle.sk_requests.proofs.reader.add.Goals as goal
 
 pub returns-then-not-keeping-clause-ok : goal.returns-then-not-keeping-clause-ok

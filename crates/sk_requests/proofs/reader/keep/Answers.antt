@@ -1,7 +1,4 @@
-use Rattle.std.proofs.Common.{[], ◌∷◌, ◌++◌, sym, ◌∙◌, ap}
-use Rattle.std.proofs.lemmas.Bool.{false≢true}
-use Rattle.std.proofs.lemmas.List.{map-append}
-use Rattle.sk_requests.specs.Reading.{words_of}
+use Rattle.sk_requests.proofs.Names.{[], ◌∷◌, ◌++◌, sym, ◌∙◌, ap, false≢true, map-append, words_of}
 use Rattle.sk_requests.proofs.reader.keep.Goals as goal
 
 pub returns-then-not-keeping-clause-kept : goal.returns-then-not-keeping-clause-kept

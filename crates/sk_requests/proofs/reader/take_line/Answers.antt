@@ -1,7 +1,5 @@
-use Rattle.std.proofs.Common.{◌≡◌, ◌≢◌, ℕ, ◌<◌, List, length, slice_index, take, refl, sym, ◌∙◌, ap, inl, inr, arith, length-append}
-use Rattle.std.proofs.lemmas.Bool.{cases_lt}
-use Rattle.std.proofs.lemmas.List.{length-take-le}
-use Rattle.std.proofs.lemmas.Result.{err_from_is_err_and}
+use Rattle.sk_requests.proofs.Names.{◌≡◌, ◌≢◌, ℕ, ◌<◌, List, length, slice_index, take, refl, sym, ◌∙◌, ap, inl, inr}
+use Rattle.sk_requests.proofs.Names.{arith, length-append, cases_lt, length-take-le, err_from_is_err_and}
 use Rattle.sk_requests.proofs.Typed.{line_take}
 use Rattle.sk_requests.proofs.reader.take_line.Goals as goal
 

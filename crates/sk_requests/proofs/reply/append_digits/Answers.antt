@@ -1,5 +1,5 @@
-use Rattle.std.proofs.Common.{ℕ, List, [], ◌∷◌, ◌++◌, length, slice_index, take, sym, ◌∙◌, ap, arith, length-append}
-use Rattle.std.proofs.lemmas.List.{append-nil, append_assoc, take_more, take_all}
+use Rattle.sk_requests.proofs.Names.{ℕ, List, [], ◌∷◌, ◌++◌, length, slice_index, take, sym, ◌∙◌, ap, arith}
+use Rattle.sk_requests.proofs.Names.{length-append, append-nil, append_assoc, take_more, take_all}
 use Rattle.sk_requests.proofs.reply.append_digits.Goals as goal
 
 pub loop-digit-init : goal.loop-digit-init

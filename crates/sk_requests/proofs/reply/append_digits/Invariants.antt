@@ -1,5 +1,4 @@
-use Rattle.std.proofs.Common.{◌≡◌, ◌+◌, ◌-◌, ◌≤◌, ◌++◌, length, take}
-use Rattle.std.specs.Prelude.{vec_capacity}
+use Rattle.sk_requests.proofs.Names.{◌≡◌, ◌+◌, ◌-◌, ◌≤◌, ◌++◌, length, take, vec_capacity}
 use Rattle.sk_requests.proofs.reply.append_digits.Given as goal
 
 abbrev pub invariant-loop-digit : goal.invariant-loop-digit

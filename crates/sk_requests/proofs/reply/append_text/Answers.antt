@@ -1,7 +1,6 @@
-use Rattle.std.proofs.Common.{◌≡◌, ℕ, ◌+◌, ◌<◌, List, [], ◌∷◌, ◌++◌, length, slice_index, take, sym, ◌∙◌, ap, arith, length-append}
-use Rattle.std.specs.Prelude.{map}
-use Rattle.std.proofs.lemmas.List.{append-nil, append_assoc, map-append, take_more, take_all}
-use Rattle.sk_requests.specs.Replies.{in_line}
+use Rattle.sk_requests.proofs.Names.{◌≡◌, ℕ, ◌+◌, ◌<◌, List, [], ◌∷◌, ◌++◌, length, slice_index, take, sym, ◌∙◌, ap}
+use Rattle.sk_requests.proofs.Names.{arith, length-append, map, append-nil, append_assoc, map-append, take_more}
+use Rattle.sk_requests.proofs.Names.{take_all, in_line}
 use Rattle.sk_requests.proofs.reply.append_text.Goals as goal
 
 -- one byte more

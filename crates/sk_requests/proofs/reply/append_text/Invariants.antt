@@ -1,6 +1,4 @@
-use Rattle.std.proofs.Common.{◌≡◌, ◌+◌, ◌-◌, ◌≤◌, ◌++◌, length, take}
-use Rattle.std.specs.Prelude.{map, vec_capacity}
-use Rattle.sk_requests.specs.Replies.{in_line}
+use Rattle.sk_requests.proofs.Names.{◌≡◌, ◌+◌, ◌-◌, ◌≤◌, ◌++◌, length, take, map, vec_capacity, in_line}
 use Rattle.sk_requests.proofs.reply.append_text.Given as goal
 
 abbrev pub invariant-loop-byte : goal.invariant-loop-byte

@@ -1,6 +1,4 @@
-use Rattle.std.proofs.Common.{◌≡◌, ◌∷◌, ◌++◌, [], length, decimal, sym, ◌∙◌, ap}
-use Rattle.std.proofs.lemmas.List.{append_assoc}
-use Rattle.sk_requests.specs.Lines.{head}
+use Rattle.sk_requests.proofs.Names.{◌≡◌, ◌∷◌, ◌++◌, [], length, decimal, sym, ◌∙◌, ap, append_assoc, head}
 use Rattle.sk_requests.proofs.Lines.{head_parts}
 use Rattle.sk_requests.proofs.reply.bulk.Goals as goal
 

@@ -1,12 +1,6 @@
 -- What was foreseen is what is listed, since the call appends no other step.
-use Rattle.std.proofs.Common.{◌≡◌, ◌++◌, ◌∙◌, subst}
-use Rattle.std.specs.Io.KnownBytes.{Appends}
-use Rattle.std.proofs.KnownBytes.{Appends-trans}
-use Rattle.sk_report.specs.Footprints.{listed}
-use Rattle.sk_play.specs.Played.{answer_line}
-use Rattle.sk_play.specs.Upcoming.{upcoming}
-use Rattle.sk_play.proofs.Foreseen.{call_foreseen}
-use Rattle.sk_run.specs.Listing.{foreseen, foreseen_lines}
+use Rattle.sk_run.proofs.Names.{◌≡◌, ◌++◌, ◌∙◌, subst, Appends, Appends-trans, listed, answer_line, upcoming}
+use Rattle.sk_run.proofs.Names.{call_foreseen, foreseen, foreseen_lines}
 use Rattle.sk_run.proofs.Listed.{lines_are}
 use Rattle.sk_run.proofs.playing.list_one.Goals as goal
 

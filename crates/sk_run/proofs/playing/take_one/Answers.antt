@@ -1,8 +1,5 @@
 -- Nothing is told beside the line.
-use Rattle.std.proofs.Common.{sym, subst}
-use Rattle.std.specs.Io.KnownBytes.{Appends}
-use Rattle.std.proofs.lemmas.List.{append-nil}
-use Rattle.sk_play.specs.Played.{answer_line}
+use Rattle.sk_run.proofs.Names.{sym, subst, Appends, append-nil, answer_line}
 use Rattle.sk_run.proofs.playing.take_one.Goals as goal
 
 pub returns-clause-told : goal.returns-clause-told

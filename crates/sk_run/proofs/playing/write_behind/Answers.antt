@@ -1,10 +1,7 @@
 -- The counts, and then the trace.
-use Rattle.std.proofs.Common.{◌≡◌, Bool, true, false, ℕ, List, [], ◌++◌, Option, refl}
-use Rattle.std.specs.Io.KnownBytes.{Appends}
-use Rattle.std.proofs.KnownBytes.{Appends-trans}
-use Rattle.std.proofs.lemmas.Result.{on_ok_weaker}
-use Rattle.sk_kernel.specs.Kernel.{KernelView}
-use Rattle.sk_run.specs.Run.{IsCounted, Prints, WritesCounts, counts_section, trace_section, where_wanted}
+use Rattle.sk_run.proofs.Names.{◌≡◌, Bool, true, false, ℕ, List, [], ◌++◌, Option, refl, Appends, Appends-trans}
+use Rattle.sk_run.proofs.Names.{on_ok_weaker, KernelView, IsCounted, Prints, WritesCounts, counts_section}
+use Rattle.sk_run.proofs.Names.{trace_section, where_wanted}
 use Rattle.sk_run.proofs.playing.write_behind.Goals as goal
 
 abbrev Both : Bool → KernelView → List ℕ → List ℕ → Type 0

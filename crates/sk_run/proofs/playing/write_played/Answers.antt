@@ -1,8 +1,5 @@
 -- The report, and then what is wanted behind it.
-use Rattle.std.proofs.Common.{◌++◌, refl}
-use Rattle.std.proofs.KnownBytes.{Appends-trans}
-use Rattle.std.proofs.lemmas.Result.{on_ok_weaker}
-use Rattle.sk_report.specs.Report.{report_text}
+use Rattle.sk_run.proofs.Names.{◌++◌, refl, Appends-trans, on_ok_weaker, report_text}
 use Rattle.sk_run.proofs.playing.write_played.Goals as goal
 
 pub returns : goal.returns

@@ -1,11 +1,7 @@
 -- How far the talk has come where it ends.
-use Rattle.std.proofs.Common.{rules, ◌≡◌, [], ◌∷◌, true, false, Err, ap, sym, subst}
-use Rattle.std.specs.Str.Lines.{lines}
-use Rattle.std.specs.Io.Buffered.{writer_contents}
-use Rattle.sk_report.specs.declared.stop.Stop.{Stop}
+use Rattle.sk_run.proofs.Names.{rules, ◌≡◌, [], ◌∷◌, true, false, Err, ap, sym, subst, lines, writer_contents, Stop}
+use Rattle.sk_run.proofs.Names.{Talk, is_end, EndsTalk, TakesLine}
 use Rattle.sk_command.specs.declared.end.End.TheVariants as ends
-use Rattle.sk_run.specs.declared.talking.Talk.{Talk}
-use Rattle.sk_run.specs.Talk.{is_end, EndsTalk, TakesLine}
 use Rattle.sk_run.proofs.Talked.{Going, begins, goes_on, ends_by_line, ends_behind, ends_in_trouble}
 use Rattle.sk_run.proofs.talking.answer_lines.Goals as goal
 

@@ -1,6 +1,5 @@
 -- The lines so far are answered, those behind them are what the reader has left, and nothing is left in the buffer.
-use Rattle.std.proofs.Common.{◌≡◌, []}
-use Rattle.std.specs.Io.Buffered.{writer_buffer, writer_contents}
+use Rattle.sk_run.proofs.Names.{◌≡◌, [], writer_buffer, writer_contents}
 use Rattle.sk_run.proofs.Talked.{Going}
 use Rattle.sk_run.proofs.talking.answer_lines.Given as goal
 

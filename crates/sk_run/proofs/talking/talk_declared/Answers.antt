@@ -1,8 +1,5 @@
 -- Memory runs out before a line is answered.
-use Rattle.std.proofs.Common.{codes}
-use Rattle.std.specs.Io.Buffered.{writer_contents}
-use Rattle.sk_scenario.specs.Scenario.{section_view}
-use Rattle.sk_talk.specs.Played.{opened_in}
+use Rattle.sk_run.proofs.Names.{codes, writer_contents, section_view, opened_in}
 use Rattle.sk_run.proofs.Talked.{not_opened}
 use Rattle.sk_run.proofs.talking.talk_declared.Goals as goal
 

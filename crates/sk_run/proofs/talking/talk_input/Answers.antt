@@ -1,7 +1,5 @@
 -- What is known of the standard input is what is known of its reader.
-use Rattle.std.proofs.Common.{codes, sym, subst}
-use Rattle.std.specs.Io.Buffered.{reader_remaining, writer_contents}
-use Rattle.sk_run.specs.Talk.{EndsTalk}
+use Rattle.sk_run.proofs.Names.{codes, sym, subst, reader_remaining, writer_contents, EndsTalk}
 use Rattle.sk_run.proofs.Talked.{fresh, of_reader, not_begun}
 use Rattle.sk_run.proofs.talking.talk_input.Goals as goal
 

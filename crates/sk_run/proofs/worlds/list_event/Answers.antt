@@ -1,13 +1,7 @@
 -- What was foreseen is what is listed, since the event appends no other step.
-use Rattle.std.proofs.Common.{◌≡◌, ◌++◌, ◌∙◌, Some, ap, subst}
-use Rattle.std.specs.Io.KnownBytes.{Appends}
-use Rattle.std.proofs.KnownBytes.{Appends-trans}
-use Rattle.sk_client.specs.Desk.{DeskView}
+use Rattle.sk_run.proofs.Names.{◌≡◌, ◌++◌, ◌∙◌, Some, ap, subst, Appends, Appends-trans, DeskView, listed, told_line}
+use Rattle.sk_run.proofs.Names.{happening_foreseen, foreseen, foreseen_lines}
 use Rattle.sk_client.specs.Upcoming.{upcoming}
-use Rattle.sk_report.specs.Footprints.{listed}
-use Rattle.sk_play.specs.Told.{told_line}
-use Rattle.sk_play.proofs.Foreseen.{happening_foreseen}
-use Rattle.sk_run.specs.Listing.{foreseen, foreseen_lines}
 use Rattle.sk_run.proofs.Listed.{lines_are}
 use Rattle.sk_run.proofs.worlds.list_event.Goals as goal
 

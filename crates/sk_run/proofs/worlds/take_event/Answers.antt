@@ -1,9 +1,5 @@
 -- Nothing is told beside the line.
-use Rattle.std.proofs.Common.{rules, ◌≡◌, Ok, sym, subst}
-use Rattle.std.specs.Prelude.{OnOk}
-use Rattle.std.specs.Io.KnownBytes.{Appends}
-use Rattle.std.proofs.lemmas.List.{append-nil}
-use Rattle.sk_play.specs.Told.{told_line}
+use Rattle.sk_run.proofs.Names.{rules, ◌≡◌, Ok, sym, subst, OnOk, Appends, append-nil, told_line}
 use Rattle.sk_run.proofs.worlds.take_event.Goals as goal
 
 pub returns-clause-told : goal.returns-clause-told

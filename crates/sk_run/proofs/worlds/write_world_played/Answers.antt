@@ -1,11 +1,6 @@
 -- What is wanted behind the report is of the kernel that the world's desk has.
-use Rattle.std.proofs.Common.{◌++◌, ◌∙◌, ap, refl, subst}
-use Rattle.std.proofs.KnownBytes.{Appends-trans}
-use Rattle.std.proofs.lemmas.Result.{on_ok_weaker}
-use Rattle.sk_client.specs.Desk.{DeskView}
-use Rattle.sk_kernel.specs.Kernel.{KernelView}
-use Rattle.sk_report.specs.Report.{world_report_text}
-use Rattle.sk_run.specs.Run.{IsBehind}
+use Rattle.sk_run.proofs.Names.{◌++◌, ◌∙◌, ap, refl, subst, Appends-trans, on_ok_weaker, DeskView, KernelView}
+use Rattle.sk_run.proofs.Names.{world_report_text, IsBehind}
 use Rattle.sk_run.proofs.worlds.write_world_played.Goals as goal
 
 pub returns : goal.returns

@@ -1,9 +1,6 @@
 -- What is told of a script is told of the line that began it.
-use Rattle.std.proofs.Common.{arith, ◌+◌, refl}
-use Rattle.std.proofs.lemmas.Result.{err_from_is_err_and}
-use Rattle.sk_words.specs.Lines.{last_line}
+use Rattle.sk_scenario.proofs.Names.{arith, ◌+◌, refl, err_from_is_err_and, last_line, IsEdge, IsEdgeOf}
 use Rattle.sk_scenario.specs.declared.declarations.Said.TheVariants as says
-use Rattle.sk_scenario.specs.Scenario.{IsEdge, IsEdgeOf}
 use Rattle.sk_scenario.proofs.Told.{edges_on}
 use Rattle.sk_scenario.proofs.scenario.go_on.Goals as goal
 

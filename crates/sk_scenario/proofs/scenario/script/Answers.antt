@@ -1,9 +1,6 @@
 -- The script's lines are read, and then the line that ends it, or none does.
-use Rattle.std.proofs.Common.{arith, ◌≡◌, ◌≤◌, ◌+◌, ◌-◌, ◌∷◌, ◌++◌, length, refl, inl, ◌∙◌}
-use Rattle.std.proofs.lemmas.List.{length-append}
-use Rattle.std.proofs.lemmas.Result.{err_from_is_err_and}
-use Rattle.sk_words.specs.Lines.{last_line}
-use Rattle.sk_scenario.specs.Scenario.{IsEdge}
+use Rattle.sk_scenario.proofs.Names.{arith, ◌≡◌, ◌≤◌, ◌+◌, ◌-◌, ◌∷◌, ◌++◌, length, refl, inl, ◌∙◌, length-append}
+use Rattle.sk_scenario.proofs.Names.{err_from_is_err_and, last_line, IsEdge}
 use Rattle.sk_scenario.proofs.Scripts.{cut_none, cut_end}
 use Rattle.sk_scenario.proofs.Told.{behind_script, script_told, end_told}
 use Rattle.sk_scenario.proofs.scenario.script.Goals as goal

@@ -1,6 +1,5 @@
 -- One line more is taken, which does not end the script.
-use Rattle.std.proofs.Common.{rules, arith, ◌≡◌, false, not, take, refl, ◌∙◌, add-one}
-use Rattle.sk_scenario.specs.Scenario.{is_end}
+use Rattle.sk_scenario.proofs.Names.{rules, arith, ◌≡◌, false, not, take, refl, ◌∙◌, add-one, is_end}
 use Rattle.sk_scenario.proofs.Scripts.{drop_next, take_next, all_more}
 use Rattle.sk_scenario.proofs.scenario.take_script.Goals as goal
 

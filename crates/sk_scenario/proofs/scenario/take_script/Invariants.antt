@@ -1,7 +1,5 @@
 -- Taking a script's lines: those before the loop's place are taken, and none of them ends the script.
-use Rattle.std.proofs.Common.{◌≡◌, ◌+◌, true, not, length, take, drop}
-use Rattle.std.specs.List.{list_all}
-use Rattle.sk_scenario.specs.Scenario.{is_end}
+use Rattle.sk_scenario.proofs.Names.{◌≡◌, ◌+◌, true, not, length, take, drop, list_all, is_end}
 use Rattle.sk_scenario.proofs.scenario.take_script.Given as goal
 
 abbrev pub invariant-loop-line : goal.invariant-loop-line

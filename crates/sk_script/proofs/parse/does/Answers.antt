@@ -1,8 +1,7 @@
 -- A word that is no text is no instruction: from the tables, whose words are all text.
-use Rattle.std.proofs.Common.{refl}
-use Rattle.sk_script.specs.Instructions.{instruction, place_instruction, object_instruction, byte_instruction, outer_instruction, value_rules, place_rules, object_rules, byte_rules, outer_rules}
-use Rattle.sk_words.specs.Tables.{unknown}
-use Rattle.sk_words.proofs.Unknown.{skipped, no_text}
+use Rattle.sk_script.proofs.Names.{refl, value_rules, place_rules, object_rules, byte_rules, outer_rules, unknown}
+use Rattle.sk_script.proofs.Names.{skipped, no_text}
+use Rattle.sk_script.specs.Instructions.{instruction, place_instruction, object_instruction, byte_instruction, outer_instruction}
 use Rattle.sk_script.proofs.parse.does.Goals as goal
 
 pub returns-in-Err : goal.returns-in-Err

@@ -1,7 +1,5 @@
 -- The labels of all lines: from what each line adds to them.
-use Rattle.std.proofs.Common.{rules, ◌≡◌, ◌∷◌, ◌∙◌, length, refl, sym, arith}
-use Rattle.sk_words.specs.Words.{words}
-use Rattle.sk_script.specs.Scripting.{line_of}
+use Rattle.sk_script.proofs.Names.{rules, ◌≡◌, ◌∷◌, ◌∙◌, length, refl, sym, arith, words, line_of}
 use Rattle.sk_script.proofs.Marks.{labels_on, labels_end, place_bound}
 use Rattle.sk_script.proofs.parse.labels_of.Goals as goal
 

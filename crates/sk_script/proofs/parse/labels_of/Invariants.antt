@@ -1,6 +1,5 @@
 -- The labels so far, and those of the lines that are left, are the labels of all lines.
-use Rattle.std.proofs.Common.{◌≡◌, ◌≤◌, ◌++◌, length}
-use Rattle.sk_script.specs.Scripting.{labels_from}
+use Rattle.sk_script.proofs.Names.{◌≡◌, ◌≤◌, ◌++◌, length, labels_from}
 use Rattle.sk_script.proofs.parse.labels_of.Given as goal
 
 abbrev pub invariant-loop-line : goal.invariant-loop-line

@@ -1,11 +1,7 @@
 -- A sum is answered just where 64 bits hold it: from what std says of `checked_add`.
-use Rattle.std.proofs.Common.{◌≡◌, ◌^◌, Bool, true, false, Option, Some, None, Decides, refl, ap}
-use Rattle.std.specs.Prelude.{ℤ, pos, negsuc, ◌+ℤ◌, SomeIff, FitsSigned, if◌then◌else◌}
-use Rattle.std.specs.Int.{w64}
-use Rattle.std.proofs.lemmas.Bool.{false≢true}
-use Rattle.std.proofs.lemmas.Bool.Decides.{Decides-ltb}
-use Rattle.std.proofs.lemmas.Int.{to_z-of_z}
-use Rattle.sk_script.specs.Private.{fits}
+use Rattle.sk_script.proofs.Names.{◌≡◌, ◌^◌, Bool, true, false, Option, Some, None, Decides, refl, ap, ℤ, pos, negsuc}
+use Rattle.sk_script.proofs.Names.{◌+ℤ◌, SomeIff, FitsSigned, if◌then◌else◌, w64, false≢true, Decides-ltb, to_z-of_z}
+use Rattle.sk_script.proofs.Names.{fits}
 use Rattle.sk_script.proofs.private.sum.Goals as goal
 
 decided : (b : Bool) (P : Type 0) (z : ℤ) (r : Option ℤ) → Decides b P → SomeIff r P z → r ≡ (if b then Some z else None)

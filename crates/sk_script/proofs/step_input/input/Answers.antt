@@ -1,10 +1,7 @@
 -- A word that is no input is told as the count of words says: from the table of inputs.
-use Rattle.std.proofs.Common.{rules, ◌≡◌, ◌∷◌, refl}
+use Rattle.sk_script.proofs.Names.{rules, ◌≡◌, ◌∷◌, refl, next_word, input_rules, no_input, taken, skipped, no_text}
 use Rattle.std.specs.Prelude.{Ok, Err}
-use Rattle.sk_words.specs.Operands.{next_word}
-use Rattle.sk_script.specs.StepInput.{input, input_rules, no_input}
-use Rattle.sk_words.proofs.Taken.{taken}
-use Rattle.sk_words.proofs.Unknown.{skipped, no_text}
+use Rattle.sk_script.specs.StepInput.{input}
 use Rattle.sk_script.proofs.step_input.input.Goals as goal
 
 pub returns-in_default : goal.returns-in_default

@@ -1,8 +1,5 @@
 -- Some key is reserved just where one of those that are left is.
-use Rattle.std.proofs.Common.{◌≡◌, drop, map}
-use Rattle.std.specs.Vec.{vec_items}
-use Rattle.std.specs.List.{list_any}
-use Rattle.sk_reserved.specs.Keys.{is_reserved}
+use Rattle.sk_served.proofs.Names.{◌≡◌, drop, map, vec_items, list_any, is_reserved}
 use Rattle.sk_served.proofs.reserved.are_reserved.Given as goal
 
 abbrev pub invariant-loop-key : goal.invariant-loop-key

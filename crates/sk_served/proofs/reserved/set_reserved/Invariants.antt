@@ -1,9 +1,5 @@
 -- Some key that is set is reserved just where one of those that are left is.
-use Rattle.std.proofs.Common.{◌≡◌, length, map}
-use Rattle.std.specs.Vec.{vec_items}
-use Rattle.std.specs.List.{list_any}
-use Rattle.sk_commands.specs.Table.{pairs_of}
-use Rattle.sk_reserved.specs.Keys.{is_reserved}
+use Rattle.sk_served.proofs.Names.{◌≡◌, length, map, vec_items, list_any, pairs_of, is_reserved}
 use Rattle.sk_served.proofs.reserved.set_reserved.Given as goal
 
 abbrev pub invariant-loop-key : goal.invariant-loop-key

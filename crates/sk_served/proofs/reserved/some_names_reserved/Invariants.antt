@@ -1,7 +1,5 @@
 -- Some command names a reserved key just where one of those that are left does.
-use Rattle.std.proofs.Common.{◌≡◌, drop}
-use Rattle.std.specs.List.{list_any}
-use Rattle.sk_served.specs.Names.{command_names_reserved}
+use Rattle.sk_served.proofs.Names.{◌≡◌, drop, list_any, command_names_reserved}
 use Rattle.sk_served.proofs.reserved.some_names_reserved.Given as goal
 
 abbrev pub invariant-loop-command : goal.invariant-loop-command

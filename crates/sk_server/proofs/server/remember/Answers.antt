@@ -1,9 +1,6 @@
 -- Those that `retain` keeps, and then the new one.
-use Rattle.std.proofs.Common.{◌≡◌, ℕ, Option, is_some, List, [], ◌∷◌, ◌++◌, ap, sym, ◌∙◌, arith, rules}
-use Rattle.std.proofs.lemmas.Fn.{filter_same}
-use Rattle.std.proofs.lemmas.List.{append-nil}
-use Rattle.sk_server.specs.Server.{remembered, listed}
-use Rattle.sk_server.specs.Lent.{request_in}
+use Rattle.sk_server.proofs.Names.{◌≡◌, ℕ, Option, is_some, List, [], ◌∷◌, ◌++◌, ap, sym, ◌∙◌, arith, rules}
+use Rattle.sk_server.proofs.Names.{filter_same, append-nil, remembered, listed, request_in}
 use Rattle.sk_server.proofs.server.remember.Goals as goal
 use Rattle.sk_server.proofs.server.remember.Goals.{After-retain}
 

@@ -1,6 +1,6 @@
 -- One write is put back, the newest.
-use Rattle.std.proofs.Common.{◌≡◌, ◌≤◌, [], ◌∷◌, ◌++◌, length, suc, take, drop, sym, ◌∙◌, ap, subst, arith}
-use Rattle.sk_slots.specs.Kept.{rewound, CanGoBack}
+use Rattle.sk_slots.proofs.Names.{◌≡◌, ◌≤◌, [], ◌∷◌, ◌++◌, length, suc, take, drop, sym, ◌∙◌, ap, subst, arith, rewound}
+use Rattle.sk_slots.proofs.Names.{CanGoBack}
 use Rattle.sk_slots.proofs.Undoing.{can_less, drop_all, drop_more, long_more, rewound_more, take_all, take_more}
 use Rattle.sk_slots.proofs.notes.go_back.Goals as goal
 

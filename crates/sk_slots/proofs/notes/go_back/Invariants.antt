@@ -1,7 +1,5 @@
 -- What is left to put back gives what all gives, and the notes before it stay.
-use Rattle.std.proofs.Common.{◌≡◌, ◌≤◌, take, drop, length}
-use Rattle.std.specs.Vec.{vec_len, vec_capacity}
-use Rattle.sk_slots.specs.Kept.{rewound, CanGoBack}
+use Rattle.sk_slots.proofs.Names.{◌≡◌, ◌≤◌, take, drop, length, vec_len, vec_capacity, rewound, CanGoBack}
 use Rattle.sk_slots.proofs.notes.go_back.Given as goal
 
 abbrev pub invariant-loop-log : goal.invariant-loop-log

@@ -1,9 +1,6 @@
 -- A note that rests on the guess alone is left out, and any other stays without it.
-use Rattle.std.proofs.Common.{◌≡◌, ◌<◌, ◌≤◌, ◌+◌, [], true, false, not, length, suc, take, sym, ◌∙◌, ap, subst, arith}
-use Rattle.std.specs.Prelude.{slice_set}
-use Rattle.sk_record.specs.Notes.{without, committed}
-use Rattle.sk_slots.specs.Kept.{seen}
-use Rattle.sk_slots.specs.Slot.{is_empty}
+use Rattle.sk_slots.proofs.Names.{◌≡◌, ◌<◌, ◌≤◌, ◌+◌, [], true, false, not, length, suc, take, sym, ◌∙◌, ap, subst}
+use Rattle.sk_slots.proofs.Names.{arith, slice_set, without, committed, seen, is_empty}
 use Rattle.sk_slots.proofs.Joins.{AllFree, free_same, front_left, without_twice}
 use Rattle.sk_slots.proofs.Joins as joins
 use Rattle.sk_slots.proofs.Undoing.{bare_out, lighter, more_free, no_tags, seen_length, set_length, some_tags}

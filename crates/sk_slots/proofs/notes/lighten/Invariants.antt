@@ -1,8 +1,5 @@
 -- The notes up to the place rest on something, and on the guess no more; the rest is lightened to the same.
-use Rattle.std.proofs.Common.{◌≡◌, ◌≤◌, ◌-◌, take}
-use Rattle.std.specs.Vec.{vec_len, vec_capacity}
-use Rattle.sk_record.specs.Notes.{committed}
-use Rattle.sk_slots.specs.Kept.{seen, CanGoBack}
+use Rattle.sk_slots.proofs.Names.{◌≡◌, ◌≤◌, ◌-◌, take, vec_len, vec_capacity, committed, seen, CanGoBack}
 use Rattle.sk_slots.proofs.Joins.{AllFree}
 use Rattle.sk_slots.proofs.notes.lighten.Given as goal
 

@@ -1,8 +1,6 @@
 -- A note with the tags of the one before it is left out, and any other stays.
-use Rattle.std.proofs.Common.{◌≡◌, ◌<◌, ◌≤◌, [], true, false, length, suc, ◌+◌, take, sym, ◌∙◌, ap, subst, arith}
-use Rattle.sk_record.specs.Notes.{last_tags}
-use Rattle.sk_record.specs.Merged.{merged, same_tags}
-use Rattle.sk_slots.specs.Kept.{newest_tags, seen}
+use Rattle.sk_slots.proofs.Names.{◌≡◌, ◌<◌, ◌≤◌, [], true, false, length, suc, ◌+◌, take, sym, ◌∙◌, ap, subst, arith}
+use Rattle.sk_slots.proofs.Names.{last_tags, merged, same_tags, newest_tags, seen}
 use Rattle.sk_slots.proofs.Joins.{IsJoined, front_left, left_out, joined_more, joined_same, all_taken}
 use Rattle.sk_slots.proofs.Undoing.{seen_at, seen_front_tags, seen_length}
 use Rattle.sk_slots.proofs.notes.merge.Goals as goal

@@ -1,8 +1,5 @@
 -- What is left merges to the same, and the notes up to the place are merged.
-use Rattle.std.proofs.Common.{◌≡◌, ◌≤◌, ◌-◌, [], take}
-use Rattle.std.specs.Vec.{vec_len, vec_capacity}
-use Rattle.sk_record.specs.Merged.{merged}
-use Rattle.sk_slots.specs.Kept.{seen, CanGoBack}
+use Rattle.sk_slots.proofs.Names.{◌≡◌, ◌≤◌, ◌-◌, [], take, vec_len, vec_capacity, merged, seen, CanGoBack}
 use Rattle.sk_slots.proofs.Joins.{IsJoined}
 use Rattle.sk_slots.proofs.notes.merge.Given as goal
 

@@ -1,11 +1,6 @@
 -- A write with the tags of the newest note is put back by that note, and any other has one of its own.
-use Rattle.std.proofs.Common.{◌≡◌, [], true, false, Some, sym, ◌∙◌, ap, subst, refl}
-use Rattle.std.specs.Option.{unwrap_or}
-use Rattle.sk_ids.proofs.Same.{exact_bytes}
-use Rattle.sk_record.specs.Notes.{last_tags}
-use Rattle.sk_record.specs.Merged.{same_tags}
-use Rattle.sk_inversion.specs.Undone.{value_before}
-use Rattle.sk_slots.specs.Kept.{newest_tags, seen, CanGoBack}
+use Rattle.sk_slots.proofs.Names.{◌≡◌, [], true, false, Some, sym, ◌∙◌, ap, subst, refl, unwrap_or, exact_bytes}
+use Rattle.sk_slots.proofs.Names.{last_tags, same_tags, value_before, newest_tags, seen, CanGoBack}
 use Rattle.sk_slots.proofs.Undoing.{can_more, newest_more, noted_none, noted_one, seen_tags}
 use Rattle.sk_slots.proofs.slot.note.Goals as goal
 

@@ -1,11 +1,7 @@
 -- Nothing that is seen changes.
-use Rattle.std.proofs.Common.{◌≡◌, true, is_some, length, refl, sym, ◌∙◌, ap, subst}
-use Rattle.std.specs.FinMap.{IsAntisymmetric}
-use Rattle.std.proofs.lemmas.Bool.{or_right}
-use Rattle.sk_guesses.specs.Dependents.{AllExact, tags_by, with_tags}
-use Rattle.sk_guesses.specs.Kept.{keys_of, HasKeptRoom}
-use Rattle.sk_record.specs.Effects.{is_in}
-use Rattle.sk_slots.specs.Slots.{log_at}
+use Rattle.sk_speculator.proofs.Names.{◌≡◌, true, length, refl, sym, ◌∙◌, ap, subst, IsAntisymmetric, or_right}
+use Rattle.sk_speculator.proofs.Names.{AllExact, tags_by, with_tags, keys_of, HasKeptRoom, is_in, log_at}
+use Rattle.std.proofs.Common.{is_some}
 use Rattle.sk_speculator.proofs.Afterwards.{any_of}
 use Rattle.sk_speculator.proofs.Writing.{from_ok}
 use Rattle.sk_speculator.proofs.asking.ask.Goals as goal

@@ -1,13 +1,7 @@
 -- What is seen of the slots is as before, and so are the lists where there is no memory.
-use Rattle.std.proofs.Common.{◌≡◌, ℕ, [], cond, true, List, sym, ◌∙◌, ap, subst}
-use Rattle.std.specs.Cmp.{IsTotalOrder}
-use Rattle.std.specs.FinMap.{IsAntisymmetric}
-use Rattle.sk_guesses.specs.Dependents.{AllAlmostExact, AllExact, Covers, tags_by, with_tags}
-use Rattle.sk_guesses.specs.Kept.{keys_of}
-use Rattle.sk_guesses.proofs.Listed.{almost_of, exact_as}
-use Rattle.sk_record.specs.Effects.{is_in}
-use Rattle.sk_record.specs.Notes.{has, last_tags}
-use Rattle.sk_slots.specs.Slots.{log_at}
+use Rattle.sk_speculator.proofs.Names.{◌≡◌, ℕ, [], cond, true, List, sym, ◌∙◌, ap, subst, IsTotalOrder, IsAntisymmetric}
+use Rattle.sk_speculator.proofs.Names.{AllAlmostExact, AllExact, Covers, tags_by, with_tags, keys_of, almost_of}
+use Rattle.sk_speculator.proofs.Names.{exact_as, is_in, has, last_tags, log_at}
 use Rattle.sk_speculator.proofs.Writing.{from_err, from_ok, when_ok}
 use Rattle.sk_speculator.proofs.asking.make_ready.Goals as goal
 

@@ -1,8 +1,5 @@
 -- The slots of what was written are settled at the end.
-use Rattle.std.proofs.Common.{sym, subst}
-use Rattle.sk_guesses.specs.Kept.{keys_of}
-use Rattle.sk_slots.specs.Slots.{look_at, SettledBut}
-use Rattle.sk_speculator.specs.Parts.{made_by, Performed}
+use Rattle.sk_speculator.proofs.Names.{sym, subst, keys_of, look_at, SettledBut, made_by, Performed}
 use Rattle.sk_speculator.proofs.Writing.{performed_settled}
 use Rattle.sk_speculator.proofs.asking.perform.Goals as goal
 

@@ -1,10 +1,6 @@
 -- It is in them already, or is added to all.
-use Rattle.std.proofs.Common.{[], subst}
-use Rattle.std.specs.Cmp.{IsTotalOrder}
-use Rattle.std.specs.FinMap.{IsAntisymmetric}
-use Rattle.sk_record.specs.Notes.{last_tags}
-use Rattle.sk_slots.specs.Slots.{log_at}
-use Rattle.sk_guesses.proofs.Listed.{depends_all, depends_none}
+use Rattle.sk_speculator.proofs.Names.{[], subst, IsTotalOrder, IsAntisymmetric, last_tags, log_at, depends_all}
+use Rattle.sk_speculator.proofs.Names.{depends_none}
 use Rattle.sk_speculator.proofs.Writing.{when_ok}
 use Rattle.sk_speculator.proofs.lists.depend.Goals as goal
 

@@ -1,13 +1,7 @@
 -- One key more is in the lists of all the guesses; without memory all are taken out again.
-use Rattle.std.proofs.Common.{◌≡◌, ◌++◌, ◌∷◌, [], take, refl, sym, ◌∙◌, ap, subst}
-use Rattle.std.specs.Cmp.{IsTotalOrder}
-use Rattle.std.specs.FinMap.{IsAntisymmetric}
-use Rattle.sk_guesses.specs.Dependents.{AllAlmostExact, AllExact, tags_by, with_tags}
-use Rattle.sk_guesses.specs.Kept.{keys_of}
-use Rattle.sk_guesses.specs.Opens.{opens_of}
-use Rattle.sk_record.specs.Notes.{last_tags}
-use Rattle.sk_guesses.proofs.Listed.{almost_of, depends_exact, depends_opens}
-use Rattle.sk_slots.specs.Slots.{log_at}
+use Rattle.sk_speculator.proofs.Names.{◌≡◌, ◌++◌, ◌∷◌, [], take, refl, sym, ◌∙◌, ap, subst, IsTotalOrder}
+use Rattle.sk_speculator.proofs.Names.{IsAntisymmetric, AllAlmostExact, AllExact, tags_by, with_tags, keys_of, opens_of}
+use Rattle.sk_speculator.proofs.Names.{last_tags, almost_of, depends_exact, depends_opens, log_at}
 use Rattle.sk_speculator.proofs.Writing.{from_ok, from_err, in_front, in_place, keys_more, take_all, take_next}
 use Rattle.sk_speculator.proofs.lists.depend_all.Goals as goal
 

@@ -1,9 +1,5 @@
 -- The keys so far are in the lists of all the guesses.
-use Rattle.std.proofs.Common.{◌≡◌, take}
-use Rattle.sk_guesses.specs.Dependents.{AllExact, tags_by, with_tags}
-use Rattle.sk_guesses.specs.Kept.{keys_of}
-use Rattle.sk_guesses.specs.Opens.{opens_of}
-use Rattle.sk_slots.specs.Slots.{log_at}
+use Rattle.sk_speculator.proofs.Names.{◌≡◌, take, AllExact, tags_by, with_tags, keys_of, opens_of, log_at}
 use Rattle.sk_speculator.proofs.lists.depend_all.Given as goal
 
 abbrev pub invariant-loop-write : goal.invariant-loop-write

@@ -1,13 +1,7 @@
 -- One key more is in the lists of its guesses alone.
-use Rattle.std.proofs.Common.{◌≡◌, ◌+◌, ◌∷◌, [], drop, sym, ◌∙◌, ap, subst}
-use Rattle.std.specs.Cmp.{IsTotalOrder}
-use Rattle.std.specs.FinMap.{IsAntisymmetric}
-use Rattle.sk_guesses.specs.Dependents.{AllAlmostExact, tags_by}
-use Rattle.sk_guesses.specs.Kept.{keys_of}
-use Rattle.sk_guesses.specs.Opens.{left_to, opens_of}
-use Rattle.sk_guesses.proofs.Listed.{left_more, none_left}
-use Rattle.sk_guesses.proofs.Opens.{left_to_keeps, same_opens}
-use Rattle.sk_slots.specs.Slots.{log_at}
+use Rattle.sk_speculator.proofs.Names.{◌≡◌, ◌+◌, ◌∷◌, [], drop, sym, ◌∙◌, ap, subst, IsTotalOrder, IsAntisymmetric}
+use Rattle.sk_speculator.proofs.Names.{AllAlmostExact, tags_by, keys_of, left_to, opens_of, left_more, none_left}
+use Rattle.sk_speculator.proofs.Names.{left_to_keeps, same_opens, log_at}
 use Rattle.sk_speculator.proofs.Writing.{drop_all, drop_next}
 use Rattle.sk_speculator.proofs.lists.relieve_written.Goals as goal
 

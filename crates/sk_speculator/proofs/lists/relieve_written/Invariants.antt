@@ -1,9 +1,5 @@
 -- All but the keys that are left are in the lists of their guesses alone.
-use Rattle.std.proofs.Common.{◌≡◌, drop}
-use Rattle.sk_guesses.specs.Dependents.{AllAlmostExact, tags_by}
-use Rattle.sk_guesses.specs.Kept.{keys_of}
-use Rattle.sk_guesses.specs.Opens.{opens_of}
-use Rattle.sk_slots.specs.Slots.{log_at}
+use Rattle.sk_speculator.proofs.Names.{◌≡◌, drop, AllAlmostExact, tags_by, keys_of, opens_of, log_at}
 use Rattle.sk_speculator.proofs.lists.relieve_written.Given as goal
 
 abbrev pub invariant-loop-write : goal.invariant-loop-write

@@ -1,8 +1,5 @@
 -- The tags so far with those of the keys that are left are those of all.
-use Rattle.std.proofs.Common.{◌≡◌, ℕ, ◌||◌, drop}
-use Rattle.sk_guesses.specs.Kept.{keys_of}
-use Rattle.sk_record.specs.Notes.{has}
-use Rattle.sk_speculator.specs.Parts.{any_rests}
+use Rattle.sk_speculator.proofs.Names.{◌≡◌, ℕ, ◌||◌, drop, keys_of, has, any_rests}
 use Rattle.sk_speculator.proofs.writes.add_written_tags.Given as goal
 
 abbrev pub invariant-loop-write : goal.invariant-loop-write

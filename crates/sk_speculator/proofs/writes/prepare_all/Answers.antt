@@ -1,12 +1,6 @@
 -- One key more.
-use Rattle.std.proofs.Common.{◌≡◌, ◌||◌, ◌++◌, ◌∷◌, [], true, sym, ◌∙◌, ap, subst, take}
-use Rattle.std.specs.Cmp.{IsTotalOrder}
-use Rattle.std.specs.FinMap.{IsAntisymmetric}
-use Rattle.std.specs.Ordering.{eq_by_cmp}
-use Rattle.std.proofs.lemmas.List.Folds.{list_any-append}
-use Rattle.sk_guesses.specs.Kept.{keys_of}
-use Rattle.sk_record.specs.Effects.{is_in}
-use Rattle.sk_slots.specs.Slots.{IsReady}
+use Rattle.sk_speculator.proofs.Names.{◌≡◌, ◌||◌, ◌++◌, ◌∷◌, [], true, sym, ◌∙◌, ap, subst, take, IsTotalOrder}
+use Rattle.sk_speculator.proofs.Names.{IsAntisymmetric, eq_by_cmp, list_any-append, keys_of, is_in, IsReady}
 use Rattle.sk_speculator.proofs.Writing.{either_key, in_place, keys_more, none_more, take_all, take_next}
 use Rattle.sk_speculator.proofs.writes.prepare_all.Goals as goal
 

@@ -1,8 +1,5 @@
 -- The keys so far are ready.
-use Rattle.std.proofs.Common.{◌≡◌, true, take}
-use Rattle.sk_guesses.specs.Kept.{keys_of}
-use Rattle.sk_record.specs.Effects.{is_in}
-use Rattle.sk_slots.specs.Slots.{look_at, log_at, IsReady, SettledBut}
+use Rattle.sk_speculator.proofs.Names.{◌≡◌, true, take, keys_of, is_in, look_at, log_at, IsReady, SettledBut}
 use Rattle.sk_speculator.proofs.writes.prepare_all.Given as goal
 
 abbrev pub invariant-loop-write : goal.invariant-loop-write

@@ -1,7 +1,5 @@
 -- One key more is settled.
-use Rattle.std.proofs.Common.{◌≡◌, ◌+◌, drop, sym, ◌∙◌, ap, subst}
-use Rattle.sk_guesses.specs.Kept.{keys_of}
-use Rattle.sk_slots.specs.Slots.{SettledBut}
+use Rattle.sk_speculator.proofs.Names.{◌≡◌, ◌+◌, drop, sym, ◌∙◌, ap, subst, keys_of, SettledBut}
 use Rattle.sk_speculator.proofs.Writing.{drop_all, drop_next}
 use Rattle.sk_speculator.proofs.writes.settle_all.Goals as goal
 

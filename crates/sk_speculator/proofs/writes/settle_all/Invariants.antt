@@ -1,7 +1,5 @@
 -- All but the keys that are left are settled.
-use Rattle.std.proofs.Common.{◌≡◌, drop}
-use Rattle.sk_guesses.specs.Kept.{keys_of}
-use Rattle.sk_slots.specs.Slots.{look_at, log_at, SettledBut}
+use Rattle.sk_speculator.proofs.Names.{◌≡◌, drop, keys_of, look_at, log_at, SettledBut}
 use Rattle.sk_speculator.proofs.writes.settle_all.Given as goal
 
 abbrev pub invariant-loop-write : goal.invariant-loop-write

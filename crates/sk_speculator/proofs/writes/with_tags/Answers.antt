@@ -1,7 +1,5 @@
 -- What has all of them already has no more with them.
-use Rattle.std.proofs.Common.{◌≡◌, ℕ, Bool, true, false, ◌||◌, List, refl, sym, ◌∙◌}
-use Rattle.std.proofs.lemmas.Bool.{or_right}
-use Rattle.sk_record.specs.Notes.{has}
+use Rattle.sk_speculator.proofs.Names.{◌≡◌, ℕ, Bool, true, false, ◌||◌, List, refl, sym, ◌∙◌, or_right, has}
 use Rattle.sk_speculator.proofs.Writing.{none_more}
 use Rattle.sk_speculator.proofs.writes.with_tags.Goals as goal
 

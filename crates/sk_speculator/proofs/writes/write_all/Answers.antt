@@ -1,11 +1,8 @@
 -- One write more.
-use Rattle.std.proofs.Common.{◌≡◌, ℕ, ◌<◌, ◌+◌, ◌∷◌, ◌||◌, true, length, drop, arith, sym, ◌∙◌, ap, subst, slice_set}
-use Rattle.std.specs.Cmp.{IsTotalOrder, eq_by_cmp_equiv}
-use Rattle.std.specs.FinMap.{IsAntisymmetric}
-use Rattle.std.proofs.lemmas.Bool.{and_parts, or_left}
-use Rattle.sk_guesses.specs.Kept.{keys_of}
-use Rattle.sk_record.specs.Effects.{is_in}
-use Rattle.sk_slots.specs.Slots.{IsReady, SettledBut}
+use Rattle.sk_speculator.proofs.Names.{◌≡◌, ℕ, ◌<◌, ◌+◌, ◌∷◌, ◌||◌, true, length, drop, arith, sym, ◌∙◌, ap, subst}
+use Rattle.sk_speculator.proofs.Names.{IsTotalOrder, eq_by_cmp_equiv, IsAntisymmetric, and_parts, or_left, keys_of}
+use Rattle.sk_speculator.proofs.Names.{is_in, IsReady, SettledBut}
+use Rattle.std.proofs.Common.{slice_set}
 use Rattle.sk_speculator.proofs.Writing.{Writing, drop_all, drop_more, drop_next, drop_set, in_place, keys_set, set_length, writing_done, writing_more}
 use Rattle.sk_speculator.proofs.writes.write_all.Goals as goal
 

@@ -1,7 +1,5 @@
 -- What is left to write, and what may be left to settle.
-use Rattle.std.proofs.Common.{◌≡◌, true, length, drop}
-use Rattle.sk_guesses.specs.Kept.{keys_of}
-use Rattle.sk_slots.specs.Slots.{SettledBut}
+use Rattle.sk_speculator.proofs.Names.{◌≡◌, true, length, drop, keys_of, SettledBut}
 use Rattle.sk_speculator.proofs.Writing.{Writing}
 use Rattle.sk_speculator.proofs.writes.write_all.Given as goal
 

@@ -1,7 +1,5 @@
-use Rattle.std.proofs.Common.{◌∙◌, ap}
+use Rattle.sk_store.proofs.Names.{◌∙◌, ap, Proc, became}
 use Rattle.std.specs.FinMap as map
-use Rattle.sk_ids.specs.declared.entity.Entity.TheVariants.{Proc}
-use Rattle.sk_store.specs.Processes.{became}
 use Rattle.sk_store.proofs.back.become_in.Goals as goal
 
 pub returns : goal.returns

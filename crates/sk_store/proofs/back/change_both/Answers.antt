@@ -1,10 +1,6 @@
 -- The process is as it was after the change of the other entity.
-use Rattle.std.proofs.Common.{Some, sym, subst, ◌∙◌, ap}
+use Rattle.sk_store.proofs.Names.{Some, sym, subst, ◌∙◌, ap, Proc, changed, CanBecome, became, put_others}
 use Rattle.std.specs.FinMap as map
-use Rattle.sk_ids.specs.declared.entity.Entity.TheVariants.{Proc}
-use Rattle.sk_store.specs.Changed.{changed}
-use Rattle.sk_store.specs.Processes.{CanBecome, became}
-use Rattle.sk_store.specs.OthersLaw.{put_others}
 use Rattle.sk_store.proofs.back.change_both.Goals as goal
 
 pub become_in-requires : goal.become_in-requires

@@ -1,7 +1,5 @@
 -- The value stands where it was: changed, so that it can be changed back, or as it was.
-use Rattle.std.proofs.Common.{Some, sym, ◌∙◌, ap, subst, rules}
-use Rattle.std.specs.FinMap.{get}
-use Rattle.sk_store.specs.Back.{CanChangeBack, changed_back}
+use Rattle.sk_store.proofs.Names.{Some, sym, ◌∙◌, ap, subst, rules, get, CanChangeBack, changed_back}
 use Rattle.sk_store.proofs.InPlace.{put_changed, insert_same, can_change_back, changed_and_back}
 use Rattle.sk_store.proofs.back.change_in.Goals as goal
 

@@ -1,6 +1,5 @@
 -- The names that are left give the same from here.
-use Rattle.std.proofs.Common.{◌≡◌, ◌+◌, drop}
-use Rattle.sk_store.specs.Start.{with_links}
+use Rattle.sk_store.proofs.Names.{◌≡◌, ◌+◌, drop, with_links}
 use Rattle.sk_store.proofs.start.add_links.Given as goal
 
 abbrev pub invariant-loop-place : goal.invariant-loop-place

@@ -1,8 +1,5 @@
 -- What the terminal shows are the texts that the trace says to it; where there is none, nothing was said.
-use Rattle.std.proofs.Common.{◌≡◌, [], sym, ap, ◌∙◌}
-use Rattle.sk_record.specs.Machine.{released}
-use Rattle.sk_report.specs.Report.{said_there}
-use Rattle.sk_report.proofs.Shown.{shown_there, nothing_there}
+use Rattle.sk_talk.proofs.Names.{◌≡◌, [], sym, ap, ◌∙◌, released, said_there, shown_there, nothing_there}
 use Rattle.sk_talk.proofs.handed_out.released.Goals as goal
 
 pub returns-in-Some : goal.returns-in-Some

@@ -1,6 +1,6 @@
 -- That released texts stay released: as for the machine of records.
+use Rattle.sk_terminal.proofs.Names.{said_more, fewer_tags, fewer_texts}
 use Rattle.std.specs.Prelude.{[], ◌∷◌}
-use Rattle.sk_record.proofs.Stays.{said_more, fewer_tags, fewer_texts}
 use Rattle.sk_terminal.proofs.laws.released_stays.Goals as goal
 
 pub returns-clause-said : goal.returns-clause-said

@@ -1,10 +1,6 @@
 -- One list has one terminal more, or there is one list more.
-use Rattle.std.proofs.Common.{◌≡◌, ◌<◌, ◌≤◌, ◌++◌, ◌∷◌, [], List, true, length, refl, sym, ◌∙◌, ap, subst, arith}
-use Rattle.std.specs.List.{prefix_len}
-use Rattle.std.proofs.lemmas.Bool.{or_right, eq-eqb}
-use Rattle.sk_record.specs.Notes.{has}
-use Rattle.sk_terminal.specs.declared.listing.Listing.{Listing}
-use Rattle.sk_terminal.specs.Listing.{is_listed, AreTidy, HasNone}
+use Rattle.sk_terminal.proofs.Names.{◌≡◌, ◌<◌, ◌≤◌, ◌++◌, ◌∷◌, [], List, true, length, refl, sym, ◌∙◌, ap, subst, arith}
+use Rattle.sk_terminal.proofs.Names.{prefix_len, or_right, eq-eqb, has, Listing, is_listed, AreTidy, HasNone}
 use Rattle.sk_terminal.proofs.Listed.{is_other, missing, on_err_given, set_listed, same_set, tidy_set, some_at, some_there, push_listed, tidy_push}
 use Rattle.sk_terminal.proofs.listing.add.Goals as goal
 

@@ -1,9 +1,6 @@
 -- One guess more has the terminal listed.
-use Rattle.std.proofs.Common.{◌≡◌, ◌<◌, ◌≤◌, ◌+◌, ◌^◌, ◌||◌, ◌&&◌, length, take, sym, ◌∙◌, ap, subst, arith, rules}
-use Rattle.std.proofs.lemmas.List.Sums.{prefix_len-le-length}
-use Rattle.std.specs.Prelude.{◌==◌}
-use Rattle.sk_record.specs.Notes.{has}
-use Rattle.sk_terminal.specs.Listing.{is_listed}
+use Rattle.sk_terminal.proofs.Names.{◌≡◌, ◌<◌, ◌≤◌, ◌+◌, ◌^◌, ◌||◌, ◌&&◌, length, take, sym, ◌∙◌, ap, subst, arith}
+use Rattle.sk_terminal.proofs.Names.{rules, prefix_len-le-length, ◌==◌, has, is_listed}
 use Rattle.sk_terminal.proofs.Listed.{at_most, has_more, on_err_given, one_more}
 use Rattle.sk_terminal.proofs.listing.list.Goals as goal
 

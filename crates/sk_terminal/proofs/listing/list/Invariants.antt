@@ -1,8 +1,5 @@
 -- The guesses gone over have the terminal listed.
-use Rattle.std.proofs.Common.{◌≡◌, ◌||◌, ◌&&◌, ℕ, take}
-use Rattle.std.specs.Prelude.{◌==◌}
-use Rattle.sk_record.specs.Notes.{has}
-use Rattle.sk_terminal.specs.Listing.{is_listed, AreTidy}
+use Rattle.sk_terminal.proofs.Names.{◌≡◌, ◌||◌, ◌&&◌, ℕ, take, ◌==◌, has, is_listed, AreTidy}
 use Rattle.sk_terminal.proofs.listing.list.Given as goal
 
 abbrev pub invariant-loop-guess : goal.invariant-loop-guess

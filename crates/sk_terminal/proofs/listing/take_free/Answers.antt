@@ -1,7 +1,5 @@
 -- Where it is free it goes.
-use Rattle.std.proofs.Common.{true, false, sym, ◌∙◌, ap}
-use Rattle.sk_record.specs.Notes.{has}
-use Rattle.sk_terminal.specs.Listing.{rests_at}
+use Rattle.sk_terminal.proofs.Names.{true, false, sym, ◌∙◌, ap, has, rests_at}
 use Rattle.sk_terminal.proofs.Listed.{refreshed}
 use Rattle.sk_terminal.proofs.listing.take_free.Goals as goal
 

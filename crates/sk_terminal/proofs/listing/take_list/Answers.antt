@@ -1,8 +1,6 @@
 -- The list at the place is the guess's, or there is none.
-use Rattle.std.proofs.Common.{◌≡◌, ◌<◌, ◌≤◌, length, refl, sym, ◌∙◌, ap, subst, arith, List}
-use Rattle.std.specs.List.{prefix_len}
-use Rattle.sk_terminal.specs.declared.listing.Listing.{Listing}
-use Rattle.sk_terminal.specs.Listing.{is_listed, AreTidy}
+use Rattle.sk_terminal.proofs.Names.{◌≡◌, ◌<◌, ◌≤◌, length, refl, sym, ◌∙◌, ap, subst, arith, List, prefix_len, Listing}
+use Rattle.sk_terminal.proofs.Names.{is_listed, AreTidy}
 use Rattle.sk_terminal.proofs.Listed.{is_other, found, missing, none_listed, removed_other, tidy_removed, gone}
 use Rattle.sk_terminal.proofs.listing.take_list.Goals as goal
 

@@ -1,7 +1,5 @@
 -- In each list it is taken out or stays, and lists with nothing left go.
-use Rattle.std.proofs.Common.{◌||◌, not, rules}
-use Rattle.std.specs.Prelude.{◌==◌}
-use Rattle.sk_terminal.specs.Listing.{rests_at}
+use Rattle.sk_terminal.proofs.Names.{◌||◌, not, rules, ◌==◌, rests_at}
 use Rattle.sk_terminal.proofs.Listed.{left_in_turn, tidy_in_turn}
 use Rattle.sk_terminal.proofs.listing.take_off.Goals as goal
 

@@ -1,6 +1,5 @@
 -- One terminal more is taken off.
-use Rattle.std.proofs.Common.{◌≡◌, ◌&&◌, Bool, true, false, refl, rules}
-use Rattle.sk_terminal.specs.Listing.{is_listed}
+use Rattle.sk_terminal.proofs.Names.{◌≡◌, ◌&&◌, Bool, true, false, refl, rules, is_listed}
 use Rattle.sk_terminal.proofs.Listed.{taken_more}
 use Rattle.sk_terminal.proofs.listing.take_off_all.Goals as goal
 

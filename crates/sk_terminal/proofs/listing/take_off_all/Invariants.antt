@@ -1,7 +1,5 @@
 -- The terminals gone over are taken off.
-use Rattle.std.proofs.Common.{◌≡◌, ◌||◌, ◌&&◌, not, ℕ, take}
-use Rattle.sk_record.specs.Notes.{has}
-use Rattle.sk_terminal.specs.Listing.{is_listed, rests_at, AreTidy}
+use Rattle.sk_terminal.proofs.Names.{◌≡◌, ◌||◌, ◌&&◌, not, ℕ, take, has, is_listed, rests_at, AreTidy}
 use Rattle.sk_terminal.proofs.listing.take_off_all.Given as goal
 
 abbrev pub invariant-loop-number : goal.invariant-loop-number

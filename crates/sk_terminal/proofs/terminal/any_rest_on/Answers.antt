@@ -1,7 +1,5 @@
 -- No text before the place rests on the guess, and none from it on.
-use Rattle.std.proofs.Common.{◌≡◌, ◌-◌, ◌<◌, suc, length, take, sym, ap, subst, arith}
-use Rattle.std.specs.List.{list_any}
-use Rattle.sk_terminal.specs.declared.terminal.Held.{Held}
+use Rattle.sk_terminal.proofs.Names.{◌≡◌, ◌-◌, ◌<◌, suc, length, take, sym, ap, subst, arith, list_any, Held}
 use Rattle.sk_terminal.proofs.HeldTexts.{rests, free_before, none_rests}
 use Rattle.sk_terminal.proofs.terminal.any_rest_on.Goals as goal
 

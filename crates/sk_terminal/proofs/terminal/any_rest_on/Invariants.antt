@@ -1,6 +1,5 @@
 -- The texts gone over do not rest on the guess.
-use Rattle.std.proofs.Common.{◌≡◌, ◌≤◌, length, drop, true}
-use Rattle.std.specs.List.{list_all}
+use Rattle.sk_terminal.proofs.Names.{◌≡◌, ◌≤◌, length, drop, true, list_all}
 use Rattle.sk_terminal.proofs.HeldTexts.{is_free}
 use Rattle.sk_terminal.proofs.terminal.any_rest_on.Given as goal
 

@@ -1,7 +1,5 @@
 -- The texts gone over are appended.
-use Rattle.std.proofs.Common.{◌≡◌, ◌+◌, ◌++◌, length, map, take}
-use Rattle.std.specs.Vec.{vec_capacity}
-use Rattle.sk_terminal.specs.declared.terminal.Held.{Held}
+use Rattle.sk_terminal.proofs.Names.{◌≡◌, ◌+◌, ◌++◌, length, map, take, vec_capacity, Held}
 use Rattle.sk_terminal.proofs.terminal.append.Given as goal
 
 abbrev pub invariant-loop-held : goal.invariant-loop-held

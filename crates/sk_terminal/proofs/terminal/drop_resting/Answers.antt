@@ -1,6 +1,5 @@
 -- What stays is a filter: from std's lemma on `retain`.
-use Rattle.std.proofs.Common.{rules}
-use Rattle.std.proofs.lemmas.Fn.{filter_same}
+use Rattle.sk_terminal.proofs.Names.{rules, filter_same}
 use Rattle.sk_terminal.proofs.terminal.drop_resting.Goals as goal
 
 pub returns-clause-texts : goal.returns-clause-texts

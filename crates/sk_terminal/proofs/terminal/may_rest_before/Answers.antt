@@ -1,6 +1,5 @@
 -- A text whose number is below the guess, and those before it, do not rest on it.
-use Rattle.std.proofs.Common.{◌≡◌, ◌-◌, ◌<◌, suc, length, sym, subst, arith}
-use Rattle.sk_terminal.specs.declared.terminal.Held.{Held}
+use Rattle.sk_terminal.proofs.Names.{◌≡◌, ◌-◌, ◌<◌, suc, length, sym, subst, arith, Held}
 use Rattle.sk_terminal.proofs.HeldTexts.{free_before}
 use Rattle.sk_terminal.proofs.terminal.may_rest_before.Goals as goal
 

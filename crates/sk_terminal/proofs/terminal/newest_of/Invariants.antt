@@ -1,6 +1,5 @@
 -- The number is at least what it was, and each guess gone over.
-use Rattle.std.proofs.Common.{◌≡◌, ◌≤◌, ℕ, true, take}
-use Rattle.sk_record.specs.Notes.{has}
+use Rattle.sk_terminal.proofs.Names.{◌≡◌, ◌≤◌, ℕ, true, take, has}
 use Rattle.sk_terminal.proofs.terminal.newest_of.Given as goal
 
 abbrev pub invariant-loop-id : goal.invariant-loop-id

@@ -1,10 +1,6 @@
 -- The texts of the prefix went over, and the rest stayed: from the lemmas on the prefix.
-use Rattle.std.proofs.Common.{◌≡◌, ◌++◌, List, length, map, take, drop, sym, ◌∙◌, ap, subst, arith}
-use Rattle.std.specs.List.{prefix_len}
-use Rattle.sk_record.specs.Machine.{released}
-use Rattle.sk_terminal.specs.Terminal.{TaggedText, clear, is_clear}
-use Rattle.sk_terminal.specs.Held.{texts_of, AreBounded}
-use Rattle.sk_terminal.specs.declared.terminal.Held.{Held}
+use Rattle.sk_terminal.proofs.Names.{◌≡◌, ◌++◌, List, length, map, take, drop, sym, ◌∙◌, ap, subst, arith, prefix_len}
+use Rattle.sk_terminal.proofs.Names.{released, TaggedText, clear, is_clear, texts_of, AreBounded, Held}
 use Rattle.sk_terminal.proofs.HeldTexts.{prefix_texts, texts_drop, texts_take, bounded_drop}
 use Rattle.sk_terminal.proofs.Views.{prefix-released, released-parts, released-rest, released-taken}
 use Rattle.sk_terminal.proofs.terminal.release.Goals as goal

@@ -1,10 +1,7 @@
 -- One text more is without the guess, down to one that was said before it was drawn.
-use Rattle.std.proofs.Common.{◌≡◌, ◌-◌, ◌<◌, ℕ, suc, List, length, take, slice_set, false, sym, ◌∙◌, ap, subst, arith}
-use Rattle.std.proofs.lemmas.List.{length-set}
-use Rattle.std.specs.List.{list_any}
-use Rattle.sk_terminal.specs.Terminal.{TaggedText}
-use Rattle.sk_terminal.specs.Held.{texts_of, AreBounded}
-use Rattle.sk_terminal.specs.declared.terminal.Held.{Held}
+use Rattle.sk_terminal.proofs.Names.{◌≡◌, ◌-◌, ◌<◌, ℕ, suc, List, length, take, false, sym, ◌∙◌, ap, subst, arith}
+use Rattle.sk_terminal.proofs.Names.{length-set, list_any, TaggedText, texts_of, AreBounded, Held}
+use Rattle.std.proofs.Common.{slice_set}
 use Rattle.sk_terminal.proofs.HeldTexts.{rests, from_before, place_before, free_before, lightened_texts, lightened_bounds}
 use Rattle.sk_terminal.proofs.terminal.take_out.Goals as goal
 

@@ -1,8 +1,6 @@
 -- The texts that stand last rest on the guess and those before them do not, or what stays is a filter.
-use Rattle.std.proofs.Common.{◌≡◌, List, drop, take, true, false, sym, ◌∙◌, ap, subst}
-use Rattle.std.specs.List.{list_all, list_any}
-use Rattle.sk_terminal.specs.Held.{texts_of, AreBounded}
-use Rattle.sk_terminal.specs.declared.terminal.Held.{Held}
+use Rattle.sk_terminal.proofs.Names.{◌≡◌, List, drop, take, true, false, sym, ◌∙◌, ap, subst, list_all, list_any}
+use Rattle.sk_terminal.proofs.Names.{texts_of, AreBounded, Held}
 use Rattle.sk_terminal.proofs.HeldTexts.{rests, taken_texts, filtered_texts, bounded_take, bounded_filter}
 use Rattle.sk_terminal.proofs.terminal.throw_away.Goals as goal
 

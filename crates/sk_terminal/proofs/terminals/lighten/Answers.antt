@@ -1,8 +1,5 @@
 -- The terminals that are not listed are as they were.
-use Rattle.std.proofs.Common.{◌≡◌, ℕ, false, refl, sym, ◌∙◌, ap}
-use Rattle.sk_record.specs.Notes.{has}
-use Rattle.sk_record.specs.Machine.{lightened}
-use Rattle.sk_terminal.specs.Listing.{rests_at}
+use Rattle.sk_terminal.proofs.Names.{◌≡◌, ℕ, false, refl, sym, ◌∙◌, ap, has, lightened, rests_at}
 use Rattle.sk_terminal.proofs.Decided.{light_leaves, light_takes, decided, committed_listed, untouched_listed}
 use Rattle.sk_terminal.proofs.terminals.lighten.Goals as goal
 

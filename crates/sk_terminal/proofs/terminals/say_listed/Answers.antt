@@ -1,7 +1,5 @@
 -- The terminal is listed for each guess that the text rests on.
-use Rattle.std.proofs.Common.{sym, subst}
-use Rattle.sk_record.specs.Notes.{has}
-use Rattle.sk_terminal.specs.Listing.{AreListed}
+use Rattle.sk_terminal.proofs.Names.{sym, subst, has, AreListed}
 use Rattle.sk_terminal.proofs.Decided.{said_listed}
 use Rattle.sk_terminal.proofs.Listed.{at_most, on_err_given}
 use Rattle.sk_terminal.proofs.terminals.say_listed.Goals as goal

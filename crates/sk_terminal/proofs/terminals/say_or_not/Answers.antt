@@ -1,6 +1,5 @@
 -- Refused, it is listed just where a text of it rests on the guess.
-use Rattle.std.proofs.Common.{sym, subst}
-use Rattle.sk_terminal.specs.Listing.{AreListed}
+use Rattle.sk_terminal.proofs.Names.{sym, subst, AreListed}
 use Rattle.sk_terminal.proofs.Decided.{refused_listed}
 use Rattle.sk_terminal.proofs.terminals.say_or_not.Goals as goal
 

@@ -1,11 +1,6 @@
-use Rattle.std.proofs.Common.{◌≡◌, false, cond, Some, None, ap, ◌∙◌}
+use Rattle.sk_undo.proofs.Cites.{◌≡◌, false, cond, Some, None, ap, ◌∙◌, eq_by_cmp, entity_cmp, Entity, entity_total}
+use Rattle.sk_undo.proofs.Cites.{State, moved, slots_wrote}
 use Rattle.std.specs.FinMap as map
-use Rattle.std.specs.Ordering.{eq_by_cmp}
-use Rattle.sk_ids.specs.Entity.{entity_cmp}
-use Rattle.sk_ids.specs.declared.entity.Entity.{Entity}
-use Rattle.sk_ids.proofs.Entities.{entity_total}
-use Rattle.sk_store.specs.State.{State}
-use Rattle.sk_undo.specs.Logs.{moved, slots_wrote}
 use Rattle.sk_undo.proofs.counted_slots.move_over.Goals as goal
 
 -- the store has elsewhere what it had

@@ -1,9 +1,6 @@
 -- The notes without tags in front are the first ones.
-use Rattle.std.proofs.Common.{◌≤◌, length, sym, ◌∙◌, ap, subst, arith}
-use Rattle.std.proofs.Common.{drop}
+use Rattle.sk_undo.proofs.Cites.{◌≤◌, length, sym, ◌∙◌, ap, subst, arith, drop, prefix_len, is_empty}
 use Rattle.sk_undo.proofs.NewestNotes.{dropped_is, none_dropped, within_notes}
-use Rattle.std.specs.List.{prefix_len}
-use Rattle.sk_undo.specs.Log.{is_empty}
 use Rattle.sk_undo.proofs.log.drop_bare.Goals as goal
 
 pub drop_front-requires : goal.drop_front-requires

@@ -1,5 +1,4 @@
-use Rattle.std.proofs.Common.{◌≡◌, ◌-◌, None, suc, sym, ◌∙◌, ap, arith}
-use Rattle.sk_undo.specs.Log.{stands_for, repeats}
+use Rattle.sk_undo.proofs.Cites.{◌≡◌, ◌-◌, None, suc, sym, ◌∙◌, ap, arith, stands_for, repeats}
 use Rattle.sk_undo.proofs.Joins.{repeats_place, none_repeats}
 use Rattle.sk_undo.proofs.log.is_needless.Goals as goal
 

@@ -1,5 +1,5 @@
-use Rattle.std.proofs.Common.{◌≡◌, ◌<◌, ◌≤◌, ◌+◌, true, false, None, suc, length, sym, ◌∙◌, ap, subst, arith}
-use Rattle.sk_undo.specs.Log.{repeats, joined_from}
+use Rattle.sk_undo.proofs.Cites.{◌≡◌, ◌<◌, ◌≤◌, ◌+◌, true, false, None, suc, length, sym, ◌∙◌, ap, subst, arith}
+use Rattle.sk_undo.proofs.Cites.{repeats, joined_from}
 use Rattle.sk_undo.proofs.Joins.{leave_out, go_on, at_end}
 use Rattle.sk_undo.proofs.log.join_from.Goals as goal
 

@@ -1,7 +1,5 @@
 -- The notes before the place are joined.
-use Rattle.std.proofs.Common.{◌≡◌, ◌≤◌, ◌-◌, None}
-use Rattle.std.specs.Vec.{vec_len, vec_capacity}
-use Rattle.sk_undo.specs.Log.{joined_from}
+use Rattle.sk_undo.proofs.Cites.{◌≡◌, ◌≤◌, ◌-◌, None, vec_len, vec_capacity, joined_from}
 use Rattle.sk_undo.proofs.log.join_from.Given as goal
 
 abbrev pub invariant-loop-place : goal.invariant-loop-place

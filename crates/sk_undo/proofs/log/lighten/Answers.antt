@@ -1,6 +1,6 @@
 -- One note more is without the guess.
-use Rattle.std.proofs.Common.{◌≡◌, ◌-◌, ◌<◌, suc, length, drop, refl, sym, ◌∙◌, ap, subst, arith, slice_set}
-use Rattle.std.proofs.lemmas.List.{length-set}
+use Rattle.sk_undo.proofs.Cites.{◌≡◌, ◌-◌, ◌<◌, suc, length, drop, refl, sym, ◌∙◌, ap, subst, arith, length-set}
+use Rattle.std.proofs.Common.{slice_set}
 use Rattle.sk_undo.proofs.Growing.{AllRest}
 use Rattle.sk_undo.proofs.NewestNotes.{from_end, from_before, stops_there, lightened_from, none_gone_over, rests_there}
 use Rattle.sk_undo.proofs.log.lighten.Goals as goal

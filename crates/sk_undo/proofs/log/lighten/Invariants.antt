@@ -1,6 +1,5 @@
 -- The notes gone over are without the guess.
-use Rattle.std.proofs.Common.{◌≡◌, ◌≤◌, length, drop}
-use Rattle.std.specs.Vec.{vec_len, vec_capacity}
+use Rattle.sk_undo.proofs.Cites.{◌≡◌, ◌≤◌, length, drop, vec_len, vec_capacity}
 use Rattle.sk_undo.proofs.Growing.{AllRest}
 use Rattle.sk_undo.proofs.NewestNotes.{lightened_from}
 use Rattle.sk_undo.proofs.log.lighten.Given as goal

@@ -1,8 +1,4 @@
-use Rattle.std.proofs.Common.{subst}
-use Rattle.std.specs.Prelude.{reverse}
-use Rattle.std.specs.Ordering.{nat_cmp}
-use Rattle.std.specs.List.Sorted.{IsStrictlySortedBy}
-use Rattle.sk_undo.specs.Slot.{undone}
+use Rattle.sk_undo.proofs.Cites.{subst, reverse, nat_cmp, IsStrictlySortedBy, undone}
 use Rattle.sk_undo.proofs.SeenNotes.{tags_seen}
 use Rattle.sk_undo.proofs.slot.goes_on.Goals as goal
 

@@ -1,5 +1,4 @@
-use Rattle.std.proofs.Common.{sym, ◌∙◌}
-use Rattle.std.specs.Prelude.{reverse}
+use Rattle.sk_undo.proofs.Cites.{sym, ◌∙◌, reverse}
 use Rattle.sk_undo.proofs.Stable.{unnoted_seen, unnoted_stable}
 use Rattle.sk_undo.proofs.slot.goes_unnoted.Goals as goal
 

@@ -1,6 +1,4 @@
-use Rattle.std.proofs.Common.{◌≡◌, sym, ◌∙◌, rules}
-use Rattle.sk_undo.specs.Log.{is_empty}
-use Rattle.sk_undo.specs.Slot.{undone}
+use Rattle.sk_undo.proofs.Cites.{◌≡◌, sym, ◌∙◌, rules, is_empty, undone}
 use Rattle.sk_undo.proofs.SeenNotes.{notes_none}
 use Rattle.sk_undo.proofs.slot.is_unnoted.Goals as goal
 

@@ -1,5 +1,4 @@
-use Rattle.std.proofs.Common.{◌≡◌, ◌+◌, ◌≤◌, vec_len, vec_capacity}
-use Rattle.sk_workers.specs.History.{AreFresh}
+use Rattle.sk_workers.proofs.Names.{◌≡◌, ◌+◌, ◌≤◌, vec_len, vec_capacity, AreFresh}
 use Rattle.sk_workers.proofs.book.new_workers.Given as goal
 
 abbrev pub invariant-loop-number : goal.invariant-loop-number

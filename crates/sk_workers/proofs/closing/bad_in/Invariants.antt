@@ -1,5 +1,4 @@
-use Rattle.std.proofs.Common.{ℕ, ◌<◌}
-use Rattle.sk_workers.specs.Closing.{Agrees}
+use Rattle.sk_workers.proofs.Names.{ℕ, ◌<◌, Agrees}
 use Rattle.sk_workers.proofs.closing.bad_in.Given as goal
 
 abbrev pub invariant-loop-k : goal.invariant-loop-k

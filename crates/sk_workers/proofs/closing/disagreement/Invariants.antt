@@ -1,7 +1,4 @@
-use Rattle.std.proofs.Common.{◌≡◌, ℕ, ◌<◌}
-use Rattle.std.specs.Prelude.{Some, slice_get}
-use Rattle.sk_workers.specs.Views.{WorkerView}
-use Rattle.sk_workers.specs.Closing.{Stands}
+use Rattle.sk_workers.proofs.Names.{◌≡◌, ℕ, ◌<◌, Some, slice_get, WorkerView, Stands}
 use Rattle.sk_workers.proofs.closing.disagreement.Given as goal
 
 abbrev pub invariant-loop-i : goal.invariant-loop-i

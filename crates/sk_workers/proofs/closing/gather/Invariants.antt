@@ -1,5 +1,4 @@
-use Rattle.std.proofs.Common.{◌≡◌, ◌+◌, vec_len}
-use Rattle.sk_workers.specs.Closing.{receipts_of}
+use Rattle.sk_workers.proofs.Names.{◌≡◌, ◌+◌, vec_len, receipts_of}
 use Rattle.sk_workers.proofs.closing.gather.Given as goal
 
 abbrev pub invariant-loop-worker : goal.invariant-loop-worker

@@ -1,7 +1,6 @@
 -- What a write takes goes from the rest to what is done.
-use Rattle.std.proofs.Common.{◌≡◌, ℕ, ◌-◌, List, ◌++◌, length, take, drop, sym, ap, ◌∙◌, append_assoc, take-append-drop}
-use Rattle.std.proofs.lemmas.List.{take_rest}
-use Rattle.std.proofs.KnownBytes.{Appends-kept, Appends-trans}
+use Rattle.speculate.proofs.Names.{◌≡◌, ℕ, ◌-◌, List, ◌++◌, length, take, drop, sym, ap, ◌∙◌, append_assoc}
+use Rattle.speculate.proofs.Names.{take-append-drop, take_rest, Appends-kept, Appends-trans}
 use Rattle.speculate.proofs.working.put.Goals as goal
 use Rattle.speculate.proofs.working.put.Goals.{in-Ok, in-Err+else-ne}
 

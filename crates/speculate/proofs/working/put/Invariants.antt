@@ -1,6 +1,5 @@
 -- What is gone from the rest was appended.
-use Rattle.std.proofs.Common.{◌≡◌, ℕ, List, ◌++◌}
-use Rattle.std.specs.Io.KnownBytes.{Appends}
+use Rattle.speculate.proofs.Names.{◌≡◌, ℕ, List, ◌++◌, Appends}
 use Rattle.speculate.proofs.working.put.Given as goal
 
 abbrev pub invariant-loop : goal.invariant-loop

@@ -1,8 +1,5 @@
 -- The history that the crew left.
-use Rattle.std.proofs.Common.{◌≡◌, length, ap, subst, arith}
-use Rattle.sk_client.specs.Desk.{DeskView}
-use Rattle.sk_workers.specs.History.{Runs}
-use Rattle.sk_crew.specs.Crewed.{IsCrewed}
+use Rattle.speculate.proofs.Names.{◌≡◌, length, ap, subst, arith, DeskView, Runs, IsCrewed}
 use Rattle.speculate.proofs.working.work.Goals as goal
 
 pub returns : goal.returns

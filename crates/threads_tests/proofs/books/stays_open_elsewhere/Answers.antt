@@ -1,5 +1,4 @@
-use Rattle.std.proofs.Common.{refl}
-use Rattle.sk_workers.proofs.Closed.{distinct}
+use Rattle.threads_tests.proofs.Names.{refl, distinct}
 use Rattle.threads_tests.proofs.books.stays_open_elsewhere.Goals as goal
 
 pub close-requires-clause-distinct : goal.close-requires-clause-distinct

@@ -1,7 +1,5 @@
 -- As many were sent as rounds are done.
-use Rattle.std.proofs.Common.{◌≡◌, length}
-use Rattle.crossbeam_queue.specs.Passes.{view}
-use Rattle.sk_wire.specs.Wire.{IsSending, IsReceiving}
+use Rattle.threads_tests.proofs.Names.{◌≡◌, length, view, IsSending, IsReceiving}
 use Rattle.threads_tests.proofs.rounds.go_by.Given as goal
 
 abbrev pub invariant-loop-k : goal.invariant-loop-k

@@ -1,8 +1,5 @@
-use Rattle.std.proofs.Common.{List, [], ◌∷◌, ◌++◌, refl, sym, ap, ◌∙◌}
-use Rattle.std.specs.Prelude.{Option, option_to_list}
-use Rattle.sk_workers.specs.Views.{WorkerView}
-use Rattle.sk_workers.specs.Closing.{numbers}
-use Rattle.sk_workers.proofs.Closed.{distinct, numbers_push}
+use Rattle.threads_tests.proofs.Names.{List, [], ◌∷◌, ◌++◌, refl, sym, ap, ◌∙◌, Option, option_to_list, WorkerView}
+use Rattle.threads_tests.proofs.Names.{numbers, distinct, numbers_push}
 use Rattle.threads_tests.proofs.shares.two_workers.Goals as goal
 
 pub closes-requires-clause-distinct : goal.closes-requires-clause-distinct

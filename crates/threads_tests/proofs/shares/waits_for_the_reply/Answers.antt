@@ -1,10 +1,6 @@
 -- The only worker comes back in its place.
-use Rattle.std.proofs.Common.{◌≡◌, ◌+◌, List, [], ◌∷◌, ◌++◌, length, sym, ap, ◌∙◌, arith}
-use Rattle.std.specs.Prelude.{Option, option_to_list}
-use Rattle.std.proofs.lemmas.List.{length-append}
-use Rattle.std.proofs.lemmas.Option.{slice_get_within}
-use Rattle.sk_workers.specs.Views.{WorkerView}
-use Rattle.sk_workers.specs.Closing.{AreDistinct}
+use Rattle.threads_tests.proofs.Names.{◌≡◌, ◌+◌, List, [], ◌∷◌, ◌++◌, length, sym, ap, ◌∙◌, arith, Option}
+use Rattle.threads_tests.proofs.Names.{option_to_list, length-append, slice_get_within, WorkerView, AreDistinct}
 use Rattle.threads_tests.proofs.shares.waits_for_the_reply.Goals as goal
 
 alone : (ws : List WorkerView) → length ws ≡ 1 → AreDistinct ws

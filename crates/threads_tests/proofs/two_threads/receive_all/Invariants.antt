@@ -1,5 +1,4 @@
-use Rattle.std.proofs.Common.{◌≤◌}
-use Rattle.sk_wire.specs.Wire.{IsReceiving}
+use Rattle.threads_tests.proofs.Names.{◌≤◌, IsReceiving}
 use Rattle.threads_tests.proofs.two_threads.receive_all.Given as goal
 
 abbrev pub invariant-loop : goal.invariant-loop

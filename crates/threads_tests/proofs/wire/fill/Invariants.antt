@@ -1,7 +1,5 @@
 -- As many were sent as were tried.
-use Rattle.std.proofs.Common.{◌≡◌, length}
-use Rattle.crossbeam_queue.specs.Passes.{view}
-use Rattle.sk_wire.specs.Wire.{IsSending}
+use Rattle.threads_tests.proofs.Names.{◌≡◌, length, view, IsSending}
 use Rattle.threads_tests.proofs.wire.fill.Given as goal
 
 abbrev pub invariant-loop-k : goal.invariant-loop-k

@@ -1,10 +1,6 @@
 -- The token of the guess that is drawn is pushed.
-use Rattle.std.proofs.Common.{rules, ◌≡◌, false, is_err, [], ◌∷◌, ◌++◌, None, subst}
-use Rattle.sk_speculator.specs.Calls.{next_of}
-use Rattle.sk_bytes.specs.Steps.{byte_deed}
-use Rattle.sk_reserved.specs.Keys.{batch_key}
-use Rattle.sk_batched.specs.Batched.{opening}
-use Rattle.sk_batched.specs.InStep.{IsInStep}
+use Rattle.sk_batched.proofs.Names.{rules, ◌≡◌, false, is_err, [], ◌∷◌, ◌++◌, None, subst, next_of, byte_deed}
+use Rattle.sk_batched.proofs.Names.{batch_key, opening, IsInStep}
 use Rattle.sk_batched.proofs.Answering.{drawn_as, opened_deed, room_for}
 use Rattle.sk_batched.proofs.Queues.{begins, same_seen}
 use Rattle.sk_batched.proofs.batched.Batched.begin.Goals as goal

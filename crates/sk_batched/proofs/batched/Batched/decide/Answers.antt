@@ -1,6 +1,5 @@
 -- The oldest token is that of the oldest batch.
-use Rattle.std.proofs.Common.{rules, ◌≡◌, Some}
-use Rattle.sk_batches.specs.Queue.{decided}
+use Rattle.sk_batched.proofs.Names.{rules, ◌≡◌, Some, decided}
 use Rattle.sk_batched.proofs.Queues.{oldest_alone, oldest_committed, oldest_failed}
 use Rattle.sk_batched.proofs.batched.Batched.decide.Goals as goal
 

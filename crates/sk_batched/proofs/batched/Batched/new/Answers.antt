@@ -1,6 +1,5 @@
 -- No guess is drawn, and no batch is undecided.
-use Rattle.std.proofs.Common.{◌≤◌, sym, ◌∙◌, ap, subst}
-use Rattle.sk_guesses.specs.Kept.{none_drawn}
+use Rattle.sk_batched.proofs.Names.{◌≤◌, sym, ◌∙◌, ap, subst, none_drawn}
 use Rattle.sk_batched.proofs.Answering.{capped_small}
 use Rattle.sk_batched.proofs.Queues.{new_in_step, new_row}
 use Rattle.sk_batched.proofs.batched.Batched.new.Goals as goal

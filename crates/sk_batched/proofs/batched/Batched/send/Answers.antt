@@ -1,6 +1,5 @@
 -- The open batch is sent, and the next has no guess yet.
-use Rattle.std.proofs.Common.{rules, ◌≡◌, true, is_err, sym, subst}
-use Rattle.sk_batched.specs.InStep.{IsInStep}
+use Rattle.sk_batched.proofs.Names.{rules, ◌≡◌, true, is_err, sym, subst, IsInStep}
 use Rattle.sk_batched.proofs.Answering.{sent}
 use Rattle.sk_batched.proofs.batched.Batched.send.Goals as goal
 

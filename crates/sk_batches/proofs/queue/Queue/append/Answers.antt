@@ -1,7 +1,5 @@
 -- One record more fits.
-use Rattle.std.proofs.Common.{◌+◌, ◌≤◌, length, ap, sym, subst, arith}
-use Rattle.sk_batches.specs.Records.{RecordView, payload}
-use Rattle.sk_batches.specs.Queue.{QueueView, undecided}
+use Rattle.sk_batches.proofs.Names.{◌+◌, ◌≤◌, length, ap, sym, subst, arith, RecordView, payload, QueueView, undecided}
 use Rattle.sk_batches.proofs.Lists.{pushed_length}
 use Rattle.sk_batches.proofs.queue.Queue.append.Goals as goal
 

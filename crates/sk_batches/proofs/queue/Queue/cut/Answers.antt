@@ -1,8 +1,5 @@
 -- No batch is larger than it was.
-use Rattle.std.proofs.Common.{length, ap, arith}
-use Rattle.std.specs.List.{sum_by}
-use Rattle.sk_batches.specs.Records.{payload}
-use Rattle.sk_batches.specs.Queue.{cut_off}
+use Rattle.sk_batches.proofs.Names.{length, ap, arith, sum_by, payload, cut_off}
 use Rattle.sk_batches.proofs.Lists.{size, sum_mapped, cut_size, kept_length}
 use Rattle.sk_batches.proofs.queue.Queue.cut.Goals as goal
 

@@ -1,7 +1,5 @@
 -- The oldest is let go of, where it is decided.
-use Rattle.std.proofs.Common.{◌≡◌, Some, ◌∙◌, ap, rules, arith}
-use Rattle.std.specs.List.{sum_by}
-use Rattle.sk_batches.specs.Queue.{decided}
+use Rattle.sk_batches.proofs.Names.{◌≡◌, Some, ◌∙◌, ap, rules, arith, sum_by, decided}
 use Rattle.sk_batches.proofs.Lists.{size, is_left, there_is, left_size}
 use Rattle.sk_batches.proofs.queue.Queue.next_decided.Goals as goal
 

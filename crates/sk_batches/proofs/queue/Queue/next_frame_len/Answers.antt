@@ -1,7 +1,5 @@
 -- What is to be sent again is no more than what is undecided.
-use Rattle.std.proofs.Common.{◌≡◌, ◌+◌, length, ap, subst, arith}
-use Rattle.sk_batches.specs.Records.{payload}
-use Rattle.sk_batches.specs.Queue.{QueueView, kept_records, next_records}
+use Rattle.sk_batches.proofs.Names.{◌≡◌, ◌+◌, length, ap, subst, arith, payload, QueueView, kept_records, next_records}
 use Rattle.sk_batches.proofs.Lists.{both_length, kept_size}
 use Rattle.sk_batches.proofs.queue.Queue.next_frame_len.Goals as goal
 

@@ -1,10 +1,6 @@
 -- The records move from the open batch to the last, and nothing more is undecided.
-use Rattle.std.proofs.Common.{◌≤◌, ◌++◌, ◌∷◌, [], ◌∙◌, length, ap, sym, subst, arith}
-use Rattle.std.specs.List.{sum_by}
-use Rattle.sk_batches.specs.declared.batch.Stage.TheVariants.{Kept}
-use Rattle.sk_batches.specs.declared.batch.Batch.{Batch}
-use Rattle.sk_batches.specs.Records.{payload}
-use Rattle.sk_batches.specs.Queue.{QueueView, kept_records, next_records, send}
+use Rattle.sk_batches.proofs.Names.{◌≤◌, ◌++◌, ◌∷◌, [], ◌∙◌, length, ap, sym, subst, arith, sum_by, Kept, Batch}
+use Rattle.sk_batches.proofs.Names.{payload, QueueView, kept_records, next_records, send}
 use Rattle.sk_batches.proofs.Lists.{size, both_length, kept_size, sum_mapped, sum_pushed, sent_size}
 use Rattle.sk_batches.proofs.queue.Queue.take.Goals as goal
 

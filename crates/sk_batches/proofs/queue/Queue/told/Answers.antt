@@ -1,7 +1,5 @@
 -- No batch is larger than it was.
-use Rattle.std.proofs.Common.{ap, arith}
-use Rattle.std.specs.List.{sum_by}
-use Rattle.sk_batches.specs.Queue.{tell}
+use Rattle.sk_batches.proofs.Names.{ap, arith, sum_by, tell}
 use Rattle.sk_batches.proofs.Lists.{size, sum_mapped, told_size}
 use Rattle.sk_batches.proofs.queue.Queue.told.Goals as goal
 

@@ -1,6 +1,5 @@
 -- The bytes are no more than may be.
-use Rattle.std.proofs.Common.{ap, arith}
-use Rattle.std.specs.List.{sum_by}
+use Rattle.sk_batches.proofs.Names.{ap, arith, sum_by}
 use Rattle.sk_batches.proofs.Lists.{size}
 use Rattle.sk_batches.proofs.queue.Queue.undecided.Goals as goal
 

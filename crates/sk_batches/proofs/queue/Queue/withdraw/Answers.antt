@@ -1,6 +1,5 @@
 -- Less is undecided.
-use Rattle.std.proofs.Common.{ap, length, arith}
-use Rattle.sk_batches.specs.Records.{payload}
+use Rattle.sk_batches.proofs.Names.{ap, length, arith, payload}
 use Rattle.sk_batches.proofs.Lists.{last_length}
 use Rattle.sk_batches.proofs.queue.Queue.withdraw.Goals as goal
 

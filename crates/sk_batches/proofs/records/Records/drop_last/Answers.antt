@@ -1,6 +1,5 @@
 -- The last record's bytes are the last.
-use Rattle.std.proofs.Common.{◌∙◌, ap, length, arith}
-use Rattle.sk_batches.specs.Records.{payload}
+use Rattle.sk_batches.proofs.Names.{◌∙◌, ap, length, arith, payload}
 use Rattle.sk_batches.proofs.Lists.{pushed_length}
 use Rattle.sk_batches.proofs.records.Records.drop_last.Goals as goal
 

@@ -1,6 +1,5 @@
 -- Those that are kept are no longer than all.
-use Rattle.std.proofs.Common.{◌∙◌, length, ap, arith}
-use Rattle.sk_batches.specs.Records.{payload}
+use Rattle.sk_batches.proofs.Names.{◌∙◌, length, ap, arith, payload}
 use Rattle.sk_batches.proofs.Lists.{kept_length}
 use Rattle.sk_batches.proofs.records.Records.keep.Goals as goal
 

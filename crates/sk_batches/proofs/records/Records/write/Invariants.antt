@@ -1,6 +1,5 @@
 -- The bytes so far stand behind the place, and behind them all is as it was.
-use Rattle.std.proofs.Common.{take, drop}
-use Rattle.sk_batches.specs.Records.{payload}
+use Rattle.sk_batches.proofs.Names.{take, drop, payload}
 use Rattle.sk_batches.proofs.Lists.{IsWritten}
 use Rattle.sk_batches.proofs.records.Records.write.Given as goal
 

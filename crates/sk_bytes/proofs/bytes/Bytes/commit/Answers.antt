@@ -1,14 +1,7 @@
 -- The guess that is committed over numbers is committed over strings.
-use Rattle.std.proofs.Common.{ℕ, sym, ap, ◌∙◌, subst}
-use Rattle.std.specs.Prelude.{IfOk}
-use Rattle.std.specs.Global.{Vec}
-use Rattle.std.specs.Ordering.{nat_cmp}
-use Rattle.sk_record.specs.Effects.{is_in}
-use Rattle.sk_speculator.specs.Calls.{IsStranger}
-use Rattle.sk_speculator.specs.Parts.{Parts}
-use Rattle.sk_bytes.specs.Told.{told_of, strings_of, ByteView, IsTold}
+use Rattle.sk_bytes.proofs.Names.{ℕ, sym, ap, ◌∙◌, subst, IfOk, Vec, nat_cmp, is_in, IsStranger, Parts, told_of}
+use Rattle.sk_bytes.proofs.Names.{strings_of, ByteView, IsTold, listed, ListsAbsent}
 use Rattle.sk_bytes.proofs.Fitting.{fits_less, told_still}
-use Rattle.sk_bytes.specs.Numbers.{listed, ListsAbsent}
 use Rattle.sk_bytes.proofs.Undone.{commit_told, fits_decided}
 use Rattle.sk_bytes.proofs.Used.{used_decided, used_less}
 use Rattle.sk_bytes.proofs.bytes.Bytes.commit.Goals as goal

@@ -1,10 +1,5 @@
 -- The guess that fails over numbers fails over strings.
-use Rattle.std.proofs.Common.{Ok, ap, ◌∙◌, subst}
-use Rattle.std.specs.Ordering.{nat_cmp}
-use Rattle.sk_record.specs.Effects.{is_in}
-use Rattle.sk_speculator.specs.Calls.{FailPost, IsStranger}
-use Rattle.sk_speculator.specs.Parts.{Parts}
-use Rattle.sk_bytes.specs.Told.{told_of, ByteView}
+use Rattle.sk_bytes.proofs.Names.{Ok, ap, ◌∙◌, subst, nat_cmp, is_in, FailPost, IsStranger, Parts, told_of, ByteView}
 use Rattle.sk_bytes.proofs.Fitting.{fits_failed, fits_forgot, fits_less, told_still}
 use Rattle.sk_bytes.proofs.Used.{used_failed, used_forgot, used_less}
 use Rattle.sk_bytes.proofs.Undone.{failed_told, gone_told, held_back}

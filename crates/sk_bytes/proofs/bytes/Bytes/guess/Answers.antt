@@ -1,20 +1,8 @@
 -- The guess that is drawn over numbers is drawn over strings, and one that is refused changes nothing that is told.
-use Rattle.std.proofs.Common.{Some, sym, ap, ◌∙◌, subst}
-use Rattle.std.specs.Ordering.{nat_cmp}
-use Rattle.std.specs.Vec.{vec_items}
-use Rattle.std.proofs.lemmas.Result.{err_from_is_err_and}
-use Rattle.sk_deeds.specs.Deed.{Deed}
-use Rattle.sk_record.specs.Effects.{is_in}
-use Rattle.sk_index.specs.Index.{bytes_cmp, number_of}
-use Rattle.sk_speculator.specs.Calls.{next_of, Refuses, Takes}
+use Rattle.sk_bytes.proofs.Names.{Some, sym, ap, ◌∙◌, subst, nat_cmp, vec_items, err_from_is_err_and, Deed, is_in}
+use Rattle.sk_bytes.proofs.Names.{bytes_cmp, number_of, next_of, Refuses, Takes, Parts, next_above, from_ok, names}
+use Rattle.sk_bytes.proofs.Names.{RefusesGuess, byte_deed, deed_in, told_of, ByteView, Fits, UsedBut}
 use Rattle.sk_speculator.specs.declared.refusal.Refusal.TheVariants as inner
-use Rattle.sk_speculator.specs.Parts.{Parts}
-use Rattle.sk_speculator.proofs.Afterwards.{next_above}
-use Rattle.sk_speculator.proofs.Writing.{from_ok}
-use Rattle.sk_bytes.specs.Numbers.{names}
-use Rattle.sk_bytes.specs.Calls.{RefusesGuess}
-use Rattle.sk_bytes.specs.Steps.{byte_deed, deed_in}
-use Rattle.sk_bytes.specs.Told.{told_of, ByteView, Fits, UsedBut}
 use Rattle.sk_bytes.proofs.Told.{taken_whole, takes_told}
 use Rattle.sk_bytes.proofs.Fitting.{any_err, fits_less, fits_more, fits_same, fits_taken, refused, refused_next, told_still, unchanged, writes_names}
 use Rattle.sk_bytes.proofs.Used.{used_less, used_more, used_same, used_taken}

@@ -1,7 +1,5 @@
 -- The string in the place.
-use Rattle.std.proofs.Common.{◌∙◌, ap}
-use Rattle.sk_index.specs.Index.{string_of}
-use Rattle.sk_bytes.specs.Told.{ByteView}
+use Rattle.sk_bytes.proofs.Names.{◌∙◌, ap, string_of, ByteView}
 use Rattle.sk_bytes.proofs.bytes.Bytes.key_at.Goals as goal
 
 pub returns : goal.returns

@@ -1,7 +1,5 @@
 -- The keys that have numbers are counted.
-use Rattle.std.proofs.Common.{sym, subst}
-use Rattle.sk_bytes.specs.Calls.{Counts}
-use Rattle.sk_bytes.specs.Told.{ByteView}
+use Rattle.sk_bytes.proofs.Names.{sym, subst, Counts, ByteView}
 use Rattle.sk_bytes.proofs.Counted.{counts}
 use Rattle.sk_bytes.proofs.bytes.Bytes.len.Goals as goal
 

@@ -1,9 +1,5 @@
 -- No string has a number.
-use Rattle.std.proofs.Common.{[], None, ap, ◌∙◌}
-use Rattle.std.specs.Ordering.{nat_cmp}
-use Rattle.sk_renamed.specs.Renamed.{at_key}
-use Rattle.sk_slots.specs.Slots.{look_at, log_at}
-use Rattle.sk_index.specs.Index.{number_of, string_of}
+use Rattle.sk_bytes.proofs.Names.{[], None, ap, ◌∙◌, nat_cmp, at_key, look_at, log_at, number_of, string_of}
 use Rattle.sk_bytes.proofs.Fitting.{fits_new, told_still}
 use Rattle.sk_bytes.proofs.Told.{look_told, log_told}
 use Rattle.sk_bytes.proofs.bytes.Bytes.new.Goals as goal

@@ -1,9 +1,5 @@
 -- The kernel inside tells it.
-use Rattle.std.proofs.Common.{◌≡◌, [], ap, subst, sym, ◌∙◌}
-use Rattle.std.specs.Prelude.{IfSome}
-use Rattle.sk_outputs.specs.Said.{said_at}
-use Rattle.sk_record.specs.Machine.{released}
-use Rattle.sk_bytes.specs.Told.{ByteView}
+use Rattle.sk_bytes.proofs.Names.{◌≡◌, [], ap, subst, sym, ◌∙◌, IfSome, said_at, released, ByteView}
 use Rattle.sk_bytes.proofs.bytes.Bytes.next_channel.Goals as goal
 
 pub returns-clause-some : goal.returns-clause-some

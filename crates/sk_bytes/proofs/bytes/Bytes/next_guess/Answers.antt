@@ -1,10 +1,6 @@
 -- What is told of the kernel inside has the same guesses.
-use Rattle.std.proofs.Common.{◌≡◌, subst}
-use Rattle.std.specs.Prelude.{IfErr, IfOk, OnOk}
-use Rattle.sk_speculator.specs.Calls.{next_of, Refuses}
+use Rattle.sk_bytes.proofs.Names.{◌≡◌, subst, IfErr, IfOk, OnOk, next_of, Refuses, RefusesNext, ByteView}
 use Rattle.sk_speculator.specs.declared.refusal.Refusal.TheVariants as inner
-use Rattle.sk_bytes.specs.Calls.{RefusesNext}
-use Rattle.sk_bytes.specs.Told.{ByteView}
 use Rattle.sk_bytes.proofs.Fitting.{answer_told}
 use Rattle.sk_bytes.proofs.bytes.Bytes.next_guess.Goals as goal
 

@@ -1,10 +1,6 @@
 -- The numbers of the index rise, and those of the list too.
-use Rattle.std.proofs.Common.{length, ◌∙◌, ap, ◌≡◌, None, subst}
-use Rattle.std.specs.Prelude.{slice_get}
-use Rattle.sk_renamed.specs.Renamed.{at_key}
-use Rattle.sk_index.specs.Index.{string_of}
-use Rattle.sk_bytes.specs.Calls.{resting_on}
-use Rattle.sk_bytes.specs.Told.{strings_of, ByteView}
+use Rattle.sk_bytes.proofs.Names.{length, ◌∙◌, ap, ◌≡◌, None, subst, slice_get, at_key, string_of, resting_on}
+use Rattle.sk_bytes.proofs.Names.{strings_of, ByteView}
 use Rattle.sk_bytes.proofs.Resting.{resting_count, resting_keys}
 use Rattle.sk_bytes.proofs.bytes.Bytes.numbers_on.Goals as goal
 

@@ -1,8 +1,5 @@
 -- The keys are those of the index.
-use Rattle.std.proofs.Common.{sym, ◌∙◌, ap, subst}
-use Rattle.sk_index.specs.Index.{string_of}
-use Rattle.sk_bytes.specs.Calls.{HasPlaces}
-use Rattle.sk_bytes.specs.Told.{ByteView}
+use Rattle.sk_bytes.proofs.Names.{sym, ◌∙◌, ap, subst, string_of, HasPlaces, ByteView}
 use Rattle.sk_bytes.proofs.Counted.{has_places}
 use Rattle.sk_bytes.proofs.bytes.Bytes.places.Goals as goal
 

@@ -1,11 +1,6 @@
 -- What is taken out of a channel changes no number, and was told before.
-use Rattle.std.proofs.Common.{◌≡◌, ℕ, false, List, [], ◌∷◌, Option, None, sym, ap, subst}
-use Rattle.std.specs.Prelude.{◌==◌, IfSome}
-use Rattle.sk_outputs.specs.Said.{said_at}
-use Rattle.sk_index.specs.Index.{Numbered}
-use Rattle.sk_speculator.specs.Parts.{Parts}
-use Rattle.sk_speculator.proofs.Afterwards.{whole_told}
-use Rattle.sk_bytes.specs.Told.{IsTold}
+use Rattle.sk_bytes.proofs.Names.{◌≡◌, ℕ, false, List, [], ◌∷◌, Option, None, sym, ap, subst, ◌==◌, IfSome, said_at}
+use Rattle.sk_bytes.proofs.Names.{Numbered, Parts, whole_told, IsTold}
 use Rattle.sk_bytes.proofs.bytes.Bytes.released.Goals as goal
 
 told_out : {V O : Type 0} (es : Numbered) (m b : Parts ℕ V O) (undone : List ℕ) (t : ℕ) (o : Option O) → IsTold es m undone → IfSome o (λ output. said_at m.said t ≡ ((t, output), []) ∷ said_at b.said t)

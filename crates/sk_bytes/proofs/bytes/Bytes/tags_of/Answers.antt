@@ -1,11 +1,5 @@
 -- A key rests on what its number rests on.
-use Rattle.std.proofs.Common.{[], sym, ap, ◌∙◌}
-use Rattle.std.specs.Ordering.{nat_cmp}
-use Rattle.sk_record.specs.Notes.{last_tags}
-use Rattle.sk_renamed.specs.Renamed.{at_key}
-use Rattle.sk_slots.specs.Slots.{log_at}
-use Rattle.sk_index.specs.Index.{bytes_cmp}
-use Rattle.sk_bytes.specs.Told.{ByteView}
+use Rattle.sk_bytes.proofs.Names.{[], sym, ap, ◌∙◌, nat_cmp, last_tags, at_key, log_at, bytes_cmp, ByteView}
 use Rattle.sk_bytes.proofs.Told.{log_told}
 use Rattle.sk_bytes.proofs.bytes.Bytes.tags_of.Goals as goal
 

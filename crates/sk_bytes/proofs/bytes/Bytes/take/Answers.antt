@@ -1,19 +1,7 @@
 -- The step that is taken over numbers is taken over strings, and one that is refused changes nothing that is told.
-use Rattle.std.proofs.Common.{None, sym, ap, ◌∙◌, subst}
-use Rattle.std.specs.Prelude.{is_none}
-use Rattle.std.specs.List.{list_any}
-use Rattle.std.specs.Ordering.{nat_cmp}
-use Rattle.std.specs.Vec.{vec_items}
-use Rattle.sk_deeds.specs.Deed.{Deed}
-use Rattle.sk_record.specs.Effects.{is_in}
-use Rattle.sk_index.specs.Index.{bytes_cmp, number_of}
-use Rattle.sk_speculator.specs.Calls.{Takes}
-use Rattle.sk_speculator.specs.Parts.{Parts}
-use Rattle.sk_speculator.proofs.Afterwards.{no_next}
-use Rattle.sk_speculator.proofs.Writing.{from_err, from_ok}
-use Rattle.sk_bytes.specs.Numbers.{names}
-use Rattle.sk_bytes.specs.Steps.{byte_deed, deed_in}
-use Rattle.sk_bytes.specs.Told.{told_of, ByteView, Fits, UsedBut}
+use Rattle.sk_bytes.proofs.Names.{None, sym, ap, ◌∙◌, subst, is_none, list_any, nat_cmp, vec_items, Deed, is_in}
+use Rattle.sk_bytes.proofs.Names.{bytes_cmp, number_of, Takes, Parts, no_next, from_err, from_ok, names, byte_deed}
+use Rattle.sk_bytes.proofs.Names.{deed_in, told_of, ByteView, Fits, UsedBut}
 use Rattle.sk_bytes.proofs.Told.{taken_whole, takes_told}
 use Rattle.sk_bytes.proofs.Fitting.{any_err, fits_less, fits_more, fits_same, fits_taken, set_shown, told_still, unchanged, writes_names}
 use Rattle.sk_bytes.proofs.Used.{used_less, used_more, used_same, used_taken}

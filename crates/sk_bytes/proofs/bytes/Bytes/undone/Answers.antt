@@ -1,9 +1,5 @@
 -- The string of the number in this place.
-use Rattle.std.proofs.Common.{None, sym, ap, ◌∙◌}
-use Rattle.std.specs.Prelude.{slice_get}
-use Rattle.sk_renamed.specs.Renamed.{at_key}
-use Rattle.sk_index.specs.Index.{string_of}
-use Rattle.sk_bytes.specs.Told.{ByteView}
+use Rattle.sk_bytes.proofs.Names.{None, sym, ap, ◌∙◌, slice_get, at_key, string_of, ByteView}
 use Rattle.sk_bytes.proofs.Moves.{get_none, get_some}
 use Rattle.sk_bytes.proofs.Undone.{strings_at}
 use Rattle.sk_bytes.proofs.bytes.Bytes.undone.Goals as goal

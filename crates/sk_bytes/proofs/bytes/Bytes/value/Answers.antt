@@ -1,10 +1,5 @@
 -- A key has what its number has.
-use Rattle.std.proofs.Common.{None, sym, ap, ◌∙◌}
-use Rattle.std.specs.Ordering.{nat_cmp}
-use Rattle.sk_renamed.specs.Renamed.{at_key}
-use Rattle.sk_slots.specs.Slots.{look_at}
-use Rattle.sk_index.specs.Index.{bytes_cmp}
-use Rattle.sk_bytes.specs.Told.{ByteView}
+use Rattle.sk_bytes.proofs.Names.{None, sym, ap, ◌∙◌, nat_cmp, at_key, look_at, bytes_cmp, ByteView}
 use Rattle.sk_bytes.proofs.Told.{look_told}
 use Rattle.sk_bytes.proofs.bytes.Bytes.value.Goals as goal
 

@@ -1,10 +1,5 @@
 -- A key has what its number has, and where no key is nothing is.
-use Rattle.std.proofs.Common.{None, ◌∙◌, ap}
-use Rattle.std.specs.Ordering.{nat_cmp}
-use Rattle.sk_renamed.specs.Renamed.{at_key}
-use Rattle.sk_slots.specs.Slots.{look_at}
-use Rattle.sk_index.specs.Index.{bytes_cmp, string_of}
-use Rattle.sk_bytes.specs.Told.{ByteView}
+use Rattle.sk_bytes.proofs.Names.{None, ◌∙◌, ap, nat_cmp, at_key, look_at, bytes_cmp, string_of, ByteView}
 use Rattle.sk_bytes.proofs.Counted.{value_in_place}
 use Rattle.sk_bytes.proofs.bytes.Bytes.value_at.Goals as goal
 

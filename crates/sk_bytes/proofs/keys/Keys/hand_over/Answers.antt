@@ -1,6 +1,5 @@
 -- The step over numbers is the step.
-use Rattle.std.proofs.Common.{sym, ◌∙◌}
-use Rattle.sk_index.specs.Index.{number_of}
+use Rattle.sk_bytes.proofs.Names.{sym, ◌∙◌, number_of}
 use Rattle.sk_bytes.proofs.Steps.{deed_told, handed, lengths, same_names}
 use Rattle.sk_bytes.proofs.keys.Keys.hand_over.Goals as goal
 

@@ -1,8 +1,5 @@
 -- Each key has something, and keeps its number.
-use Rattle.std.specs.Ordering.{nat_cmp}
-use Rattle.sk_record.specs.Effects.{is_in}
-use Rattle.sk_index.specs.Index.{string_of}
-use Rattle.sk_bytes.specs.Told.{slot_shown}
+use Rattle.sk_bytes.proofs.Names.{nat_cmp, is_in, string_of, slot_shown}
 use Rattle.sk_bytes.proofs.Fitting.{all_kept}
 use Rattle.sk_bytes.proofs.keys.Keys.let_go_taken.Goals as goal
 

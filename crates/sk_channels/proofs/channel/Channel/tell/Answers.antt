@@ -1,7 +1,5 @@
 -- Its ticket was given.
-use Rattle.sk_commands.specs.declared.reply.Reply.TheVariants.{Text}
-use Rattle.sk_commands.specs.declared.work.Work.TheVariants.{Say}
-use Rattle.sk_channels.specs.declared.inlet.Ask.TheVariants.{Do}
+use Rattle.sk_channels.proofs.Names.{Text, Say, Do}
 use Rattle.sk_channels.proofs.Served.{asked_more}
 use Rattle.sk_channels.proofs.channel.Channel.tell.Goals as goal
 

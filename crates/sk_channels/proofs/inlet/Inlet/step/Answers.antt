@@ -1,10 +1,6 @@
 -- What came is dropped, is asked for, or has a fault.
-use Rattle.std.proofs.Common.{◌+◌, [], ◌∷◌, ◌++◌, length, take, Err, sym, ◌∙◌, ap, subst, arith}
-use Rattle.sk_channels.specs.declared.inlet.Ask.{Ask}
-use Rattle.sk_channels.specs.declared.inlet.Asked.{Asked}
-use Rattle.sk_channels.specs.declared.inlet.Inlet.{Inlet}
-use Rattle.sk_channels.specs.Hearing.{HasHeard}
-use Rattle.sk_requests.specs.Stream.{ReadsOn}
+use Rattle.sk_channels.proofs.Names.{◌+◌, [], ◌∷◌, ◌++◌, length, take, Err, sym, ◌∙◌, ap, subst, arith, Ask, Asked}
+use Rattle.sk_channels.proofs.Names.{Inlet, HasHeard, ReadsOn}
 use Rattle.sk_channels.proofs.Heard.{opened, dropped_on, found_on, closed_on, none_posed, read_idle, still_posed}
 use Rattle.sk_channels.proofs.inlet.Inlet.step.Goals as goal
 

@@ -1,9 +1,6 @@
 -- One request more, which has no guess, and for which room was made.
-use Rattle.std.proofs.Common.{List, ◌∷◌, ◌++◌, [], length, ℕ, sym, ◌∙◌, ap}
-use Rattle.std.specs.Vec.{vec_capacity}
-use Rattle.std.proofs.lemmas.List.{append-nil}
-use Rattle.sk_record.specs.Trace.{marks}
-use Rattle.sk_client.specs.declared.pending.PendingRequest.{PendingRequest}
+use Rattle.sk_client.proofs.Names.{List, ◌∷◌, ◌++◌, [], length, ℕ, sym, ◌∙◌, ap, vec_capacity, append-nil, marks}
+use Rattle.sk_client.proofs.Names.{PendingRequest}
 use Rattle.sk_client.proofs.DeskFacts.{tidy_more}
 use Rattle.sk_client.proofs.desk.Desk.ask.Goals as goal
 

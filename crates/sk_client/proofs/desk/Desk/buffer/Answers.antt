@@ -1,10 +1,5 @@
 -- What is no process has no buffer.
-use Rattle.std.proofs.Common.{◌∙◌, Some, sym, ap, subst}
-use Rattle.std.specs.FinMap.{get}
-use Rattle.sk_ids.specs.declared.entity.Entity.TheVariants.{Proc}
-use Rattle.sk_kernel.specs.Kernel.{KernelView, state_at}
-use Rattle.sk_plain.specs.View.{Shows}
-use Rattle.sk_client.specs.Desk.{buffer}
+use Rattle.sk_client.proofs.Names.{◌∙◌, Some, sym, ap, subst, get, Proc, KernelView, state_at, Shows, buffer}
 use Rattle.sk_client.proofs.DeskFacts.{no_buffer, buffer_of_value}
 use Rattle.sk_client.proofs.desk.Desk.buffer.Goals as goal
 

@@ -1,8 +1,7 @@
 -- The guess was undecided, so the kernel is as after the decision.
-use Rattle.std.proofs.Common.{rules, ◌≡◌, ◌∷◌, Some, sym, ◌∙◌, ap, subst}
+use Rattle.sk_client.proofs.Names.{rules, ◌≡◌, ◌∷◌, Some, sym, ◌∙◌, ap, subst, PendingRequest, DeskView, first_guess}
+use Rattle.sk_client.proofs.Names.{decision, given, kept_after}
 use Rattle.sk_kernel.specs.declared.kernel.Outcome.TheVariants as outcomes
-use Rattle.sk_client.specs.declared.pending.PendingRequest.{PendingRequest}
-use Rattle.sk_client.specs.Desk.{DeskView, first_guess, decision, given, kept_after}
 use Rattle.sk_client.proofs.DeskFacts.{done_left, decided_left}
 use Rattle.sk_client.proofs.desk.Desk.decide.Goals as goal
 

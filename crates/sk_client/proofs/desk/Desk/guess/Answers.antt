@@ -1,14 +1,8 @@
 -- One request more, with its guess, and for which room was made; a guess that the desk does not refuse, the kernel does not refuse.
-use Rattle.std.proofs.Common.{◌≡◌, List, ◌∷◌, ◌++◌, [], length, ℕ, Some, None, cond, sym, ◌∙◌, ap, subst}
-use Rattle.std.specs.Vec.{vec_capacity}
+use Rattle.sk_client.proofs.Names.{◌≡◌, List, ◌∷◌, ◌++◌, [], length, ℕ, Some, None, cond, sym, ◌∙◌, ap, subst}
+use Rattle.sk_client.proofs.Names.{vec_capacity, cause, guess_refused, next_guess, HolderView, TooMany, ask_of}
+use Rattle.sk_client.proofs.Names.{DeskView, entry, no_number, PendingRequest}
 use Rattle.sk_script.specs.declared.instruction.Input.TheVariants as inputs
-use Rattle.sk_plain.specs.Refusal.{cause}
-use Rattle.sk_kernel.specs.Kernel.{guess_refused, next_guess}
-use Rattle.sk_holder.specs.Holder.{HolderView}
-use Rattle.sk_plain.specs.declared.refusal.Refusal.TheVariants.{TooMany}
-use Rattle.sk_client.specs.Boxed.{ask_of}
-use Rattle.sk_client.specs.Desk.{DeskView, entry, no_number}
-use Rattle.sk_client.specs.declared.pending.PendingRequest.{PendingRequest}
 use Rattle.sk_client.proofs.DeskFacts.{tidy_more, same_guess_refusal}
 use Rattle.sk_client.proofs.desk.Desk.guess.Goals as goal
 

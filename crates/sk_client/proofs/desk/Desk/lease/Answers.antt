@@ -1,10 +1,6 @@
 -- A process that waits is not lent; any other is, as the kernel lends it.
-use Rattle.std.proofs.Common.{Err, sym, ◌∙◌, subst}
+use Rattle.sk_client.proofs.Names.{Err, sym, ◌∙◌, subst, Lends, lease_of, Refusal, KernelView, state_at, desk_lease}
 use Rattle.std.specs.FinMap as map
-use Rattle.sk_plain.specs.Leased.{Lends, lease_of}
-use Rattle.sk_plain.specs.declared.refusal.Refusal.{Refusal}
-use Rattle.sk_kernel.specs.Kernel.{KernelView, state_at}
-use Rattle.sk_client.specs.Leasing.{desk_lease}
 use Rattle.sk_client.proofs.DeskFacts.{lends_blocked, lends_free}
 use Rattle.sk_client.proofs.desk.Desk.lease.Goals as goal
 

@@ -1,8 +1,5 @@
 -- The union of two rising sets of undecided guesses.
-use Rattle.std.proofs.Common.{◌∙◌, ap, subst}
-use Rattle.sk_ids.specs.declared.entity.Entity.TheVariants.{Proc, Copy}
-use Rattle.sk_kernel.specs.Kernel.{KernelView, tags_at}
-use Rattle.sk_kernel.specs.Laws.{HasSoundTrace}
+use Rattle.sk_client.proofs.Names.{◌∙◌, ap, subst, Proc, Copy, KernelView, tags_at, HasSoundTrace}
 use Rattle.sk_client.proofs.DeskFacts.{rests_found}
 use Rattle.sk_client.proofs.desk.Desk.rests.Goals as goal
 

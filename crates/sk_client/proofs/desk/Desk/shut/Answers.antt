@@ -1,9 +1,5 @@
 -- The kernel's trace and texts are the desk's.
-use Rattle.std.proofs.Common.{◌∙◌, ap, subst, arith}
-use Rattle.sk_terminal.specs.Terminals.{released_at}
-use Rattle.sk_kernel.specs.Kernel.{KernelView}
-use Rattle.sk_kernel.specs.Calls.{LeavesTexts}
-use Rattle.sk_client.specs.Desk.{DeskView, pending}
+use Rattle.sk_client.proofs.Names.{◌∙◌, ap, subst, arith, released_at, KernelView, LeavesTexts, DeskView, pending}
 use Rattle.sk_client.proofs.DeskFacts.{no_more}
 use Rattle.sk_client.proofs.desk.Desk.shut.Goals as goal
 

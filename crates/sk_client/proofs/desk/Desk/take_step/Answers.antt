@@ -1,13 +1,7 @@
 -- With a place beside those that are kept, the kernel refuses the step as the desk does.
-use Rattle.std.proofs.Common.{◌≡◌, List, None, sym, ◌∙◌, ap, subst}
-use Rattle.sk_trace.specs.Kept.{input_in}
-use Rattle.sk_plain.specs.Refusal.{cause}
-use Rattle.sk_kernel.specs.Kernel.{step_refused}
-use Rattle.sk_script.specs.declared.instruction.Input.{Input}
+use Rattle.sk_client.proofs.Names.{◌≡◌, List, None, sym, ◌∙◌, ap, subst, input_in, cause, step_refused, Input}
+use Rattle.sk_client.proofs.Names.{KeptAnswer, brought, DeskView, entry, kept_for, rule_refused}
 use Rattle.sk_client.specs.declared.rule.Rule.TheVariants as rules
-use Rattle.sk_client.specs.declared.pending.KeptAnswer.{KeptAnswer}
-use Rattle.sk_client.specs.Wish.{brought}
-use Rattle.sk_client.specs.Desk.{DeskView, entry, kept_for, rule_refused}
 use Rattle.sk_client.proofs.DeskFacts.{same_refusal}
 use Rattle.sk_client.proofs.desk.Desk.take_step.Goals as goal
 

@@ -1,10 +1,7 @@
 -- Each of the queue is taken or waits.
-use Rattle.std.proofs.Common.{rules, tests, ◌≡◌, ◌++◌, length, ◌∙◌, ap}
-use Rattle.std.specs.List.{filter}
-use Rattle.std.proofs.lemmas.Iterator.Consumers.{YieldsList-from_deque, YieldsList-from_filter, count_from_yields_List}
-use Rattle.sk_client.specs.Desk.{is_asked, asked_count}
-use Rattle.sk_client.specs.Requests.{RequestsView}
-use Rattle.sk_client.specs.declared.requests.Queued.{Queued}
+use Rattle.sk_client.proofs.Names.{rules, tests, ◌≡◌, ◌++◌, length, ◌∙◌, ap, filter, YieldsList-from_deque}
+use Rattle.sk_client.proofs.Names.{YieldsList-from_filter, count_from_yields_List, is_asked, asked_count, RequestsView}
+use Rattle.sk_client.proofs.Names.{Queued}
 use Rattle.sk_client.proofs.QueueFacts.{count_of}
 use Rattle.sk_client.proofs.requests.Requests.asked.Goals as goal
 

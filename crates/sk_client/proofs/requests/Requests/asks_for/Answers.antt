@@ -1,13 +1,6 @@
 -- Each of the queue is taken or waits.
-use Rattle.std.proofs.Common.{rules, tests, ◌≡◌, ◌++◌, ◌∙◌, ap, Bool, ◌&&◌}
-use Rattle.std.specs.Prelude.{◌==◌}
-use Rattle.std.specs.List.{list_any}
-use Rattle.std.proofs.lemmas.Iterator.Consumers.{YieldsList-from_deque}
-use Rattle.std.proofs.lemmas.Iterator.Search.{any_from_yields_List}
-use Rattle.sk_client.specs.Desk.{is_asked, asks_for}
-use Rattle.sk_client.specs.Requests.{RequestsView}
-use Rattle.sk_client.specs.declared.pending.PendingRequest.{PendingRequest}
-use Rattle.sk_client.specs.declared.requests.Queued.{Queued}
+use Rattle.sk_client.proofs.Names.{rules, tests, ◌≡◌, ◌++◌, ◌∙◌, ap, Bool, ◌&&◌, ◌==◌, list_any, YieldsList-from_deque}
+use Rattle.sk_client.proofs.Names.{any_from_yields_List, is_asked, asks_for, RequestsView, PendingRequest, Queued}
 use Rattle.sk_client.proofs.QueueFacts.{any_of}
 use Rattle.sk_client.proofs.requests.Requests.asks_for.Goals as goal
 

@@ -1,13 +1,7 @@
 -- Each of the queue is taken or waits.
-use Rattle.std.proofs.Common.{rules, tests, ◌≡◌, ◌++◌, ◌∙◌, ap, Bool, ◌&&◌}
-use Rattle.std.specs.Prelude.{bytes_eq}
-use Rattle.std.specs.List.{list_any}
-use Rattle.std.proofs.lemmas.Iterator.Consumers.{YieldsList-from_deque}
-use Rattle.std.proofs.lemmas.Iterator.Search.{any_from_yields_List}
-use Rattle.sk_client.specs.Desk.{is_asked, name_of, asks_on}
-use Rattle.sk_client.specs.Requests.{RequestsView}
-use Rattle.sk_client.specs.declared.pending.PendingRequest.{PendingRequest}
-use Rattle.sk_client.specs.declared.requests.Queued.{Queued}
+use Rattle.sk_client.proofs.Names.{rules, tests, ◌≡◌, ◌++◌, ◌∙◌, ap, Bool, ◌&&◌, bytes_eq, list_any}
+use Rattle.sk_client.proofs.Names.{YieldsList-from_deque, any_from_yields_List, is_asked, name_of, asks_on}
+use Rattle.sk_client.proofs.Names.{RequestsView, PendingRequest, Queued}
 use Rattle.sk_client.proofs.QueueFacts.{any_of}
 use Rattle.sk_client.proofs.requests.Requests.asks_on.Goals as goal
 

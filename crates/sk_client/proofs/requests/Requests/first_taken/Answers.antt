@@ -1,6 +1,5 @@
 -- The oldest of the queue was taken.
-use Rattle.std.proofs.Common.{◌≡◌, ◌∷◌, drop, subst, arith}
-use Rattle.sk_client.specs.Requests.{RequestsView}
+use Rattle.sk_client.proofs.Names.{◌≡◌, ◌∷◌, drop, subst, arith, RequestsView}
 use Rattle.sk_client.proofs.QueueFacts.{first_of}
 use Rattle.sk_client.proofs.requests.Requests.first_taken.Goals as goal
 

@@ -1,6 +1,5 @@
 -- The oldest that waits follows those that were taken.
-use Rattle.std.proofs.Common.{◌≡◌, ◌∷◌, drop, subst}
-use Rattle.sk_client.specs.Requests.{RequestsView}
+use Rattle.sk_client.proofs.Names.{◌≡◌, ◌∷◌, drop, subst, RequestsView}
 use Rattle.sk_client.proofs.QueueFacts.{first_waits}
 use Rattle.sk_client.proofs.requests.Requests.first_waiting.Goals as goal
 

@@ -1,7 +1,6 @@
 -- The oldest of the queue was taken.
-use Rattle.std.proofs.Common.{rules, ◌≡◌, ◌∷◌, List, take, drop, sym, ◌∙◌, ap, subst, arith}
-use Rattle.sk_client.specs.Requests.{RequestsView, IsQueue, requests_in}
-use Rattle.sk_client.specs.declared.requests.Queued.{Queued}
+use Rattle.sk_client.proofs.Names.{rules, ◌≡◌, ◌∷◌, List, take, drop, sym, ◌∙◌, ap, subst, arith, RequestsView, IsQueue}
+use Rattle.sk_client.proofs.Names.{requests_in, Queued}
 use Rattle.sk_client.proofs.QueueFacts.{out_is, out_taken, out_waiting}
 use Rattle.sk_client.proofs.requests.Requests.pop_taken.Goals as goal
 

@@ -1,7 +1,5 @@
 -- It has what it rests on once more.
-use Rattle.std.proofs.Common.{List, Some, sym, ap, subst}
-use Rattle.sk_client.specs.declared.requests.Queued.{Queued}
-use Rattle.sk_client.specs.Requests.{IsQueue}
+use Rattle.sk_client.proofs.Names.{List, Some, sym, ap, subst, Queued, IsQueue}
 use Rattle.sk_client.proofs.QueueFacts.{more_is}
 use Rattle.sk_client.proofs.requests.Requests.push.Goals as goal
 

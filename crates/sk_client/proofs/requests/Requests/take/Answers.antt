@@ -1,7 +1,5 @@
 -- The oldest that waits is the newest that was taken.
-use Rattle.std.proofs.Common.{rules, ◌≡◌, ◌++◌, take, drop, Some, None, sym, ◌∙◌, ap}
-use Rattle.sk_client.specs.Desk.{first_sent}
-use Rattle.sk_client.specs.Requests.{RequestsView}
+use Rattle.sk_client.proofs.Names.{rules, ◌≡◌, ◌++◌, take, drop, Some, None, sym, ◌∙◌, ap, first_sent, RequestsView}
 use Rattle.sk_client.proofs.QueueFacts.{waits, whole_here, taken_one, waiting_fewer, taken_is}
 use Rattle.sk_client.proofs.requests.Requests.take.Goals as goal
 

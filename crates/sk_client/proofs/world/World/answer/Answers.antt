@@ -1,8 +1,6 @@
 -- The request that was handed back is in turn; answered, it has its reply.
-use Rattle.std.proofs.Common.{◌≡◌, Option, Some, None, Ok, sym, ◌∙◌, ap, subst}
-use Rattle.sk_server.specs.declared.request.Request.{Request}
-use Rattle.sk_server.specs.Lent.{request_in}
-use Rattle.sk_client.specs.WorldView.{WorldView, IsJoined, ServesNext, served}
+use Rattle.sk_client.proofs.Names.{◌≡◌, Option, Some, None, Ok, sym, ◌∙◌, ap, subst, Request, request_in, WorldView}
+use Rattle.sk_client.proofs.Names.{IsJoined, ServesNext, served}
 use Rattle.sk_client.proofs.WorldFacts.{answer_joined, back_served}
 use Rattle.sk_client.proofs.world.World.answer.Goals as goal
 

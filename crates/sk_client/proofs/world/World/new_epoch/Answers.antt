@@ -1,6 +1,5 @@
 -- Without a request there is no reply on its way, and none behind a new epoch.
-use Rattle.std.proofs.Common.{subst}
-use Rattle.sk_client.specs.WorldView.{WorldView, WorldEpochPost}
+use Rattle.sk_client.proofs.Names.{subst, WorldView, WorldEpochPost}
 use Rattle.sk_client.proofs.WorldEpochs.{epoch_joined, epoch_left, world_of}
 use Rattle.sk_client.proofs.world.World.new_epoch.Goals as goal
 

@@ -1,7 +1,5 @@
 -- The desk has the request of the oldest reply.
-use Rattle.std.proofs.Common.{rules, ◌≡◌, ◌∷◌, List, subst}
-use Rattle.sk_server.specs.declared.reply.Reply.{Reply}
-use Rattle.sk_client.specs.WorldView.{IsJoined}
+use Rattle.sk_client.proofs.Names.{rules, ◌≡◌, ◌∷◌, List, subst, Reply, IsJoined}
 use Rattle.sk_client.proofs.WorldFacts.{given_joined}
 use Rattle.sk_client.proofs.world.World.reply.Goals as goal
 

@@ -1,9 +1,6 @@
 -- One event after the other, by what is left of them.
-use Rattle.std.proofs.Common.{◌≡◌, ℕ, ◌+◌, ◌<◌, List, ◌∷◌, drop, get_or, length, Result, Ok, Err, inl, inr, refl, sym, ◌∙◌, ap, subst}
-use Rattle.std.proofs.lemmas.List.{drop_more, drop_all}
-use Rattle.sk_client.specs.declared.world.WorldEvent.{WorldEvent}
-use Rattle.sk_client.specs.declared.world.WorldStop.{WorldStop}
-use Rattle.sk_client.specs.WorldView.{RunsTo}
+use Rattle.sk_client.proofs.Names.{◌≡◌, ℕ, ◌+◌, ◌<◌, List, ◌∷◌, drop, get_or, length, Result, Ok, Err, inl, inr, refl}
+use Rattle.sk_client.proofs.Names.{sym, ◌∙◌, ap, subst, drop_more, drop_all, WorldEvent, WorldStop, RunsTo}
 use Rattle.sk_client.proofs.world.World.run.Goals as goal
 
 left : (es : List WorldEvent) (i : ℕ) (e : WorldEvent) → i < length es → e ≡ get_or es i e → drop i es ≡ e ∷ drop (i + 1) es

@@ -1,6 +1,4 @@
-use Rattle.std.proofs.Common.{◌+◌, drop, Result}
-use Rattle.sk_client.specs.declared.world.WorldStop.{WorldStop}
-use Rattle.sk_client.specs.WorldView.{WorldView, RunsTo}
+use Rattle.sk_client.proofs.Names.{◌+◌, drop, Result, WorldStop, WorldView, RunsTo}
 use Rattle.sk_client.proofs.world.World.run.Given as goal
 
 -- what the rest of the events comes to, all of them come to

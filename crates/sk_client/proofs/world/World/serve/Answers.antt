@@ -1,9 +1,6 @@
 -- The oldest request that waits is in turn at the server; answered, it has its reply, and refused, it is handed back.
-use Rattle.std.proofs.Common.{◌≡◌, Option, Some, refl, sym, ◌∙◌, subst}
-use Rattle.sk_server.specs.declared.request.Request.{Request}
-use Rattle.sk_server.specs.Lent.{request_in}
-use Rattle.sk_client.specs.Desk.{DeskView, sent, first_sent, first_taken}
-use Rattle.sk_client.specs.WorldView.{IsJoined}
+use Rattle.sk_client.proofs.Names.{◌≡◌, Option, Some, refl, sym, ◌∙◌, subst, Request, request_in, DeskView, sent}
+use Rattle.sk_client.proofs.Names.{first_sent, first_taken, IsJoined}
 use Rattle.sk_client.proofs.WorldFacts.{none_is, next_joined, answer_joined, back_joined}
 use Rattle.sk_client.proofs.world.World.serve.Goals as goal
 

@@ -1,8 +1,5 @@
 -- A turn adds at most one request, at the end; a refused one changes nothing.
-use Rattle.std.proofs.Common.{Ok, Err, ◌∙◌, ap, subst}
-use Rattle.sk_client.specs.Desk.{DeskView}
-use Rattle.sk_client.specs.DeskCalls.{TurnPost}
-use Rattle.sk_client.specs.WorldView.{WorldView}
+use Rattle.sk_client.proofs.Names.{Ok, Err, ◌∙◌, ap, subst, DeskView, TurnPost, WorldView}
 use Rattle.sk_client.proofs.WorldFacts.{turn_any, turn_back}
 use Rattle.sk_client.proofs.world.World.turn.Goals as goal
 

@@ -1,7 +1,5 @@
 -- A key has the same behind the writes that are left as behind all.
-use Rattle.std.proofs.Common.{◌≡◌, length}
-use Rattle.sk_commands.specs.Table.{told, Have}
-use Rattle.sk_commands.specs.Work.{after}
+use Rattle.sk_commands.proofs.Names.{◌≡◌, length, told, Have, after}
 use Rattle.sk_commands.proofs.work.BehindLook.value.Given as goal
 
 abbrev pub invariant-loop-last : goal.invariant-loop-last

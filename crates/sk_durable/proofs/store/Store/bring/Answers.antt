@@ -1,12 +1,7 @@
 -- The tickets before the first answer that waits are told that nothing was done.
-use Rattle.std.proofs.Common.{◌≡◌, None, Some, sym, ◌∙◌, ap, refl, rules, subst}
-use Rattle.std.specs.Prelude.{unwrap_or}
-use Rattle.std.proofs.lemmas.Result.{err_from_is_err_and}
-use Rattle.sk_channels.specs.Table.{channel_at, with_channel}
-use Rattle.sk_durable.specs.contracts.store.Store.{the_view}
-use Rattle.sk_durable.specs.Store.{bound, first_answer, HasFirstTicket}
-use Rattle.sk_durable.specs.Calls.{Serves}
-use Rattle.sk_durable.specs.Posts.{tells, HasNoneReady}
+use Rattle.sk_durable.proofs.Names.{◌≡◌, None, Some, sym, ◌∙◌, ap, refl, rules, subst, unwrap_or, err_from_is_err_and}
+use Rattle.sk_durable.proofs.Names.{channel_at, with_channel, the_view, bound, first_answer, HasFirstTicket, Serves}
+use Rattle.sk_durable.proofs.Names.{tells, HasNoneReady}
 use Rattle.sk_durable.proofs.Out.{bound_is, not_refused, refused_pasts, refuses_one}
 use Rattle.sk_durable.proofs.store.Store.bring.Goals as goal
 

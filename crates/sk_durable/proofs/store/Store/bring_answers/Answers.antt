@@ -1,12 +1,6 @@
 -- The next answer is told, and taken out.
-use Rattle.std.proofs.Common.{◌≡◌, ◌++◌, ◌∷◌, [], None, Some, refl, rules, subst}
-use Rattle.std.proofs.lemmas.Result.{err_from_is_err_and}
-use Rattle.sk_record.specs.Machine.{released}
-use Rattle.sk_outputs.specs.Said.{said_at}
-use Rattle.sk_commands.specs.Texts.{answer_text}
-use Rattle.sk_channels.specs.Table.{channel_at, with_channel}
-use Rattle.sk_durable.specs.contracts.store.Store.{the_view}
-use Rattle.sk_durable.specs.Works.{Kernel}
+use Rattle.sk_durable.proofs.Names.{◌≡◌, ◌++◌, ◌∷◌, [], None, Some, refl, rules, subst, err_from_is_err_and, released}
+use Rattle.sk_durable.proofs.Names.{said_at, answer_text, channel_at, with_channel, the_view, Kernel}
 use Rattle.sk_durable.proofs.Out.{hands_none, next_first, next_of, none_next, not_replied, replied_pasts, taken_out, tells_more, tells_one}
 use Rattle.sk_durable.proofs.store.Store.bring_answers.Goals as goal
 

@@ -1,13 +1,6 @@
 -- The answers so far were told, each taken out.
-use Rattle.std.proofs.Common.{◌≡◌, true, ℕ, List, length}
-use Rattle.sk_outputs.specs.Said.{said_at}
-use Rattle.sk_batched.specs.Batched.{IsEmpty}
-use Rattle.sk_commands.specs.declared.work.Answer.{Answer}
-use Rattle.sk_durable.specs.contracts.store.Store.{the_view}
-use Rattle.sk_durable.specs.Limits.{are_sound}
-use Rattle.sk_durable.specs.Store.{HavePasts}
-use Rattle.sk_durable.specs.Calls.{Serves}
-use Rattle.sk_durable.specs.Posts.{tells}
+use Rattle.sk_durable.proofs.Names.{◌≡◌, true, ℕ, List, length, said_at, IsEmpty, Answer, the_view, are_sound}
+use Rattle.sk_durable.proofs.Names.{HavePasts, Serves, tells}
 use Rattle.sk_durable.proofs.store.Store.bring_answers.Given as goal
 
 abbrev pub invariant-loop-told : goal.invariant-loop-told

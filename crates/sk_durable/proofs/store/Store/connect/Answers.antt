@@ -1,7 +1,5 @@
 -- The channel has no past.
-use Rattle.std.proofs.Common.{Ok, refl, subst}
-use Rattle.sk_durable.specs.Posts.{ConnectPost}
-use Rattle.sk_durable.specs.Store.{StoreView}
+use Rattle.sk_durable.proofs.Names.{Ok, refl, subst, ConnectPost, StoreView}
 use Rattle.sk_durable.proofs.Ways.{connected_past}
 use Rattle.sk_durable.proofs.store.Store.connect.Goals as goal
 

@@ -1,8 +1,6 @@
 -- The queue is cut, and the places turn.
-use Rattle.std.proofs.Common.{Ok, subst, sym}
+use Rattle.sk_durable.proofs.Names.{Ok, subst, sym, the_view, CutPost}
 use Rattle.sk_batches.specs.Calls as queued
-use Rattle.sk_durable.specs.contracts.store.Store.{the_view}
-use Rattle.sk_durable.specs.Posts.{CutPost}
 use Rattle.sk_durable.proofs.Out.{cuts}
 use Rattle.sk_durable.proofs.store.Store.cut.Goals as goal
 

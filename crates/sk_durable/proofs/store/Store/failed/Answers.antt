@@ -1,8 +1,5 @@
 -- The queue is told of it.
-use Rattle.std.proofs.Common.{inr, refl, subst}
-use Rattle.sk_batches.specs.declared.batch.Stage.TheVariants.{Failed}
-use Rattle.sk_durable.specs.contracts.store.Store.{the_view}
-use Rattle.sk_durable.specs.Posts.{FailedPost}
+use Rattle.sk_durable.proofs.Names.{inr, refl, subst, Failed, the_view, FailedPost}
 use Rattle.sk_durable.proofs.Out.{learns}
 use Rattle.sk_durable.proofs.store.Store.failed.Goals as goal
 

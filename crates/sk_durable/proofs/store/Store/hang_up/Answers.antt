@@ -1,8 +1,5 @@
 -- The channel is gone, and what may go out of it is dropped.
-use Rattle.std.proofs.Common.{refl, subst}
-use Rattle.sk_durable.specs.contracts.store.Store.{the_view}
-use Rattle.sk_durable.specs.Posts.{HangUpPost}
-use Rattle.sk_durable.specs.Store.{StoreView}
+use Rattle.sk_durable.proofs.Names.{refl, subst, the_view, HangUpPost, StoreView}
 use Rattle.sk_durable.proofs.store.Store.hang_up.Goals as goal
 
 pub returns : goal.returns

@@ -1,10 +1,5 @@
 -- The channel is as it was.
-use Rattle.std.proofs.Common.{◌≡◌, true, Some, subst, sym}
-use Rattle.sk_channels.specs.Table.{channel_at}
-use Rattle.sk_batched.specs.Batched.{IsEmpty}
-use Rattle.sk_durable.specs.declared.store.Store.TheInside.{Inside}
-use Rattle.sk_durable.specs.Limits.{are_sound}
-use Rattle.sk_durable.specs.Store.{HavePasts}
+use Rattle.sk_durable.proofs.Names.{◌≡◌, true, Some, subst, sym, channel_at, IsEmpty, Inside, are_sound, HavePasts}
 use Rattle.sk_durable.proofs.Ways.{unchanged}
 use Rattle.sk_durable.proofs.store.Store.is_closed.Goals as goal
 use Rattle.sk_durable.proofs.store.Store.is_closed.Goals.{in-Some, in-None}

@@ -1,11 +1,6 @@
 -- One answer more is dropped; at the end none may go out.
-use Rattle.std.proofs.Common.{◌≡◌, ◌∙◌, false, is_some, true, None, ap, refl, rules, subst, sym}
-use Rattle.sk_channels.specs.Table.{channel_at}
-use Rattle.sk_durable.specs.contracts.store.Store.{the_view}
-use Rattle.sk_durable.specs.declared.store.Store.TheInside.{Inside}
-use Rattle.sk_durable.specs.Posts.{FreesIfLast, HasNoneReady}
-use Rattle.sk_durable.specs.Store.{first_answer, StoreView}
-use Rattle.sk_durable.specs.Works.{Batches}
+use Rattle.sk_durable.proofs.Names.{◌≡◌, ◌∙◌, false, is_some, true, None, ap, refl, rules, subst, sym, channel_at}
+use Rattle.sk_durable.proofs.Names.{the_view, Inside, FreesIfLast, HasNoneReady, first_answer, StoreView, Batches}
 use Rattle.sk_durable.proofs.Calls.{let_go, none_is, some_dropped, still_taken, AreDropped}
 use Rattle.sk_durable.proofs.store.Store.let_go.Goals as goal
 use Rattle.sk_durable.proofs.store.Store.let_go.Goals.{After-is_none}

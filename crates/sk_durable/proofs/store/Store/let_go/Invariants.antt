@@ -1,7 +1,5 @@
 -- Answers were dropped, and nothing else has changed.
-use Rattle.std.proofs.Common.{◌≡◌, length}
-use Rattle.sk_outputs.specs.Said.{said_at}
-use Rattle.sk_durable.specs.contracts.store.Store.{the_view}
+use Rattle.sk_durable.proofs.Names.{◌≡◌, length, said_at, the_view}
 use Rattle.sk_durable.proofs.Calls.{AreDropped}
 use Rattle.sk_durable.proofs.store.Store.let_go.Given as goal
 

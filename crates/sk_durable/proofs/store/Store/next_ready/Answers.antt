@@ -1,13 +1,7 @@
 -- A channel with an answer is connected, or was hung up and is let go of.
-use Rattle.std.proofs.Common.{◌≡◌, ◌<◌, ℕ, [], length, Some, refl, sym, ◌∙◌, ap, inr, subst, rules}
-use Rattle.sk_record.specs.Machine.{released}
-use Rattle.sk_outputs.specs.Said.{said_at}
-use Rattle.sk_channels.specs.declared.table.Channels.{Channels}
-use Rattle.sk_channels.specs.Table.{channel_at, with_channel}
-use Rattle.sk_durable.specs.contracts.store.Store.{the_view}
-use Rattle.sk_durable.specs.Works.{Kernel}
-use Rattle.sk_durable.specs.Store.{StoreView}
-use Rattle.sk_durable.specs.Posts.{HasNoneReady, Sweeps}
+use Rattle.sk_durable.proofs.Names.{◌≡◌, ◌<◌, ℕ, [], length, Some, refl, sym, ◌∙◌, ap, inr, subst, rules, released}
+use Rattle.sk_durable.proofs.Names.{said_at, Channels, channel_at, with_channel, the_view, Kernel, StoreView}
+use Rattle.sk_durable.proofs.Names.{HasNoneReady, Sweeps}
 use Rattle.sk_durable.proofs.Fewer.{falls}
 use Rattle.sk_durable.proofs.Out.{let_go_sweeps, ready_on, sweeps_on}
 use Rattle.sk_durable.proofs.Ways.{now_there, unchanged}

@@ -1,6 +1,5 @@
 -- Only what was hung up was let go of.
-use Rattle.std.proofs.Common.{length}
-use Rattle.sk_durable.specs.Posts.{Sweeps}
+use Rattle.sk_durable.proofs.Names.{length, Sweeps}
 use Rattle.sk_durable.proofs.store.Store.next_ready.Given as goal
 
 abbrev pub invariant-loop-channel : goal.invariant-loop-channel

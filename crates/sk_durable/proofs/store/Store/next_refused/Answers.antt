@@ -1,6 +1,5 @@
 -- What was hung up is let go of.
-use Rattle.std.proofs.Common.{◌≡◌, sym, ◌∙◌, subst}
-use Rattle.sk_durable.specs.Posts.{Sweeps}
+use Rattle.sk_durable.proofs.Names.{◌≡◌, sym, ◌∙◌, subst, Sweeps}
 use Rattle.sk_durable.proofs.Out.{let_go_sweeps, sweeps_on}
 use Rattle.sk_durable.proofs.store.Store.next_refused.Goals as goal
 use Rattle.sk_durable.proofs.store.Store.next_refused.Goals.{then-is_hung_up, else-is_hung_up}

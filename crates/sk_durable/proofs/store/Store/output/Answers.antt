@@ -1,10 +1,7 @@
 -- What was brought is handed over.
-use Rattle.std.proofs.Common.{◌≡◌, Some, None, Ok, Err, sym, ◌∙◌, ap, refl, take, rules, subst}
-use Rattle.sk_channels.specs.Table.{channel_at, with_channel}
-use Rattle.sk_durable.specs.contracts.store.Store.{the_view}
+use Rattle.sk_durable.proofs.Names.{◌≡◌, Some, None, Ok, Err, sym, ◌∙◌, ap, refl, take, rules, subst, channel_at}
+use Rattle.sk_durable.proofs.Names.{with_channel, the_view, StoreView, BringPost, HandsOver, OutputPost}
 use Rattle.sk_durable.specs.declared.refusal.Refusal.TheVariants.{Memory}
-use Rattle.sk_durable.specs.Store.{StoreView}
-use Rattle.sk_durable.specs.Posts.{BringPost, HandsOver, OutputPost}
 use Rattle.sk_durable.proofs.Out.{handed_pasts, hands_over, none_brought, there_brought}
 use Rattle.sk_durable.proofs.store.Store.output.Goals as goal
 use Rattle.sk_durable.proofs.store.Store.output.Goals.{in-Err-Memory, in_default-brought-3, in_default-brought, in_default-brought-2}

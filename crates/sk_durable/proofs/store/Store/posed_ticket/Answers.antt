@@ -1,7 +1,5 @@
 -- The channel is there, and is asked, or not.
-use Rattle.std.proofs.Common.{◌≡◌, None, Some, rules}
-use Rattle.sk_channels.specs.Hearing.{posed_ticket}
-use Rattle.sk_channels.specs.Table.{channel_at}
+use Rattle.sk_durable.proofs.Names.{◌≡◌, None, Some, rules, posed_ticket, channel_at}
 use Rattle.sk_durable.proofs.store.Store.posed_ticket.Goals as goal
 
 pub returns-in-Some-posed_ticket : goal.returns-in-Some-posed_ticket

@@ -1,8 +1,5 @@
 -- A new store that carried out the work is a new one with what it leaves.
-use Rattle.std.proofs.Common.{subst}
-use Rattle.sk_durable.specs.declared.works.TheConstants.{NOBODY}
-use Rattle.sk_durable.specs.Posts.{RestorePost}
-use Rattle.sk_durable.specs.Store.{StoreView}
+use Rattle.sk_durable.proofs.Names.{subst, NOBODY, RestorePost, StoreView}
 use Rattle.sk_durable.proofs.Restored.{restores}
 use Rattle.sk_durable.proofs.store.Store.restore.Goals as goal
 

@@ -1,8 +1,5 @@
 -- The queue is told of it.
-use Rattle.std.proofs.Common.{inl, refl, subst}
-use Rattle.sk_batches.specs.declared.batch.Stage.TheVariants.{Synced}
-use Rattle.sk_durable.specs.contracts.store.Store.{the_view}
-use Rattle.sk_durable.specs.Posts.{SyncedPost}
+use Rattle.sk_durable.proofs.Names.{inl, refl, subst, Synced, the_view, SyncedPost}
 use Rattle.sk_durable.proofs.Out.{learns}
 use Rattle.sk_durable.proofs.store.Store.synced.Goals as goal
 

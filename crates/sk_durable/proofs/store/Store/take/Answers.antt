@@ -1,12 +1,7 @@
 -- What came is told to the channel, whatever its past was.
-use Rattle.std.proofs.Common.{◌≡◌, ◌∙◌, refl, rules, subst, sym, Err, Ok, Some}
-use Rattle.std.proofs.lemmas.Result.{err_from_is_err_and}
-use Rattle.sk_channels.specs.Table.{channel_at, with_channel}
-use Rattle.sk_durable.specs.contracts.store.Store.{the_view}
-use Rattle.sk_durable.specs.declared.store.End.{End}
-use Rattle.sk_durable.specs.Posts.{end_of, MayFeed, TakePost}
-use Rattle.sk_durable.specs.Refused.{channel_refused}
-use Rattle.sk_durable.specs.Store.{HavePasts, StoreView}
+use Rattle.sk_durable.proofs.Names.{◌≡◌, ◌∙◌, refl, rules, subst, sym, Err, Ok, Some, err_from_is_err_and, channel_at}
+use Rattle.sk_durable.proofs.Names.{with_channel, the_view, End, end_of, MayFeed, TakePost, channel_refused, HavePasts}
+use Rattle.sk_durable.proofs.Names.{StoreView}
 use Rattle.sk_durable.proofs.Calls.{all_fed, has_past, not_fed, part_fed}
 use Rattle.sk_durable.proofs.Ways.{becomes, lent_pasts}
 use Rattle.sk_durable.proofs.store.Store.take.Goals as goal

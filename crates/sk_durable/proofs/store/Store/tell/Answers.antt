@@ -1,11 +1,6 @@
 -- What the host told is carried out, and told to its channel, whatever its past was.
-use Rattle.std.proofs.Common.{◌≡◌, ◌∙◌, ap, false, rules, subst, sym, Ok, Some}
-use Rattle.sk_channels.specs.Table.{channel_at, with_channel}
-use Rattle.sk_durable.specs.contracts.store.Store.{the_view}
-use Rattle.sk_durable.specs.Asked.{told_work}
-use Rattle.sk_durable.specs.Posts.{has_refused, TellPost}
-use Rattle.sk_durable.specs.Store.{StoreView}
-use Rattle.sk_durable.specs.Works.{CarryPost}
+use Rattle.sk_durable.proofs.Names.{◌≡◌, ◌∙◌, ap, false, rules, subst, sym, Ok, Some, channel_at, with_channel}
+use Rattle.sk_durable.proofs.Names.{the_view, told_work, has_refused, TellPost, StoreView, CarryPost}
 use Rattle.sk_durable.proofs.Calls.{all_told, posed_there, told_past, was_done}
 use Rattle.sk_durable.proofs.Ways.{lent_pasts}
 use Rattle.sk_durable.proofs.store.Store.tell.Goals as goal

@@ -1,11 +1,6 @@
 -- What became of it, in the batches alone.
-use Rattle.std.proofs.Common.{Err, inl, refl, subst, sym}
-use Rattle.std.proofs.lemmas.Result.{err_from_is_err_and}
-use Rattle.sk_commands.specs.declared.work.Work.{Work}
-use Rattle.sk_durable.specs.declared.refusal.NotDone.{NotDone}
-use Rattle.sk_durable.specs.declared.refusal.NotDone.TheVariants.{Memory}
-use Rattle.sk_durable.specs.Calls.{IsFor}
-use Rattle.sk_durable.specs.Works.{IsNotDone}
+use Rattle.sk_durable.proofs.Names.{Err, inl, refl, subst, sym, err_from_is_err_and, Work, NotDone, Memory, IsFor}
+use Rattle.sk_durable.proofs.Names.{IsNotDone}
 use Rattle.sk_durable.proofs.Calls.{all_stays, comes, no_memory, rest_on, tried, was_long}
 use Rattle.sk_durable.proofs.store.Store.try_to_answer.Goals as goal
 

@@ -1,7 +1,5 @@
 -- The places turn.
-use Rattle.std.proofs.Common.{subst}
-use Rattle.sk_durable.specs.contracts.store.Store.{the_view}
-use Rattle.sk_durable.specs.Posts.{TurnPost}
+use Rattle.sk_durable.proofs.Names.{subst, the_view, TurnPost}
 use Rattle.sk_durable.proofs.Out.{turns}
 use Rattle.sk_durable.proofs.store.Store.turn.Goals as goal
 

@@ -1,15 +1,8 @@
 -- It is undecided no more.
-use Rattle.std.proofs.Common.{map, sym, ◌∙◌, ap, subst}
-use Rattle.std.specs.Vec.{vec_capacity}
-use Rattle.sk_record.specs.Machine.{with_status}
-use Rattle.sk_record.specs.Notes.{has}
-use Rattle.sk_record.specs.UndoState.{numbers, still_open}
-use Rattle.sk_record.specs.declared.status.Status.TheVariants.{Committed}
-use Rattle.sk_guesses.specs.Kept.{Kept, KeptView, AreStatuses}
-use Rattle.sk_guesses.specs.Opens.{opens_of}
+use Rattle.sk_guesses.proofs.Names.{map, sym, ◌∙◌, ap, subst, vec_capacity, with_status, has, numbers, still_open}
+use Rattle.sk_guesses.proofs.Names.{Committed, Kept, KeptView, AreStatuses, opens_of, AreBelow}
 use Rattle.sk_guesses.proofs.Kept.{commit_opens, kept_committed, statuses_committed}
 use Rattle.sk_guesses.proofs.Opens.{guess_of}
-use Rattle.sk_guesses.specs.Kept.{AreBelow}
 use Rattle.sk_guesses.proofs.Passes.{below_committed}
 use Rattle.sk_guesses.proofs.open_guesses.OpenGuesses.commit.Goals as goal
 

@@ -1,12 +1,8 @@
 -- Numbers and tags stay.
-use Rattle.std.proofs.Common.{◌≡◌, ◌≤◌, ◌∙◌, ap, length, map, sym, arith, subst}
-use Rattle.std.specs.Vec.{vec_capacity}
-use Rattle.std.proofs.lemmas.List.{length-map}
-use Rattle.sk_guesses.specs.Kept.{Kept, KeptView}
-use Rattle.sk_guesses.specs.Opens.{opens_of, depending}
+use Rattle.sk_guesses.proofs.Names.{◌≡◌, ◌≤◌, ◌∙◌, ap, length, map, sym, arith, subst, vec_capacity, length-map, Kept}
+use Rattle.sk_guesses.proofs.Names.{KeptView, opens_of, depending, AreBelow}
 use Rattle.sk_guesses.proofs.Kept.{kept_same}
 use Rattle.sk_guesses.proofs.Opens.{guess_of, same_opens, depending_keeps}
-use Rattle.sk_guesses.specs.Kept.{AreBelow}
 use Rattle.sk_guesses.proofs.open_guesses.OpenGuesses.depend.Goals as goal
 
 pub are_earlier-requires : goal.are_earlier-requires

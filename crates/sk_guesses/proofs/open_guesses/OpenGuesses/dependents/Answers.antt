@@ -1,8 +1,7 @@
 -- The list at the place is the guess's, or there is none.
-use Rattle.std.proofs.Common.{◌<◌, ◌≤◌, length, map, sym, ◌∙◌, ap, arith}
+use Rattle.sk_guesses.proofs.Names.{◌<◌, ◌≤◌, length, map, sym, ◌∙◌, ap, arith, dependents_of, opens_of, Kept, KeptView}
+use Rattle.sk_guesses.proofs.Names.{known}
 use Rattle.std.specs.List.Sorted.{IsStrictlySortedBy}
-use Rattle.sk_guesses.specs.Opens.{dependents_of, opens_of}
-use Rattle.sk_guesses.specs.Kept.{Kept, KeptView, known}
 use Rattle.sk_guesses.proofs.Kept.{not_known}
 use Rattle.sk_guesses.proofs.Opens.{guess_of, found, missing, none_there}
 use Rattle.sk_guesses.proofs.open_guesses.OpenGuesses.dependents.Goals as goal

@@ -1,17 +1,9 @@
 -- One undecided guess more.
-use Rattle.std.proofs.Common.{◌≡◌, ◌+◌, ◌<◌, ◌∷◌, ◌++◌, [], true, length, map, Some, refl, sym, ◌∙◌, ap, subst, arith, ℕ, ◌≤◌}
-use Rattle.std.proofs.lemmas.List.{length-map, map-append}
-use Rattle.std.specs.Vec.{vec_capacity}
-use Rattle.sk_ids.specs.declared.guess.TheConstants.{LAST_GUESS}
-use Rattle.sk_record.specs.Machine.{with_drawn}
-use Rattle.sk_record.specs.Notes.{has}
-use Rattle.sk_guesses.specs.EntitySet.{SetView}
-use Rattle.sk_guesses.specs.Kept.{Kept, KeptView, AreStatuses}
-use Rattle.sk_guesses.specs.Opens.{opens_of}
-use Rattle.sk_guesses.specs.Room.{Listing}
+use Rattle.sk_guesses.proofs.Names.{◌≡◌, ◌+◌, ◌<◌, ◌∷◌, ◌++◌, [], true, length, map, Some, refl, sym, ◌∙◌, ap, subst}
+use Rattle.sk_guesses.proofs.Names.{arith, ℕ, ◌≤◌, length-map, map-append, vec_capacity, LAST_GUESS, with_drawn, has}
+use Rattle.sk_guesses.proofs.Names.{SetView, Kept, KeptView, AreStatuses, opens_of, Listing, AreBelow}
 use Rattle.sk_guesses.proofs.Kept.{kept_drawn, statuses_drawn}
 use Rattle.sk_guesses.proofs.Opens.{guess_of}
-use Rattle.sk_guesses.specs.Kept.{AreBelow}
 use Rattle.sk_guesses.proofs.Passes.{below_more}
 use Rattle.sk_guesses.proofs.open_guesses.OpenGuesses.draw.Goals as goal
 

@@ -1,14 +1,9 @@
 -- It is undecided no more, and so are those whose own steps rest on it.
-use Rattle.std.proofs.Common.{◌≡◌, ◌++◌, map, sym, ◌∙◌, ap, subst}
-use Rattle.std.specs.Vec.{vec_capacity}
-use Rattle.sk_record.specs.Machine.{with_failure}
-use Rattle.sk_record.specs.Notes.{has}
-use Rattle.sk_record.specs.UndoState.{not_struck, numbers}
-use Rattle.sk_guesses.specs.Kept.{Kept, KeptView, AreKept, AreStatuses, struck_with, with_struck}
-use Rattle.sk_guesses.specs.Opens.{opens_of}
+use Rattle.sk_guesses.proofs.Names.{◌≡◌, ◌++◌, map, sym, ◌∙◌, ap, subst, vec_capacity, with_failure, has, not_struck}
+use Rattle.sk_guesses.proofs.Names.{numbers, Kept, KeptView, AreKept, AreStatuses, struck_with, with_struck, opens_of}
+use Rattle.sk_guesses.proofs.Names.{AreBelow}
 use Rattle.sk_guesses.proofs.Kept.{fail_opens, kept_failed, statuses_failed}
 use Rattle.sk_guesses.proofs.Opens.{guess_of}
-use Rattle.sk_guesses.specs.Kept.{AreBelow}
 use Rattle.sk_guesses.proofs.Passes.{below_left}
 use Rattle.sk_guesses.proofs.open_guesses.OpenGuesses.fail.Goals as goal
 

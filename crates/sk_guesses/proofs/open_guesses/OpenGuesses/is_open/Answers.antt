@@ -1,10 +1,5 @@
 -- It stands among the undecided ones where a search finds it.
-use Rattle.std.proofs.Common.{◌≡◌, length, ◌∙◌, ap, arith}
-use Rattle.std.specs.Prelude.{nat_lt}
-use Rattle.sk_record.specs.Notes.{has}
-use Rattle.sk_record.specs.UndoState.{numbers}
-use Rattle.sk_guesses.specs.Kept.{Kept}
-use Rattle.sk_guesses.specs.Opens.{opens_of}
+use Rattle.sk_guesses.proofs.Names.{◌≡◌, length, ◌∙◌, ap, arith, nat_lt, has, numbers, Kept, opens_of}
 use Rattle.sk_guesses.proofs.Kept.{is_there}
 use Rattle.sk_guesses.proofs.open_guesses.OpenGuesses.is_open.Goals as goal
 

@@ -1,11 +1,8 @@
 -- Numbers and tags stay.
-use Rattle.std.proofs.Common.{◌≡◌, ◌∙◌, ap, map, arith, subst, sym}
-use Rattle.std.specs.Vec.{vec_capacity}
-use Rattle.sk_guesses.specs.Kept.{Kept, KeptView}
-use Rattle.sk_guesses.specs.Opens.{opens_of, left_to}
+use Rattle.sk_guesses.proofs.Names.{◌≡◌, ◌∙◌, ap, map, arith, subst, sym, vec_capacity, Kept, KeptView, opens_of}
+use Rattle.sk_guesses.proofs.Names.{left_to, AreBelow}
 use Rattle.sk_guesses.proofs.Kept.{kept_same}
 use Rattle.sk_guesses.proofs.Opens.{guess_of, same_opens, left_to_keeps}
-use Rattle.sk_guesses.specs.Kept.{AreBelow}
 use Rattle.sk_guesses.proofs.open_guesses.OpenGuesses.leave_to.Goals as goal
 
 pub invariant_of-self : goal.invariant_of-self

@@ -1,12 +1,7 @@
 -- None is drawn.
-use Rattle.std.proofs.Common.{refl}
-use Rattle.std.specs.Vec.{vec_capacity}
-use Rattle.sk_guesses.specs.Kept.{KeptView}
+use Rattle.sk_guesses.proofs.Names.{refl, vec_capacity, KeptView, AreBelow, opens_of, map, sym, subst}
 use Rattle.sk_guesses.proofs.Kept.{kept_none}
-use Rattle.sk_guesses.specs.Kept.{AreBelow}
-use Rattle.sk_guesses.specs.Opens.{opens_of}
 use Rattle.sk_guesses.proofs.Opens.{guess_of}
-use Rattle.std.proofs.Common.{map, sym, subst}
 use Rattle.sk_guesses.proofs.open_guesses.OpenGuesses.new.Goals as goal
 
 pub invariant_of-result : goal.invariant_of-result

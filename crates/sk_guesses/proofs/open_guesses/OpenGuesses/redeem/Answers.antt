@@ -1,8 +1,6 @@
 -- What agrees with what was kept agrees with what is left.
-use Rattle.std.proofs.Common.{Ok, map, sym, subst}
-use Rattle.std.specs.Vec.{vec_capacity}
-use Rattle.sk_guesses.specs.Kept.{Kept, KeptView, AreStatuses}
-use Rattle.sk_guesses.specs.Opens.{opens_of}
+use Rattle.sk_guesses.proofs.Names.{map, sym, subst, vec_capacity, Kept, KeptView, AreStatuses, opens_of}
+use Rattle.std.proofs.Common.{Ok}
 use Rattle.sk_guesses.specs.declared.guess.Redeemed.TheVariants as redeemed_as
 use Rattle.sk_guesses.proofs.Opens.{guess_of}
 use Rattle.sk_guesses.proofs.Kept.{kept_forgotten, statuses_redeemed}

@@ -1,12 +1,9 @@
 -- Numbers and tags stay.
-use Rattle.std.proofs.Common.{◌∙◌, ap, map, arith, subst, sym}
-use Rattle.sk_guesses.specs.Kept.{Kept, KeptView}
-use Rattle.sk_guesses.specs.Opens.{not_resting, opens_of}
-use Rattle.std.specs.Vec.{vec_capacity}
+use Rattle.sk_guesses.proofs.Names.{◌∙◌, ap, map, arith, subst, sym, Kept, KeptView, not_resting, opens_of}
+use Rattle.sk_guesses.proofs.Names.{vec_capacity, AreBelow}
 use Rattle.sk_guesses.proofs.Kept.{kept_same}
 use Rattle.sk_guesses.proofs.Listed.{taken_first}
 use Rattle.sk_guesses.proofs.Opens.{guess_of, taken_opens}
-use Rattle.sk_guesses.specs.Kept.{AreBelow}
 use Rattle.sk_guesses.proofs.open_guesses.OpenGuesses.take_dependents.Goals as goal
 
 pub invariant_of-self : goal.invariant_of-self

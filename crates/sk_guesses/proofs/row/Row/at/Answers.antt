@@ -1,6 +1,5 @@
 -- The value of the key at the place.
-use Rattle.std.proofs.Common.{ap, arith}
-use Rattle.sk_guesses.specs.Row.{InOrder}
+use Rattle.sk_guesses.proofs.Names.{ap, arith, InOrder}
 use Rattle.sk_guesses.proofs.Rows.{near, present_at, seen_at}
 use Rattle.sk_guesses.proofs.row.Row.at.Goals as goal
 

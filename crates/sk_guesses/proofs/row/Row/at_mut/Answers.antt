@@ -1,8 +1,5 @@
 -- The value of the key at the place is written through.
-use Rattle.std.proofs.Common.{refl, ◌∙◌, ap, arith}
-use Rattle.std.specs.Prelude.{min, slice_set}
-use Rattle.std.specs.Vec.{vec_capacity}
-use Rattle.sk_guesses.specs.Row.{InOrder}
+use Rattle.sk_guesses.proofs.Names.{refl, ◌∙◌, ap, arith, min, slice_set, vec_capacity, InOrder}
 use Rattle.sk_guesses.proofs.Rows.{near, present_at, seen_at, written, keys_written}
 use Rattle.sk_guesses.proofs.row.Row.at_mut.Goals as goal
 

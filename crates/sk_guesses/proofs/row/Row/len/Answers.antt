@@ -1,6 +1,5 @@
 -- There are as many values as keys.
-use Rattle.std.proofs.Common.{length, ap, arith}
-use Rattle.sk_guesses.specs.Row.{InOrder}
+use Rattle.sk_guesses.proofs.Names.{length, ap, arith, InOrder}
 use Rattle.sk_guesses.proofs.Rows.{as_many}
 use Rattle.sk_guesses.proofs.row.Row.len.Goals as goal
 

@@ -1,6 +1,5 @@
 -- A value under a key that was vacant, and the key behind the others.
-use Rattle.std.proofs.Common.{◌∷◌, ◌++◌, [], length, sym, ◌∙◌, ap, subst, arith}
-use Rattle.sk_guesses.specs.Row.{InOrder, AreKeys, in_order}
+use Rattle.sk_guesses.proofs.Names.{◌∷◌, ◌++◌, [], length, sym, ◌∙◌, ap, subst, arith, InOrder, AreKeys, in_order}
 use Rattle.sk_guesses.proofs.Rows.{as_many, one_more, keys_more}
 use Rattle.sk_guesses.proofs.row.Row.push_reserved.Goals as goal
 

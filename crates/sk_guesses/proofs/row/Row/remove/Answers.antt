@@ -1,7 +1,5 @@
 -- The key at the place goes, and its value.
-use Rattle.std.proofs.Common.{◌≡◌, ◌+◌, length, sym, ◌∙◌, ap, subst, arith}
-use Rattle.std.specs.List.{remove}
-use Rattle.sk_guesses.specs.Row.{InOrder, AreKeys, in_order}
+use Rattle.sk_guesses.proofs.Names.{◌≡◌, ◌+◌, length, sym, ◌∙◌, ap, subst, arith, remove, InOrder, AreKeys, in_order}
 use Rattle.sk_guesses.proofs.Rows.{near, present_at, seen_at, removed, keys_left}
 use Rattle.sk_guesses.proofs.row.Row.remove.Goals as goal
 

@@ -1,9 +1,5 @@
 -- Room for a value, and for a key.
-use Rattle.std.proofs.Common.{length, sym, ap, subst, arith}
-use Rattle.std.specs.Prelude.{IsOk}
-use Rattle.std.proofs.lemmas.Bool.{true≢false}
-use Rattle.slab.specs.Slab.{Slab, slab_len}
-use Rattle.sk_guesses.specs.Row.{InOrder, in_order}
+use Rattle.sk_guesses.proofs.Names.{length, sym, ap, subst, arith, IsOk, true≢false, Slab, slab_len, InOrder, in_order}
 use Rattle.sk_guesses.proofs.Rows.{as_many, on_ok}
 use Rattle.sk_guesses.proofs.row.Row.reserve.Goals as goal
 

@@ -1,10 +1,7 @@
 -- The output that was taken out is pushed.
-use Rattle.std.proofs.Common.{rules, ◌≡◌, false, [], ◌∷◌, ◌++◌, None, refl, ap, sym, ◌∙◌, subst}
-use Rattle.std.specs.Prelude.{is_some}
+use Rattle.sk_held.proofs.Names.{rules, ◌≡◌, false, [], ◌∷◌, ◌++◌, None, refl, ap, sym, ◌∙◌, subst, is_some, byte_deed}
+use Rattle.sk_held.proofs.Names.{HeldView, first_of, MayBring}
 use mathlib.Core.Logic.{inl}
-use Rattle.sk_bytes.specs.Steps.{byte_deed}
-use Rattle.sk_held.specs.Held.{HeldView}
-use Rattle.sk_held.specs.Outputs.{first_of, MayBring}
 use Rattle.sk_held.proofs.Outputs.{none_shown, pushed}
 use Rattle.sk_held.proofs.held.Held.bring.Goals as goal
 

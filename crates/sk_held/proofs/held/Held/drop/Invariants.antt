@@ -1,6 +1,5 @@
 -- Just the tokens of what is undecided or struck are left.
-use Rattle.std.proofs.Common.{length}
-use Rattle.sk_held.specs.Tokens.{AreHeld}
+use Rattle.sk_held.proofs.Names.{length, AreHeld}
 use Rattle.sk_held.proofs.held.Held.drop.Given as goal
 
 abbrev pub invariant-loop-token : goal.invariant-loop-token

@@ -1,8 +1,5 @@
 -- A guess is decided by the token at its place.
-use Rattle.std.proofs.Common.{rules, ◌≡◌, Some}
-use Rattle.std.specs.Prelude.{slice_get, get_or}
-use Rattle.std.specs.List.{remove}
-use Rattle.sk_held.specs.Tokens.{ids}
+use Rattle.sk_held.proofs.Names.{rules, ◌≡◌, Some, slice_get, get_or, remove, ids}
 use Rattle.sk_held.proofs.Deciding.{fail_met, fail_holds}
 use Rattle.sk_held.proofs.held.Held.fail.Goals as goal
 

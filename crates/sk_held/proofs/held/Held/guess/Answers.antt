@@ -1,7 +1,5 @@
 -- The token of the guess that is drawn is pushed.
-use Rattle.std.proofs.Common.{rules, ◌≡◌}
-use Rattle.sk_index.specs.Index.{bytes_cmp}
-use Rattle.sk_bytes.specs.Steps.{byte_deed}
+use Rattle.sk_held.proofs.Names.{rules, ◌≡◌, bytes_cmp, byte_deed}
 use Rattle.sk_held.proofs.Kept.{drew}
 use Rattle.sk_held.proofs.Written.{nothing_long}
 use Rattle.sk_held.proofs.held.Held.guess.Goals as goal

@@ -1,7 +1,5 @@
 -- The copy is what the step says.
-use Rattle.std.proofs.Common.{Some, refl, subst}
-use Rattle.sk_bytes.specs.Steps.{byte_deed}
-use Rattle.sk_held.specs.Held.{HeldView, Says}
+use Rattle.sk_held.proofs.Names.{Some, refl, subst, byte_deed, HeldView, Says}
 use Rattle.sk_held.proofs.held.Held.say.Goals as goal
 
 pub returns : goal.returns

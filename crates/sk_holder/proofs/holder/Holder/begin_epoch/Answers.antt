@@ -1,7 +1,5 @@
 -- None is undecided, and so memory alone can want.
-use Rattle.std.proofs.Common.{◌≡◌, ap, length, arith}
-use Rattle.sk_kernel.specs.Kernel.{undecided_at}
-use Rattle.sk_holder.specs.Holder.{HolderView}
+use Rattle.sk_holder.proofs.Names.{◌≡◌, ap, length, arith, undecided_at, HolderView}
 use Rattle.sk_holder.proofs.LetGo.{begins}
 use Rattle.sk_holder.proofs.holder.Holder.begin_epoch.Goals as goal
 

@@ -1,8 +1,6 @@
 -- A guess is committed by the token at its place.
-use Rattle.std.proofs.Common.{◌≡◌, Some, sym, subst}
-use Rattle.std.specs.Prelude.{slice_get}
+use Rattle.sk_holder.proofs.Names.{◌≡◌, Some, sym, subst, slice_get, HolderView, DecidesPost, ids}
 use Rattle.sk_trace.specs.declared.event.Event.TheVariants as events
-use Rattle.sk_holder.specs.Holder.{HolderView, DecidesPost, ids}
 use Rattle.sk_holder.proofs.Decided.{with_tokens, commit_met, commit_holds, commit_decides}
 use Rattle.sk_holder.proofs.holder.Holder.commit.Goals as goal
 

@@ -1,6 +1,5 @@
 -- A guess opens its own number alone, whose token is pushed.
-use Rattle.std.proofs.Common.{rules, ◌≡◌}
-use Rattle.sk_trace.specs.Kept.{input_in}
+use Rattle.sk_holder.proofs.Names.{rules, ◌≡◌, input_in}
 use Rattle.sk_holder.proofs.Settled.{draws_keep}
 use Rattle.sk_holder.proofs.Kept.{draws_hold}
 use Rattle.sk_holder.proofs.holder.Holder.guess.Goals as goal

@@ -1,6 +1,5 @@
 -- No token is held, before and behind it; so no guess is undecided.
-use Rattle.std.proofs.Common.{◌∙◌, ap}
-use Rattle.sk_holder.specs.Holder.{HolderView}
+use Rattle.sk_holder.proofs.Names.{◌∙◌, ap, HolderView}
 use Rattle.sk_holder.proofs.Kept.{none_held}
 use Rattle.sk_holder.proofs.Epochs.{epoch_holds, only_memory}
 use Rattle.sk_holder.proofs.holder.Holder.new_epoch.Goals as goal

@@ -1,9 +1,6 @@
 -- A guess is held where its token was found, and is not where none was.
-use Rattle.std.proofs.Common.{rules, ◌≡◌, ◌<◌, ◌≤◌, true, false, Some, drop, get_or, length, sym, ap, ◌∙◌, subst}
-use Rattle.std.specs.Prelude.{slice_get}
-use Rattle.sk_record.specs.Notes.{has}
-use Rattle.sk_holder.specs.Holder.{HolderView, ids}
-use Rattle.sk_holder.specs.Tokens.{is_held}
+use Rattle.sk_holder.proofs.Names.{rules, ◌≡◌, ◌<◌, ◌≤◌, true, false, Some, drop, get_or, length, sym, ap, ◌∙◌, subst}
+use Rattle.sk_holder.proofs.Names.{slice_get, has, HolderView, ids, is_held}
 use Rattle.sk_holder.proofs.Held.{held_ids, id_at_get, none_past}
 use Rattle.sk_holder.proofs.Decided.{has_at}
 use Rattle.sk_holder.proofs.holder.Holder.place_of.Goals as goal

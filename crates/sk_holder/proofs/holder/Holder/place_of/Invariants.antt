@@ -1,6 +1,5 @@
 -- A token of the guess is held where one is among those that are left to look at.
-use Rattle.std.proofs.Common.{◌≡◌, drop}
-use Rattle.sk_holder.specs.Tokens.{is_held}
+use Rattle.sk_holder.proofs.Names.{◌≡◌, drop, is_held}
 use Rattle.sk_holder.proofs.holder.Holder.place_of.Given as goal
 
 abbrev pub invariant-loop-place : goal.invariant-loop-place

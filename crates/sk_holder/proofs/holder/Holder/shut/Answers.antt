@@ -1,6 +1,5 @@
 -- Each undecided guess is held, and none is.
-use Rattle.std.proofs.Common.{◌∙◌, ap}
-use Rattle.sk_holder.specs.Holder.{HolderView}
+use Rattle.sk_holder.proofs.Names.{◌∙◌, ap, HolderView}
 use Rattle.sk_holder.proofs.Kept.{none_held}
 use Rattle.sk_holder.proofs.holder.Holder.shut.Goals as goal
 

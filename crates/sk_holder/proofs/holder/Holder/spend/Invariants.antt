@@ -1,7 +1,5 @@
 -- Up to here only failures happened, and none where no guess was undecided.
-use Rattle.std.proofs.Common.{◌≡◌, [], length}
-use Rattle.sk_kernel.specs.Kernel.{undecided_at}
-use Rattle.sk_holder.specs.Holder.{FailsSome}
+use Rattle.sk_holder.proofs.Names.{◌≡◌, [], length, undecided_at, FailsSome}
 use Rattle.sk_holder.proofs.holder.Holder.spend.Given as goal
 
 abbrev pub invariant-loop-token : goal.invariant-loop-token

@@ -1,8 +1,6 @@
 -- The front goes by a number, and what stands behind it is moved.
-use Rattle.std.proofs.Common.{rules, ◌<◌, ◌+◌, ◌≤◌, length, arith, sym, ◌∙◌, ap, subst}
+use Rattle.sk_ids.proofs.Names.{rules, ◌<◌, ◌+◌, ◌≤◌, length, arith, sym, ◌∙◌, ap, subst, remove, length-remove}
 use Rattle.std.specs.Prelude.{drop}
-use Rattle.std.specs.List.{remove}
-use Rattle.std.proofs.lemmas.List.Edits.{length-remove}
 use Rattle.sk_ids.proofs.Fronts.{front_gone, removed, behind}
 use Rattle.sk_ids.proofs.front.Fronted.remove.Goals as goal
 

@@ -1,7 +1,5 @@
 -- The zeros past a name's end are below its letters.
-use Rattle.std.proofs.Common.{◌∙◌}
-use Rattle.std.specs.Ordering.{nat_cmp}
-use Rattle.std.specs.Cmp.Lexicographic.{slice_cmp}
+use Rattle.sk_ids.proofs.Names.{◌∙◌, nat_cmp, slice_cmp}
 use Rattle.sk_ids.proofs.Padding.{as_names}
 use Rattle.sk_ids.proofs.name.NameOrd.cmp.Goals as goal
 

@@ -1,7 +1,5 @@
 -- Names are the same where they compare so.
-use Rattle.std.proofs.Common.{sym, ap, ◌∙◌}
-use Rattle.std.specs.Ordering.{is_eq}
-use Rattle.std.specs.Cmp.Lexicographic.{texts_ties}
+use Rattle.sk_ids.proofs.Names.{sym, ap, ◌∙◌, is_eq, texts_ties}
 use Rattle.sk_ids.proofs.name.NamePartialEq.eq.Goals as goal
 
 pub returns : goal.returns

@@ -1,11 +1,7 @@
 -- What a loop keeps of a list are its members that are not in the other set.
-use Rattle.std.proofs.Common.{◌≡◌, ◌≤◌, ℕ, zero, suc, eqb, Bool, true, false, not, cond, ◌&&◌, ◌||◌, List, [], ◌∷◌, length, take, arith, refl, sym, ◌∙◌, ap, subst}
-use Rattle.std.specs.Ordering.{nat_cmp}
-use Rattle.std.specs.List.{filter}
-use Rattle.std.specs.List.Sorted.{IsStrictlySortedBy}
-use Rattle.std.proofs.lemmas.Bool.{eqb-true}
-use Rattle.std.proofs.lemmas.List.Kept.{IsStrictlySortedBy-filter}
-use Rattle.sk_record.specs.Notes.{has}
+use Rattle.sk_ids.proofs.Names.{◌≡◌, ◌≤◌, ℕ, zero, suc, eqb, Bool, true, false, not, cond, ◌&&◌, ◌||◌, List, [], ◌∷◌}
+use Rattle.sk_ids.proofs.Names.{length, take, arith, refl, sym, ◌∙◌, ap, subst, nat_cmp, filter, IsStrictlySortedBy}
+use Rattle.sk_ids.proofs.Names.{eqb-true, IsStrictlySortedBy-filter, has}
 use Rattle.sk_ids.proofs.tags.TagSet.beyond.Goals as goal
 
 take_all : (n : ℕ) (xs : List ℕ) → length xs ≤ n → take n xs ≡ xs

@@ -1,7 +1,5 @@
-use Rattle.std.proofs.Common.{◌≡◌, take}
+use Rattle.sk_ids.proofs.Names.{◌≡◌, take, filter, has}
 use Rattle.std.specs.Prelude.{not}
-use Rattle.std.specs.List.{filter}
-use Rattle.sk_record.specs.Notes.{has}
 use Rattle.sk_ids.proofs.tags.TagSet.beyond.Given as goal
 
 abbrev pub invariant-loop-id : goal.invariant-loop-id

@@ -1,8 +1,7 @@
 -- A guess that has a place is there.
-use Rattle.std.proofs.Common.{◌≡◌, ◌<◌, ℕ, false, Some, None, List, length, refl, sym, ◌∙◌}
-use Rattle.std.specs.Prelude.{Option, IfSome, get_or, is_some}
+use Rattle.sk_ids.proofs.Names.{◌≡◌, ◌<◌, ℕ, false, Some, None, List, length, refl, sym, ◌∙◌, Option, IfSome, get_or}
+use Rattle.sk_ids.proofs.Names.{is_some, has}
 use Rattle.sk_ids.proofs.Searches.{found}
-use Rattle.sk_record.specs.Notes.{has}
 use Rattle.sk_ids.proofs.tags.TagSet.contains.Goals as goal
 
 placed : (g : ℕ) (xs : List ℕ) (r : Option ℕ) → IfSome r (λ i. (i < length xs) × (get_or xs i 0 ≡ g)) → (r ≡ None → has g xs ≡ false) → is_some r ≡ has g xs

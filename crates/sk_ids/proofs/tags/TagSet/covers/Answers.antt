@@ -1,13 +1,10 @@
 -- What holds of all guesses of a set holds of each; what stands at the front of a list is in it; and a longer set that rises has
 -- a guess that a shorter one has not.
-use Rattle.std.proofs.Common.{◌≡◌, ◌≤◌, ◌<◌, ◌&&◌, ℕ, zero, suc, eqb, Bool, true, false, List, [], ◌∷◌, length, take, inl, inr, refl, sym, ◌∙◌, ap, subst, arith}
-use Rattle.std.specs.Ordering.{nat_cmp}
-use Rattle.std.specs.List.{list_all}
+use Rattle.sk_ids.proofs.Names.{◌≡◌, ◌≤◌, ◌<◌, ◌&&◌, ℕ, zero, suc, eqb, Bool, true, false, List, [], ◌∷◌, length, take}
+use Rattle.sk_ids.proofs.Names.{inl, inr, refl, sym, ◌∙◌, ap, subst, arith, nat_cmp, list_all, or_cases, or_left}
+use Rattle.sk_ids.proofs.Names.{or_right, eqb-true, eq-eqb, has, and_both, above}
 use Rattle.std.specs.List.Sorted.{IsStrictlySortedBy}
-use Rattle.std.proofs.lemmas.Bool.{true≢false, or_cases, or_left, or_right, eqb-true, eq-eqb}
-use Rattle.sk_record.specs.Notes.{has}
-use Rattle.sk_record.proofs.UndoStates.{and_both}
-use Rattle.sk_record.proofs.Rising.{above}
+use Rattle.std.proofs.lemmas.Bool.{true≢false}
 use Rattle.sk_ids.proofs.Same.{exact_bytes}
 use Rattle.sk_ids.proofs.tags.TagSet.covers.Goals as goal
 

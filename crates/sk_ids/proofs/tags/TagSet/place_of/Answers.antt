@@ -1,9 +1,5 @@
 -- The search tells whether the guess is there.
-use Rattle.std.proofs.Common.{sym, ◌∙◌, ap, subst}
-use Rattle.std.specs.Prelude.{is_some}
-use Rattle.std.specs.Ordering.{nat_cmp}
-use Rattle.std.specs.List.Sorted.{IsBinarySearchResult}
-use Rattle.sk_record.specs.Notes.{has}
+use Rattle.sk_ids.proofs.Names.{sym, ◌∙◌, ap, subst, is_some, nat_cmp, IsBinarySearchResult, has}
 use Rattle.sk_ids.proofs.Searches.{tells}
 use Rattle.sk_ids.proofs.tags.TagSet.place_of.Goals as goal
 

@@ -1,11 +1,6 @@
 -- The two lists joined, in order, with each number once.
-use Rattle.std.proofs.Common.{◌≡◌, ℕ, eqb, List, ◌++◌, length, ap, ◌∙◌, sym, subst, rules}
-use Rattle.std.specs.Cmp.{nat_cmp_total, unsigned_tied}
-use Rattle.std.specs.List.{dedup, refill}
-use Rattle.std.specs.List.Sorted.{IsPermutation}
-use Rattle.std.proofs.lemmas.List.Kept.{IsStrictlySortedBy-dedup}
-use Rattle.std.proofs.lemmas.List.{take_at}
-use Rattle.sk_record.specs.Notes.{has}
+use Rattle.sk_ids.proofs.Names.{◌≡◌, ℕ, eqb, List, ◌++◌, length, ap, ◌∙◌, sym, subst, rules, nat_cmp_total}
+use Rattle.sk_ids.proofs.Names.{unsigned_tied, dedup, refill, IsPermutation, IsStrictlySortedBy-dedup, take_at, has}
 use Rattle.sk_ids.proofs.GuessSets.{has-dedup}
 use Rattle.sk_ids.proofs.tags.TagSet.union.Goals as goal
 

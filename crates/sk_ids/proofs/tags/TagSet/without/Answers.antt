@@ -1,11 +1,7 @@
 -- The guess is taken out at its place, and the list rises still.
-use Rattle.std.proofs.Common.{◌≡◌, refl, sym, ◌∙◌, ap, subst}
+use Rattle.sk_ids.proofs.Names.{◌≡◌, refl, sym, ◌∙◌, ap, subst, nat_cmp, remove, IsStrictlySortedBy}
+use Rattle.sk_ids.proofs.Names.{IsStrictlySortedBy-filter, without}
 use Rattle.std.specs.Prelude.{eqb, not}
-use Rattle.std.specs.Ordering.{nat_cmp}
-use Rattle.std.specs.List.{remove}
-use Rattle.std.specs.List.Sorted.{IsStrictlySortedBy}
-use Rattle.std.proofs.lemmas.List.Kept.{IsStrictlySortedBy-filter}
-use Rattle.sk_record.specs.Notes.{without}
 use Rattle.sk_ids.proofs.Newest.{without_none}
 use Rattle.sk_ids.proofs.Searches.{taken_at}
 use Rattle.sk_ids.proofs.tags.TagSet.without.Goals as goal

@@ -1,6 +1,5 @@
 -- The bytes, and zeros behind them as far as there were none, fill the cells.
-use Rattle.std.proofs.Common.{◌≤◌, length, arith}
-use Rattle.sk_ids.specs.declared.text.TheConstants.{TEXT_LIMIT}
+use Rattle.sk_ids.proofs.Names.{◌≤◌, length, arith, TEXT_LIMIT}
 use Rattle.sk_ids.proofs.Cells.{replaced_len, replaced_zeros, replaced_first}
 use Rattle.sk_ids.proofs.text.Text.set.Goals as goal
 

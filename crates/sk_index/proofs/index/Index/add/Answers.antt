@@ -1,9 +1,6 @@
 -- A string comes into the next place, and its hash with it.
-use Rattle.std.proofs.Common.{◌<◌, ◌^◌, sym, ap, ◌∙◌, subst, arith}
-use Rattle.std.specs.Hash.DefaultHasher.{finish, write}
-use Rattle.slab.specs.Slab.{Slab}
-use Rattle.sk_index.specs.Index.{number_of, Adds}
-use Rattle.sk_index.specs.Inside.{is_under, numbered}
+use Rattle.sk_index.proofs.Names.{◌<◌, ◌^◌, sym, ap, ◌∙◌, subst, arith, finish, write, Slab, number_of, Adds, is_under}
+use Rattle.sk_index.proofs.Names.{numbered}
 use Rattle.sk_index.proofs.Kept as kept
 use Rattle.sk_index.proofs.index.Index.add.Goals as goal
 

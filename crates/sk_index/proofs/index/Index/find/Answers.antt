@@ -1,12 +1,7 @@
 -- A string that is here is in a place that is gone through.
-use Rattle.std.proofs.Common.{◌≡◌, ◌≤◌, true, Some, refl, sym, ap, ◌∙◌, subst, arith}
-use Rattle.std.specs.List.{list_any}
-use Rattle.std.specs.BTreeMap.{is_at}
-use Rattle.std.specs.BTreeSet.{contains, keys_between}
-use Rattle.std.specs.Hash.DefaultHasher.{finish, write}
-use Rattle.std.specs.declared.ops.Bound.TheVariants.{Included}
-use Rattle.sk_index.specs.Index.{number_of, string_of}
-use Rattle.sk_index.specs.Inside.{first_under, is_under, place_cmp}
+use Rattle.sk_index.proofs.Names.{◌≡◌, ◌≤◌, true, Some, refl, sym, ap, ◌∙◌, subst, arith, list_any, is_at, contains}
+use Rattle.sk_index.proofs.Names.{keys_between, finish, write, Included, number_of, string_of, first_under, is_under}
+use Rattle.sk_index.proofs.Names.{place_cmp}
 use Rattle.sk_index.proofs.Strings.{number_at, slot_of, true_false, unnumbered}
 use Rattle.sk_index.proofs.Kept.{looked}
 use Rattle.sk_index.proofs.Under.{among_others}

@@ -1,9 +1,5 @@
 -- A place with this string is among those that are left.
-use Rattle.std.proofs.Common.{◌≡◌, true, Some}
-use Rattle.std.specs.List.{list_any}
-use Rattle.std.specs.BTreeMap.{is_at}
-use Rattle.sk_index.specs.Index.{string_of}
-use Rattle.sk_index.specs.Inside.{place_cmp}
+use Rattle.sk_index.proofs.Names.{◌≡◌, true, Some, list_any, is_at, string_of, place_cmp}
 use Rattle.sk_index.proofs.index.Index.find.Given as goal
 
 abbrev pub invariant-loop-place : goal.invariant-loop-place

@@ -1,9 +1,5 @@
 -- The string in a place.
-use Rattle.std.proofs.Common.{Some, sym, ap, ◌∙◌}
-use Rattle.std.specs.Option.{option_map}
-use Rattle.std.specs.Global.{Vec}
-use Rattle.std.proofs.lemmas.Slice.Eq.{bytes_eq-Decides}
-use Rattle.sk_index.specs.Index.{string_of}
+use Rattle.sk_index.proofs.Names.{Some, sym, ap, ◌∙◌, option_map, Vec, bytes_eq-Decides, string_of}
 use Rattle.sk_index.proofs.Strings.{string_at, some_none, true_false, same_list}
 use Rattle.sk_index.proofs.index.Index.is_at.Goals as goal
 

@@ -1,6 +1,5 @@
 -- As many as there are places with a string, and none is there twice.
-use Rattle.std.proofs.Common.{length, sym, ap, ◌∙◌, subst}
-use Rattle.sk_index.specs.Index.{AreApart}
+use Rattle.sk_index.proofs.Names.{length, sym, ap, ◌∙◌, subst, AreApart}
 use Rattle.sk_index.proofs.Counts.{apart_numbered, length-numbered}
 use Rattle.sk_index.proofs.index.Index.len.Goals as goal
 

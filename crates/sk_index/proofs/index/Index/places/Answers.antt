@@ -1,10 +1,7 @@
 -- Behind the last place stands nothing, and the places rise.
-use Rattle.std.proofs.Common.{◌≤◌, nat_cmp, None, length, sym, ap, ◌∙◌, subst, arith}
-use Rattle.std.specs.Option.{option_map}
-use Rattle.std.specs.Global.{Vec}
-use Rattle.std.specs.List.Sorted.{IsStrictlySortedBy}
-use Rattle.std.proofs.lemmas.List.{get_or_past}
-use Rattle.sk_index.specs.Index.{numbers_in, string_of}
+use Rattle.sk_index.proofs.Names.{◌≤◌, None, length, sym, ap, ◌∙◌, subst, arith, option_map, Vec, IsStrictlySortedBy}
+use Rattle.sk_index.proofs.Names.{get_or_past, numbers_in, string_of}
+use Rattle.std.proofs.Common.{nat_cmp}
 use Rattle.sk_index.proofs.Counts.{rising_numbered}
 use Rattle.sk_index.proofs.Strings.{string_at}
 use Rattle.sk_index.proofs.index.Index.places.Goals as goal

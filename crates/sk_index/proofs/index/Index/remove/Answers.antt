@@ -1,10 +1,6 @@
 -- The string goes out of its place, and its hash with it.
-use Rattle.std.proofs.Common.{sym, ap, ◌∙◌, subst}
-use Rattle.std.specs.Option.{option_map}
-use Rattle.std.specs.Global.{Vec}
-use Rattle.std.specs.Hash.DefaultHasher.{finish, write}
-use Rattle.sk_index.specs.Index.{string_of, Removes}
-use Rattle.sk_index.specs.Inside.{is_under, numbered}
+use Rattle.sk_index.proofs.Names.{sym, ap, ◌∙◌, subst, option_map, Vec, finish, write, string_of, Removes, is_under}
+use Rattle.sk_index.proofs.Names.{numbered}
 use Rattle.sk_index.proofs.Strings.{at, string_at}
 use Rattle.sk_index.proofs.Kept as kept
 use Rattle.sk_index.proofs.index.Index.remove.Goals as goal

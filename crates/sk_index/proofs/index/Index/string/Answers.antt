@@ -1,8 +1,5 @@
 -- The string in the place of its number.
-use Rattle.std.proofs.Common.{Some, sym, ap, ◌∙◌}
-use Rattle.std.specs.Option.{option_map}
-use Rattle.std.specs.Global.{Vec}
-use Rattle.sk_index.specs.Index.{string_of}
+use Rattle.sk_index.proofs.Names.{Some, sym, ap, ◌∙◌, option_map, Vec, string_of}
 use Rattle.sk_index.proofs.Strings.{at, string_at}
 use Rattle.sk_index.proofs.index.Index.string.Goals as goal
 

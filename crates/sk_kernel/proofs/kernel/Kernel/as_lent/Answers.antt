@@ -1,14 +1,8 @@
 -- What is looked up is the run of the trace's record.
-use Rattle.std.proofs.Common.{Option, subst}
-use Rattle.std.specs.Prelude.{◌↔◌, IsTrue}
+use Rattle.sk_kernel.proofs.Names.{Option, subst, ◌↔◌, IsTrue, Entity, EntityState, look_at, Scripts, KernelView}
+use Rattle.sk_kernel.proofs.Names.{state_at, the_view}
 use Rattle.std.specs.FinMap as map
-use Rattle.sk_ids.specs.declared.entity.Entity.{Entity}
-use Rattle.sk_store.specs.declared.entity_state.EntityState.{EntityState}
-use Rattle.sk_undo.specs.Logs.{look_at}
-use Rattle.sk_plain.specs.Act.{Scripts}
 use Rattle.sk_plain.specs.Leased.{IsAsLent}
-use Rattle.sk_kernel.specs.Kernel.{KernelView, state_at}
-use Rattle.sk_kernel.specs.contracts.kernel.Kernel.{the_view}
 use Rattle.sk_kernel.proofs.Whole.{look_is}
 use Rattle.sk_kernel.proofs.kernel.Kernel.as_lent.Goals as goal
 

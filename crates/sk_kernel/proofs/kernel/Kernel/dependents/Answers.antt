@@ -1,10 +1,5 @@
 -- The list of the machine is that of the trace.
-use Rattle.std.proofs.Common.{◌≡◌, subst}
-use Rattle.sk_record.specs.Effects.{is_in}
-use Rattle.sk_record.specs.Notes.{has}
-use Rattle.sk_ids.specs.Entity.{entity_cmp}
-use Rattle.sk_kernel.specs.Kernel.{KernelView, tags_at}
-use Rattle.sk_kernel.specs.contracts.kernel.Kernel.{the_view}
+use Rattle.sk_kernel.proofs.Names.{◌≡◌, subst, is_in, has, entity_cmp, KernelView, tags_at, the_view}
 use Rattle.sk_kernel.proofs.Whole.{dependents_are}
 use Rattle.sk_kernel.proofs.kernel.Kernel.dependents.Goals as goal
 

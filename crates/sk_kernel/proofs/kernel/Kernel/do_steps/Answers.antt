@@ -1,14 +1,7 @@
 -- The machine takes the process as it became, and stands for the trace with as many steps more.
-use Rattle.std.proofs.Common.{◌≡◌, ◌+◌, ◌<◌, ◌≤◌, ◌^◌, ◌++◌, sym, ◌∙◌, ap, subst, arith, rules}
-use Rattle.std.specs.Prelude.{replicate}
-use Rattle.sk_ids.specs.declared.entity.Entity.TheVariants.{Proc}
-use Rattle.sk_store.specs.Processes.{IsProcess}
-use Rattle.sk_undo.specs.Logs.{look_at}
-use Rattle.sk_machine.specs.HandsIn.{HandsInProcess}
-use Rattle.sk_machine.proofs.Given.{from_ok, from_err}
-use Rattle.sk_kernel.specs.Kernel.{KernelView, room}
-use Rattle.sk_kernel.specs.HandIn.{IsAsLent, alone_step, with_steps}
-use Rattle.sk_kernel.specs.contracts.kernel.Kernel.{the_view}
+use Rattle.sk_kernel.proofs.Names.{◌≡◌, ◌+◌, ◌<◌, ◌≤◌, ◌^◌, ◌++◌, sym, ◌∙◌, ap, subst, arith, rules, replicate, Proc}
+use Rattle.sk_kernel.proofs.Names.{IsProcess, look_at, HandsInProcess, from_ok, from_err, KernelView, room, IsAsLent}
+use Rattle.sk_kernel.proofs.Names.{alone_step, with_steps, the_view}
 use Rattle.sk_kernel.proofs.Whole.{look_is, tidy, opens_rise}
 use Rattle.sk_kernel.proofs.HandedIn.{handed_whole, same_opens, fits_places}
 use Rattle.sk_kernel.proofs.Opened.{still_opened}

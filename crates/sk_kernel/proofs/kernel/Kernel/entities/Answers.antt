@@ -1,10 +1,6 @@
 -- The entities that have a value are the keys of the state.
-use Rattle.std.proofs.Common.{◌≡◌, subst}
-use Rattle.std.specs.Prelude.{IfOk}
+use Rattle.sk_kernel.proofs.Names.{◌≡◌, subst, IfOk, KernelView, state_at, the_view, if_ok}
 use Rattle.std.specs.FinMap as map
-use Rattle.sk_kernel.specs.Kernel.{KernelView, state_at}
-use Rattle.sk_kernel.specs.contracts.kernel.Kernel.{the_view}
-use Rattle.sk_machine.proofs.Given.{if_ok}
 use Rattle.sk_kernel.proofs.Whole.{entities_are}
 use Rattle.sk_kernel.proofs.kernel.Kernel.entities.Goals as goal
 

@@ -1,7 +1,6 @@
 -- The token says what its guess is; a failure is the machine's, with one event more.
-use Rattle.std.proofs.Common.{Ok, [], refl, sym, ◌∙◌, ap}
+use Rattle.sk_kernel.proofs.Names.{Ok, [], refl, sym, ◌∙◌, ap, the_view}
 use Rattle.sk_trace.specs.declared.event.Event.TheVariants as events
-use Rattle.sk_kernel.specs.contracts.kernel.Kernel.{the_view}
 use Rattle.sk_kernel.proofs.Whole.{grows, undecided_since}
 use Rattle.sk_kernel.proofs.Tokens.{token_undecided, stranger_back, nothing_left, decided_by, kept_place, failed_whole}
 use Rattle.sk_kernel.proofs.Opened.{still_opened}

@@ -1,15 +1,7 @@
 -- The plan's entities are those of the effect that the plain kernel has there.
-use Rattle.std.proofs.Common.{◌≡◌, None, Ok, Err, sym, ◌∙◌, ap, subst}
-use Rattle.sk_trace.specs.Entry.{EntryView}
-use Rattle.sk_trace.specs.Kept.{input_in}
-use Rattle.sk_undo.specs.Logs.{look_at}
-use Rattle.sk_plain.specs.Planned.{read_by}
-use Rattle.sk_plain.specs.Seen.{seen_with}
-use Rattle.sk_plain.proofs.Scan.{asked, changed_are}
-use Rattle.sk_plain.proofs.Plans.{written_is}
-use Rattle.sk_kernel.specs.Kernel.{KernelView, effect_at}
-use Rattle.sk_kernel.specs.Footprint.{footprint_of}
-use Rattle.sk_kernel.specs.contracts.kernel.Kernel.{the_view}
+use Rattle.sk_kernel.proofs.Names.{◌≡◌, None, Ok, Err, sym, ◌∙◌, ap, subst, EntryView, input_in, look_at, read_by}
+use Rattle.sk_kernel.proofs.Names.{seen_with, asked, changed_are, written_is, KernelView, effect_at, footprint_of}
+use Rattle.sk_kernel.proofs.Names.{the_view}
 use Rattle.sk_kernel.proofs.Whole.{same_effect}
 use Rattle.sk_kernel.proofs.kernel.Kernel.footprint.Goals as goal
 

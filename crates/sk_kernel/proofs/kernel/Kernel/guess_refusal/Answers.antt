@@ -1,10 +1,6 @@
 -- The plan tells why the plain kernel refuses the guess's step, and the guesses whether one can be drawn.
-use Rattle.std.proofs.Common.{◌≡◌, true, false, Some, None, refl, sym, ◌∙◌, subst}
-use Rattle.sk_trace.specs.Entry.{EntryView}
-use Rattle.sk_trace.specs.Kept.{input_in}
-use Rattle.sk_plain.specs.declared.refusal.Refusal.TheVariants.{TooMany}
-use Rattle.sk_kernel.specs.Kernel.{KernelView, effect_at, or_else, guess_misfits, too_many, next_guess}
-use Rattle.sk_kernel.specs.contracts.kernel.Kernel.{the_view}
+use Rattle.sk_kernel.proofs.Names.{◌≡◌, true, false, Some, None, refl, sym, ◌∙◌, subst, EntryView, input_in, TooMany}
+use Rattle.sk_kernel.proofs.Names.{KernelView, effect_at, or_else, guess_misfits, too_many, next_guess, the_view}
 use Rattle.sk_kernel.proofs.Refusals.{guess_why}
 use Rattle.sk_kernel.proofs.kernel.Kernel.guess_refusal.Goals as goal
 

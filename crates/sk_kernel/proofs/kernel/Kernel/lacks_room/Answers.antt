@@ -1,11 +1,7 @@
 -- Whether the step has room, from its plan.
-use Rattle.std.proofs.Common.{◌≡◌, Bool, true, false, cond, Some, None, refl, sym, subst, ap, ◌∙◌}
-use Rattle.std.specs.Prelude.{is_some}
-use Rattle.sk_trace.specs.Entry.{EntryView}
+use Rattle.sk_kernel.proofs.Names.{◌≡◌, Bool, true, false, cond, Some, None, refl, sym, subst, ap, ◌∙◌, is_some}
+use Rattle.sk_kernel.proofs.Names.{EntryView, NoRoom, KernelView, state_at, effect_at, no_room, the_view}
 use Rattle.sk_script.specs.declared.instruction.Input.TheVariants as inputs
-use Rattle.sk_plain.specs.declared.refusal.Refusal.TheVariants.{NoRoom}
-use Rattle.sk_kernel.specs.Kernel.{KernelView, state_at, effect_at, no_room}
-use Rattle.sk_kernel.specs.contracts.kernel.Kernel.{the_view}
 use Rattle.sk_kernel.proofs.Refusals.{room_why}
 use Rattle.sk_kernel.proofs.Rooms.{room_of}
 use Rattle.sk_kernel.proofs.kernel.Kernel.lacks_room.Goals as goal

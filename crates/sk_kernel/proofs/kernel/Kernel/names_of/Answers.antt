@@ -1,13 +1,7 @@
 -- The names that the machine counts are those of the trace's state.
-use Rattle.std.proofs.Common.{◌≡◌, Option, subst, ap, ◌∙◌}
+use Rattle.sk_kernel.proofs.Names.{◌≡◌, Option, subst, ap, ◌∙◌, Entity, EntityState, IsCount, name_there, names_in}
+use Rattle.sk_kernel.proofs.Names.{one_count, names_counted, look_at, KernelView, state_at, the_view}
 use Rattle.std.specs.FinMap as map
-use Rattle.sk_ids.specs.declared.entity.Entity.{Entity}
-use Rattle.sk_store.specs.declared.entity_state.EntityState.{EntityState}
-use Rattle.sk_store.specs.Names.{IsCount, name_there, names_in}
-use Rattle.sk_store.proofs.Names.{one_count, names_counted}
-use Rattle.sk_undo.specs.Logs.{look_at}
-use Rattle.sk_kernel.specs.Kernel.{KernelView, state_at}
-use Rattle.sk_kernel.specs.contracts.kernel.Kernel.{the_view}
 use Rattle.sk_kernel.proofs.Whole.{look_is}
 use Rattle.sk_kernel.proofs.kernel.Kernel.names_of.Goals as goal
 

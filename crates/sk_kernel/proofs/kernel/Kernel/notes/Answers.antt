@@ -1,8 +1,5 @@
 -- The notes are those of the machine, whose logs are empty exactly where the trace says that nothing rests on a guess.
-use Rattle.std.proofs.Common.{◌∙◌, ap, subst}
-use Rattle.sk_kernel.specs.Kernel.{KernelView, undecided_at}
-use Rattle.sk_kernel.specs.Notes.{CanHold}
-use Rattle.sk_kernel.specs.contracts.kernel.Kernel.{the_view}
+use Rattle.sk_kernel.proofs.Names.{◌∙◌, ap, subst, KernelView, undecided_at, CanHold, the_view}
 use Rattle.sk_kernel.proofs.Noted.{notes_are, none_undecided}
 use Rattle.sk_kernel.proofs.kernel.Kernel.notes.Goals as goal
 

@@ -1,10 +1,7 @@
 -- What is looked up is the run of the trace's record.
-use Rattle.std.proofs.Common.{ap, ◌∙◌}
+use Rattle.sk_kernel.proofs.Names.{ap, ◌∙◌, look_at, KernelView, state_at, the_view}
 use Rattle.std.specs.FinMap as map
 use Rattle.sk_plain.specs.Next.{next_of}
-use Rattle.sk_undo.specs.Logs.{look_at}
-use Rattle.sk_kernel.specs.Kernel.{KernelView, state_at}
-use Rattle.sk_kernel.specs.contracts.kernel.Kernel.{the_view}
 use Rattle.sk_kernel.proofs.Whole.{look_is}
 use Rattle.sk_kernel.proofs.kernel.Kernel.plain_next.Goals as goal
 

@@ -1,7 +1,6 @@
 -- The oldest open guess is the least of the trace's undecided ones.
-use Rattle.std.proofs.Common.{◌∙◌, ap, get_or}
+use Rattle.sk_kernel.proofs.Names.{◌∙◌, ap, get_or, the_view}
 use Rattle.sk_kernel.specs.Kernel.{settled}
-use Rattle.sk_kernel.specs.contracts.kernel.Kernel.{the_view}
 use Rattle.sk_kernel.proofs.Whole.{opens_are}
 use Rattle.sk_kernel.proofs.Tokens.{next_is}
 use Rattle.sk_kernel.proofs.kernel.Kernel.settled.Goals as goal

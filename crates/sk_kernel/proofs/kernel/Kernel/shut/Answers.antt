@@ -1,9 +1,6 @@
 -- With nothing undecided each text is released.
-use Rattle.std.proofs.Common.{sym, ◌∙◌, ap, subst}
-use Rattle.sk_terminal.specs.Terminals.{TerminalMap, released_at}
-use Rattle.sk_kernel.specs.Kernel.{KernelView, undecided_at}
-use Rattle.sk_kernel.specs.Calls.{LeavesTexts}
-use Rattle.sk_kernel.specs.contracts.kernel.Kernel.{the_view}
+use Rattle.sk_kernel.proofs.Names.{sym, ◌∙◌, ap, subst, TerminalMap, released_at, KernelView, undecided_at, LeavesTexts}
+use Rattle.sk_kernel.proofs.Names.{the_view}
 use Rattle.sk_kernel.proofs.Whole.{texts_left}
 use Rattle.sk_kernel.proofs.kernel.Kernel.shut.Goals as goal
 

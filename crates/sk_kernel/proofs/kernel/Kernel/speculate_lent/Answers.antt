@@ -1,17 +1,9 @@
 -- The plan is what the plain kernel does on the trace's record; the machine draws the next guess and takes it.
-use Rattle.std.proofs.Common.{◌+◌, ◌<◌, ◌^◌, ◌≡◌, Some, None, [], ◌∷◌, ◌++◌, refl, sym, ◌∙◌, ap, subst, arith, rules}
-use Rattle.sk_record.specs.Merged.{MergedTakes}
-use Rattle.sk_guesses.specs.Guesses.{next_of}
-use Rattle.sk_machine.specs.Parts.{machine_of}
-use Rattle.sk_plain.specs.Act.{plain}
-use Rattle.sk_trace.specs.Entry.{EntryView}
-use Rattle.sk_trace.specs.Kept.{input_in}
+use Rattle.sk_kernel.proofs.Names.{◌+◌, ◌<◌, ◌^◌, ◌≡◌, Some, None, [], ◌∷◌, ◌++◌, refl, sym, ◌∙◌, ap, subst, arith}
+use Rattle.sk_kernel.proofs.Names.{rules, MergedTakes, next_of, machine_of, plain, EntryView, input_in, TooMany}
+use Rattle.sk_kernel.proofs.Names.{TraceFull, KernelView, guess_refused, next_guess, room, with_event, IsNew, the_view}
+use Rattle.sk_kernel.proofs.Names.{from_ok}
 use Rattle.sk_trace.specs.declared.event.Event.TheVariants as events
-use Rattle.sk_plain.specs.declared.refusal.Refusal.TheVariants.{TooMany, TraceFull}
-use Rattle.sk_kernel.specs.Kernel.{KernelView, guess_refused, next_guess, room, with_event}
-use Rattle.sk_kernel.specs.Calls.{IsNew}
-use Rattle.sk_kernel.specs.contracts.kernel.Kernel.{the_view}
-use Rattle.sk_machine.proofs.Given.{from_ok}
 use Rattle.sk_kernel.proofs.Whole.{tidy, next_rises}
 use Rattle.sk_kernel.proofs.Tokens.{next_is, guess_new, guessed_whole}
 use Rattle.sk_kernel.proofs.Refusals.{guess_misfit, guess_too_many, guess_without_room, guess_free}

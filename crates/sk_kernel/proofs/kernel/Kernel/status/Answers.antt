@@ -1,8 +1,5 @@
 -- The statuses that are kept are those of the trace.
-use Rattle.std.proofs.Common.{◌≡◌, Some, sym, ◌∙◌, subst}
-use Rattle.std.specs.Prelude.{◌↔◌}
-use Rattle.sk_kernel.specs.Kernel.{KernelView, HasStatus}
-use Rattle.sk_kernel.specs.contracts.kernel.Kernel.{the_view}
+use Rattle.sk_kernel.proofs.Names.{◌≡◌, Some, sym, ◌∙◌, subst, ◌↔◌, KernelView, HasStatus, the_view}
 use Rattle.sk_kernel.proofs.Whole.{status_is}
 use Rattle.sk_kernel.proofs.kernel.Kernel.status.Goals as goal
 

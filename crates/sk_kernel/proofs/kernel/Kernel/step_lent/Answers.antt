@@ -1,22 +1,10 @@
 -- The plan is what the plain kernel does on the trace's record; the machine takes it, and stands for the trace with one event more.
-use Rattle.std.proofs.Common.{◌+◌, ◌<◌, ◌^◌, ◌≡◌, Some, None, ◌∷◌, ◌++◌, [], refl, sym, ◌∙◌, ap, subst, arith, rules}
+use Rattle.sk_kernel.proofs.Names.{◌+◌, ◌<◌, ◌^◌, ◌≡◌, Some, None, ◌∷◌, ◌++◌, [], refl, sym, ◌∙◌, ap, subst, arith}
+use Rattle.sk_kernel.proofs.Names.{rules, MergedTakes, machine_of, ScriptMap, Input, SlotMap, look_at, plain, PlansStep}
+use Rattle.sk_kernel.proofs.Names.{Plan, Refusal, EntryView, input_in, NoRoom, TraceFull, KernelView, step_refused}
+use Rattle.sk_kernel.proofs.Names.{room, with_event, the_view, from_ok, from_err}
 use Rattle.std.specs.Prelude.{ℕ, Result, Ok, Err}
-use Rattle.sk_record.specs.Merged.{MergedTakes}
-use Rattle.sk_machine.specs.Parts.{machine_of}
-use Rattle.sk_script.specs.Scripts.{ScriptMap}
-use Rattle.sk_script.specs.declared.instruction.Input.{Input}
-use Rattle.sk_undo.specs.Logs.{SlotMap, look_at}
-use Rattle.sk_plain.specs.Act.{plain}
-use Rattle.sk_plain.specs.Seen.{PlansStep}
-use Rattle.sk_plain.specs.declared.plan.Plan.{Plan}
-use Rattle.sk_plain.specs.declared.refusal.Refusal.{Refusal}
-use Rattle.sk_trace.specs.Entry.{EntryView}
-use Rattle.sk_trace.specs.Kept.{input_in}
 use Rattle.sk_trace.specs.declared.event.Event.TheVariants as events
-use Rattle.sk_plain.specs.declared.refusal.Refusal.TheVariants.{NoRoom, TraceFull}
-use Rattle.sk_kernel.specs.Kernel.{KernelView, step_refused, room, with_event}
-use Rattle.sk_kernel.specs.contracts.kernel.Kernel.{the_view}
-use Rattle.sk_machine.proofs.Given.{from_ok, from_err}
 use Rattle.sk_kernel.proofs.Whole.{tidy, opens_rise, stepped_whole, no_more_opens}
 use Rattle.sk_kernel.proofs.Refusals.{step_misfits, step_crowded, step_without_room, step_free}
 use Rattle.sk_kernel.proofs.Rooms.{roomy, crowded_by}

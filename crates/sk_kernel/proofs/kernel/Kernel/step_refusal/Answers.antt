@@ -1,14 +1,7 @@
 -- The plan tells why the plain kernel refuses the step, and whether a directory has room for its name.
-use Rattle.std.proofs.Common.{◌≡◌, Bool, true, false, cond, Option, Some, None, refl, sym, subst, ◌∙◌}
-use Rattle.std.specs.Prelude.{IfSome}
-use Rattle.std.specs.Bool.{then_some}
-use Rattle.sk_trace.specs.Entry.{EntryView}
-use Rattle.sk_trace.specs.Kept.{input_in}
-use Rattle.sk_plain.specs.Refusal.{cause}
-use Rattle.sk_plain.specs.declared.refusal.Refusal.{Refusal}
-use Rattle.sk_plain.specs.declared.refusal.Refusal.TheVariants.{NoRoom}
-use Rattle.sk_kernel.specs.Kernel.{KernelView, step_misfit}
-use Rattle.sk_kernel.specs.contracts.kernel.Kernel.{the_view}
+use Rattle.sk_kernel.proofs.Names.{◌≡◌, Bool, true, false, cond, Option, Some, None, refl, sym, subst, ◌∙◌, IfSome}
+use Rattle.sk_kernel.proofs.Names.{then_some, EntryView, input_in, cause, Refusal, NoRoom, KernelView, step_misfit}
+use Rattle.sk_kernel.proofs.Names.{the_view}
 use Rattle.sk_kernel.proofs.Refusals.{step_why}
 use Rattle.sk_kernel.proofs.Rooms.{room_of}
 use Rattle.sk_kernel.proofs.kernel.Kernel.step_refusal.Goals as goal

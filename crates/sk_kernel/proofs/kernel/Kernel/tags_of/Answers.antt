@@ -1,9 +1,5 @@
 -- The tags of the machine are those of the trace.
-use Rattle.std.proofs.Common.{◌≡◌, true, ap, sym, ◌∙◌, subst}
-use Rattle.std.specs.Prelude.{◌↔◌}
-use Rattle.sk_record.specs.Notes.{has}
-use Rattle.sk_kernel.specs.Kernel.{KernelView, tags_at, RestsOn}
-use Rattle.sk_kernel.specs.contracts.kernel.Kernel.{the_view}
+use Rattle.sk_kernel.proofs.Names.{◌≡◌, true, ap, sym, ◌∙◌, subst, ◌↔◌, has, KernelView, tags_at, RestsOn, the_view}
 use Rattle.sk_kernel.proofs.Whole.{tags_computed, tags_exact}
 use Rattle.sk_kernel.proofs.kernel.Kernel.tags_of.Goals as goal
 

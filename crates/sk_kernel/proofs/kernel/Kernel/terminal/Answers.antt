@@ -1,9 +1,5 @@
 -- What a terminal has are the texts of the trace.
-use Rattle.std.proofs.Common.{subst}
-use Rattle.std.specs.Prelude.{MatchOption}
-use Rattle.sk_kernel.specs.Kernel.{KernelView}
-use Rattle.sk_kernel.specs.Calls.{ShowsTerminal, SaysNothing}
-use Rattle.sk_kernel.specs.contracts.kernel.Kernel.{the_view}
+use Rattle.sk_kernel.proofs.Names.{subst, MatchOption, KernelView, ShowsTerminal, SaysNothing, the_view}
 use Rattle.sk_kernel.proofs.Whole.{terminal_shown}
 use Rattle.sk_kernel.proofs.kernel.Kernel.terminal.Goals as goal
 

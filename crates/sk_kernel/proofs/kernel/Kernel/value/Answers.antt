@@ -1,11 +1,7 @@
 -- What is looked up is the run of the trace's record.
-use Rattle.std.proofs.Common.{◌≡◌, Option, Some, None, ap, sym, ◌∙◌, subst}
+use Rattle.sk_kernel.proofs.Names.{◌≡◌, Option, Some, None, ap, sym, ◌∙◌, subst, option_copied, EntityState, Shows}
+use Rattle.sk_kernel.proofs.Names.{KernelView, state_at, the_view}
 use Rattle.std.specs.FinMap as map
-use Rattle.std.specs.Option.{option_copied}
-use Rattle.sk_store.specs.declared.entity_state.EntityState.{EntityState}
-use Rattle.sk_plain.specs.View.{Shows}
-use Rattle.sk_kernel.specs.Kernel.{KernelView, state_at}
-use Rattle.sk_kernel.specs.contracts.kernel.Kernel.{the_view}
 use Rattle.sk_kernel.proofs.Whole.{look_is}
 use Rattle.sk_kernel.proofs.kernel.Kernel.value.Goals as goal
 

@@ -1,8 +1,4 @@
-use Rattle.std.proofs.Common.{ℕ, List, sym, ◌∙◌, subst}
-use Rattle.sk_log.specs.Frame.{Ends}
-use Rattle.sk_log.specs.Crash.{UsesFront}
-use Rattle.sk_log.specs.Reading.{Reading, Remains, HasRead}
-use Rattle.sk_log.specs.contracts.recovery.Recovery.{the_view}
+use Rattle.sk_log.proofs.Names.{ℕ, List, sym, ◌∙◌, subst, Ends, UsesFront, Reading, Remains, HasRead, the_view}
 use Rattle.sk_log.proofs.Crash.{crash_keeps_prefix}
 use Rattle.sk_log.proofs.Reading.{kept_rest, end_of}
 use Rattle.sk_log.proofs.recovery.Recovery.end.Goals as goal

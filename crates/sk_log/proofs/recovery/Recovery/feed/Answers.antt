@@ -1,6 +1,4 @@
-use Rattle.std.proofs.Common.{◌≡◌, ℕ, List, sym, ap, subst, arith, rules}
-use Rattle.sk_log.specs.Reading.{Reading, Settles, HasRead}
-use Rattle.sk_log.specs.contracts.recovery.Recovery.{the_view}
+use Rattle.sk_log.proofs.Names.{◌≡◌, ℕ, List, sym, ap, subst, arith, rules, Reading, Settles, HasRead, the_view}
 use Rattle.sk_log.proofs.Reading.{fed_kept}
 use Rattle.sk_log.proofs.recovery.Recovery.feed.Goals as goal
 

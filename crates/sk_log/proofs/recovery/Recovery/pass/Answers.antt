@@ -1,7 +1,5 @@
-use Rattle.std.proofs.Common.{ℕ, ◌+◌, List, length, refl, sym, ap, subst, arith, length-drop}
-use Rattle.sk_log.specs.Frame.{Ends}
-use Rattle.sk_log.specs.Reading.{Reading, KeptBegin, Settles, HasRead, IsNext}
-use Rattle.sk_log.specs.contracts.recovery.Recovery.{the_view}
+use Rattle.sk_log.proofs.Names.{ℕ, ◌+◌, List, length, refl, sym, ap, subst, arith, length-drop, Ends, Reading}
+use Rattle.sk_log.proofs.Names.{KeptBegin, Settles, HasRead, IsNext, the_view}
 use Rattle.sk_log.proofs.Reading.{kept_ends, kept_few, passed}
 use Rattle.sk_log.proofs.recovery.Recovery.pass.Goals as goal
 

@@ -1,7 +1,5 @@
-use Rattle.std.proofs.Common.{◌≡◌, ◌+◌, ◌-◌, take, drop, sym, subst, inl, inr, arith}
-use Rattle.sk_log.specs.Frame.{Ends}
-use Rattle.sk_log.specs.Reading.{Reading, KeptBegin, IsNext}
-use Rattle.sk_log.specs.contracts.recovery.Recovery.{the_view}
+use Rattle.sk_log.proofs.Names.{◌≡◌, ◌+◌, ◌-◌, take, drop, sym, subst, inl, inr, arith, Ends, Reading, KeptBegin}
+use Rattle.sk_log.proofs.Names.{IsNext, the_view}
 use Rattle.sk_log.proofs.Reading.{short_ends, none_ends, next_of}
 use Rattle.sk_log.proofs.recovery.Recovery.payload.Goals as goal
 

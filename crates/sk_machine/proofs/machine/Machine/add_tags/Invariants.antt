@@ -1,6 +1,4 @@
-use Rattle.std.proofs.Common.{◌≡◌, ℕ, ◌||◌, take}
-use Rattle.sk_record.specs.Notes.{has}
-use Rattle.sk_machine.specs.Parts.{any_rests}
+use Rattle.sk_machine.proofs.Names.{◌≡◌, ℕ, ◌||◌, take, has, any_rests}
 use Rattle.sk_machine.proofs.machine.Machine.add_tags.Given as goal
 
 abbrev pub invariant-loop-entity : goal.invariant-loop-entity

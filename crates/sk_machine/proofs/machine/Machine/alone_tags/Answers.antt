@@ -1,13 +1,7 @@
 -- The guesses of the process and of its signals are those of its private instructions.
-use Rattle.std.proofs.Common.{◌||◌, [], ◌∷◌, ap, sym, subst, ◌∙◌}
-use Rattle.std.specs.Ordering.{nat_cmp}
-use Rattle.std.specs.List.Sorted.{IsStrictlySortedBy}
-use Rattle.sk_record.specs.Notes.{has}
-use Rattle.sk_plain.specs.Leased.{alone_reads}
-use Rattle.sk_ids.specs.declared.entity.Entity.TheVariants.{Proc, Sig}
-use Rattle.sk_machine.specs.Parts.{any_rests}
+use Rattle.sk_machine.proofs.Names.{◌||◌, [], ◌∷◌, ap, sym, subst, ◌∙◌, nat_cmp, IsStrictlySortedBy, has, alone_reads}
+use Rattle.sk_machine.proofs.Names.{Proc, Sig, any_rests, tags_in}
 use Rattle.sk_machine.proofs.Given.{if_ok}
-use Rattle.sk_machine.specs.Dependents.{tags_in}
 use Rattle.sk_machine.proofs.Listed.{any_of, no_length, none_covered}
 use Rattle.sk_machine.proofs.Tags.{none_rest}
 use Rattle.sk_machine.proofs.Alone.{tags_alone, first_among}

@@ -1,15 +1,8 @@
 -- A commit of each part is the machine's, and the lists stay exact.
-use Rattle.std.proofs.Common.{◌≡◌, List, Some, ap, ◌∙◌, subst, sym}
-use Rattle.sk_record.specs.Merged.{MergedCommits}
-use Rattle.sk_record.specs.declared.status.Status.TheVariants.{Undecided, Committed}
-use Rattle.sk_ids.specs.declared.entity.Entity.{Entity}
-use Rattle.sk_guesses.specs.Guesses.{status_since}
-use Rattle.sk_guesses.specs.Opens.{opens_of}
-use Rattle.sk_guesses.proofs.Statuses.{status-decided}
-use Rattle.sk_machine.specs.Dependents.{AllExact, tags_in}
-use Rattle.sk_machine.specs.Parts.{Parts, machine_of}
+use Rattle.sk_machine.proofs.Names.{◌≡◌, List, Some, ap, ◌∙◌, subst, sym, MergedCommits, Undecided, Committed, Entity}
+use Rattle.sk_machine.proofs.Names.{status_since, opens_of, status-decided, AllExact, tags_in, Parts, machine_of}
+use Rattle.sk_machine.proofs.Names.{AllGrow, AreListed, Lightened}
 use Rattle.sk_machine.proofs.Listed.{commit_opens, committed_exact, listed}
-use Rattle.sk_undo.specs.Decisions.{AllGrow, AreListed, Lightened}
 use Rattle.sk_machine.proofs.Becomes.{commits_of}
 use Rattle.sk_machine.proofs.machine.Machine.commit.Goals as goal
 

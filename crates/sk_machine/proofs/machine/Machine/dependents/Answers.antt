@@ -1,13 +1,6 @@
 -- The list of an undecided guess is exact, and another has none.
-use Rattle.std.proofs.Common.{◌≡◌, true, ap, ◌∙◌, subst}
-use Rattle.sk_record.specs.Effects.{is_in}
-use Rattle.sk_record.specs.Notes.{has}
-use Rattle.sk_record.specs.UndoState.{numbers, tags_at}
-use Rattle.sk_ids.specs.Entity.{entity_cmp}
-use Rattle.sk_guesses.specs.Opens.{dependents_of}
-use Rattle.sk_guesses.proofs.Opens.{none_there}
-use Rattle.sk_machine.specs.Dependents.{tags_in}
-use Rattle.sk_machine.specs.Parts.{Parts, undo_state_of}
+use Rattle.sk_machine.proofs.Names.{◌≡◌, true, ap, ◌∙◌, subst, is_in, has, numbers, tags_at, entity_cmp, dependents_of}
+use Rattle.sk_machine.proofs.Names.{none_there, tags_in, Parts, undo_state_of}
 use Rattle.sk_machine.proofs.Listed.{exact_at}
 use Rattle.sk_machine.proofs.machine.Machine.dependents.Goals as goal
 

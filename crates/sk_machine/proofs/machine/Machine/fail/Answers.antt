@@ -1,15 +1,9 @@
 -- A failure of each part is the machine's, and the lists are exact again.
-use Rattle.std.proofs.Common.{◌≡◌, List, ℕ, Some, cond, length, length-set, refl, ap, ◌∙◌, subst, sym}
-use Rattle.sk_record.specs.Machine.{Fails, with_failure, rests_on}
-use Rattle.sk_record.specs.UndoState.{not_struck}
-use Rattle.sk_record.specs.declared.status.Status.TheVariants.{Undecided, Failed, Struck}
-use Rattle.sk_ids.specs.declared.entity.Entity.{Entity}
-use Rattle.sk_guesses.specs.Guesses.{GuessesView, decided, status_since}
-use Rattle.sk_guesses.specs.Opens.{but, dependents_of, not_resting, opens_of}
-use Rattle.sk_guesses.proofs.Opens.{but_taken, failed_status, taken_opens}
-use Rattle.sk_machine.specs.Dependents.{AllAlmostExact, AllExact, tags_in}
-use Rattle.sk_machine.specs.Parts.{Parts, machine_of}
-use Rattle.sk_undo.specs.Decisions.{AllGrow, AreListed}
+use Rattle.sk_machine.proofs.Names.{◌≡◌, List, ℕ, Some, cond, length, length-set, refl, ap, ◌∙◌, subst, sym, Fails}
+use Rattle.sk_machine.proofs.Names.{with_failure, rests_on, not_struck, Undecided, Failed, Struck, Entity, GuessesView}
+use Rattle.sk_machine.proofs.Names.{decided, status_since, but, dependents_of, not_resting, opens_of, but_taken}
+use Rattle.sk_machine.proofs.Names.{failed_status, taken_opens, AllAlmostExact, AllExact, tags_in, Parts, machine_of}
+use Rattle.sk_machine.proofs.Names.{AllGrow, AreListed}
 use Rattle.sk_machine.proofs.Listed.{failed_almost, failed_exact, listed}
 use Rattle.sk_machine.proofs.Becomes.{fails_of}
 use Rattle.sk_machine.proofs.machine.Machine.fail.Goals as goal

@@ -1,23 +1,9 @@
 -- What its step reads rests on what it rests on, and its log stays as it is.
-use Rattle.std.proofs.Common.{◌≡◌, true, false, None, Ok, refl, sym, ◌∙◌, subst}
-use Rattle.std.specs.Ordering.{nat_cmp}
-use Rattle.std.specs.List.Sorted.{IsStrictlySortedBy}
+use Rattle.sk_machine.proofs.Names.{◌≡◌, true, false, None, Ok, refl, sym, ◌∙◌, subst, nat_cmp, IsStrictlySortedBy}
+use Rattle.sk_machine.proofs.Names.{perform, IsTidy, numbers, MergedTakes, Proc, opens_of, EntryView, input_in, look_at}
+use Rattle.sk_machine.proofs.Names.{slot_in, on_many, act, plain, effect_of, seen_with, Plan, AllExact, IsEnough}
+use Rattle.sk_machine.proofs.Names.{tags_in, Parts, machine_of, undo_state_of}
 use Rattle.std.specs.FinMap as map
-use Rattle.sk_record.specs.Step.{perform}
-use Rattle.sk_record.specs.UndoState.{IsTidy, numbers}
-use Rattle.sk_record.specs.Merged.{MergedTakes}
-use Rattle.sk_ids.specs.declared.entity.Entity.TheVariants.{Proc}
-use Rattle.sk_guesses.specs.Opens.{opens_of}
-use Rattle.sk_trace.specs.Entry.{EntryView}
-use Rattle.sk_trace.specs.Kept.{input_in}
-use Rattle.sk_undo.specs.Logs.{look_at, slot_in}
-use Rattle.sk_undo.proofs.Stable.{on_many}
-use Rattle.sk_plain.specs.Act.{act, plain}
-use Rattle.sk_plain.specs.Planned.{effect_of}
-use Rattle.sk_plain.specs.Seen.{seen_with}
-use Rattle.sk_plain.specs.declared.plan.Plan.{Plan}
-use Rattle.sk_machine.specs.Dependents.{AllExact, IsEnough, tags_in}
-use Rattle.sk_machine.specs.Parts.{Parts, machine_of, undo_state_of}
 use Rattle.sk_machine.proofs.GoingOn.{went_exact, went_on}
 use Rattle.sk_machine.proofs.machine.Machine.go_on.Goals as goal
 

@@ -1,16 +1,8 @@
 -- What is written is listed for the guesses that it rests on, and is what is handed in.
-use Rattle.std.proofs.Common.{◌≡◌, [], ◌∷◌, ◌∙◌, List, Some, refl, sym, subst}
+use Rattle.sk_machine.proofs.Names.{◌≡◌, [], ◌∷◌, ◌∙◌, List, Some, refl, sym, subst, Entity, Proc, opens_of, IsProcess}
+use Rattle.sk_machine.proofs.Names.{look_at, Covers, tags_in, AreAlone, HandsInProcess, Parts, IsClean, entities_of}
 use Rattle.std.specs.FinMap as map
-use Rattle.sk_ids.specs.declared.entity.Entity.{Entity}
-use Rattle.sk_ids.specs.declared.entity.Entity.TheVariants.{Proc}
-use Rattle.sk_guesses.specs.Opens.{opens_of}
 use Rattle.sk_store.specs.declared.entity_state.EntityState.TheVariants as stored
-use Rattle.sk_store.specs.Processes.{IsProcess}
-use Rattle.sk_undo.specs.Logs.{look_at}
-use Rattle.sk_machine.specs.Dependents.{Covers, tags_in}
-use Rattle.sk_machine.specs.HandsIn.{AreAlone, HandsInProcess}
-use Rattle.sk_machine.specs.Parts.{Parts}
-use Rattle.sk_machine.specs.Performed.{IsClean, entities_of}
 use Rattle.sk_machine.proofs.Given.{for_err, from_ok, from_err}
 use Rattle.sk_machine.proofs.Becomes.{same_parts}
 use Rattle.sk_machine.proofs.Listed.{performed_exact, unperformed}

@@ -1,9 +1,5 @@
 -- The notes are those of the logs.
-use Rattle.std.proofs.Common.{◌≡◌, ap, subst}
-use Rattle.std.specs.Prelude.{◌↔◌}
-use Rattle.sk_undo.specs.Logs.{SlotMap}
-use Rattle.sk_undo.specs.Count.{AreUnnoted}
-use Rattle.sk_machine.specs.Parts.{Parts}
+use Rattle.sk_machine.proofs.Names.{◌≡◌, ap, subst, ◌↔◌, SlotMap, AreUnnoted, Parts}
 use Rattle.sk_machine.proofs.machine.Machine.notes.Goals as goal
 
 pub returns-clause-none : goal.returns-clause-none

@@ -1,18 +1,7 @@
 -- The tags of what is read and of what is written, with the step's own, are the step's tags.
-use Rattle.std.proofs.Common.{◌≡◌, ℕ, false, ◌||◌, List, sym, ◌∙◌, subst}
-use Rattle.std.specs.Ordering.{nat_cmp}
-use Rattle.std.specs.List.Sorted.{IsStrictlySortedBy}
-use Rattle.sk_record.specs.Effects.{is_marked}
-use Rattle.sk_ids.specs.declared.entity.Entity.{Entity}
-use Rattle.sk_plain.specs.Planned.{read_by, written_by}
-use Rattle.sk_record.specs.Notes.{has}
-use Rattle.sk_plain.specs.Seen.{seen_with, written_in}
-use Rattle.sk_plain.proofs.Plans.{written_is}
-use Rattle.sk_undo.specs.Logs.{look_at}
-use Rattle.sk_trace.specs.Kept.{input_in}
-use Rattle.sk_trace.specs.Entry.{EntryView}
-use Rattle.sk_machine.specs.Dependents.{tags_in}
-use Rattle.sk_machine.specs.Parts.{any_rests}
+use Rattle.sk_machine.proofs.Names.{◌≡◌, ℕ, false, ◌||◌, List, sym, ◌∙◌, subst, nat_cmp, IsStrictlySortedBy, is_marked}
+use Rattle.sk_machine.proofs.Names.{Entity, read_by, written_by, has, seen_with, written_in, written_is, look_at}
+use Rattle.sk_machine.proofs.Names.{input_in, EntryView, tags_in, any_rests}
 use Rattle.sk_machine.proofs.Given.{if_ok}
 use Rattle.sk_machine.proofs.Listed.{any_of, no_length, none_covered}
 use Rattle.sk_machine.proofs.Tags.{tags_are, none_more, none_rest, own_among, last_among}

@@ -1,23 +1,9 @@
 -- A step without tags writes only what has no notes; what was performed is what the machine takes, and every status stays.
-use Rattle.std.proofs.Common.{◌≡◌, List, None, Ok, ap, refl, ◌∙◌, subst, sym}
-use Rattle.std.proofs.lemmas.List.{append-nil}
-use Rattle.sk_record.specs.Step.{perform}
-use Rattle.sk_record.specs.UndoState.{step_tags}
-use Rattle.sk_record.specs.Merged.{MergedTakes}
-use Rattle.sk_ids.specs.declared.entity.Entity.{Entity}
-use Rattle.sk_guesses.specs.Guesses.{status_since}
-use Rattle.sk_guesses.specs.Opens.{opens_of}
-use Rattle.sk_trace.specs.Kept.{input_in}
-use Rattle.sk_trace.specs.Entry.{EntryView}
-use Rattle.sk_undo.specs.Logs.{look_at}
-use Rattle.sk_plain.specs.Act.{act, plain}
-use Rattle.sk_plain.specs.Planned.{effect_of, writes_of}
-use Rattle.sk_plain.specs.Seen.{seen_with, written_in}
-use Rattle.sk_plain.proofs.Plans.{written_is}
-use Rattle.sk_plain.proofs.Scan.{changed_are}
-use Rattle.sk_machine.specs.Dependents.{Covers, tags_in}
-use Rattle.sk_machine.specs.Parts.{Parts, machine_of, planned_effect, undo_state_of}
-use Rattle.sk_machine.specs.Performed.{AreApart, IsClean, entities_of}
+use Rattle.sk_machine.proofs.Names.{◌≡◌, List, None, Ok, ap, refl, ◌∙◌, subst, sym, append-nil, perform, step_tags}
+use Rattle.sk_machine.proofs.Names.{MergedTakes, Entity, status_since, opens_of, input_in, EntryView, look_at, act}
+use Rattle.sk_machine.proofs.Names.{plain, effect_of, writes_of, seen_with, written_in, written_is, changed_are, Covers}
+use Rattle.sk_machine.proofs.Names.{tags_in, Parts, machine_of, planned_effect, undo_state_of, AreApart, IsClean}
+use Rattle.sk_machine.proofs.Names.{entities_of}
 use Rattle.sk_machine.proofs.Given.{for_err, from_ok, from_err}
 use Rattle.sk_machine.proofs.Becomes.{same_parts, takes_of}
 use Rattle.sk_machine.proofs.Joins.{apart_of, clean_of}

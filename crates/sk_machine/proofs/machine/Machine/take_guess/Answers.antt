@@ -1,26 +1,10 @@
 -- What was performed, with the guess that was drawn, is what the machine takes.
-use Rattle.std.proofs.Common.{◌≡◌, false, true, [], ◌∷◌, ◌++◌, List, Some, Ok, ap, refl, ◌∙◌, subst, sym}
-use Rattle.std.proofs.lemmas.Bool.{eq-eqb}
-use Rattle.sk_record.specs.Notes.{has}
-use Rattle.sk_record.specs.Step.{perform}
-use Rattle.sk_record.specs.UndoState.{numbers, step_tags}
-use Rattle.sk_record.specs.Merged.{MergedTakes}
-use Rattle.sk_guesses.specs.EntitySet.{with_entities}
-use Rattle.sk_guesses.specs.Guesses.{drawn, next_of}
-use Rattle.sk_guesses.specs.Opens.{OpenGuess, opens_of}
-use Rattle.sk_ids.specs.Entity.{entity_cmp}
-use Rattle.sk_ids.specs.declared.entity.Entity.{Entity}
-use Rattle.sk_trace.specs.Kept.{input_in}
-use Rattle.sk_trace.specs.Entry.{EntryView}
-use Rattle.sk_undo.specs.Logs.{look_at}
-use Rattle.sk_plain.specs.Act.{act, plain}
-use Rattle.sk_plain.specs.Planned.{effect_of, writes_of}
-use Rattle.sk_plain.specs.Seen.{seen_with, written_in}
-use Rattle.sk_plain.proofs.Plans.{written_is}
-use Rattle.sk_plain.proofs.Scan.{changed_are}
-use Rattle.sk_machine.specs.Dependents.{AllAlmostExact, AllExact, Covers, tags_in}
-use Rattle.sk_machine.specs.Parts.{Parts, machine_of, planned_effect, undo_state_of}
-use Rattle.sk_machine.specs.Performed.{AreApart, IsClean, entities_of}
+use Rattle.sk_machine.proofs.Names.{◌≡◌, false, true, [], ◌∷◌, ◌++◌, List, Some, Ok, ap, refl, ◌∙◌, subst, sym, eq-eqb}
+use Rattle.sk_machine.proofs.Names.{has, perform, numbers, step_tags, MergedTakes, with_entities, drawn, next_of}
+use Rattle.sk_machine.proofs.Names.{OpenGuess, opens_of, entity_cmp, Entity, input_in, EntryView, look_at, act, plain}
+use Rattle.sk_machine.proofs.Names.{effect_of, writes_of, seen_with, written_in, written_is, changed_are}
+use Rattle.sk_machine.proofs.Names.{AllAlmostExact, AllExact, Covers, tags_in, Parts, machine_of, planned_effect}
+use Rattle.sk_machine.proofs.Names.{undo_state_of, AreApart, IsClean, entities_of}
 use Rattle.sk_machine.proofs.Given.{for_err, from_ok, from_err}
 use Rattle.sk_machine.proofs.Becomes.{same_parts, takes_guess}
 use Rattle.sk_machine.proofs.Joins.{apart_of, clean_of}

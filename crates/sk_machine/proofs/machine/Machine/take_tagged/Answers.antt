@@ -1,21 +1,8 @@
 -- What rests on just what its process does leaves the lists as they are; the rest is as for any step.
-use Rattle.std.proofs.Common.{◌≡◌, None, Ok, refl, ◌∙◌, subst, sym}
-use Rattle.std.specs.Ordering.{nat_cmp}
-use Rattle.std.specs.List.Sorted.{IsStrictlySortedBy}
-use Rattle.std.proofs.lemmas.List.{append-nil}
-use Rattle.sk_record.specs.Step.{perform}
-use Rattle.sk_record.specs.UndoState.{IsTidy, numbers}
-use Rattle.sk_record.specs.Merged.{MergedTakes}
-use Rattle.sk_guesses.specs.Opens.{opens_of}
-use Rattle.sk_trace.specs.Kept.{input_in}
-use Rattle.sk_trace.specs.Entry.{EntryView}
-use Rattle.sk_undo.specs.Logs.{look_at}
-use Rattle.sk_plain.specs.Act.{act, plain}
-use Rattle.sk_plain.specs.Planned.{effect_of, writes_of}
-use Rattle.sk_plain.specs.Seen.{CanPerform, seen_with}
-use Rattle.sk_machine.specs.Dependents.{AllExact, tags_in}
-use Rattle.sk_machine.specs.Parts.{Parts, machine_of, undo_state_of}
-use Rattle.sk_machine.specs.Performed.{AreApart, entities_of}
+use Rattle.sk_machine.proofs.Names.{◌≡◌, None, Ok, refl, ◌∙◌, subst, sym, nat_cmp, IsStrictlySortedBy, append-nil}
+use Rattle.sk_machine.proofs.Names.{perform, IsTidy, numbers, MergedTakes, opens_of, input_in, EntryView, look_at, act}
+use Rattle.sk_machine.proofs.Names.{plain, effect_of, writes_of, CanPerform, seen_with, AllExact, tags_in, Parts}
+use Rattle.sk_machine.proofs.Names.{machine_of, undo_state_of, AreApart, entities_of}
 use Rattle.sk_machine.proofs.Given.{on_ok}
 use Rattle.sk_machine.proofs.AsProcess.{alike_performed, planned_alike, planned_clean, planned_tags}
 use Rattle.sk_machine.proofs.Becomes.{same_parts, takes_of}

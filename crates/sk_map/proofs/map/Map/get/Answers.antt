@@ -1,9 +1,6 @@
 -- What is got is what the map has: from the look-up in the entries.
-use Rattle.std.proofs.Common.{sym, ap, subst, ◌∙◌}
-use Rattle.std.specs.Cmp.{IsTotalOrder}
+use Rattle.sk_map.proofs.Names.{sym, ap, subst, ◌∙◌, IsTotalOrder, get_at, seen}
 use Rattle.std.specs.FinMap as map
-use Rattle.sk_ids.proofs.Views.{get_at}
-use Rattle.sk_map.specs.Seen.{seen}
 use Rattle.sk_map.proofs.map.Map.get.Goals as goal
 
 pub returns : goal.returns

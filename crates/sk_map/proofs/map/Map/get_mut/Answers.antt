@@ -1,13 +1,7 @@
 -- A value changed through the loan is put at its key: from what `BTreeMap::get_mut` writes through.
-use Rattle.std.proofs.Common.{◌≡◌, Option, Some, None, IsSome, refl, sym, ap, subst, ◌∙◌}
-use Rattle.std.specs.Prelude.{OnSome}
-use Rattle.std.specs.Cmp.{IsTotalOrder}
+use Rattle.sk_map.proofs.Names.{◌≡◌, Option, Some, None, IsSome, refl, sym, ap, subst, ◌∙◌, OnSome, IsTotalOrder}
+use Rattle.sk_map.proofs.Names.{IsAntisymmetric, option_copied_mut, MutBor, get_at, one_given, seen}
 use Rattle.std.specs.FinMap as map
-use Rattle.std.specs.FinMap.{IsAntisymmetric}
-use Rattle.std.specs.Option.{option_copied_mut}
-use Rattle.std.specs.Borrow.{MutBor}
-use Rattle.sk_ids.proofs.Views.{get_at, one_given}
-use Rattle.sk_map.specs.Seen.{seen}
 use Rattle.sk_map.proofs.map.Map.get_mut.Goals as goal
 
 on_lent : {X : Type 0} (P : Type 0) (r : Option (MutBor X)) (found : Option X) → option_copied_mut r ≡ found → (IsSome found → P) → OnSome r P

@@ -1,11 +1,7 @@
 -- The keys rise, so the finite map has as many as there are entries.
-use Rattle.std.proofs.Common.{length, ap, sym, subst, ◌∙◌}
-use Rattle.std.specs.BTreeMap.{keys}
-use Rattle.std.specs.Cmp.{IsTotalOrder}
+use Rattle.sk_map.proofs.Names.{length, ap, sym, subst, ◌∙◌, keys, IsTotalOrder, entries_view, seen}
 use Rattle.std.specs.FinMap as fin
-use Rattle.sk_ids.proofs.Ordered.{entries_view}
 use Rattle.sk_map.proofs.Keys.{rising}
-use Rattle.sk_map.specs.Seen.{seen}
 use Rattle.sk_map.proofs.map.Map.len.Goals as goal
 
 pub returns-clause-len : goal.returns-clause-len

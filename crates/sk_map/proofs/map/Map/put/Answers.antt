@@ -1,11 +1,7 @@
 -- A value is put at its key: from the entries after `BTreeMap::insert`.
-use Rattle.std.proofs.Common.{sym, ap, subst, ◌∙◌}
-use Rattle.std.specs.Cmp.{IsTotalOrder}
+use Rattle.sk_map.proofs.Names.{sym, ap, subst, ◌∙◌, IsTotalOrder, IsAntisymmetric, err_from_is_err_and, get_at}
+use Rattle.sk_map.proofs.Names.{one_given, seen}
 use Rattle.std.specs.FinMap as map
-use Rattle.std.specs.FinMap.{IsAntisymmetric}
-use Rattle.std.proofs.lemmas.Result.{err_from_is_err_and}
-use Rattle.sk_ids.proofs.Views.{get_at, one_given}
-use Rattle.sk_map.specs.Seen.{seen}
 use Rattle.sk_map.proofs.map.Map.put.Goals as goal
 
 pub returns-clause-ok : goal.returns-clause-ok

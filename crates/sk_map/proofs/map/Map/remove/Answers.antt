@@ -1,10 +1,6 @@
 -- A key is made absent: from the entries after `BTreeMap::remove`.
-use Rattle.std.proofs.Common.{sym, ap, subst, ◌∙◌}
-use Rattle.std.specs.Cmp.{IsTotalOrder}
+use Rattle.sk_map.proofs.Names.{sym, ap, subst, ◌∙◌, IsTotalOrder, IsAntisymmetric, get_at, one_removed, seen}
 use Rattle.std.specs.FinMap as map
-use Rattle.std.specs.FinMap.{IsAntisymmetric}
-use Rattle.sk_ids.proofs.Views.{get_at, one_removed}
-use Rattle.sk_map.specs.Seen.{seen}
 use Rattle.sk_map.proofs.map.Map.remove.Goals as goal
 
 pub returns-clause-old : goal.returns-clause-old

@@ -1,12 +1,7 @@
 -- The keys rise, so the values are those of the finite map that the entries make.
-use Rattle.std.proofs.Common.{ap, sym, subst, ◌∙◌}
-use Rattle.std.specs.Prelude.{map}
-use Rattle.std.specs.BTreeMap.{keys}
-use Rattle.std.specs.Cmp.{IsTotalOrder}
+use Rattle.sk_map.proofs.Names.{ap, sym, subst, ◌∙◌, map, keys, IsTotalOrder, entries_view, seen}
 use Rattle.std.specs.FinMap as fin
-use Rattle.sk_ids.proofs.Ordered.{entries_view}
 use Rattle.sk_map.proofs.Keys.{rising}
-use Rattle.sk_map.specs.Seen.{seen}
 use Rattle.sk_map.proofs.map.Map.values.Goals as goal
 
 pub returns-clause-rest : goal.returns-clause-rest

@@ -1,12 +1,6 @@
 -- The test of the entries is that of the maps, which is exact where that of the values is.
-use Rattle.std.proofs.Common.{subst, ◌∙◌}
-use Rattle.std.proofs.lemmas.Bool.Decides.{Decides-at}
-use Rattle.std.specs.BTreeMap.{keys}
-use Rattle.std.specs.Cmp.{IsTotalOrder}
-use Rattle.sk_record.specs.Same.{same_map, exact_map}
-use Rattle.sk_ids.proofs.Ordered.{same_entries}
+use Rattle.sk_map.proofs.Names.{subst, ◌∙◌, Decides-at, keys, IsTotalOrder, same_map, exact_map, same_entries, seen}
 use Rattle.sk_map.proofs.Keys.{rising, exact_key}
-use Rattle.sk_map.specs.Seen.{seen}
 use Rattle.sk_map.proofs.map.MapPartialEq.eq.Goals as goal
 
 pub returns-clause-computed : goal.returns-clause-computed

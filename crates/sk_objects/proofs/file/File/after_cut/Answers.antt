@@ -1,7 +1,5 @@
-use Rattle.std.proofs.Common.{◌≡◌, ◌-◌, ◌*◌, ◌/◌, ◌<◌, List, ℕ, take, length, rules, arith, sym, ap, ◌∙◌}
-use Rattle.sk_objects.specs.File.{cut, held}
-use Rattle.sk_objects.specs.Blocks.{joined}
-use Rattle.sk_objects.specs.Slots.{under_cut}
+use Rattle.sk_objects.proofs.Names.{◌≡◌, ◌-◌, ◌*◌, ◌/◌, ◌<◌, List, ℕ, take, length, rules, arith, sym, ap, ◌∙◌, cut}
+use Rattle.sk_objects.proofs.Names.{held, joined, under_cut}
 use Rattle.sk_objects.proofs.Seen.{seen_len, cut_seen}
 use Rattle.sk_objects.proofs.file.File.after_cut.Goals as goal
 

@@ -1,7 +1,5 @@
-use Rattle.std.proofs.Common.{◌≡◌, ◌+◌, ◌-◌, ◌*◌, ◌/◌, List, ℕ, length, arith, ap, ◌∙◌}
-use Rattle.sk_objects.specs.File.{overwritten, written, part}
-use Rattle.sk_objects.specs.Blocks.{joined}
-use Rattle.sk_objects.specs.Slots.{blocks_under, under_write}
+use Rattle.sk_objects.proofs.Names.{◌≡◌, ◌+◌, ◌-◌, ◌*◌, ◌/◌, List, ℕ, length, arith, ap, ◌∙◌, overwritten, written}
+use Rattle.sk_objects.proofs.Names.{part, joined, blocks_under, under_write}
 use Rattle.sk_objects.proofs.Seen.{write_seen}
 use Rattle.sk_objects.proofs.file.File.after_write.Goals as goal
 

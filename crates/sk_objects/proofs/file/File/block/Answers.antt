@@ -1,6 +1,4 @@
-use Rattle.std.proofs.Common.{◌≡◌, ◌*◌, ◌-◌, ◌≤◌, List, ℕ, length, arith, sym, ap, ◌∙◌}
-use Rattle.sk_objects.specs.File.{part}
-use Rattle.sk_objects.specs.Blocks.{joined}
+use Rattle.sk_objects.proofs.Names.{◌≡◌, ◌*◌, ◌-◌, ◌≤◌, List, ℕ, length, arith, sym, ap, ◌∙◌, part, joined}
 use Rattle.sk_objects.proofs.Seen.{seen_len, seen_rest, seen_block}
 use Rattle.sk_objects.proofs.file.File.block.Goals as goal
 

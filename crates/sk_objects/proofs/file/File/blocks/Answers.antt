@@ -1,5 +1,4 @@
-use Rattle.std.proofs.Common.{length, sym, ap, ◌∙◌}
-use Rattle.sk_objects.specs.File.{blocks_of}
+use Rattle.sk_objects.proofs.Names.{length, sym, ap, ◌∙◌, blocks_of}
 use Rattle.sk_objects.proofs.Seen.{seen_len}
 use Rattle.sk_objects.proofs.file.File.blocks.Goals as goal
 

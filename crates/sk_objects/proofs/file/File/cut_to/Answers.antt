@@ -1,7 +1,5 @@
-use Rattle.std.proofs.Common.{◌≡◌, ◌≤◌, List, ℕ, length, arith, sym, ap, ap₂, subst, ◌∙◌}
-use Rattle.std.specs.Prelude.{nat_lt}
-use Rattle.sk_objects.specs.File.{cut}
-use Rattle.sk_objects.specs.Slots.{under_cut, CanPut, with_blocks, replaced}
+use Rattle.sk_objects.proofs.Names.{◌≡◌, ◌≤◌, List, ℕ, length, arith, sym, ap, ap₂, subst, ◌∙◌, nat_lt, cut, under_cut}
+use Rattle.sk_objects.proofs.Names.{CanPut, with_blocks, replaced}
 use Rattle.sk_objects.proofs.FileLaw.{cut_on, cut_back}
 use Rattle.sk_objects.proofs.Seen.{seen_len, keeps_cut}
 use Rattle.sk_objects.proofs.file.File.cut_to.Goals as goal

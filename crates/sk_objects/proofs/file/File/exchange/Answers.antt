@@ -1,7 +1,6 @@
 -- The slots with the blocks in them, by what is seen of both.
-use Rattle.std.proofs.Common.{◌≡◌, ℕ, List, take, length, sym, ap, ap₂, subst, ◌∙◌}
-use Rattle.sk_objects.specs.Blocks.{joined, AreBlocks, BlocksView}
-use Rattle.sk_objects.specs.Slots.{AreSlots, CanPut, with_blocks, replaced}
+use Rattle.sk_objects.proofs.Names.{◌≡◌, ℕ, List, take, length, sym, ap, ap₂, subst, ◌∙◌, joined, AreBlocks, BlocksView}
+use Rattle.sk_objects.proofs.Names.{AreSlots, CanPut, with_blocks, replaced}
 use Rattle.sk_objects.proofs.Joined.{part_blocks}
 use Rattle.sk_objects.proofs.Seen.{room_for, slots_after, seen_after, replaced_is}
 use Rattle.sk_objects.proofs.file.File.exchange.Goals as goal

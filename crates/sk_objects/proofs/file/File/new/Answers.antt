@@ -1,7 +1,4 @@
-use Rattle.std.proofs.Common.{List, ℕ, sym, subst, arith}
-use Rattle.std.proofs.lemmas.List.{length-replicate}
-use Rattle.sk_objects.specs.Blocks.{blank}
-use Rattle.sk_objects.specs.Slots.{AreSlots}
+use Rattle.sk_objects.proofs.Names.{List, ℕ, sym, subst, arith, length-replicate, blank, AreSlots}
 use Rattle.sk_objects.proofs.Joined.{blanks_are, joined_blanks}
 use Rattle.sk_objects.proofs.file.File.new.Goals as goal
 

@@ -1,8 +1,5 @@
-use Rattle.std.proofs.Common.{◌≡◌, ◌+◌, ◌-◌, ◌/◌, ◌%◌, Bool, true, cond, List, ℕ, [], length, take, get_or, rules, arith, sym, ap, ap₂, subst, ◌∙◌}
-use Rattle.std.specs.Prelude.{slice_set}
-use Rattle.sk_objects.specs.File.{overwritten, written}
-use Rattle.sk_objects.specs.Blocks.{joined}
-use Rattle.sk_objects.specs.Slots.{AreSlots}
+use Rattle.sk_objects.proofs.Names.{◌≡◌, ◌+◌, ◌-◌, ◌/◌, ◌%◌, Bool, true, cond, List, ℕ, [], length, take, get_or, rules}
+use Rattle.sk_objects.proofs.Names.{arith, sym, ap, ap₂, subst, ◌∙◌, slice_set, overwritten, written, joined, AreSlots}
 use Rattle.sk_objects.proofs.InPlace.{slots_in_place, seen_in_place}
 use Rattle.sk_objects.proofs.file.File.overwrite_one.Goals as goal
 

@@ -1,6 +1,5 @@
-use Rattle.std.proofs.Common.{◌≡◌, ◌≤◌, ◌/◌, List, ℕ, length, arith, sym, ap, ap₂, subst, ◌∙◌}
-use Rattle.sk_objects.specs.File.{written}
-use Rattle.sk_objects.specs.Slots.{blocks_under, under_write, CanPut, with_blocks, replaced}
+use Rattle.sk_objects.proofs.Names.{◌≡◌, ◌≤◌, ◌/◌, List, ℕ, length, arith, sym, ap, ap₂, subst, ◌∙◌, written}
+use Rattle.sk_objects.proofs.Names.{blocks_under, under_write, CanPut, with_blocks, replaced}
 use Rattle.sk_objects.proofs.FileLaw.{write_on, write_back}
 use Rattle.sk_objects.proofs.Seen.{seen_len, keeps}
 use Rattle.sk_objects.proofs.file.File.write_at.Goals as goal

@@ -1,9 +1,5 @@
-use Rattle.std.proofs.Common.{◌≡◌, Bool, false, List, ℕ, take, sym, subst, ◌∙◌}
-use Rattle.std.specs.Bool.{Decides}
-use Rattle.std.proofs.lemmas.Bool.Decides.{same_from_decides}
-use Rattle.sk_objects.specs.Blocks.{joined}
-use Rattle.sk_objects.specs.Same.{same_bytes}
-use Rattle.sk_objects.specs.SameLemma.{exact_bytes}
+use Rattle.sk_objects.proofs.Names.{◌≡◌, Bool, false, List, ℕ, take, sym, subst, ◌∙◌, Decides, same_from_decides}
+use Rattle.sk_objects.proofs.Names.{joined, same_bytes, exact_bytes}
 use Rattle.sk_objects.proofs.Seen.{same_decided, apart_decided}
 use Rattle.sk_objects.proofs.file.FilePartialEq.eq.Goals as goal
 

@@ -1,6 +1,4 @@
-use Rattle.std.proofs.Common.{◌≡◌, ◌-◌, ◌≤◌, List, ℕ, length, drop, arith, sym, ap, ◌∙◌}
-use Rattle.sk_objects.specs.Ring.{ring_bytes}
-use Rattle.sk_objects.specs.Pipe.{PipeView}
+use Rattle.sk_objects.proofs.Names.{◌≡◌, ◌-◌, ◌≤◌, List, ℕ, length, drop, arith, sym, ap, ◌∙◌, ring_bytes, PipeView}
 use Rattle.sk_objects.proofs.Rings.{after_advance, ring_len}
 use Rattle.sk_objects.proofs.pipe.Pipe.advance.Goals as goal
 

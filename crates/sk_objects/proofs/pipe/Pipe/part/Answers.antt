@@ -1,9 +1,6 @@
 -- A part of the bytes begins at its own place of the ring.
-use Rattle.std.proofs.Common.{◌≡◌, ◌+◌, ◌-◌, ◌≤◌, List, ℕ, length, take, drop, arith, sym, ap, ◌∙◌}
-use Rattle.std.proofs.lemmas.List.{take_all, take-take, length-drop}
-use Rattle.sk_objects.specs.File.{part}
-use Rattle.sk_objects.specs.Pipe.{PipeView}
-use Rattle.sk_objects.specs.Ring.{turned, ring_bytes, wrapped}
+use Rattle.sk_objects.proofs.Names.{◌≡◌, ◌+◌, ◌-◌, ◌≤◌, List, ℕ, length, take, drop, arith, sym, ap, ◌∙◌, take_all}
+use Rattle.sk_objects.proofs.Names.{take-take, length-drop, part, PipeView, turned, ring_bytes, wrapped}
 use Rattle.sk_objects.proofs.Rings.{after_advance, ring_len}
 use Rattle.sk_objects.proofs.pipe.Pipe.part.Goals as goal
 

@@ -1,6 +1,5 @@
-use Rattle.std.proofs.Common.{◌≡◌, ◌+◌, ◌++◌, List, ℕ, length, drop, arith, sym, ap, subst, ◌∙◌}
-use Rattle.sk_objects.specs.Ring.{turned, ring_bytes, wrapped}
-use Rattle.sk_objects.specs.Pipe.{PipeView}
+use Rattle.sk_objects.proofs.Names.{◌≡◌, ◌+◌, ◌++◌, List, ℕ, length, drop, arith, sym, ap, subst, ◌∙◌, turned}
+use Rattle.sk_objects.proofs.Names.{ring_bytes, wrapped, PipeView}
 use Rattle.sk_objects.proofs.Rings.{after_put, ring_len}
 use Rattle.sk_objects.proofs.pipe.Pipe.put.Goals as goal
 

@@ -1,4 +1,4 @@
-use Rattle.std.proofs.Common.{nat_cmp, sym, subst}
+use Rattle.sk_outputs.proofs.Names.{nat_cmp, sym, subst}
 use Rattle.std.specs.List.Sorted.{IsStrictlySortedBy}
 use Rattle.sk_outputs.proofs.channels.Channels.clear.Goals as goal
 

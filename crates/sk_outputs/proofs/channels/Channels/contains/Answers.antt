@@ -1,9 +1,5 @@
 -- The search tells it.
-use Rattle.std.proofs.Common.{nat_cmp, ◌∙◌, ap, subst}
-use Rattle.std.specs.List.Sorted.{IsBinarySearchResult}
-use Rattle.sk_record.specs.Notes.{has}
-use Rattle.sk_ids.proofs.Searches.{tells}
-use Rattle.sk_outputs.specs.Ready.{ChannelsView}
+use Rattle.sk_outputs.proofs.Names.{nat_cmp, ◌∙◌, ap, subst, IsBinarySearchResult, has, tells, ChannelsView}
 use Rattle.sk_outputs.proofs.channels.Channels.contains.Goals as goal
 
 pub returns : goal.returns

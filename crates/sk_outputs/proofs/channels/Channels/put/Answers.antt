@@ -1,9 +1,7 @@
 -- It goes where the search says.
-use Rattle.std.proofs.Common.{nat_cmp, ◌==◌, ◌||◌, sym, ◌∙◌, ap, subst}
-use Rattle.std.specs.Prelude.{Ok, Err}
-use Rattle.std.specs.List.Sorted.{IsBinarySearchResult, IsStrictlySortedBy}
-use Rattle.sk_record.specs.Notes.{has}
-use Rattle.sk_outputs.specs.Ready.{ChannelsView}
+use Rattle.sk_outputs.proofs.Names.{nat_cmp, ◌||◌, sym, ◌∙◌, ap, subst, Ok, Err, IsBinarySearchResult}
+use Rattle.sk_outputs.proofs.Names.{IsStrictlySortedBy, has, ChannelsView}
+use Rattle.std.proofs.Common.{◌==◌}
 use Rattle.sk_outputs.proofs.Numbers.{placed, there}
 use Rattle.sk_outputs.proofs.channels.Channels.put.Goals as goal
 

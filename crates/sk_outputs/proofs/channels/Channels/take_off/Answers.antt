@@ -1,11 +1,7 @@
 -- The search tells the place.
-use Rattle.std.proofs.Common.{nat_cmp, ◌==◌, not, sym, ◌∙◌, ap, subst}
-use Rattle.std.specs.Prelude.{Ok, Err}
-use Rattle.std.specs.List.Sorted.{IsBinarySearchResult, IsStrictlySortedBy}
-use Rattle.std.proofs.lemmas.List.Kept.{IsStrictlySortedBy-filter}
-use Rattle.sk_record.specs.Notes.{without}
-use Rattle.sk_ids.proofs.Searches.{taken_at}
-use Rattle.sk_outputs.specs.Ready.{ChannelsView}
+use Rattle.sk_outputs.proofs.Names.{nat_cmp, not, sym, ◌∙◌, ap, subst, Ok, Err, IsBinarySearchResult}
+use Rattle.sk_outputs.proofs.Names.{IsStrictlySortedBy, IsStrictlySortedBy-filter, without, taken_at, ChannelsView}
+use Rattle.std.proofs.Common.{◌==◌}
 use Rattle.sk_outputs.proofs.Numbers.{nothing_goes, place_is}
 use Rattle.sk_outputs.proofs.channels.Channels.take_off.Goals as goal
 

@@ -1,6 +1,5 @@
 -- There are no more outputs than there were.
-use Rattle.std.proofs.Common.{length, ap, arith, subst, sym}
-use Rattle.sk_outputs.specs.Ready.{AreCounted}
+use Rattle.sk_outputs.proofs.Names.{length, ap, arith, subst, sym, AreCounted}
 use Rattle.sk_outputs.proofs.Ready.{fewer}
 use Rattle.sk_outputs.proofs.outputs.Outputs.drop_of.Goals as goal
 

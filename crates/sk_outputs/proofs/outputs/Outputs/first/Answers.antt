@@ -1,7 +1,6 @@
 -- It stands where those before it are of other channels.
-use Rattle.std.proofs.Common.{◌<◌, Some, length, refl, sym, ◌∙◌, ap, arith}
-use Rattle.std.proofs.lemmas.Bool.{true≢false}
-use Rattle.sk_outputs.specs.Said.{SaidView, first_of, said_at}
+use Rattle.sk_outputs.proofs.Names.{◌<◌, length, refl, sym, ◌∙◌, ap, arith, true≢false, SaidView, first_of, said_at}
+use Rattle.std.proofs.Common.{Some}
 use Rattle.sk_outputs.proofs.Firsts.{first_none, first_there}
 use Rattle.sk_outputs.proofs.outputs.Outputs.first.Goals as goal
 

@@ -1,8 +1,5 @@
 -- What is kept are just those.
-use Rattle.std.proofs.Common.{sym, ◌∙◌, ap}
-use Rattle.sk_record.specs.Machine.{released}
-use Rattle.sk_record.specs.Notes.{has}
-use Rattle.sk_outputs.specs.Said.{SaidView, said_at}
+use Rattle.sk_outputs.proofs.Names.{sym, ◌∙◌, ap, released, has, SaidView, said_at}
 use Rattle.sk_outputs.proofs.Ready.{if_some, none_released, some_released}
 use Rattle.sk_outputs.proofs.outputs.Outputs.next_channel.Goals as goal
 

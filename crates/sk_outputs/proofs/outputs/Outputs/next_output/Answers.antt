@@ -1,9 +1,5 @@
 -- A channel that has an output to take has its first one to take.
-use Rattle.std.proofs.Common.{sym, ◌∙◌, ap}
-use Rattle.std.specs.List.{slice_get}
-use Rattle.std.specs.Option.{option_map}
-use Rattle.sk_record.specs.Machine.{released}
-use Rattle.sk_outputs.specs.Said.{SaidView, first_of, said_at}
+use Rattle.sk_outputs.proofs.Names.{sym, ◌∙◌, ap, slice_get, option_map, released, SaidView, first_of, said_at}
 use Rattle.sk_outputs.proofs.Ready.{next_is, none_released}
 use Rattle.sk_outputs.proofs.outputs.Outputs.next_output.Goals as goal
 

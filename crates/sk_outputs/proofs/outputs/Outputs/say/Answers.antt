@@ -1,7 +1,6 @@
 -- There is room for the output, for its channel, and for its count.
-use Rattle.std.proofs.Common.{sym, ap, subst, arith, ◌==◌}
-use Rattle.sk_outputs.specs.Said.{SaidView}
-use Rattle.sk_outputs.specs.Ready.{AreCounted, AreReady}
+use Rattle.sk_outputs.proofs.Names.{sym, ap, subst, arith, SaidView, AreCounted, AreReady}
+use Rattle.std.proofs.Common.{◌==◌}
 use Rattle.sk_outputs.proofs.Counted.{counted_more}
 use Rattle.sk_outputs.proofs.Ready.{fewer_kept}
 use Rattle.sk_outputs.proofs.outputs.Outputs.say.Goals as goal

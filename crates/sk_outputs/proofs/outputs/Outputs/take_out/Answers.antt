@@ -1,9 +1,6 @@
 -- What is taken out is the first of its channel.
-use Rattle.std.proofs.Common.{◌<◌, [], ◌∷◌, length, sym, ◌∙◌, ap, subst, arith}
-use Rattle.std.proofs.lemmas.Bool.{true≢false}
-use Rattle.sk_record.specs.Machine.{released}
-use Rattle.sk_outputs.specs.Ready.{AreCounted}
-use Rattle.sk_outputs.specs.Said.{SaidView, said_at}
+use Rattle.sk_outputs.proofs.Names.{◌<◌, [], ◌∷◌, length, sym, ◌∙◌, ap, subst, arith, true≢false, released, AreCounted}
+use Rattle.sk_outputs.proofs.Names.{SaidView, said_at}
 use Rattle.sk_outputs.proofs.Ready.{first_near, none_released}
 use Rattle.sk_outputs.proofs.Taken.{taken_counted, taken_first, taken_later, taken_others, taken_ready, taken_some}
 use Rattle.sk_outputs.proofs.outputs.Outputs.take_out.Goals as goal

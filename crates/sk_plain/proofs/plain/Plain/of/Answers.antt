@@ -1,6 +1,5 @@
 -- Nothing was said.
-use Rattle.std.proofs.Common.{subst, sym}
-use Rattle.sk_plain.specs.Plain.{AllClear}
+use Rattle.sk_plain.proofs.Cites.{subst, sym, AllClear}
 use Rattle.sk_plain.proofs.Clear.{none_said}
 use Rattle.sk_plain.proofs.plain.Plain.of.Goals as goal
 

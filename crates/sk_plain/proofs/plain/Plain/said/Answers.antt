@@ -1,7 +1,6 @@
 -- All texts are released, since none rests on a guess.
-use Rattle.std.proofs.Common.{◌≡◌, ◌∙◌, sym, rules}
-use Rattle.sk_terminal.specs.Terminals.{texts_at}
-use Rattle.sk_plain.specs.Plain.{all_said, texts_said}
+use Rattle.sk_plain.proofs.Cites.{◌≡◌, ◌∙◌, sym, rules, texts_at, all_said}
+use Rattle.sk_plain.specs.Plain.{texts_said}
 use Rattle.sk_plain.proofs.Clear.{all_released}
 use Rattle.sk_plain.proofs.plain.Plain.said.Goals as goal
 

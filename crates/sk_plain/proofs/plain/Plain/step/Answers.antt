@@ -1,10 +1,6 @@
 -- A text that is said rests on no guess.
-use Rattle.std.proofs.Common.{subst, sym}
+use Rattle.sk_plain.proofs.Cites.{subst, sym, input_in, said_by, AllClear, seen_with}
 use Rattle.std.specs.FinMap as map
-use Rattle.sk_trace.specs.Kept.{input_in}
-use Rattle.sk_plain.specs.Planned.{said_by}
-use Rattle.sk_plain.specs.Plain.{AllClear}
-use Rattle.sk_plain.specs.Seen.{seen_with}
 use Rattle.sk_plain.proofs.Clear.{said_clear}
 use Rattle.sk_plain.proofs.plain.Plain.step.Goals as goal
 

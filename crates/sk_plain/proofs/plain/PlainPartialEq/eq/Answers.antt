@@ -1,8 +1,5 @@
 -- The test of the three parts is exact.
-use Rattle.std.proofs.Common.{rules, ◌≡◌, false}
-use Rattle.std.proofs.lemmas.Bool.Decides.{Decides-at}
-use Rattle.sk_plain.specs.Same.{same_plain}
-use Rattle.sk_plain.specs.SameLemma.{exact_plain}
+use Rattle.sk_plain.proofs.Cites.{rules, ◌≡◌, false, Decides-at, same_plain, exact_plain}
 use Rattle.sk_plain.proofs.plain.PlainPartialEq.eq.Goals as goal
 
 pub returns-then-ne-clause-exact : goal.returns-then-ne-clause-exact

@@ -1,7 +1,5 @@
 -- The keys of the places rise.
-use Rattle.std.proofs.Common.{◌≡◌, true, subst}
-use Rattle.std.specs.FinMap.{is_sorted}
-use Rattle.sk_plain_store.specs.Plain.{bytes_cmp}
+use Rattle.sk_plain_store.proofs.Names.{◌≡◌, true, subst, is_sorted, bytes_cmp}
 use Rattle.sk_plain_store.proofs.Placed.{in_order}
 use Rattle.sk_plain_store.proofs.store.PlainStore.into_entries.Goals as goal
 

@@ -1,6 +1,5 @@
 -- The entries so far, and those that are left, are all.
-use Rattle.std.proofs.Common.{◌≡◌, ◌++◌}
-use Rattle.sk_plain_store.specs.Places.{entries_of}
+use Rattle.sk_plain_store.proofs.Names.{◌≡◌, ◌++◌, entries_of}
 use Rattle.sk_plain_store.proofs.store.PlainStore.into_entries.Given as goal
 
 abbrev pub invariant-loop-key : goal.invariant-loop-key

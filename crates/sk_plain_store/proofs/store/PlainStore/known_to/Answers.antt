@@ -1,8 +1,5 @@
 -- What is told of no list is the same for each.
-use Rattle.std.proofs.Common.{map, sym, ◌∙◌}
-use Rattle.std.specs.Vec.{vec_items}
-use Rattle.sk_commands.proofs.Alone.{work_alone}
-use Rattle.sk_plain_store.specs.Plain.{held, keys_of}
+use Rattle.sk_plain_store.proofs.Names.{map, sym, ◌∙◌, vec_items, work_alone, held, keys_of}
 use Rattle.sk_plain_store.proofs.store.PlainStore.known_to.Goals as goal
 
 pub returns : goal.returns

@@ -1,6 +1,5 @@
 -- What stands at the place of the key is what it has.
-use Rattle.std.proofs.Common.{sym, ap, ◌∙◌}
-use Rattle.sk_plain_store.specs.Plain.{held}
+use Rattle.sk_plain_store.proofs.Names.{sym, ap, ◌∙◌, held}
 use Rattle.sk_plain_store.proofs.Placed.{finds, joined}
 use Rattle.sk_plain_store.proofs.store.PlainStoreLook.value.Goals as goal
 

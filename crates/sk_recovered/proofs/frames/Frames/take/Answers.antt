@@ -1,6 +1,5 @@
 -- The next frame is carried out, or left.
-use Rattle.std.proofs.Common.{sym, ◌∙◌}
-use Rattle.std.proofs.lemmas.Result.{on_ok_weaker}
+use Rattle.sk_recovered.proofs.Names.{sym, ◌∙◌, on_ok_weaker}
 use Rattle.sk_recovered.proofs.Taken.{made_left, made_on}
 use Rattle.sk_recovered.proofs.frames.Frames.take.Goals as goal
 

@@ -1,8 +1,6 @@
 -- The head that is next.
-use Rattle.std.proofs.Common.{◌≡◌, Some, sym, ap, ◌∙◌, arith, length}
-use Rattle.std.specs.List.{slice_get}
-use Rattle.std.specs.Option.{option_map}
-use Rattle.std.proofs.lemmas.Option.{slice_get-get_or, slice_get_past}
+use Rattle.sk_recovered.proofs.Names.{◌≡◌, Some, sym, ap, ◌∙◌, arith, length, slice_get, option_map, slice_get-get_or}
+use Rattle.sk_recovered.proofs.Names.{slice_get_past}
 use Rattle.sk_recovered.proofs.recovered.Recovered.next_segment.Goals as goal
 
 pub returns-in-Some : goal.returns-in-Some

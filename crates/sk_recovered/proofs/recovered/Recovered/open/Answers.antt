@@ -1,9 +1,6 @@
 -- The next segment is begun, if there is one.
-use Rattle.std.proofs.Common.{◌≡◌, ◌+◌, drop, length, Some, refl, sym, ap, ◌∙◌, arith}
-use Rattle.std.specs.List.{slice_get}
-use Rattle.std.proofs.lemmas.List.{take_rest}
-use Rattle.std.proofs.lemmas.Option.{slice_get-get_or}
-use Rattle.sk_recovered.specs.Segments.{least}
+use Rattle.sk_recovered.proofs.Names.{◌≡◌, ◌+◌, drop, length, Some, refl, sym, ap, ◌∙◌, arith, slice_get, take_rest}
+use Rattle.sk_recovered.proofs.Names.{slice_get-get_or, least}
 use Rattle.sk_recovered.proofs.Counted.{all_read, begun}
 use Rattle.sk_recovered.proofs.recovered.Recovered.open.Goals as goal
 

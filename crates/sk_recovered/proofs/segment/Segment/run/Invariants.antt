@@ -1,8 +1,5 @@
 -- What is known is known still, and less is kept after each frame.
-use Rattle.std.proofs.Common.{ℕ, List, length}
-use Rattle.sk_plain_store.specs.Plain.{Entries}
-use Rattle.sk_recovered.specs.declared.heads.Head.{Head}
-use Rattle.sk_recovered.specs.Recovered.{IsWithin}
+use Rattle.sk_recovered.proofs.Names.{ℕ, List, length, Entries, Head, IsWithin}
 use Rattle.sk_recovered.proofs.segment.Segment.run.Given as goal
 
 abbrev pub invariant-loop : goal.invariant-loop

@@ -1,8 +1,6 @@
 -- A frame more is read, and carried out if it counts.
-use Rattle.std.proofs.Common.{◌&&◌, if◌then◌else◌, sym, ap, subst, ◌∙◌}
-use Rattle.sk_recovered.specs.Frames.{with_one, HasTaken}
-use Rattle.sk_recovered.specs.Recovered.{counted_with}
-use Rattle.sk_recovered.specs.Segments.{is_below}
+use Rattle.sk_recovered.proofs.Names.{◌&&◌, if◌then◌else◌, sym, ap, subst, ◌∙◌, with_one, HasTaken, counted_with}
+use Rattle.sk_recovered.proofs.Names.{is_below}
 use Rattle.sk_recovered.proofs.Counted.{place_next, stepped}
 use Rattle.sk_recovered.proofs.segment.Segment.step.Goals as goal
 

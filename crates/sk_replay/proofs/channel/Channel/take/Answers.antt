@@ -1,7 +1,5 @@
 -- One request more came.
-use Rattle.std.proofs.Common.{◌≡◌, Option, Some, None, map, sym, ap, refl, ◌∙◌}
-use Rattle.std.specs.Vec.{vec_items}
-use Rattle.sk_commands.specs.declared.fault.Fault.{Fault}
+use Rattle.sk_replay.proofs.Names.{◌≡◌, Option, Some, None, map, sym, ap, refl, ◌∙◌, vec_items, Fault}
 use Rattle.sk_replay.proofs.Carried.{carried_on, refused_behind}
 use Rattle.sk_replay.proofs.channel.Channel.take.Goals as goal
 

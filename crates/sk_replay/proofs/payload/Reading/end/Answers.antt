@@ -1,6 +1,5 @@
 -- What stands at the end of a payload.
-use Rattle.std.proofs.Common.{map, Some}
-use Rattle.sk_replay.specs.Works.{log_limits}
+use Rattle.sk_replay.proofs.Names.{map, Some, log_limits}
 use Rattle.sk_replay.proofs.Come.{all_read, all_said, cut, left_open}
 use Rattle.sk_replay.proofs.payload.Reading.end.Goals as goal
 

@@ -1,9 +1,7 @@
 -- A request more, or a part of one.
-use Rattle.std.proofs.Common.{◌+◌, ◌<◌, ◌++◌, map, take, drop, length, Some, Ok, Err, refl, sym, subst, rules, arith, length-drop}
-use Rattle.sk_requests.specs.Reading.{words_of}
-use Rattle.sk_requests.specs.Stream.{HasFound}
-use Rattle.sk_replay.specs.Works.{log_limits, HasCome, IsRefused, IsRefusedBehind}
-use Rattle.sk_replay.specs.declared.payload.Reading.{Reading}
+use Rattle.sk_replay.proofs.Names.{◌+◌, ◌<◌, ◌++◌, map, take, drop, length, Some, Ok, Err, refl, sym, subst, rules}
+use Rattle.sk_replay.proofs.Names.{arith, length-drop, words_of, HasFound, log_limits, HasCome, IsRefused}
+use Rattle.sk_replay.proofs.Names.{IsRefusedBehind, Reading}
 use Rattle.sk_replay.proofs.Come.{if_refused, large_refused, on_result, part_on, reader_refused, reads_rest, request_on, request_refused}
 use Rattle.sk_replay.proofs.payload.Reading.step.Goals as goal
 

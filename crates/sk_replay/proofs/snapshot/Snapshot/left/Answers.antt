@@ -1,8 +1,5 @@
 -- They are a back part of all.
-use Rattle.std.proofs.Common.{◌≡◌, true, ap, sym, ◌∙◌}
-use Rattle.std.specs.FinMap.{is_sorted}
-use Rattle.std.proofs.lemmas.List.{take_rest}
-use Rattle.sk_plain_store.specs.Plain.{bytes_cmp, Entries}
+use Rattle.sk_replay.proofs.Names.{◌≡◌, true, ap, sym, ◌∙◌, is_sorted, take_rest, bytes_cmp, Entries}
 use Rattle.sk_replay.proofs.Left.{left_rises}
 use Rattle.sk_replay.proofs.snapshot.Snapshot.left.Goals as goal
 

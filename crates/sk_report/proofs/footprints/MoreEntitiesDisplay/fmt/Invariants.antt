@@ -1,8 +1,5 @@
 -- What stands before the loop's place is written.
-use Rattle.std.proofs.Common.{take, ◌∷◌}
-use Rattle.std.specs.Prelude.{flat_map}
-use Rattle.std.specs.Fmt.{HasWritten, IsPlainFormatter}
-use Rattle.sk_report.specs.Printed.{entity_text}
+use Rattle.sk_report.proofs.Names.{take, ◌∷◌, flat_map, HasWritten, IsPlainFormatter, entity_text}
 use Rattle.sk_report.proofs.footprints.MoreEntitiesDisplay.fmt.Given as goal
 
 abbrev pub invariant-loop-entity : goal.invariant-loop-entity

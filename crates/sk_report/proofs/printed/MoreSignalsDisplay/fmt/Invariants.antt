@@ -1,7 +1,5 @@
 -- What stands before the loop's place is written.
-use Rattle.std.proofs.Common.{take, ◌∷◌}
-use Rattle.std.specs.Prelude.{flat_map, decimal}
-use Rattle.std.specs.Fmt.{HasWritten, IsPlainFormatter}
+use Rattle.sk_report.proofs.Names.{take, ◌∷◌, flat_map, decimal, HasWritten, IsPlainFormatter}
 use Rattle.sk_report.proofs.printed.MoreSignalsDisplay.fmt.Given as goal
 
 abbrev pub invariant-loop-signal : goal.invariant-loop-signal

@@ -1,8 +1,6 @@
 -- One more block is written.
-use Rattle.std.proofs.Common.{◌≡◌, ◌+◌, ◌*◌, ◌∷◌, ◌++◌, List, ℕ, take, arith, sym, ap, ◌∙◌}
-use Rattle.std.specs.Prelude.{flat_map}
-use Rattle.std.proofs.lemmas.Grind.{common_steps}
-use Rattle.sk_words.specs.Spelling.{spelled_byte}
+use Rattle.sk_report.proofs.Names.{◌≡◌, ◌+◌, ◌*◌, ◌∷◌, ◌++◌, List, ℕ, take, arith, sym, ap, ◌∙◌, flat_map, common_steps}
+use Rattle.sk_report.proofs.Names.{spelled_byte}
 use Rattle.sk_report.proofs.Spelled.{one_more}
 use Rattle.sk_report.proofs.printed.PrintedFileDisplay.fmt.Goals as goal
 

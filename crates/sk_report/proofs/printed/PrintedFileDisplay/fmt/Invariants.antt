@@ -1,8 +1,5 @@
 -- The quote and the blocks before the loop's place are written.
-use Rattle.std.proofs.Common.{take, ◌∷◌, ◌*◌}
-use Rattle.std.specs.Prelude.{flat_map}
-use Rattle.std.specs.Fmt.{HasWritten, IsPlainFormatter}
-use Rattle.sk_words.specs.Spelling.{spelled_byte}
+use Rattle.sk_report.proofs.Names.{take, ◌∷◌, ◌*◌, flat_map, HasWritten, IsPlainFormatter, spelled_byte}
 use Rattle.sk_report.proofs.printed.PrintedFileDisplay.fmt.Given as goal
 
 abbrev pub invariant-loop-index : goal.invariant-loop-index

@@ -1,7 +1,5 @@
 -- What the terminal shows are the texts that the trace says to it; where there is none, nothing was said.
-use Rattle.std.proofs.Common.{◌≡◌, []}
-use Rattle.std.proofs.lemmas.List.{append-nil}
-use Rattle.sk_report.specs.Report.{said_there, counts_line}
+use Rattle.sk_report.proofs.Names.{◌≡◌, [], append-nil, said_there, counts_line}
 use Rattle.sk_report.proofs.Shown.{shown_there, nothing_there}
 use Rattle.sk_report.proofs.subject.KernelSubject.write_terminal.Goals as goal
 

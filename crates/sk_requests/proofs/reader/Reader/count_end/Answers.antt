@@ -1,9 +1,5 @@
-use Rattle.std.proofs.Common.{◌≡◌, ◌<◌, false, [], ◌∷◌, ◌++◌, refl, sym, ◌∙◌, ap, subst, inl, inr, arith}
-use Rattle.std.proofs.lemmas.Bool.{false≢true, cases_lt}
-use Rattle.sk_requests.specs.Lines.{said}
-use Rattle.sk_requests.specs.Request.{IsWithin}
-use Rattle.sk_requests.specs.Faults.{InWords}
-use Rattle.sk_requests.specs.Reading.{IsAt, words_of}
+use Rattle.sk_requests.proofs.Names.{◌≡◌, ◌<◌, false, [], ◌∷◌, ◌++◌, refl, sym, ◌∙◌, ap, subst, inl, inr, arith}
+use Rattle.sk_requests.proofs.Names.{false≢true, cases_lt, said, IsWithin, InWords, IsAt, words_of}
 use Rattle.sk_requests.proofs.Steps.{at_front, nothing_left, count_none, no_words, some_words, keeps_none}
 use Rattle.sk_requests.proofs.reader.Reader.count_end.Goals as goal
 

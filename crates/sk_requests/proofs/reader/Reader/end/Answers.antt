@@ -1,9 +1,5 @@
-use Rattle.std.proofs.Common.{◌≡◌, ◌+◌, ◌-◌, [], ◌∷◌, ◌++◌, length, take, refl, sym, ◌∙◌, ap, subst, inl, arith}
-use Rattle.std.proofs.lemmas.Result.{err_from_is_err_and}
-use Rattle.sk_requests.specs.Request.{IsWithin}
-use Rattle.sk_requests.specs.Faults.{InWords}
-use Rattle.sk_requests.specs.Reading.{Keeps, IsAt, words_of}
-use Rattle.sk_requests.specs.Request.{IsArray}
+use Rattle.sk_requests.proofs.Names.{◌≡◌, ◌+◌, ◌-◌, [], ◌∷◌, ◌++◌, length, take, refl, sym, ◌∙◌, ap, subst, inl, arith}
+use Rattle.sk_requests.proofs.Names.{err_from_is_err_and, IsWithin, InWords, Keeps, IsAt, words_of, IsArray}
 use Rattle.sk_requests.proofs.Steps.{no_end, no_feed, take_one, word_next, word_last, keeps_next, keeps_fits, keeps_large, nothing_left, at_end}
 use Rattle.sk_requests.proofs.reader.Reader.end.Goals as goal
 

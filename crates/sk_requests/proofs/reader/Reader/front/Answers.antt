@@ -1,9 +1,5 @@
-use Rattle.std.proofs.Common.{◌≡◌, ◌≤◌, [], ◌∷◌, ◌++◌, length, slice_index, take, drop, Ok, sym, ◌∙◌, ap, subst}
-use Rattle.std.specs.Prelude.{if◌then◌else◌, ◌==◌}
-use Rattle.std.proofs.lemmas.Result.{err_from_is_err_and}
-use Rattle.sk_requests.specs.Lines.{IsLine, TakesLine}
-use Rattle.sk_requests.specs.Faults.{HasFault}
-use Rattle.sk_requests.specs.Reading.{IsAt, Reads}
+use Rattle.sk_requests.proofs.Names.{◌≡◌, ◌≤◌, [], ◌∷◌, ◌++◌, length, slice_index, take, drop, Ok, sym, ◌∙◌, ap, subst}
+use Rattle.sk_requests.proofs.Names.{if◌then◌else◌, ◌==◌, err_from_is_err_and, IsLine, TakesLine, HasFault, IsAt, Reads}
 use Rattle.sk_requests.specs.declared.fault.Fault.TheVariants as faults
 use Rattle.sk_requests.proofs.Steps.{begins_with, line_on, front_long, at_front}
 use Rattle.sk_requests.proofs.reader.Reader.front.Goals as goal

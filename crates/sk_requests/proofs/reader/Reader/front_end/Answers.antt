@@ -1,8 +1,5 @@
-use Rattle.std.proofs.Common.{◌≡◌, ℕ, ◌≤◌, List, [], ◌∷◌, ◌++◌, length, slice_index, refl, sym, ◌∙◌, ap, subst, inr, arith}
-use Rattle.std.proofs.lemmas.Result.{err_from_is_err_and}
-use Rattle.sk_requests.specs.Inline.{line_words}
-use Rattle.sk_requests.specs.Lines.{IsLine}
-use Rattle.sk_requests.specs.Reading.{IsAt}
+use Rattle.sk_requests.proofs.Names.{◌≡◌, ℕ, ◌≤◌, List, [], ◌∷◌, ◌++◌, length, slice_index, refl, sym, ◌∙◌, ap, subst}
+use Rattle.sk_requests.proofs.Names.{inr, arith, err_from_is_err_and, line_words, IsLine, IsAt}
 use Rattle.sk_requests.proofs.Steps.{at_front, nothing_left, typed_first}
 use Rattle.sk_requests.proofs.reader.Reader.front_end.Goals as goal
 

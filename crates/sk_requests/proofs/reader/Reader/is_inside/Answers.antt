@@ -1,5 +1,4 @@
-use Rattle.std.proofs.Common.{sym, subst}
-use Rattle.sk_requests.specs.Stream.{EndsWithin}
+use Rattle.sk_requests.proofs.Names.{sym, subst, EndsWithin}
 use Rattle.sk_requests.proofs.Streams.{ends_within}
 use Rattle.sk_requests.proofs.reader.Reader.is_inside.Goals as goal
 

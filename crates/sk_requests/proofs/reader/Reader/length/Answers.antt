@@ -1,9 +1,6 @@
-use Rattle.std.proofs.Common.{◌≡◌, ℕ, ◌≤◌, List, [], ◌∷◌, ◌++◌, length, slice_index, take, drop, Ok, sym, ◌∙◌, ap, subst}
-use Rattle.std.specs.Prelude.{if◌then◌else◌, ◌==◌}
-use Rattle.std.proofs.lemmas.Result.{err_from_is_err_and}
-use Rattle.sk_requests.specs.Lines.{IsLine, TakesLine}
-use Rattle.sk_requests.specs.Faults.{InWords, HasFault}
-use Rattle.sk_requests.specs.Reading.{IsAt, Reads}
+use Rattle.sk_requests.proofs.Names.{◌≡◌, ℕ, ◌≤◌, List, [], ◌∷◌, ◌++◌, length, slice_index, take, drop, Ok, sym, ◌∙◌}
+use Rattle.sk_requests.proofs.Names.{ap, subst, if◌then◌else◌, ◌==◌, err_from_is_err_and, IsLine, TakesLine, InWords}
+use Rattle.sk_requests.proofs.Names.{HasFault, IsAt, Reads}
 use Rattle.sk_requests.specs.declared.fault.Fault.TheVariants as faults
 use Rattle.sk_requests.proofs.Steps.{begins_with, line_on, words_on, length_long, at_length}
 use Rattle.sk_requests.proofs.reader.Reader.length.Goals as goal

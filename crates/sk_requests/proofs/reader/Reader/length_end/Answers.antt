@@ -1,7 +1,5 @@
-use Rattle.std.proofs.Common.{◌≡◌, ℕ, List, [], ◌∷◌, ◌++◌, slice_index, sym, ◌∙◌, ap, subst, arith}
-use Rattle.std.specs.Prelude.{if◌then◌else◌, ◌==◌}
-use Rattle.sk_requests.specs.Faults.{HasFault}
-use Rattle.sk_requests.specs.Reading.{IsAt}
+use Rattle.sk_requests.proofs.Names.{◌≡◌, ℕ, List, [], ◌∷◌, ◌++◌, slice_index, sym, ◌∙◌, ap, subst, arith}
+use Rattle.sk_requests.proofs.Names.{if◌then◌else◌, ◌==◌, HasFault, IsAt}
 use Rattle.sk_requests.specs.declared.fault.Fault.TheVariants as faults
 use Rattle.sk_requests.proofs.Steps.{length_none}
 use Rattle.sk_requests.proofs.reader.Reader.length_end.Goals as goal

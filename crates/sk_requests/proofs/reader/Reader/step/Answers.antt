@@ -1,7 +1,4 @@
-use Rattle.std.proofs.Common.{◌≡◌, length, sym, ◌∙◌, subst, arith}
-use Rattle.std.proofs.lemmas.Bool.{eqb-true}
-use Rattle.std.proofs.lemmas.List.{append-nil}
-use Rattle.sk_requests.specs.Reading.{IsBehind}
+use Rattle.sk_requests.proofs.Names.{◌≡◌, length, sym, ◌∙◌, subst, arith, eqb-true, append-nil, IsBehind}
 use Rattle.sk_requests.proofs.reader.Reader.step.Goals as goal
 
 pub returns-then-is_empty-clause-read : goal.returns-then-is_empty-clause-read

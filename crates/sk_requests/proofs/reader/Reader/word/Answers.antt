@@ -1,7 +1,6 @@
-use Rattle.std.proofs.Common.{◌≡◌, ◌+◌, ◌-◌, ◌≤◌, [], ◌++◌, length, take, Ok, sym, ◌∙◌, ap, subst, arith, length-append}
-use Rattle.std.proofs.lemmas.List.{append-nil, length-take-le, take-append-drop}
-use Rattle.std.proofs.lemmas.Result.{err_from_is_err_and}
-use Rattle.sk_requests.specs.Reading.{Keeps, IsAt, Reads, words_of}
+use Rattle.sk_requests.proofs.Names.{◌≡◌, ◌+◌, ◌-◌, ◌≤◌, [], ◌++◌, length, take, Ok, sym, ◌∙◌, ap, subst, arith}
+use Rattle.sk_requests.proofs.Names.{length-append, append-nil, length-take-le, take-append-drop, err_from_is_err_and}
+use Rattle.sk_requests.proofs.Names.{Keeps, IsAt, Reads, words_of}
 use Rattle.sk_requests.specs.declared.place.Place.TheVariants as places
 use Rattle.sk_requests.proofs.Steps.{word_on, at_word, slice_on}
 use Rattle.sk_requests.proofs.reader.Reader.word.Goals as goal

@@ -1,6 +1,5 @@
-use Rattle.std.proofs.Common.{◌≡◌, ◌+◌, [], ◌∷◌, ◌++◌, length, take, ◌∙◌, ap, subst, arith}
-use Rattle.std.proofs.lemmas.List.{append-nil}
-use Rattle.sk_requests.specs.Reading.{Keeps, IsAt, words_of}
+use Rattle.sk_requests.proofs.Names.{◌≡◌, ◌+◌, [], ◌∷◌, ◌++◌, length, take, ◌∙◌, ap, subst, arith, append-nil, Keeps}
+use Rattle.sk_requests.proofs.Names.{IsAt, words_of}
 use Rattle.sk_requests.proofs.Steps.{word_on, no_end, no_return, take_one}
 use Rattle.sk_requests.proofs.reader.Reader.word_end.Goals as goal
 

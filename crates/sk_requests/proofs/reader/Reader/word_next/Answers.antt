@@ -1,5 +1,4 @@
-use Rattle.std.proofs.Common.{◌+◌, [], length, take, subst, arith}
-use Rattle.sk_requests.specs.Reading.{IsAt, words_of}
+use Rattle.sk_requests.proofs.Names.{◌+◌, [], length, take, subst, arith, IsAt, words_of}
 use Rattle.sk_requests.proofs.Steps.{word_begins, keeps_room, keeps_no_room}
 use Rattle.sk_requests.proofs.reader.Reader.word_next.Goals as goal
 

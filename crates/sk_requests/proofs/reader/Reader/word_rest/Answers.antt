@@ -1,8 +1,7 @@
-use Rattle.std.proofs.Common.{◌≡◌, ℕ, ◌+◌, ◌<◌, ◌≤◌, List, [], ◌∷◌, ◌++◌, length, take, drop, sym, ◌∙◌, ap, subst, arith, length-append}
-use Rattle.std.proofs.lemmas.List.{append_assoc, append-nil, take_at}
-use Rattle.sk_requests.specs.Reading.{Keeps, IsAt, IsBehind, IsFound, Reads, words_of}
+use Rattle.sk_requests.proofs.Names.{◌≡◌, ℕ, ◌+◌, ◌<◌, ◌≤◌, List, [], ◌∷◌, ◌++◌, length, take, drop, sym, ◌∙◌, ap}
+use Rattle.sk_requests.proofs.Names.{subst, arith, length-append, append_assoc, append-nil, take_at, Keeps, IsAt}
+use Rattle.sk_requests.proofs.Names.{IsBehind, IsFound, Reads, words_of, Reader}
 use Rattle.sk_requests.specs.declared.place.Place.TheVariants as places
-use Rattle.sk_requests.specs.declared.reader.Reader.{Reader}
 use Rattle.sk_requests.proofs.Steps.{word_on, take_on, slice_on, stays_behind}
 use Rattle.sk_requests.proofs.reader.Reader.word_rest.Goals as goal
 

@@ -1,8 +1,6 @@
 -- A word that begins no declaration is unknown.
-use Rattle.std.proofs.Common.{refl, rules}
-use Rattle.sk_words.specs.Tables.{unknown}
-use Rattle.sk_words.proofs.Unknown.{skipped}
-use Rattle.sk_scenario.specs.Declarations.{declares, declaration_rules}
+use Rattle.sk_scenario.proofs.Names.{refl, rules, unknown, skipped, declaration_rules}
+use Rattle.sk_scenario.specs.Declarations.{declares}
 use Rattle.sk_scenario.proofs.declarations.Declarations.declare.Goals as goal
 
 pub returns-in_default : goal.returns-in_default

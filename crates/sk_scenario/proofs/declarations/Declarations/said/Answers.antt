@@ -1,6 +1,5 @@
-use Rattle.std.proofs.Common.{rules}
-use Rattle.sk_words.proofs.Unknown.{skipped}
-use Rattle.sk_scenario.specs.Declarations.{says_next, line_rules, declared_next}
+use Rattle.sk_scenario.proofs.Names.{rules, skipped, line_rules, declared_next}
+use Rattle.sk_scenario.specs.Declarations.{says_next}
 use Rattle.sk_scenario.proofs.declarations.Declarations.said.Goals as goal
 
 pub returns-in_default : goal.returns-in_default

@@ -1,7 +1,5 @@
-use Rattle.std.proofs.Common.{refl}
-use Rattle.sk_words.specs.Tables.{unknown}
-use Rattle.sk_words.proofs.Unknown.{skipped, no_text}
-use Rattle.sk_scenario.specs.Declarations.{says_next, declares, declared_next, line_rules, declaration_rules}
+use Rattle.sk_scenario.proofs.Names.{refl, unknown, skipped, no_text, declared_next, line_rules, declaration_rules}
+use Rattle.sk_scenario.specs.Declarations.{says_next, declares}
 use Rattle.sk_scenario.proofs.declarations.Declarations.said_in.Goals as goal
 
 pub returns-in-Err : goal.returns-in-Err

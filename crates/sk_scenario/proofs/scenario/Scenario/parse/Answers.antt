@@ -1,10 +1,6 @@
 -- The fault of the line that was taken last, or of what belongs to it, is told of the whole text.
-use Rattle.std.proofs.Common.{rules, arith, ◌≡◌, ◌≤◌, ◌+◌, [], ◌∷◌, ◌++◌, length, refl, sym}
-use Rattle.std.specs.Str.Lines.{lines}
-use Rattle.std.proofs.lemmas.List.{length-append}
-use Rattle.std.proofs.lemmas.Result.{err_from_is_err_and}
-use Rattle.sk_words.specs.Lines.{last_line}
-use Rattle.sk_scenario.specs.Scenario.{IsEdgeOf, IsScriptEdge}
+use Rattle.sk_scenario.proofs.Names.{rules, arith, ◌≡◌, ◌≤◌, ◌+◌, [], ◌∷◌, ◌++◌, length, refl, sym, lines}
+use Rattle.sk_scenario.proofs.Names.{length-append, err_from_is_err_and, last_line, IsEdgeOf, IsScriptEdge}
 use Rattle.sk_scenario.proofs.Told.{edge_of_text, edges_on, left_on, line_told}
 use Rattle.sk_scenario.proofs.scenario.Scenario.parse.Goals as goal
 

@@ -1,8 +1,6 @@
 -- What the lines that are left say, behind what is declared so far, is what the whole text says, and they are the
 -- last of it.
-use Rattle.std.proofs.Common.{◌≡◌, ◌+◌, None, length}
-use Rattle.std.specs.Str.Lines.{lines}
-use Rattle.sk_scenario.specs.Scenario.{AreLeft, scenario_from, scenario_of}
+use Rattle.sk_scenario.proofs.Names.{◌≡◌, ◌+◌, None, length, lines, AreLeft, scenario_from, scenario_of}
 use Rattle.sk_scenario.proofs.scenario.Scenario.parse.Given as goal
 
 abbrev pub invariant-loop-line : goal.invariant-loop-line

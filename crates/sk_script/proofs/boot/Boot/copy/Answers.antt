@@ -1,7 +1,5 @@
 -- One copy more keeps what holds of every boot.
-use Rattle.std.proofs.Common.{◌≡◌, ℕ, false, List, [], ◌∷◌, ◌++◌, sym, ap, ◌∙◌}
-use Rattle.sk_objects.specs.Content.{ContentView}
-use Rattle.sk_script.specs.Boot.{BootView, has_copy}
+use Rattle.sk_script.proofs.Names.{◌≡◌, ℕ, false, List, [], ◌∷◌, ◌++◌, sym, ap, ◌∙◌, ContentView, BootView, has_copy}
 use Rattle.sk_script.proofs.Boots.{copy_declared, copy_found}
 use Rattle.sk_script.proofs.boot.Boot.copy.Goals as goal
 

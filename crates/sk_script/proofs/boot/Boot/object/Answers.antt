@@ -1,6 +1,5 @@
 -- One object more keeps what holds of every boot.
-use Rattle.std.proofs.Common.{◌≡◌, ◌<◌, false, length, sym, ap, ◌∙◌}
-use Rattle.sk_script.specs.Boot.{BootView, has_object}
+use Rattle.sk_script.proofs.Names.{◌≡◌, ◌<◌, false, length, sym, ap, ◌∙◌, BootView, has_object}
 use Rattle.sk_script.proofs.Boots.{object_declared, still_found}
 use Rattle.sk_script.proofs.boot.Boot.object.Goals as goal
 

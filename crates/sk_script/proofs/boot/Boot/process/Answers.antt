@@ -1,7 +1,6 @@
 -- One process more keeps what holds of every boot.
-use Rattle.std.proofs.Common.{rules, ◌≡◌, false, true, List, [], ◌∷◌, ◌++◌, sym, ap, ◌∙◌}
-use Rattle.sk_script.specs.declared.boot.BootProcess.{BootProcess}
-use Rattle.sk_script.specs.Boot.{BootView, has_process, has_script}
+use Rattle.sk_script.proofs.Names.{rules, ◌≡◌, false, true, List, [], ◌∷◌, ◌++◌, sym, ap, ◌∙◌, BootProcess, BootView}
+use Rattle.sk_script.proofs.Names.{has_process, has_script}
 use Rattle.sk_script.proofs.Boots.{process_declared, process_found}
 use Rattle.sk_script.proofs.boot.Boot.process.Goals as goal
 

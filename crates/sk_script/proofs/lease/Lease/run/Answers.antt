@@ -1,6 +1,6 @@
 -- One instruction more is done, or there is none to do, and then the rest does nothing.
-use Rattle.std.proofs.Common.{◌≡◌, ℕ, zero, suc, ◌+◌, ◌-◌, false, refl, sym, ◌∙◌, ap, subst, arith}
-use Rattle.sk_script.specs.Lease.{LeaseView, advanced, ran, Advances}
+use Rattle.sk_script.proofs.Names.{◌≡◌, ℕ, zero, suc, ◌+◌, ◌-◌, false, refl, sym, ◌∙◌, ap, subst, arith, LeaseView}
+use Rattle.sk_script.proofs.Names.{advanced, ran, Advances}
 use Rattle.sk_script.proofs.lease.Lease.run.Goals as goal
 
 stuck : (n : ℕ) (l : LeaseView) → advanced l ≡ l → ran n l ≡ l

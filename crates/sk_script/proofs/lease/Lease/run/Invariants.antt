@@ -1,6 +1,5 @@
 -- What is left of the run leads to where the whole leads.
-use Rattle.std.proofs.Common.{◌≡◌, ◌-◌}
-use Rattle.sk_script.specs.Lease.{ran}
+use Rattle.sk_script.proofs.Names.{◌≡◌, ◌-◌, ran}
 use Rattle.sk_script.proofs.lease.Lease.run.Given as goal
 
 abbrev pub invariant-loop : goal.invariant-loop

@@ -1,7 +1,6 @@
 -- A word that is none of this table is looked for in the next: from the words it was compared with.
-use Rattle.std.proofs.Common.{rules}
-use Rattle.sk_script.specs.Instructions.{byte_instruction, byte_rules, outer_instruction}
-use Rattle.sk_words.proofs.Unknown.{skipped}
+use Rattle.sk_script.proofs.Names.{rules, byte_rules, outer_instruction, skipped}
+use Rattle.sk_script.specs.Instructions.{byte_instruction}
 use Rattle.sk_script.proofs.parse.table.byte_instruction.Goals as goal
 
 pub returns-in_default : goal.returns-in_default

@@ -1,8 +1,6 @@
 -- A word that is none of the tables is unknown: from the words it was compared with.
-use Rattle.std.proofs.Common.{rules, refl}
-use Rattle.sk_script.specs.Instructions.{outer_instruction, outer_rules}
-use Rattle.sk_words.specs.Tables.{unknown}
-use Rattle.sk_words.proofs.Unknown.{skipped}
+use Rattle.sk_script.proofs.Names.{rules, refl, outer_rules, unknown, skipped}
+use Rattle.sk_script.specs.Instructions.{outer_instruction}
 use Rattle.sk_script.proofs.parse.table.outer_instruction.Goals as goal
 
 pub returns-in_default : goal.returns-in_default

@@ -1,6 +1,5 @@
 -- Where the labels find no room, that is told at the first line, before which there is none.
-use Rattle.std.proofs.Common.{◌≤◌, ◌+◌, arith}
-use Rattle.sk_words.specs.Lines.{last_line}
+use Rattle.sk_script.proofs.Names.{◌≤◌, ◌+◌, arith, last_line}
 use Rattle.sk_script.proofs.Told.{at_first}
 use Rattle.sk_script.proofs.script.Script.parse_lines.Goals as goal
 

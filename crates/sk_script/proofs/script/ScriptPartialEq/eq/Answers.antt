@@ -1,8 +1,5 @@
 -- The test of the instructions is exact.
-use Rattle.std.proofs.Common.{◌≡◌, rules}
-use Rattle.std.proofs.lemmas.Bool.Decides.{Decides-at}
-use Rattle.sk_script.specs.Same.{same_script}
-use Rattle.sk_script.specs.SameLemma.{exact_script}
+use Rattle.sk_script.proofs.Names.{◌≡◌, rules, Decides-at, same_script, exact_script}
 use Rattle.sk_script.proofs.script.ScriptPartialEq.eq.Goals as goal
 
 pub returns-clause-exact : goal.returns-clause-exact

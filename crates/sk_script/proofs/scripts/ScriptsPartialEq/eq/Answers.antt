@@ -1,8 +1,5 @@
 -- The test of the maps, which is exact.
-use Rattle.std.proofs.Common.{◌∙◌}
-use Rattle.std.proofs.lemmas.Bool.Decides.{Decides-at}
-use Rattle.sk_script.specs.Same.{same_scripts}
-use Rattle.sk_script.specs.SameLemma.{exact_scripts}
+use Rattle.sk_script.proofs.Names.{◌∙◌, Decides-at, same_scripts, exact_scripts}
 use Rattle.sk_script.proofs.scripts.ScriptsPartialEq.eq.Goals as goal
 
 pub returns-clause-computed : goal.returns-clause-computed

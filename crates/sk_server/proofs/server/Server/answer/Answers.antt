@@ -1,8 +1,5 @@
 -- The request that is lent is the one that was given.
-use Rattle.std.proofs.Common.{◌≡◌, Ok, Err, refl, ◌∙◌, ap, subst}
-use Rattle.sk_server.specs.Lent.{request_in}
-use Rattle.sk_server.specs.Verdict.{said, Decides}
-use Rattle.sk_server.specs.declared.request.Request.{Request}
+use Rattle.sk_server.proofs.Names.{◌≡◌, Ok, Err, refl, ◌∙◌, ap, subst, request_in, said, Decides, Request}
 use Rattle.sk_server.proofs.server.Server.answer.Goals as goal
 
 pub returns-in-Ok : goal.returns-in-Ok

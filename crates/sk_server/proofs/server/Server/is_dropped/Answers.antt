@@ -1,11 +1,6 @@
 -- The request rests on one of those that are remembered, where it can and does rest on one of all.
-use Rattle.std.proofs.Common.{◌≡◌, ℕ, nat_le, ◌&&◌, ap, sym, ◌∙◌, rules, tests}
-use Rattle.std.specs.List.{list_any}
-use Rattle.std.proofs.lemmas.Iterator.{YieldsList-from_slice}
-use Rattle.std.proofs.lemmas.Iterator.Search.{any_from_yields_List}
-use Rattle.sk_record.specs.Notes.{has}
-use Rattle.sk_server.specs.Server.{is_dropped, remembered}
-use Rattle.sk_server.specs.Lent.{request_in}
+use Rattle.sk_server.proofs.Names.{◌≡◌, ℕ, nat_le, ◌&&◌, ap, sym, ◌∙◌, rules, tests, list_any, YieldsList-from_slice}
+use Rattle.sk_server.proofs.Names.{any_from_yields_List, has, is_dropped, remembered, request_in}
 use Rattle.sk_server.proofs.Remembered.{any_left}
 use Rattle.sk_server.proofs.server.Server.is_dropped.Goals as goal
 

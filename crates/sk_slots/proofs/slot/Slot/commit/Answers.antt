@@ -1,8 +1,5 @@
 -- The notes are lightened, and then merged.
-use Rattle.std.proofs.Common.{◌≡◌, [], sym, ◌∙◌, ap, subst, arith}
-use Rattle.sk_record.specs.Notes.{committed}
-use Rattle.sk_record.specs.Merged.{merged}
-use Rattle.sk_slots.specs.Slot.{SlotView}
+use Rattle.sk_slots.proofs.Names.{◌≡◌, [], sym, ◌∙◌, ap, subst, arith, committed, merged, SlotView}
 use Rattle.sk_slots.proofs.slot.Slot.commit.Goals as goal
 
 pub lighten-requires : goal.lighten-requires

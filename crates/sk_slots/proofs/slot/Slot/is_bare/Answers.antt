@@ -1,8 +1,5 @@
 -- No note is seen where there is none.
-use Rattle.std.proofs.Common.{◌≡◌, ◌&&◌, not, true, sym, ◌∙◌, ap}
-use Rattle.std.specs.Prelude.{is_none}
-use Rattle.sk_slots.specs.Kept.{seen}
-use Rattle.sk_slots.specs.Slot.{is_bare, is_empty}
+use Rattle.sk_slots.proofs.Names.{◌≡◌, ◌&&◌, not, true, sym, ◌∙◌, ap, is_none, seen, is_bare, is_empty}
 use Rattle.sk_slots.proofs.Undoing.{empty_len, none_of, seen_empty}
 use Rattle.sk_slots.proofs.slot.Slot.is_bare.Goals as goal
 

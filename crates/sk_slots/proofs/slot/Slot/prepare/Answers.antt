@@ -1,9 +1,6 @@
 -- The tags of the newest note are those that are seen of it.
-use Rattle.std.proofs.Common.{◌≡◌, [], true, false, sym, ◌∙◌, ap}
-use Rattle.std.proofs.lemmas.Bool.{true≢false}
-use Rattle.sk_record.specs.Merged.{same_tags}
-use Rattle.sk_slots.specs.Kept.{newest_tags}
-use Rattle.sk_slots.specs.Slot.{SlotView, goes_unnoted}
+use Rattle.sk_slots.proofs.Names.{◌≡◌, [], true, false, sym, ◌∙◌, ap, true≢false, same_tags, newest_tags, SlotView}
+use Rattle.sk_slots.proofs.Names.{goes_unnoted}
 use Rattle.sk_slots.proofs.Undoing.{seen_tags}
 use Rattle.sk_slots.proofs.slot.Slot.prepare.Goals as goal
 

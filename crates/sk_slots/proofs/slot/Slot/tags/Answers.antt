@@ -1,8 +1,5 @@
 -- The newest note is the last.
-use Rattle.std.proofs.Common.{[], ◌∙◌, ap, sym, arith}
-use Rattle.sk_record.specs.Notes.{last_tags}
-use Rattle.sk_slots.specs.Slot.{SlotView}
-use Rattle.sk_slots.specs.Kept.{newest_tags}
+use Rattle.sk_slots.proofs.Names.{[], ◌∙◌, ap, sym, arith, last_tags, SlotView, newest_tags}
 use Rattle.sk_slots.proofs.Undoing.{newest, seen_tags}
 use Rattle.sk_slots.proofs.slot.Slot.tags.Goals as goal
 

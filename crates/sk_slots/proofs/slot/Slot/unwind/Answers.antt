@@ -1,9 +1,6 @@
 -- What was there before the first note that rests on the guess is put back.
-use Rattle.std.proofs.Common.{◌≡◌, ◌≤◌, length, take, not, sym, ◌∙◌, ap, subst, arith}
-use Rattle.std.specs.List.{prefix_len}
-use Rattle.sk_record.specs.Notes.{has, unwound, cut}
-use Rattle.sk_slots.specs.Kept.{seen, rewound, CanGoBack}
-use Rattle.sk_slots.specs.Slot.{SlotView}
+use Rattle.sk_slots.proofs.Names.{◌≡◌, ◌≤◌, length, take, not, sym, ◌∙◌, ap, subst, arith, prefix_len, has, unwound}
+use Rattle.sk_slots.proofs.Names.{cut, seen, rewound, CanGoBack, SlotView}
 use Rattle.sk_slots.proofs.Logs.{cut_at}
 use Rattle.sk_slots.proofs.Undoing.{can_front, prefix_within, rewound_first, seen_front, seen_prefix}
 use Rattle.sk_slots.proofs.slot.Slot.unwind.Goals as goal

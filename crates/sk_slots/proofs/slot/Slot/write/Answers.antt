@@ -1,9 +1,6 @@
 -- What puts the write back is noted on the notes of the value before it.
-use Rattle.std.proofs.Common.{◌≡◌, [], true, sym, ◌∙◌, ap, subst}
-use Rattle.std.proofs.lemmas.Bool.{true≢false}
-use Rattle.sk_record.specs.Merged.{same_tags}
-use Rattle.sk_slots.specs.Kept.{newest_tags, seen, CanGoBack}
-use Rattle.sk_slots.specs.Slot.{SlotView, goes_unnoted, noted_on}
+use Rattle.sk_slots.proofs.Names.{◌≡◌, [], true, sym, ◌∙◌, ap, subst, true≢false, same_tags, newest_tags, seen}
+use Rattle.sk_slots.proofs.Names.{CanGoBack, SlotView, goes_unnoted, noted_on}
 use Rattle.sk_slots.proofs.Undoing.{seen_tags}
 use Rattle.sk_slots.proofs.slot.Slot.write.Goals as goal
 

@@ -1,11 +1,7 @@
 -- One key more.
-use Rattle.std.proofs.Common.{◌≡◌, ℕ, ◌+◌, ◌<◌, ◌||◌, List, ◌∷◌, cond, sym, ◌∙◌, ap, subst, drop, length, [], refl, arith}
-use Rattle.std.specs.Ordering.{eq_by_cmp}
-use Rattle.sk_record.specs.Effects.{is_in}
-use Rattle.sk_record.specs.Merged.{merged}
-use Rattle.sk_record.specs.Notes.{Note, unwound, cut, committed}
+use Rattle.sk_slots.proofs.Names.{◌≡◌, ℕ, ◌+◌, ◌<◌, ◌||◌, List, ◌∷◌, cond, sym, ◌∙◌, ap, subst, drop, length, [], refl}
+use Rattle.sk_slots.proofs.Names.{arith, eq_by_cmp, is_in, merged, Note, unwound, cut, committed, look_at, log_at}
 use Rattle.sk_slots.proofs.Joins.{lightened_twice}
-use Rattle.sk_slots.specs.Slots.{look_at, log_at}
 use Rattle.sk_slots.proofs.Maps.{pass_more, both_more, next_of, cut_twice, unwound_twice}
 use Rattle.sk_slots.proofs.slots.Slots.commit.Goals as goal
 

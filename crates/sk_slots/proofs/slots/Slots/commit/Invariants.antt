@@ -1,9 +1,5 @@
 -- The keys that are left give the same from here.
-use Rattle.std.proofs.Common.{◌≡◌, [], drop, cond}
-use Rattle.sk_record.specs.Effects.{is_in}
-use Rattle.sk_record.specs.Merged.{merged}
-use Rattle.sk_record.specs.Notes.{committed}
-use Rattle.sk_slots.specs.Slots.{look_at, log_at, AllSettled}
+use Rattle.sk_slots.proofs.Names.{◌≡◌, [], drop, cond, is_in, merged, committed, look_at, log_at, AllSettled}
 use Rattle.sk_slots.proofs.slots.Slots.commit.Given as goal
 
 abbrev pub invariant-loop-key : goal.invariant-loop-key

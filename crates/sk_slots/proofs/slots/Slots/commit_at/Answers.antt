@@ -1,14 +1,8 @@
-use Rattle.std.proofs.Common.{◌≡◌, ◌||◌, List, [], ◌∷◌, Option, Some, None, cond, refl, sym, ◌∙◌, ap, subst, drop, ◌+◌, arith}
-use Rattle.std.specs.Option.{option_copied_mut}
-use Rattle.std.specs.Ordering.{eq_by_cmp}
-use Rattle.std.specs.Cmp.{IsTotalOrder}
-use Rattle.std.specs.FinMap.{IsAntisymmetric, get, insert, remove}
-use Rattle.sk_record.specs.Effects.{is_in}
-use Rattle.sk_record.specs.Notes.{last_tags, unwound, cut, committed}
-use Rattle.sk_record.specs.Merged.{merged}
+use Rattle.sk_slots.proofs.Names.{◌≡◌, ◌||◌, List, [], ◌∷◌, Option, Some, None, cond, refl, sym, ◌∙◌, ap, subst, drop}
+use Rattle.sk_slots.proofs.Names.{◌+◌, arith, option_copied_mut, eq_by_cmp, IsTotalOrder, IsAntisymmetric, get, insert}
+use Rattle.sk_slots.proofs.Names.{remove, is_in, last_tags, unwound, cut, committed, merged, SlotView, noted_on}
+use Rattle.sk_slots.proofs.Names.{IsPrepared, slot_in, look_at, log_at, IsReady, HasPrepared, SettledBut}
 use Rattle.sk_map.specs.Seen.{seen}
-use Rattle.sk_slots.specs.Slot.{SlotView, noted_on, IsPrepared}
-use Rattle.sk_slots.specs.Slots.{slot_in, look_at, log_at, IsReady, HasPrepared, SettledBut}
 use Rattle.sk_slots.proofs.Maps.{one_changed, none_changed, one_same, one_born, one_gone, bare_value, bare_log, still_ready, ready_at, settled_kept, settled_set}
 use Rattle.sk_slots.proofs.slots.Slots.commit_at.Goals as goal
 

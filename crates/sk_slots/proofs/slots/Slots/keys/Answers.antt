@@ -1,10 +1,6 @@
 -- A map has the keys that it has values for.
-use Rattle.std.proofs.Common.{◌≡◌, sym, ◌∙◌, ap}
-use Rattle.std.specs.Prelude.{is_some}
-use Rattle.std.specs.FinMap.{contains_key-keys}
+use Rattle.sk_slots.proofs.Names.{◌≡◌, sym, ◌∙◌, ap, is_some, contains_key-keys, is_in, found}
 use Rattle.sk_map.specs.Seen.{seen}
-use Rattle.sk_record.specs.Effects.{is_in}
-use Rattle.sk_slots.specs.Slots.{found}
 use Rattle.sk_slots.proofs.slots.Slots.keys.Goals as goal
 
 pub returns-clause-all : goal.returns-clause-all

@@ -1,11 +1,8 @@
 -- The slot keeps what it has, or there was nothing in it.
-use Rattle.std.proofs.Common.{true, false, ◌≡◌, List, [], ◌∷◌, Option, Some, None, refl, sym, ◌∙◌, ap, subst}
-use Rattle.std.specs.Option.{option_copied_mut}
-use Rattle.std.specs.Cmp.{IsTotalOrder}
-use Rattle.std.specs.FinMap.{IsAntisymmetric, get, insert, remove}
+use Rattle.sk_slots.proofs.Names.{true, false, ◌≡◌, List, [], ◌∷◌, Option, Some, None, refl, sym, ◌∙◌, ap, subst}
+use Rattle.sk_slots.proofs.Names.{option_copied_mut, IsTotalOrder, IsAntisymmetric, get, insert, remove, SlotView}
+use Rattle.sk_slots.proofs.Names.{is_bare, is_settled, look_at, log_at, SettledBut}
 use Rattle.sk_map.specs.Seen.{seen}
-use Rattle.sk_slots.specs.Slot.{SlotView, is_bare, is_settled}
-use Rattle.sk_slots.specs.Slots.{look_at, log_at, SettledBut}
 use Rattle.sk_slots.proofs.Maps.{one_same, same_gone, bare_value, bare_log, settled_set, settled_gone, settled_none, bare_of, left_of, settled_of}
 use Rattle.sk_slots.proofs.slots.Slots.settle.Goals as goal
 

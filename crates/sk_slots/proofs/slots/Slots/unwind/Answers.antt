@@ -1,11 +1,7 @@
 -- One key more.
-use Rattle.std.specs.Cmp.{IsTotalOrder, eq_by_cmp_equiv}
-use Rattle.std.proofs.lemmas.Bool.{or_left}
-use Rattle.std.proofs.Common.{◌≡◌, ℕ, ◌+◌, ◌<◌, ◌||◌, List, ◌∷◌, cond, sym, ◌∙◌, ap, subst, drop, length, [], refl, arith}
-use Rattle.std.specs.Ordering.{eq_by_cmp}
-use Rattle.sk_record.specs.Effects.{is_in}
-use Rattle.sk_record.specs.Notes.{unwound, cut, committed}
-use Rattle.sk_slots.specs.Slots.{look_at, log_at}
+use Rattle.sk_slots.proofs.Names.{IsTotalOrder, eq_by_cmp_equiv, or_left, ◌≡◌, ℕ, ◌+◌, ◌<◌, ◌||◌, List, ◌∷◌, cond, sym}
+use Rattle.sk_slots.proofs.Names.{◌∙◌, ap, subst, drop, length, [], refl, arith, eq_by_cmp, is_in, unwound, cut}
+use Rattle.sk_slots.proofs.Names.{committed, look_at, log_at}
 use Rattle.sk_slots.proofs.Maps.{pass_more, both_more, next_of, cut_twice, unwound_twice}
 use Rattle.sk_slots.proofs.slots.Slots.unwind.Goals as goal
 

@@ -1,8 +1,5 @@
 -- The keys that are left give the same from here.
-use Rattle.std.proofs.Common.{◌≡◌, drop, cond}
-use Rattle.sk_record.specs.Effects.{is_in}
-use Rattle.sk_record.specs.Notes.{unwound, cut}
-use Rattle.sk_slots.specs.Slots.{look_at, log_at, AllSettled}
+use Rattle.sk_slots.proofs.Names.{◌≡◌, drop, cond, is_in, unwound, cut, look_at, log_at, AllSettled}
 use Rattle.sk_slots.proofs.slots.Slots.unwind.Given as goal
 
 abbrev pub invariant-loop-key : goal.invariant-loop-key

@@ -1,12 +1,8 @@
 -- The token says what its guess is.
-use Rattle.std.proofs.Common.{◌≡◌, ℕ, true, Some, Ok, Err, List, refl, sym, ◌∙◌, ap, subst}
-use Rattle.sk_guesses.specs.Kept.{AreStatuses, forgotten}
-use Rattle.sk_guesses.specs.Opens.{opens_of}
+use Rattle.sk_speculator.proofs.Names.{◌≡◌, ℕ, true, Some, Ok, Err, List, refl, sym, ◌∙◌, ap, subst, AreStatuses}
+use Rattle.sk_speculator.proofs.Names.{forgotten, opens_of, has, without, numbers, Commits, FailsIn, Forgets}
+use Rattle.sk_speculator.proofs.Names.{IsStranger, TookBack, Parts}
 use Rattle.sk_guesses.specs.declared.guess.Redeemed.TheVariants as redeemed_as
-use Rattle.sk_record.specs.Notes.{has, without}
-use Rattle.sk_record.specs.UndoState.{numbers}
-use Rattle.sk_speculator.specs.Calls.{Commits, FailsIn, Forgets, IsStranger, TookBack}
-use Rattle.sk_speculator.specs.Parts.{Parts}
 use Rattle.sk_speculator.proofs.Afterwards.{back_told, sound_redeemed, struck_told, undecided_told}
 use Rattle.sk_speculator.proofs.speculator.Speculator.commit.Goals as goal
 

@@ -1,17 +1,7 @@
 -- A commit of each part is the machine's.
-use Rattle.std.proofs.Common.{◌≡◌, ℕ, [], true, cond, sym, ◌∙◌, ap, subst}
-use Rattle.std.specs.Cmp.{IsTotalOrder}
-use Rattle.std.specs.FinMap.{IsAntisymmetric}
-use Rattle.sk_guesses.specs.Dependents.{AllExact, tags_by}
-use Rattle.sk_guesses.specs.Opens.{dependents_of, opens_of}
-use Rattle.sk_guesses.proofs.Listed.{committed_exact, exact_at}
-use Rattle.sk_record.specs.Effects.{is_in}
-use Rattle.sk_record.specs.Merged.{merged as joined}
-use Rattle.sk_record.specs.Notes.{has, committed}
-use Rattle.sk_record.specs.UndoState.{numbers}
-use Rattle.sk_slots.specs.Slots.{look_at, log_at}
-use Rattle.sk_speculator.specs.Calls.{Commits}
-use Rattle.sk_speculator.specs.Parts.{Parts}
+use Rattle.sk_speculator.proofs.Names.{◌≡◌, ℕ, [], true, cond, sym, ◌∙◌, ap, subst, IsTotalOrder, IsAntisymmetric}
+use Rattle.sk_speculator.proofs.Names.{AllExact, tags_by, dependents_of, opens_of, committed_exact, exact_at, is_in}
+use Rattle.sk_speculator.proofs.Names.{joined, has, committed, numbers, look_at, log_at, Commits, Parts}
 use Rattle.sk_speculator.proofs.Afterwards.{commits_so, grows, merges_so, whole_committed}
 use Rattle.sk_speculator.proofs.speculator.Speculator.commit_open.Goals as goal
 

@@ -1,16 +1,7 @@
 -- The list of an undecided guess has just the keys that rest on it, and nothing rests on another.
-use Rattle.std.proofs.Common.{◌≡◌, ℕ, [], Bool, true, false, sym, ◌∙◌, ap, subst, refl}
-use Rattle.std.specs.Cmp.{IsTotalOrder}
-use Rattle.std.specs.FinMap.{IsAntisymmetric}
-use Rattle.sk_guesses.specs.Dependents.{tags_by}
-use Rattle.sk_guesses.specs.Opens.{dependents_of, opens_of}
-use Rattle.sk_guesses.proofs.Listed.{exact_at}
-use Rattle.sk_guesses.proofs.Opens.{none_there}
-use Rattle.sk_record.specs.Effects.{is_in}
-use Rattle.sk_record.specs.Notes.{has, last_tags}
-use Rattle.sk_record.specs.UndoState.{numbers, tags_at}
-use Rattle.sk_slots.specs.Slots.{log_at}
-use Rattle.sk_speculator.specs.Parts.{Parts, undo_state_of}
+use Rattle.sk_speculator.proofs.Names.{◌≡◌, ℕ, [], Bool, true, false, sym, ◌∙◌, ap, subst, refl, IsTotalOrder}
+use Rattle.sk_speculator.proofs.Names.{IsAntisymmetric, tags_by, dependents_of, opens_of, exact_at, none_there, is_in}
+use Rattle.sk_speculator.proofs.Names.{has, last_tags, numbers, tags_at, log_at, Parts, undo_state_of}
 use Rattle.sk_speculator.proofs.Afterwards.{not_known}
 use Rattle.sk_speculator.proofs.speculator.Speculator.dependents.Goals as goal
 

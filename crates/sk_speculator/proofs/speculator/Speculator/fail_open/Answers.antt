@@ -1,19 +1,8 @@
 -- A failure of each part is the machine's.
-use Rattle.std.proofs.Common.{◌≡◌, ℕ, true, cond, length, sym, ◌∙◌, ap, subst}
-use Rattle.std.specs.Cmp.{IsTotalOrder}
-use Rattle.std.specs.FinMap.{IsAntisymmetric}
-use Rattle.sk_guesses.specs.Dependents.{AllAlmostExact, tags_by}
-use Rattle.sk_guesses.specs.Kept.{struck_with, with_struck}
-use Rattle.sk_guesses.specs.Opens.{dependents_of, not_resting, opens_of}
-use Rattle.sk_guesses.proofs.Listed.{exact_at, failed_almost}
-use Rattle.sk_guesses.proofs.Opens.{taken_opens}
-use Rattle.sk_record.specs.Effects.{is_in}
-use Rattle.sk_record.specs.Notes.{has, cut, unwound}
-use Rattle.sk_record.specs.UndoState.{not_struck, numbers}
-use Rattle.sk_slots.specs.Slots.{look_at, log_at}
-use Rattle.sk_speculator.specs.Calls.{FailsIn, TookBack}
-use Rattle.sk_speculator.specs.Parts.{Parts}
-use Rattle.sk_speculator.specs.declared.decided.Undone.{Undone}
+use Rattle.sk_speculator.proofs.Names.{◌≡◌, ℕ, true, cond, length, sym, ◌∙◌, ap, subst, IsTotalOrder, IsAntisymmetric}
+use Rattle.sk_speculator.proofs.Names.{AllAlmostExact, tags_by, struck_with, with_struck, dependents_of, not_resting}
+use Rattle.sk_speculator.proofs.Names.{opens_of, exact_at, failed_almost, taken_opens, is_in, has, cut, unwound}
+use Rattle.sk_speculator.proofs.Names.{not_struck, numbers, look_at, log_at, FailsIn, TookBack, Parts, Undone}
 use Rattle.sk_speculator.proofs.Afterwards.{cuts_so, fail_agrees, fails_so, grows, whole_failed}
 use Rattle.sk_speculator.proofs.speculator.Speculator.fail_open.Goals as goal
 

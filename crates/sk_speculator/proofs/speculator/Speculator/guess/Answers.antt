@@ -1,17 +1,8 @@
 -- A guess is taken as the machine takes it, and nothing is seen of one that is refused.
-use Rattle.std.proofs.Common.{◌≡◌, ℕ, ◌<◌, ◌||◌, length, false, arith, Some, refl, sym, ◌∙◌, ap, subst}
-use Rattle.std.specs.Cmp.{IsTotalOrder}
-use Rattle.std.specs.FinMap.{IsAntisymmetric}
-use Rattle.std.proofs.lemmas.Bool.{eq-eqb, leb-false, or_left}
-use Rattle.sk_record.specs.Notes.{has}
-use Rattle.sk_guesses.specs.Kept.{keys_of}
-use Rattle.sk_guesses.specs.Opens.{opens_of}
-use Rattle.sk_deeds.specs.Deed.{Deed}
-use Rattle.sk_speculator.specs.Calls.{next_of, Takes}
-use Rattle.sk_slots.specs.Slots.{look_at, log_at}
-use Rattle.sk_guesses.specs.Dependents.{tags_by, with_tags, AllExact}
-use Rattle.sk_record.specs.Effects.{is_in, is_marked}
-use Rattle.sk_speculator.specs.Parts.{any_rests, made_by, IsSame, Parts, Performed}
+use Rattle.sk_speculator.proofs.Names.{◌≡◌, ℕ, ◌<◌, ◌||◌, length, false, arith, Some, refl, sym, ◌∙◌, ap, subst}
+use Rattle.sk_speculator.proofs.Names.{IsTotalOrder, IsAntisymmetric, eq-eqb, leb-false, or_left, has, keys_of}
+use Rattle.sk_speculator.proofs.Names.{opens_of, Deed, next_of, Takes, look_at, log_at, tags_by, with_tags, AllExact}
+use Rattle.sk_speculator.proofs.Names.{is_in, is_marked, any_rests, made_by, IsSame, Parts, Performed}
 use Rattle.sk_speculator.proofs.Writing.{keys_made}
 use Rattle.sk_speculator.proofs.Taking.{after_guess, clean, opens_length, sound_refused}
 use Rattle.sk_speculator.proofs.speculator.Speculator.guess.Goals as goal

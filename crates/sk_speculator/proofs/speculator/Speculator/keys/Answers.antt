@@ -1,7 +1,6 @@
 -- Each slot is settled.
-use Rattle.std.proofs.Common.{◌≡◌, true, false, List, None, [], refl, sym, ◌∙◌, ap, subst}
-use Rattle.sk_slots.specs.Slots.{found, log_at, look_at}
-use Rattle.sk_speculator.specs.Parts.{Parts}
+use Rattle.sk_speculator.proofs.Names.{◌≡◌, true, false, List, None, [], refl, sym, ◌∙◌, ap, subst, found, log_at}
+use Rattle.sk_speculator.proofs.Names.{look_at, Parts}
 use Rattle.sk_speculator.proofs.Found.{no_notes, no_value, something}
 use Rattle.sk_speculator.proofs.speculator.Speculator.keys.Goals as goal
 

@@ -1,12 +1,6 @@
 -- Nothing has happened.
-use Rattle.std.proofs.Common.{◌≡◌, ◌<◌, ℕ, [], None, sym, ◌∙◌, ap, subst}
-use Rattle.std.specs.Cmp.{IsTotalOrder}
-use Rattle.std.specs.FinMap.{IsAntisymmetric}
-use Rattle.sk_guesses.specs.Dependents.{AllExact, tags_by}
-use Rattle.sk_guesses.specs.Kept.{KeptView}
-use Rattle.sk_guesses.specs.Opens.{opens_of}
-use Rattle.sk_slots.specs.Slots.{log_at}
-use Rattle.sk_speculator.specs.Parts.{Parts}
+use Rattle.sk_speculator.proofs.Names.{◌≡◌, ◌<◌, ℕ, [], None, sym, ◌∙◌, ap, subst, IsTotalOrder, IsAntisymmetric}
+use Rattle.sk_speculator.proofs.Names.{AllExact, tags_by, KeptView, opens_of, log_at, Parts}
 use Rattle.sk_speculator.proofs.Afterwards.{whole_first}
 use Rattle.sk_speculator.proofs.speculator.Speculator.new.Goals as goal
 

@@ -1,9 +1,5 @@
 -- The outputs tell it.
-use Rattle.std.proofs.Common.{◌≡◌, ℕ, None, [], ap, subst, sym, ◌∙◌}
-use Rattle.std.specs.Prelude.{IfSome}
-use Rattle.sk_outputs.specs.Said.{said_at}
-use Rattle.sk_record.specs.Machine.{released}
-use Rattle.sk_speculator.specs.Parts.{Parts}
+use Rattle.sk_speculator.proofs.Names.{◌≡◌, ℕ, None, [], ap, subst, sym, ◌∙◌, IfSome, said_at, released, Parts}
 use Rattle.sk_speculator.proofs.speculator.Speculator.next_channel.Goals as goal
 
 pub returns-clause-some : goal.returns-clause-some

@@ -1,7 +1,5 @@
 -- What is taken out was said.
-use Rattle.std.proofs.Common.{◌≡◌, ℕ, None, sym, ◌∙◌, ap, subst}
-use Rattle.sk_guesses.specs.Opens.{opens_of}
-use Rattle.sk_speculator.specs.Parts.{Parts}
+use Rattle.sk_speculator.proofs.Names.{◌≡◌, ℕ, None, sym, ◌∙◌, ap, subst, opens_of, Parts}
 use Rattle.sk_speculator.proofs.Afterwards.{whole_told}
 use Rattle.sk_speculator.proofs.speculator.Speculator.released.Goals as goal
 

@@ -1,8 +1,5 @@
 -- What is known of a guess is its status, whatever statuses agree with what is kept.
-use Rattle.std.proofs.Common.{◌≡◌, ℕ, Option, Some, sym, ◌∙◌, ap, subst}
-use Rattle.std.specs.Prelude.{IfSome}
-use Rattle.sk_guesses.specs.Kept.{known}
-use Rattle.sk_speculator.specs.Parts.{Parts}
+use Rattle.sk_speculator.proofs.Names.{◌≡◌, ℕ, Option, Some, sym, ◌∙◌, ap, subst, IfSome, known, Parts}
 use Rattle.sk_speculator.proofs.Afterwards.{known_agrees}
 use Rattle.sk_speculator.proofs.speculator.Speculator.status.Goals as goal
 

@@ -1,14 +1,7 @@
 -- A step is taken as the machine takes it, and nothing is seen of one that is refused.
-use Rattle.std.proofs.Common.{◌≡◌, ℕ, ◌||◌, None, sym, ap, ◌∙◌, subst}
-use Rattle.std.specs.Cmp.{IsTotalOrder}
-use Rattle.std.specs.FinMap.{IsAntisymmetric}
-use Rattle.sk_guesses.specs.Opens.{opens_of}
-use Rattle.sk_deeds.specs.Deed.{Deed}
-use Rattle.sk_speculator.specs.Calls.{Takes}
-use Rattle.sk_slots.specs.Slots.{look_at, log_at}
-use Rattle.sk_guesses.specs.Dependents.{tags_by, with_tags, AllExact}
-use Rattle.sk_record.specs.Effects.{is_in, is_marked}
-use Rattle.sk_speculator.specs.Parts.{any_rests, made_by, IsSame, Parts, Performed}
+use Rattle.sk_speculator.proofs.Names.{◌≡◌, ℕ, ◌||◌, None, sym, ap, ◌∙◌, subst, IsTotalOrder, IsAntisymmetric, opens_of}
+use Rattle.sk_speculator.proofs.Names.{Deed, Takes, look_at, log_at, tags_by, with_tags, AllExact, is_in, is_marked}
+use Rattle.sk_speculator.proofs.Names.{any_rests, made_by, IsSame, Parts, Performed}
 use Rattle.sk_speculator.proofs.Writing.{keys_made}
 use Rattle.sk_speculator.proofs.Taking.{after_take, clean, sound_refused}
 use Rattle.sk_speculator.proofs.speculator.Speculator.take.Goals as goal

@@ -1,9 +1,6 @@
 -- What is left behind the loan of `Map::get_mut` is what the entity has.
-use Rattle.std.proofs.Common.{◌≡◌, refl, ap, subst, ◌∙◌}
-use Rattle.std.specs.Prelude.{OnSome}
+use Rattle.sk_store.proofs.Names.{◌≡◌, refl, ap, subst, ◌∙◌, OnSome, entity_cmp, seen}
 use Rattle.std.specs.FinMap as map
-use Rattle.sk_ids.specs.Entity.{entity_cmp}
-use Rattle.sk_map.specs.Seen.{seen}
 use Rattle.sk_store.proofs.store.Store.get_mut.Goals as goal
 
 pub returns : goal.returns

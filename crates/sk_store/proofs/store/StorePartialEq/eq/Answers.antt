@@ -1,8 +1,5 @@
 -- The test of the maps, which is exact.
-use Rattle.std.proofs.Common.{◌∙◌}
-use Rattle.std.proofs.lemmas.Bool.Decides.{Decides-at}
-use Rattle.sk_store.specs.Same.{same_state}
-use Rattle.sk_store.specs.SameLemma.{exact_state}
+use Rattle.sk_store.proofs.Names.{◌∙◌, Decides-at, same_state, exact_state}
 use Rattle.sk_store.proofs.store.StorePartialEq.eq.Goals as goal
 
 pub returns-clause-computed : goal.returns-clause-computed

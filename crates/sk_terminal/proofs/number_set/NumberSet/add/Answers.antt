@@ -1,10 +1,6 @@
 -- The search tells the place.
-use Rattle.std.proofs.Common.{◌≡◌, ◌||◌, sym, ◌∙◌, ap, subst}
-use Rattle.std.specs.Prelude.{◌==◌, Ok, Err}
-use Rattle.std.specs.Ordering.{nat_cmp}
-use Rattle.std.specs.List.Sorted.{IsStrictlySortedBy, IsBinarySearchResult}
-use Rattle.sk_record.specs.Notes.{has}
-use Rattle.sk_ids.proofs.Searches.{found}
+use Rattle.sk_terminal.proofs.Names.{◌≡◌, ◌||◌, sym, ◌∙◌, ap, subst, ◌==◌, Ok, Err, nat_cmp, IsStrictlySortedBy}
+use Rattle.sk_terminal.proofs.Names.{IsBinarySearchResult, has, found}
 use Rattle.sk_terminal.proofs.Numbers.{has_insert, place_at, place_for, put_rises, there_already}
 use Rattle.sk_terminal.proofs.number_set.NumberSet.add.Goals as goal
 

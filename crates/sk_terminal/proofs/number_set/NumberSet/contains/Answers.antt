@@ -1,9 +1,5 @@
 -- The search tells.
-use Rattle.std.proofs.Common.{sym, ◌∙◌, ap, subst}
-use Rattle.std.specs.Ordering.{nat_cmp}
-use Rattle.std.specs.List.Sorted.{IsBinarySearchResult}
-use Rattle.sk_record.specs.Notes.{has}
-use Rattle.sk_ids.proofs.Searches.{tells}
+use Rattle.sk_terminal.proofs.Names.{sym, ◌∙◌, ap, subst, nat_cmp, IsBinarySearchResult, has, tells}
 use Rattle.sk_terminal.proofs.number_set.NumberSet.contains.Goals as goal
 
 pub returns : goal.returns

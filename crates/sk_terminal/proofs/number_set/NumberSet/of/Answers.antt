@@ -1,7 +1,4 @@
-use Rattle.std.proofs.Common.{sym, subst}
-use Rattle.std.specs.List.Sorted.{IsStrictlySortedBy}
-use Rattle.std.specs.Ordering.{nat_cmp}
-use Rattle.sk_ids.proofs.GuessSets.{rising_one}
+use Rattle.sk_terminal.proofs.Names.{sym, subst, IsStrictlySortedBy, nat_cmp, rising_one}
 use Rattle.sk_terminal.proofs.number_set.NumberSet.of.Goals as goal
 
 pub invariant_of-result : goal.invariant_of-result

@@ -1,12 +1,8 @@
 -- The search tells the place.
-use Rattle.std.proofs.Common.{sym, ◌∙◌, ap, subst}
-use Rattle.std.specs.Prelude.{eqb, not, Ok, Err}
-use Rattle.std.specs.Ordering.{nat_cmp}
-use Rattle.std.specs.List.Sorted.{IsStrictlySortedBy, IsBinarySearchResult}
-use Rattle.std.proofs.lemmas.List.Kept.{IsStrictlySortedBy-filter}
-use Rattle.sk_record.specs.Notes.{has, without}
-use Rattle.sk_ids.proofs.Newest.{without_none}
-use Rattle.sk_ids.proofs.Searches.{taken_at, tells}
+use Rattle.sk_terminal.proofs.Names.{sym, ◌∙◌, ap, subst, eqb, Ok, Err, nat_cmp, IsStrictlySortedBy}
+use Rattle.sk_terminal.proofs.Names.{IsBinarySearchResult, IsStrictlySortedBy-filter, has, without, without_none}
+use Rattle.sk_terminal.proofs.Names.{taken_at, tells}
+use Rattle.std.specs.Prelude.{not}
 use Rattle.sk_terminal.proofs.Numbers.{place_at}
 use Rattle.sk_terminal.proofs.number_set.NumberSet.without.Goals as goal
 

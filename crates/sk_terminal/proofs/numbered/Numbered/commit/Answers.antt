@@ -1,6 +1,5 @@
 -- One terminal more is changed.
-use Rattle.std.proofs.Common.{rules}
-use Rattle.sk_record.specs.Machine.{lightened}
+use Rattle.sk_terminal.proofs.Names.{rules, lightened}
 use Rattle.sk_terminal.proofs.Decided.{decided_more, light_leaves, light_takes}
 use Rattle.sk_terminal.proofs.numbered.Numbered.commit.Goals as goal
 

@@ -1,9 +1,6 @@
 -- The terminals gone over are changed.
-use Rattle.std.proofs.Common.{◌≡◌, ℕ, take, cond}
-use Rattle.std.specs.Option.{option_map}
+use Rattle.sk_terminal.proofs.Names.{◌≡◌, ℕ, take, cond, option_map, lightened, has}
 use Rattle.std.specs.FinMap as map
-use Rattle.sk_record.specs.Machine.{lightened}
-use Rattle.sk_record.specs.Notes.{has}
 use Rattle.sk_terminal.proofs.numbered.Numbered.commit.Given as goal
 
 abbrev pub invariant-loop-number : goal.invariant-loop-number

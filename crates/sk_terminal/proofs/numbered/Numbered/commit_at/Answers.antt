@@ -1,11 +1,6 @@
 -- From the loan of `Map::get_mut` and what the terminal's own call leaves.
-use Rattle.std.proofs.Common.{◌≡◌, ◌∙◌, sym, ap}
-use Rattle.std.specs.Option.{option_copied_mut}
-use Rattle.std.specs.Ordering.{nat_cmp}
+use Rattle.sk_terminal.proofs.Names.{◌≡◌, ◌∙◌, sym, ap, option_copied_mut, nat_cmp, seen, lightened, the_view}
 use Rattle.std.specs.FinMap as map
-use Rattle.sk_map.specs.Seen.{seen}
-use Rattle.sk_record.specs.Machine.{lightened}
-use Rattle.sk_terminal.specs.contracts.numbered.Numbered.{the_view}
 use Rattle.sk_terminal.proofs.TerminalMaps.{changed_at, none_at}
 use Rattle.sk_terminal.proofs.numbered.Numbered.commit_at.Goals.{in-Some, in_default}
 use Rattle.sk_terminal.proofs.numbered.Numbered.commit_at.Goals as goal

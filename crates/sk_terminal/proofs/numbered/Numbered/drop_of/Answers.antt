@@ -1,6 +1,5 @@
 -- One terminal more is changed.
-use Rattle.std.proofs.Common.{rules}
-use Rattle.sk_record.specs.Machine.{not_dropped}
+use Rattle.sk_terminal.proofs.Names.{rules, not_dropped}
 use Rattle.sk_terminal.proofs.Decided.{decided_more, drop_leaves, drop_takes}
 use Rattle.sk_terminal.proofs.numbered.Numbered.drop_of.Goals as goal
 

@@ -1,9 +1,6 @@
 -- A text said to a terminal that is there: from the loan of `Map::get_mut` and what `Terminal::say` leaves.
-use Rattle.std.proofs.Common.{◌≡◌, ap, sym, ◌∙◌, Some, rules}
-use Rattle.std.proofs.lemmas.Result.{on_err_weaker}
-use Rattle.std.specs.Ordering.{nat_cmp}
+use Rattle.sk_terminal.proofs.Names.{◌≡◌, ap, sym, ◌∙◌, Some, rules, on_err_weaker, nat_cmp, seen}
 use Rattle.std.specs.FinMap as map
-use Rattle.sk_map.specs.Seen.{seen}
 use Rattle.sk_terminal.proofs.TerminalMaps.{put_same}
 use Rattle.sk_terminal.proofs.numbered.Numbered.say.Goals as goal
 

@@ -1,6 +1,5 @@
 -- The test of the maps.
-use Rattle.std.proofs.Common.{◌∙◌}
-use Rattle.sk_terminal.specs.Same.{same_terminals}
+use Rattle.sk_terminal.proofs.Names.{◌∙◌, same_terminals}
 use Rattle.sk_terminal.proofs.numbered.NumberedPartialEq.eq.Goals as goal
 
 pub returns : goal.returns

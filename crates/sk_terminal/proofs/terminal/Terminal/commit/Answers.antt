@@ -1,8 +1,5 @@
 -- The released texts rest on nothing and stay: from the view, and what `take_out` and `release` say.
-use Rattle.std.proofs.Common.{◌++◌, map, sym, ◌∙◌, ap}
-use Rattle.sk_record.specs.Machine.{lightened}
-use Rattle.sk_terminal.specs.Terminal.{clear}
-use Rattle.sk_terminal.specs.Held.{texts_of}
+use Rattle.sk_terminal.proofs.Names.{◌++◌, map, sym, ◌∙◌, ap, lightened, clear, texts_of}
 use Rattle.sk_terminal.proofs.Views.{lightened-clear}
 use Rattle.sk_terminal.proofs.terminal.Terminal.commit.Goals as goal
 

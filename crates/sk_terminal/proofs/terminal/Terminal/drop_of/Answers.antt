@@ -1,8 +1,5 @@
 -- The released texts rest on nothing and stay: from the view, and what `throw_away` and `release` say.
-use Rattle.std.proofs.Common.{◌++◌, map, sym, ◌∙◌, ap}
-use Rattle.sk_record.specs.Machine.{not_dropped}
-use Rattle.sk_terminal.specs.Terminal.{clear}
-use Rattle.sk_terminal.specs.Held.{texts_of}
+use Rattle.sk_terminal.proofs.Names.{◌++◌, map, sym, ◌∙◌, ap, not_dropped, clear, texts_of}
 use Rattle.sk_terminal.proofs.Views.{not_dropped-clear}
 use Rattle.sk_terminal.proofs.terminal.Terminal.drop_of.Goals as goal
 

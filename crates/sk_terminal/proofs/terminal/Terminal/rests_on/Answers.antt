@@ -1,9 +1,5 @@
 -- The released texts rest on nothing: from the view, and what `any_rest_on` says.
-use Rattle.std.proofs.Common.{List, sym, ◌∙◌, ap, subst}
-use Rattle.std.specs.List.{list_any}
-use Rattle.sk_terminal.specs.Terminal.{any_rests}
-use Rattle.sk_terminal.specs.Held.{texts_of, AreBounded}
-use Rattle.sk_terminal.specs.declared.terminal.Held.{Held}
+use Rattle.sk_terminal.proofs.Names.{List, sym, ◌∙◌, ap, subst, list_any, any_rests, texts_of, AreBounded, Held}
 use Rattle.sk_terminal.proofs.HeldTexts.{rests, rests_texts}
 use Rattle.sk_terminal.proofs.Views.{rests-clear}
 use Rattle.sk_terminal.proofs.terminal.Terminal.rests_on.Goals as goal

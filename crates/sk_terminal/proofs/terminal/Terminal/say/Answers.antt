@@ -1,9 +1,5 @@
 -- The new text's number is at least those before it.
-use Rattle.std.proofs.Common.{List, refl, sym, ◌∙◌, ap, subst}
-use Rattle.sk_record.specs.Notes.{has}
-use Rattle.sk_terminal.specs.Terminal.{TaggedText}
-use Rattle.sk_terminal.specs.Held.{AreBounded}
-use Rattle.sk_terminal.specs.declared.terminal.Held.{Held}
+use Rattle.sk_terminal.proofs.Names.{List, refl, sym, ◌∙◌, ap, subst, has, TaggedText, AreBounded, Held}
 use Rattle.sk_terminal.proofs.HeldTexts.{bounded_more}
 use Rattle.sk_terminal.proofs.terminal.Terminal.say.Goals as goal
 

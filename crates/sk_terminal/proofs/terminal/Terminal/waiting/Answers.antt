@@ -1,6 +1,5 @@
 -- The waiting texts are those that follow the prefix: from the view.
-use Rattle.std.proofs.Common.{rules, ◌≡◌, length, sym, ◌∙◌}
-use Rattle.sk_terminal.specs.Held.{texts_of}
+use Rattle.sk_terminal.proofs.Names.{rules, ◌≡◌, length, sym, ◌∙◌, texts_of}
 use Rattle.sk_terminal.proofs.HeldTexts.{texts_length}
 use Rattle.sk_terminal.proofs.Views.{waiting-clear}
 use Rattle.sk_terminal.proofs.terminal.Terminal.waiting.Goals as goal

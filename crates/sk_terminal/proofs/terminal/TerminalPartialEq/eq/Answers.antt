@@ -1,11 +1,6 @@
 -- The released texts and those that wait are compared apart.
-use Rattle.std.proofs.Common.{◌≡◌, ◌&&◌, ap, sym, ◌∙◌}
-use Rattle.std.specs.Cmp.Lexicographic.{pointwise}
-use Rattle.std.proofs.lemmas.Bool.Decides.{Decides-at}
+use Rattle.sk_terminal.proofs.Names.{◌≡◌, ◌&&◌, ap, sym, ◌∙◌, pointwise, Decides-at, texts_of, same_texts, exact_texts}
 use Rattle.sk_ids.specs.contracts.text.TextPartialEq.TheImpl as text
-use Rattle.sk_terminal.specs.Held.{texts_of}
-use Rattle.sk_terminal.specs.Same.{same_texts}
-use Rattle.sk_terminal.specs.SameLemma.{exact_texts}
 use Rattle.sk_terminal.proofs.SameViews.{test_views}
 use Rattle.sk_terminal.proofs.terminal.TerminalPartialEq.eq.Goals as goal
 

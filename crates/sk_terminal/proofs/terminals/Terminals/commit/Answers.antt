@@ -1,8 +1,6 @@
 -- What a terminal has are its texts, lightened.
-use Rattle.std.proofs.Common.{[], refl, ◌∙◌, ap}
-use Rattle.std.specs.Option.{option_map, unwrap_or}
+use Rattle.sk_terminal.proofs.Names.{[], refl, ◌∙◌, ap, option_map, unwrap_or, lightened}
 use Rattle.std.specs.FinMap as map
-use Rattle.sk_record.specs.Machine.{lightened}
 use Rattle.sk_terminal.proofs.TerminalMaps.{changed_texts}
 use Rattle.sk_terminal.proofs.terminals.Terminals.commit.Goals as goal
 

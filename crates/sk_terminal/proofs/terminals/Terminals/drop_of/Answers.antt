@@ -1,8 +1,6 @@
 -- What a terminal has left are its texts that are left.
-use Rattle.std.proofs.Common.{[], refl, ◌∙◌, ap}
-use Rattle.std.specs.Option.{option_map, unwrap_or}
+use Rattle.sk_terminal.proofs.Names.{[], refl, ◌∙◌, ap, option_map, unwrap_or, not_dropped}
 use Rattle.std.specs.FinMap as map
-use Rattle.sk_record.specs.Machine.{not_dropped}
 use Rattle.sk_terminal.proofs.TerminalMaps.{changed_texts}
 use Rattle.sk_terminal.proofs.terminals.Terminals.drop_of.Goals as goal
 

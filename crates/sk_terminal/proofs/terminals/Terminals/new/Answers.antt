@@ -1,10 +1,7 @@
 -- Nothing is listed, and no text is there.
-use Rattle.std.proofs.Common.{◌∙◌, ap, sym, subst, []}
+use Rattle.sk_terminal.proofs.Names.{◌∙◌, ap, sym, subst, [], nat_cmp, unwrap_or, any_rests, is_listed, rests_at}
+use Rattle.sk_terminal.proofs.Names.{AreTidy}
 use Rattle.std.specs.FinMap as map
-use Rattle.std.specs.Ordering.{nat_cmp}
-use Rattle.std.specs.Option.{unwrap_or}
-use Rattle.sk_terminal.specs.Terminal.{any_rests}
-use Rattle.sk_terminal.specs.Listing.{is_listed, rests_at, AreTidy}
 use Rattle.sk_terminal.proofs.terminals.Terminals.new.Goals as goal
 
 pub invariant_of-result : goal.invariant_of-result

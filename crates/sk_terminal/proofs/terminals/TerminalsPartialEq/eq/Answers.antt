@@ -1,8 +1,5 @@
 -- The test of the maps is exact.
-use Rattle.std.proofs.Common.{◌≡◌, rules}
-use Rattle.std.proofs.lemmas.Bool.Decides.{Decides-at}
-use Rattle.sk_terminal.specs.Same.{same_terminals}
-use Rattle.sk_terminal.specs.SameLemma.{exact_terminals}
+use Rattle.sk_terminal.proofs.Names.{◌≡◌, rules, Decides-at, same_terminals, exact_terminals}
 use Rattle.sk_terminal.proofs.terminals.TerminalsPartialEq.eq.Goals as goal
 
 pub returns-clause-exact : goal.returns-clause-exact

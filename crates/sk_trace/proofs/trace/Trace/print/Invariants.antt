@@ -1,7 +1,5 @@
 -- What is written so far: the lines of the events so far.
-use Rattle.std.proofs.Common.{◌≡◌, take}
-use Rattle.std.specs.Prelude.{string_bytes}
-use Rattle.sk_trace.specs.Text.{trace_text}
+use Rattle.sk_trace.proofs.Names.{◌≡◌, take, string_bytes, trace_text}
 use Rattle.sk_trace.proofs.trace.Trace.print.Given as goal
 
 abbrev pub invariant-loop-event : goal.invariant-loop-event

@@ -1,8 +1,5 @@
 -- What is changed was there and is there.
-use Rattle.std.proofs.Common.{sym, subst}
-use Rattle.sk_store.specs.Changed.{FitsAt}
-use Rattle.sk_undo.specs.Logs.{SlotMap, look_at}
-use Rattle.sk_undo.specs.Names.{IsCounted}
+use Rattle.sk_undo.proofs.Cites.{sym, subst, FitsAt, SlotMap, look_at, IsCounted}
 use Rattle.sk_undo.proofs.NameCounts.{changed_counted, either_way}
 use Rattle.sk_undo.proofs.counted_slots.CountedSlots.change.Goals as goal
 

@@ -1,10 +1,5 @@
 -- What is changed was there and is there, and a process is no name.
-use Rattle.std.proofs.Common.{Some, sym, subst}
-use Rattle.sk_store.specs.Changed.{FitsAt}
-use Rattle.sk_store.specs.Processes.{became}
-use Rattle.sk_ids.specs.declared.entity.Entity.TheVariants.{Proc}
-use Rattle.sk_undo.specs.Logs.{SlotMap, look_at}
-use Rattle.sk_undo.specs.Names.{IsCounted}
+use Rattle.sk_undo.proofs.Cites.{Some, sym, subst, FitsAt, became, Proc, SlotMap, look_at, IsCounted}
 use Rattle.sk_undo.proofs.NameCounts.{both_counted, either_way}
 use Rattle.sk_undo.proofs.counted_slots.CountedSlots.change_both.Goals as goal
 

@@ -1,9 +1,5 @@
 -- A process is no name.
-use Rattle.std.proofs.Common.{Some, refl, sym, subst}
-use Rattle.sk_ids.specs.declared.entity.Entity.TheVariants.{Proc}
-use Rattle.sk_store.specs.Processes.{became}
-use Rattle.sk_undo.specs.Logs.{SlotMap, look_at}
-use Rattle.sk_undo.specs.Names.{IsCounted}
+use Rattle.sk_undo.proofs.Cites.{Some, refl, sym, subst, Proc, became, SlotMap, look_at, IsCounted}
 use Rattle.sk_undo.proofs.NameCounts.{other_counted, either_way}
 use Rattle.sk_undo.proofs.counted_slots.CountedSlots.change_process.Goals as goal
 

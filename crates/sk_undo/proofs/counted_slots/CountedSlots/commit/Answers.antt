@@ -1,7 +1,5 @@
 -- A commit leaves what is there, and makes no slot.
-use Rattle.std.proofs.Common.{sym, subst}
-use Rattle.sk_ids.specs.declared.entity.Entity.TheVariants.{Sig}
-use Rattle.sk_undo.specs.Decisions.{NoneBare}
+use Rattle.sk_undo.proofs.Cites.{sym, subst, Sig, NoneBare}
 use Rattle.sk_undo.proofs.NameCounts.{committed_counted}
 use Rattle.sk_undo.proofs.counted_slots.CountedSlots.commit.Goals as goal
 

@@ -1,10 +1,6 @@
 -- A process is no name.
-use Rattle.std.proofs.Common.{Some, [], refl, sym, subst}
-use Rattle.sk_ids.specs.declared.entity.Entity.TheVariants.{Proc}
-use Rattle.sk_record.specs.Notes.{last_tags}
-use Rattle.sk_store.specs.Processes.{became}
-use Rattle.sk_undo.specs.Logs.{SlotMap, log_at, look_at}
-use Rattle.sk_undo.specs.Names.{IsCounted}
+use Rattle.sk_undo.proofs.Cites.{Some, [], refl, sym, subst, Proc, last_tags, became, SlotMap, log_at, look_at}
+use Rattle.sk_undo.proofs.Cites.{IsCounted}
 use Rattle.sk_undo.proofs.NameCounts.{other_counted, whether}
 use Rattle.sk_undo.proofs.counted_slots.CountedSlots.go_on.Goals as goal
 

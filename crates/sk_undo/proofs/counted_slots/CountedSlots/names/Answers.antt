@@ -1,7 +1,5 @@
 -- The number that is kept is how many names there are.
-use Rattle.std.proofs.Common.{sym, subst}
-use Rattle.sk_store.specs.Names.{IsCount, name_there}
-use Rattle.sk_undo.specs.Logs.{SlotMap, look_at}
+use Rattle.sk_undo.proofs.Cites.{sym, subst, IsCount, name_there, SlotMap, look_at}
 use Rattle.sk_undo.proofs.counted_slots.CountedSlots.names.Goals as goal
 
 pub returns : goal.returns

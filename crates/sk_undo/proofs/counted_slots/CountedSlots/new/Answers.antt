@@ -1,8 +1,7 @@
 -- No name is there, and none is counted.
 use Rattle.sk_undo.proofs.NameCounts.{none_counted}
-use Rattle.std.proofs.Common.{subst, sym}
+use Rattle.sk_undo.proofs.Cites.{subst, sym, IsCounted}
 use Rattle.std.specs.FinMap as map
-use Rattle.sk_undo.specs.Names.{IsCounted}
 use Rattle.sk_undo.proofs.counted_slots.CountedSlots.new.Goals as goal
 
 pub invariant_of-result : goal.invariant_of-result

@@ -1,8 +1,4 @@
-use Rattle.std.proofs.Common.{◌+◌, drop, sym, subst, ap, ◌∙◌, List}
-use Rattle.std.specs.List.Sorted.{IsStrictlySortedBy}
-use Rattle.sk_ids.specs.Entity.{entity_cmp}
-use Rattle.sk_ids.specs.declared.entity.Entity.{Entity}
-use Rattle.sk_record.specs.Effects.{is_in}
+use Rattle.sk_undo.proofs.Cites.{◌+◌, drop, sym, subst, ap, ◌∙◌, List, IsStrictlySortedBy, entity_cmp, Entity, is_in}
 use Rattle.sk_undo.proofs.Passes.{next_of}
 use Rattle.sk_undo.proofs.Opening.{Opening, opening_from, opening_at_end, opening_more, values_moved, nothing_noted, none_bare}
 use Rattle.sk_undo.proofs.counted_slots.CountedSlots.open.Goals as goal

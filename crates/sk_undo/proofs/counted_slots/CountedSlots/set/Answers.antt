@@ -1,7 +1,5 @@
 -- The number of the directory is made before the write, and counts the name after it.
-use Rattle.std.proofs.Common.{Some, sym, subst}
-use Rattle.sk_undo.specs.Logs.{SlotMap}
-use Rattle.sk_undo.specs.Names.{IsCounted}
+use Rattle.sk_undo.proofs.Cites.{Some, sym, subst, SlotMap, IsCounted}
 use Rattle.sk_undo.proofs.NameCounts.{counted_made, few_for, set_counted}
 use Rattle.sk_undo.proofs.counted_slots.CountedSlots.set.Goals as goal
 

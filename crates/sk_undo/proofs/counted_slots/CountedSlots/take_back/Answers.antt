@@ -1,6 +1,5 @@
 -- What had no slot has none again, and what had one has its directory's number.
-use Rattle.std.proofs.Common.{sym, subst}
-use Rattle.sk_undo.specs.Logs.{SlotMap, CanTakeBack}
+use Rattle.sk_undo.proofs.Cites.{sym, subst, SlotMap, CanTakeBack}
 use Rattle.sk_undo.proofs.NameCounts.{few_for, back_counted}
 use Rattle.sk_undo.proofs.counted_slots.CountedSlots.take_back.Goals as goal
 

@@ -1,5 +1,4 @@
-use Rattle.std.proofs.Common.{◌+◌, drop, subst}
-use Rattle.std.proofs.lemmas.List.{drop_all}
+use Rattle.sk_undo.proofs.Cites.{◌+◌, drop, subst, drop_all}
 use Rattle.sk_undo.proofs.Passes.{Unwinding, next_of, unwinding_from, unwinding_more, all_unwound}
 use Rattle.sk_undo.proofs.counted_slots.CountedSlots.unwind.Goals as goal
 

@@ -1,5 +1,4 @@
-use Rattle.std.proofs.Common.{◌≡◌, ◌++◌, ◌∷◌, [], subst, sym, ap, ◌∙◌}
-use Rattle.sk_undo.specs.Log.{Grows}
+use Rattle.sk_undo.proofs.Cites.{◌≡◌, ◌++◌, ◌∷◌, [], subst, sym, ap, ◌∙◌, Grows}
 use Rattle.sk_undo.proofs.Growing.{grows_more}
 use Rattle.sk_undo.proofs.entity_logs.ObjectLog.add.Goals as goal
 

@@ -1,7 +1,4 @@
-use Rattle.std.proofs.Common.{subst, sym}
-use Rattle.sk_record.specs.UndoState.{IsGrowing}
-use Rattle.sk_undo.specs.Log.{log_of}
-use Rattle.sk_undo.specs.Kept.{object_undone}
+use Rattle.sk_undo.proofs.Cites.{subst, sym, IsGrowing, log_of, object_undone}
 use Rattle.sk_undo.proofs.SeenNotes.{grow_cut}
 use Rattle.sk_undo.proofs.Growing.{grows_seen, grows_there}
 use Rattle.sk_undo.proofs.entity_logs.ObjectLog.unwind.Goals as goal

@@ -1,11 +1,5 @@
-use Rattle.std.proofs.Common.{◌≡◌, ◌++◌, ◌∷◌, [], subst, sym, ap, ◌∙◌}
-use Rattle.sk_script.specs.declared.process.Process.{Process}
-use Rattle.sk_store.specs.declared.back.PutBack.{PutBack}
-use Rattle.sk_store.specs.declared.back.PutBack.TheVariants.{Was}
-use Rattle.sk_undo.specs.declared.log.Note.{Note as RawNote}
-use Rattle.sk_record.specs.Notes.{last_tags}
-use Rattle.sk_undo.specs.Log.{Grows, Covers}
-use Rattle.sk_undo.specs.Kept.{runs_of, AllSet, is_apart}
+use Rattle.sk_undo.proofs.Cites.{◌≡◌, ◌++◌, ◌∷◌, [], subst, sym, ap, ◌∙◌, Process, PutBack, Was, RawNote, last_tags}
+use Rattle.sk_undo.proofs.Cites.{Grows, Covers, runs_of, AllSet, is_apart}
 use Rattle.sk_undo.proofs.Growing.{grows_more}
 use Rattle.sk_undo.proofs.Runs.{newest_run, left_out, kept_more, apart_noted, set_noted, newest_noted}
 use Rattle.sk_undo.proofs.entity_logs.ProcessLog.add.Goals as goal

@@ -1,7 +1,5 @@
-use Rattle.std.proofs.Common.{◌≡◌, None, [], subst, sym, ap, ◌∙◌}
-use Rattle.sk_record.specs.Notes.{committed}
-use Rattle.sk_undo.specs.Log.{Grows, lightened, dropped, joined_from}
-use Rattle.sk_undo.specs.Kept.{is_process_whole, runs_of, AllSet, is_apart}
+use Rattle.sk_undo.proofs.Cites.{◌≡◌, None, [], subst, sym, ap, ◌∙◌, committed, Grows, lightened, dropped, joined_from}
+use Rattle.sk_undo.proofs.Cites.{is_process_whole, runs_of, AllSet, is_apart}
 use Rattle.sk_undo.proofs.Runs.{commit_set, commit_runs, commit_grows, apart_merged}
 use Rattle.sk_undo.proofs.entity_logs.ProcessLog.commit.Goals as goal
 

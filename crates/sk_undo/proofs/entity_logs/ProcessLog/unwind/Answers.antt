@@ -1,7 +1,4 @@
-use Rattle.std.proofs.Common.{ap, ◌∙◌}
-use Rattle.sk_record.specs.Notes.{unwound}
-use Rattle.sk_undo.specs.Log.{restores}
-use Rattle.sk_undo.specs.Kept.{is_process_whole}
+use Rattle.sk_undo.proofs.Cites.{ap, ◌∙◌, unwound, restores, is_process_whole}
 use Rattle.sk_undo.proofs.Runs.{runs_can, log_runs, grows_whole, unwound_runs, unwound_apart, unwound_grows}
 use Rattle.sk_undo.proofs.entity_logs.ProcessLog.unwind.Goals as goal
 

@@ -1,8 +1,4 @@
-use Rattle.std.proofs.Common.{refl, ap, ◌∙◌, sym, arith}
-use Rattle.std.specs.List.{list_all}
-use Rattle.std.proofs.lemmas.List.{reverse-reverse}
-use Rattle.std.specs.Prelude.{reverse}
-use Rattle.sk_undo.specs.Log.{FitsBy, undone_by}
+use Rattle.sk_undo.proofs.Cites.{refl, ap, ◌∙◌, sym, arith, list_all, reverse-reverse, reverse, FitsBy, undone_by}
 use Rattle.sk_undo.proofs.SeenNotes.{all_left, one_less, all_off, all_reverse}
 use Rattle.sk_undo.proofs.log.Log.unwind.Goals as goal
 

@@ -1,8 +1,6 @@
 -- What is left unwinds to the same, and can be undone; the room stays.
-use Rattle.std.proofs.Common.{◌≡◌, ◌≤◌, vec_len}
-use Rattle.std.specs.Vec.{vec_capacity}
-use Rattle.std.specs.Prelude.{reverse}
-use Rattle.sk_undo.specs.Log.{FitsBy, undone_by}
+use Rattle.sk_undo.proofs.Cites.{◌≡◌, ◌≤◌, vec_capacity, reverse, FitsBy, undone_by}
+use Rattle.std.proofs.Common.{vec_len}
 use Rattle.sk_undo.proofs.SeenNotes.{Left}
 use Rattle.sk_undo.proofs.log.Log.unwind.Given as goal
 

@@ -1,6 +1,5 @@
 -- None are counted exactly where no entity has one.
-use Rattle.std.proofs.Common.{◌≡◌, min, ◌-◌, ◌^◌, rules}
-use Rattle.sk_undo.specs.Count.{notes_in}
+use Rattle.sk_undo.proofs.Cites.{◌≡◌, min, ◌-◌, ◌^◌, rules, notes_in}
 use Rattle.sk_undo.proofs.Counted.{none_counted}
 use Rattle.sk_undo.proofs.logs.Logs.notes.Goals as goal
 

@@ -1,6 +1,4 @@
-use Rattle.std.proofs.Common.{subst, sym}
-use Rattle.sk_undo.specs.Logs.{LogsView}
-use Rattle.sk_undo.specs.Decisions.{NoneBare}
+use Rattle.sk_undo.proofs.Cites.{subst, sym, LogsView, NoneBare}
 use Rattle.sk_undo.proofs.logs.Logs.unwind.Goals as goal
 
 pub returns-clause-bare : goal.returns-clause-bare

@@ -1,8 +1,6 @@
 -- A number is made where there was none.
-use Rattle.std.proofs.Common.{◌≡◌, false, cond, sym, ap, subst, ◌∙◌, rules}
-use Rattle.std.specs.Prelude.{OnOk, is_some}
+use Rattle.sk_undo.proofs.Cites.{◌≡◌, false, cond, sym, ap, subst, ◌∙◌, rules, OnOk, is_some, object_cmp}
 use Rattle.std.specs.FinMap as map
-use Rattle.sk_ids.specs.Entity.{object_cmp}
 use Rattle.sk_map.specs.Seen.{seen}
 use Rattle.sk_undo.proofs.names.Names.make.Goals as goal
 

@@ -1,11 +1,8 @@
 -- Where the directory has a number, it is set.
-use Rattle.std.proofs.Common.{◌≡◌, true, cond, IsSome, refl, sym, ap, subst, ◌∙◌}
-use Rattle.std.specs.Prelude.{is_some}
+use Rattle.sk_undo.proofs.Cites.{◌≡◌, true, cond, IsSome, refl, sym, ap, subst, ◌∙◌, is_some, option_copied_mut}
+use Rattle.sk_undo.proofs.Cites.{object_cmp, the_view}
 use Rattle.std.specs.FinMap as map
-use Rattle.std.specs.Option.{option_copied_mut}
-use Rattle.sk_ids.specs.Entity.{object_cmp}
 use Rattle.sk_map.specs.Seen.{seen}
-use Rattle.sk_undo.specs.contracts.names.Names.{the_view}
 use Rattle.sk_undo.proofs.names.Names.set.Goals.{in-Some, in_default}
 use Rattle.sk_undo.proofs.names.Names.set.Goals as goal
 

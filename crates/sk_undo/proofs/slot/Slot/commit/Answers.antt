@@ -1,11 +1,6 @@
-use Rattle.std.proofs.Common.{◌≡◌, [], None, ◌∙◌, ap, sym, subst}
-use Rattle.std.specs.Prelude.{reverse}
-use Rattle.sk_undo.specs.Log.{seen, CanGoBack, EachRests, joined_from}
-use Rattle.sk_store.specs.Changed.{StateFits, state_undone}
-use Rattle.sk_undo.specs.Slot.{SlotView, undone, Fits, is_process, committed_joined}
-use Rattle.sk_record.specs.Notes.{committed}
-use Rattle.sk_record.specs.Merged.{Merges}
-use Rattle.sk_record.specs.UndoState.{IsGrowing}
+use Rattle.sk_undo.proofs.Cites.{◌≡◌, [], None, ◌∙◌, ap, sym, subst, reverse, seen, CanGoBack, EachRests, joined_from}
+use Rattle.sk_undo.proofs.Cites.{StateFits, state_undone, SlotView, undone, Fits, is_process, committed_joined}
+use Rattle.sk_undo.proofs.Cites.{committed, Merges, IsGrowing}
 use Rattle.sk_undo.proofs.Commits.{commit_seen}
 use Rattle.sk_undo.proofs.Growing.{grows_there}
 use Rattle.sk_undo.proofs.Joined.{commit_joined}

@@ -1,9 +1,6 @@
 -- The newest note stands for the write, so that the log stays as it is.
-use Rattle.std.proofs.Common.{◌≡◌, Some, subst, sym, ◌∙◌}
-use Rattle.std.specs.Prelude.{reverse}
-use Rattle.sk_store.specs.Processes.{became}
+use Rattle.sk_undo.proofs.Cites.{◌≡◌, Some, subst, sym, ◌∙◌, reverse, became, SlotView, own_tags, slot_wrote}
 use Rattle.sk_undo.specs.contracts.slot.Slot.{the_view}
-use Rattle.sk_undo.specs.Slot.{SlotView, own_tags, slot_wrote}
 use Rattle.sk_undo.proofs.Stable.{on_wrote}
 use Rattle.sk_undo.proofs.slot.Slot.go_on.Goals as goal
 

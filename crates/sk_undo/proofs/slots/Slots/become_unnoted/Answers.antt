@@ -1,7 +1,4 @@
-use Rattle.std.proofs.Common.{◌∙◌, Some}
-use Rattle.sk_ids.specs.declared.entity.Entity.TheVariants.{Proc}
-use Rattle.sk_store.specs.Processes.{became}
-use Rattle.sk_undo.specs.Slot.{SlotView, slot_wrote}
+use Rattle.sk_undo.proofs.Cites.{◌∙◌, Some, Proc, became, SlotView, slot_wrote}
 use Rattle.sk_undo.proofs.Maps.{given}
 use Rattle.sk_undo.proofs.slots.Slots.become_unnoted.Goals as goal
 

@@ -1,8 +1,6 @@
-use Rattle.std.proofs.Common.{ap, sym, ◌∙◌, subst, Some, rules}
+use Rattle.sk_undo.proofs.Cites.{ap, sym, ◌∙◌, subst, Some, rules, changed, SlotView, slot_wrote, slot_back, slot_in}
+use Rattle.sk_undo.proofs.Cites.{CanUndoLast}
 use Rattle.std.specs.FinMap as map
-use Rattle.sk_store.specs.Changed.{changed}
-use Rattle.sk_undo.specs.Slot.{SlotView, slot_wrote, slot_back}
-use Rattle.sk_undo.specs.Logs.{slot_in, CanUndoLast}
 use Rattle.sk_undo.proofs.Maps.{given, insert_same, can_again, back_again}
 use Rattle.sk_undo.proofs.slots.Slots.change.Goals as goal
 

@@ -1,6 +1,4 @@
-use Rattle.std.proofs.Common.{ap, sym, ◌∙◌, Some, rules}
-use Rattle.sk_store.specs.Changed.{changed}
-use Rattle.sk_undo.specs.Slot.{SlotView, slot_wrote}
+use Rattle.sk_undo.proofs.Cites.{ap, sym, ◌∙◌, Some, rules, changed, SlotView, slot_wrote}
 use Rattle.sk_undo.proofs.Maps.{given, insert_same}
 use Rattle.sk_undo.proofs.slots.Slots.change_alone.Goals as goal
 

@@ -1,10 +1,6 @@
 -- The process is as it was after the change of the other entity.
-use Rattle.std.proofs.Common.{ap, sym, subst, ◌∙◌, Some}
-use Rattle.sk_ids.specs.declared.entity.Entity.TheVariants.{Proc}
-use Rattle.sk_store.specs.Changed.{changed}
-use Rattle.sk_store.specs.Processes.{CanBecome, became}
-use Rattle.sk_undo.specs.Slot.{goes_unnoted}
-use Rattle.sk_undo.specs.Logs.{slot_in, look_at, slots_wrote}
+use Rattle.sk_undo.proofs.Cites.{ap, sym, subst, ◌∙◌, Some, Proc, changed, CanBecome, became, goes_unnoted, slot_in}
+use Rattle.sk_undo.proofs.Cites.{look_at, slots_wrote}
 use Rattle.sk_undo.proofs.Passes.{wrote_get}
 use Rattle.sk_undo.proofs.slots.Slots.change_both.Goals as goal
 

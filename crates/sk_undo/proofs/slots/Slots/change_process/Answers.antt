@@ -1,7 +1,4 @@
-use Rattle.std.proofs.Common.{ap, sym, ◌∙◌, Some, rules}
-use Rattle.sk_ids.specs.declared.entity.Entity.TheVariants.{Proc}
-use Rattle.sk_store.specs.Processes.{became}
-use Rattle.sk_undo.specs.Slot.{SlotView, slot_wrote}
+use Rattle.sk_undo.proofs.Cites.{ap, sym, ◌∙◌, Some, rules, Proc, became, SlotView, slot_wrote}
 use Rattle.sk_undo.proofs.Maps.{given, insert_same}
 use Rattle.sk_undo.proofs.slots.Slots.change_process.Goals as goal
 

@@ -1,8 +1,5 @@
-use Rattle.std.proofs.Common.{◌≡◌, true, Some, None, ap, sym, ◌∙◌, rules}
+use Rattle.sk_undo.proofs.Cites.{◌≡◌, true, Some, None, ap, sym, ◌∙◌, rules, is_empty, slot_wrote, slot_in, placed}
 use Rattle.std.specs.FinMap as map
-use Rattle.sk_undo.specs.Log.{is_empty}
-use Rattle.sk_undo.specs.Slot.{slot_wrote}
-use Rattle.sk_undo.specs.Logs.{slot_in, placed}
 use Rattle.sk_undo.proofs.Maps.{insert_same, placed_untouched, placed_gone, placed_full}
 use Rattle.sk_undo.proofs.slots.Slots.clear.Goals as goal
 

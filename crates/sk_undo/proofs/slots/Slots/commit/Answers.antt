@@ -1,5 +1,4 @@
-use Rattle.std.proofs.Common.{◌+◌, drop, subst}
-use Rattle.std.proofs.lemmas.List.{drop_all}
+use Rattle.sk_undo.proofs.Cites.{◌+◌, drop, subst, drop_all}
 use Rattle.sk_undo.proofs.Passes.{Committing, next_of, committing_from, committing_more, all_committed}
 use Rattle.sk_undo.proofs.slots.Slots.commit.Goals as goal
 

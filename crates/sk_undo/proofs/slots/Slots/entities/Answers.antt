@@ -1,13 +1,7 @@
 -- Of the keys of the map those are kept whose slots have a value.
-use Rattle.std.proofs.Common.{◌≡◌, List, sym, subst, ap, ◌∙◌, rules}
-use Rattle.std.specs.List.{filter}
-use Rattle.std.specs.List.Sorted.{IsStrictlySortedBy}
+use Rattle.sk_undo.proofs.Cites.{◌≡◌, List, sym, subst, ap, ◌∙◌, rules, filter, IsStrictlySortedBy, filter_same}
+use Rattle.sk_undo.proofs.Cites.{IsStrictlySortedBy-filter, is_in, entity_cmp, Entity}
 use Rattle.std.specs.FinMap as fin
-use Rattle.std.proofs.lemmas.Fn.{filter_same}
-use Rattle.std.proofs.lemmas.List.Kept.{IsStrictlySortedBy-filter}
-use Rattle.sk_record.specs.Effects.{is_in}
-use Rattle.sk_ids.specs.Entity.{entity_cmp}
-use Rattle.sk_ids.specs.declared.entity.Entity.{Entity}
 use Rattle.sk_undo.proofs.Present.{has_value, present_are}
 use Rattle.sk_undo.proofs.slots.Slots.entities.Goals as goal
 

@@ -1,9 +1,7 @@
 -- The slots of the map are those that are counted, in order.
-use Rattle.std.proofs.Common.{◌≡◌, ◌≤◌, ◌+◌, ℕ, List, min, ◌-◌, ◌^◌, sym, ap, ◌∙◌, arith, rules}
-use Rattle.std.specs.List.{sum_by}
+use Rattle.sk_undo.proofs.Cites.{◌≡◌, ◌≤◌, ◌+◌, ℕ, List, min, ◌-◌, ◌^◌, sym, ap, ◌∙◌, arith, rules, sum_by, note_count}
+use Rattle.sk_undo.proofs.Cites.{notes_in, SlotView}
 use Rattle.std.specs.FinMap as fin
-use Rattle.sk_undo.specs.Count.{note_count, notes_in}
-use Rattle.sk_undo.specs.Slot.{SlotView}
 use Rattle.sk_undo.proofs.slots.Slots.notes.Goals as goal
 
 -- nothing is left

@@ -1,7 +1,5 @@
 -- The notes that were counted, with those of the slots that are left, are all of them.
-use Rattle.std.proofs.Common.{◌≡◌, ◌≤◌, ◌+◌, min, ◌-◌, ◌^◌}
-use Rattle.std.specs.List.{sum_by}
-use Rattle.sk_undo.specs.Count.{note_count}
+use Rattle.sk_undo.proofs.Cites.{◌≡◌, ◌≤◌, ◌+◌, min, ◌-◌, ◌^◌, sum_by, note_count}
 use Rattle.sk_undo.proofs.slots.Slots.notes.Given as goal
 
 abbrev pub invariant-loop-slot : goal.invariant-loop-slot

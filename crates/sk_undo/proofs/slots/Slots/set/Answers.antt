@@ -1,7 +1,6 @@
-use Rattle.std.proofs.Common.{◌≡◌, ap, sym, ◌∙◌, subst, Some, None, rules}
+use Rattle.sk_undo.proofs.Cites.{◌≡◌, ap, sym, ◌∙◌, subst, Some, None, rules, slot_wrote, slot_back, slot_in}
+use Rattle.sk_undo.proofs.Cites.{CanUndoLast}
 use Rattle.std.specs.FinMap as map
-use Rattle.sk_undo.specs.Slot.{slot_wrote, slot_back}
-use Rattle.sk_undo.specs.Logs.{slot_in, CanUndoLast}
 use Rattle.sk_undo.proofs.Maps.{given, insert_same, can_again, back_again, remove_back}
 use Rattle.sk_undo.proofs.slots.Slots.set.Goals as goal
 

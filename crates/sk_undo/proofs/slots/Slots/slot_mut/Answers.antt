@@ -1,8 +1,6 @@
 -- What is left behind the loan of `Map::get_mut` is the slot of the entity.
-use Rattle.std.proofs.Common.{◌≡◌, refl, ap, subst, ◌∙◌}
-use Rattle.std.specs.Prelude.{OnSome}
+use Rattle.sk_undo.proofs.Cites.{◌≡◌, refl, ap, subst, ◌∙◌, OnSome, entity_cmp}
 use Rattle.std.specs.FinMap as map
-use Rattle.sk_ids.specs.Entity.{entity_cmp}
 use Rattle.sk_map.specs.Seen.{seen}
 use Rattle.sk_undo.proofs.slots.Slots.slot_mut.Goals as goal
 

@@ -1,5 +1,4 @@
-use Rattle.std.proofs.Common.{◌∙◌, rules}
-use Rattle.sk_undo.specs.Slot.{slot_back}
+use Rattle.sk_undo.proofs.Cites.{◌∙◌, rules, slot_back}
 use Rattle.sk_undo.proofs.Maps.{given}
 use Rattle.sk_undo.proofs.slots.Slots.take_back.Goals as goal
 

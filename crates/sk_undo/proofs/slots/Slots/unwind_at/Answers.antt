@@ -1,6 +1,5 @@
-use Rattle.std.proofs.Common.{refl, sym, ap, ◌∙◌, rules}
+use Rattle.sk_undo.proofs.Cites.{refl, sym, ap, ◌∙◌, rules, SlotUnwound}
 use Rattle.std.specs.FinMap as map
-use Rattle.sk_undo.specs.Decisions.{SlotUnwound}
 use Rattle.sk_undo.proofs.Maps.{placed_gone, placed_full, changed_slot, changed_none}
 use Rattle.sk_undo.proofs.slots.Slots.unwind_at.Goals as goal
 

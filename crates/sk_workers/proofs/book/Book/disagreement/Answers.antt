@@ -1,8 +1,4 @@
-use Rattle.std.proofs.Common.{List, ap, ◌∙◌, subst}
-use Rattle.std.specs.Prelude.{MatchOption}
-use Rattle.sk_workers.specs.declared.entry.HistoryEntry.{HistoryEntry}
-use Rattle.sk_workers.specs.Views.{BookView}
-use Rattle.sk_workers.specs.Closing.{AllStand, Disagrees}
+use Rattle.sk_workers.proofs.Names.{List, ap, ◌∙◌, subst, MatchOption, HistoryEntry, BookView, AllStand, Disagrees}
 use Rattle.sk_workers.proofs.book.Book.disagreement.Goals as goal
 
 pub returns : goal.returns

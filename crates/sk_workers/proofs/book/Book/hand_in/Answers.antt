@@ -1,14 +1,8 @@
 -- The answer that is entered is the desk's.
-use Rattle.std.proofs.Common.{◌++◌, ◌∷◌, [], List, Result, refl, sym, ap, ◌∙◌, subst, length}
-use Rattle.std.proofs.lemmas.Bool.{false≢true}
-use Rattle.sk_workers.specs.declared.entry.DeskCall.{DeskCall}
-use Rattle.sk_workers.specs.declared.entry.Answered.TheVariants.{HandedIn}
-use Rattle.sk_workers.specs.declared.entry.HistoryEntry.{HistoryEntry}
-use Rattle.sk_workers.specs.declared.entry.Receipt.{Receipt}
-use Rattle.sk_workers.specs.History.{CallPost, entry, receipt}
+use Rattle.sk_workers.proofs.Names.{◌++◌, ◌∷◌, [], List, Result, refl, sym, ap, ◌∙◌, subst, length, false≢true}
+use Rattle.sk_workers.proofs.Names.{DeskCall, HandedIn, HistoryEntry, Receipt, CallPost, entry, receipt, DeskTakesIn}
+use Rattle.sk_workers.proofs.Names.{HandIn}
 use Rattle.sk_workers.proofs.Runs.{entered, received}
-use Rattle.sk_client.specs.Leasing.{DeskTakesIn}
-use Rattle.sk_kernel.specs.declared.hand_in.HandIn.{HandIn}
 use Rattle.sk_workers.proofs.Steps.{hands_in, desk_takes}
 use Rattle.sk_workers.proofs.book.Book.hand_in.Goals as goal
 

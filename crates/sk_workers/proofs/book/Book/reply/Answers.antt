@@ -1,10 +1,6 @@
 -- The answer that is entered is the desk's, without the reply that comes back.
-use Rattle.std.proofs.Common.{◌++◌, ◌∷◌, [], List, sym, ap, ◌∙◌, subst}
-use Rattle.std.proofs.lemmas.Bool.{false≢true}
-use Rattle.sk_workers.specs.declared.entry.DeskCall.{DeskCall}
-use Rattle.sk_workers.specs.declared.entry.Answered.TheVariants.{Replied}
-use Rattle.sk_workers.specs.declared.entry.HistoryEntry.{HistoryEntry}
-use Rattle.sk_workers.specs.History.{CallPost, entry}
+use Rattle.sk_workers.proofs.Names.{◌++◌, ◌∷◌, [], List, sym, ap, ◌∙◌, subst, false≢true, DeskCall, Replied}
+use Rattle.sk_workers.proofs.Names.{HistoryEntry, CallPost, entry}
 use Rattle.sk_workers.proofs.Runs.{entered}
 use Rattle.sk_workers.proofs.Steps.{with_back}
 use Rattle.sk_workers.proofs.book.Book.reply.Goals as goal

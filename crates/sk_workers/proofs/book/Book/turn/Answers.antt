@@ -1,9 +1,6 @@
 -- The answer that is entered is the desk's.
-use Rattle.std.proofs.Common.{◌++◌, ◌∷◌, [], List, sym, ap, ◌∙◌, subst}
+use Rattle.sk_workers.proofs.Names.{◌++◌, ◌∷◌, [], List, sym, ap, ◌∙◌, subst, Answered, HistoryEntry, CallPost, entry}
 use Rattle.sk_workers.specs.declared.entry.DeskCall.TheVariants as calls
-use Rattle.sk_workers.specs.declared.entry.Answered.{Answered}
-use Rattle.sk_workers.specs.declared.entry.HistoryEntry.{HistoryEntry}
-use Rattle.sk_workers.specs.History.{CallPost, entry}
 use Rattle.sk_workers.proofs.Runs.{entered}
 use Rattle.sk_workers.proofs.book.Book.turn.Goals as goal
 

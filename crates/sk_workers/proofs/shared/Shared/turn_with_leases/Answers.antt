@@ -1,7 +1,5 @@
 -- The receipts of what the book did, and the book that lent.
-use Rattle.std.proofs.Common.{subst}
-use Rattle.sk_workers.specs.Views.{WorkerView}
-use Rattle.sk_workers.specs.History.{AnyTold}
+use Rattle.sk_workers.proofs.Names.{subst, WorkerView, AnyTold}
 use Rattle.sk_workers.proofs.Steps.{any_told, turn_told}
 use Rattle.sk_workers.proofs.shared.Shared.turn_with_leases.Goals as goal
 

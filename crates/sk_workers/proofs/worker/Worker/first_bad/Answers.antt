@@ -1,6 +1,4 @@
-use Rattle.std.proofs.Common.{ap, ◌∙◌, subst}
-use Rattle.sk_workers.specs.Views.{WorkerView}
-use Rattle.sk_workers.specs.History.{AreOwn}
+use Rattle.sk_workers.proofs.Names.{ap, ◌∙◌, subst, WorkerView, AreOwn}
 use Rattle.sk_workers.proofs.Closed.{found}
 use Rattle.sk_workers.proofs.worker.Worker.first_bad.Goals as goal
 

@@ -1,6 +1,5 @@
 -- The labels that are left to look at say the place as all labels do.
-use Rattle.std.proofs.Common.{◌≡◌, drop}
-use Rattle.sk_script.specs.Instructions.{place_of}
+use Rattle.sk_script.proofs.Names.{◌≡◌, drop, place_of}
 use Rattle.sk_script.proofs.Marks.{seen}
 use Rattle.sk_script.proofs.parse.labels.Labels.place_of.Given as goal
 

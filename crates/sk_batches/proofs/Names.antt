@@ -1,0 +1,45 @@
+-- What the proofs of this crate cite from outside of them, passed on from one place. Declares nothing.
+pub use Rattle.std.proofs.Common.{Some, Bool, subst, inr, Ok, ◌∷◌, ◌&&◌, inl, Err, zero, ◌≡◌, rules, ◌-◌, ◌+◌, Option}
+pub use Rattle.std.proofs.Common.{arith, map, List, ap, ◌++◌, length, append_assoc, ◌||◌, ℕ, true, ltb, drop, sym, None}
+pub use Rattle.std.proofs.Common.{suc, if◌then◌else◌, ◌≤◌, take, false, ◌<◌, refl, [], Result, ◌∙◌, not, cond}
+pub use Rattle.std.proofs.Math.Numerals.{suc-eq-add-one}
+pub use Rattle.std.proofs.Math.Seq.{drop-length, take-append-add, drop-append-add, drop-append_seam, drop-cons}
+pub use Rattle.std.proofs.Math.Seq.{take-append_seam}
+pub use Rattle.std.proofs.lemmas.Bool.{eqb-false, ltb-false, and_from, true≢false, or_right, and_left, lt-ltb, or_cases}
+pub use Rattle.std.proofs.lemmas.Bool.{false_from_ne_true, or_left, or_from, le-leb, leb-true, false≢true, cases_order}
+pub use Rattle.std.proofs.lemmas.Bool.{eqb-true, ltb-true, eq-eqb, and_parts, le-ltb, ne_eqb}
+pub use Rattle.std.proofs.lemmas.Bool.Decides.{nat_tests}
+pub use Rattle.std.proofs.lemmas.Fn.{filter_same}
+pub use Rattle.std.proofs.lemmas.List.{length-take-le, drop_all, drop-drop, length-drop, take_all, length-map}
+pub use Rattle.std.proofs.lemmas.List.{take-append-drop, length-append, take_rest, append-nil}
+pub use Rattle.std.proofs.lemmas.List.Elements.{All-contains, All-from_recursion, filter-append}
+pub use Rattle.std.proofs.lemmas.List.Filters.{sum_by-filter_both}
+pub use Rattle.std.proofs.lemmas.List.Sums.{sum_by-cons, sum_by-append}
+pub use Rattle.std.specs.Cmp.{both_ways}
+pub use Rattle.std.specs.List.{filter, remove, Contains, AllByRecursion, list_any, sum_by}
+pub use Rattle.std.specs.Prelude.{count_by, slice_index_or, slice_set, ◌⊎◌, nat_le, nat_lt, ◌==◌}
+pub use Rattle.std.specs.Result.{IsErrAnd}
+pub use Rattle.sk_batches.specs.Calls.{cause_of, take_refused}
+pub use Rattle.sk_batches.specs.Dense.{IsRange, is_off, AreDense, IsAtCut, IsBehind, IsBetween, FramesAreDense}
+pub use Rattle.sk_batches.specs.Dense.{CutsARange}
+pub use Rattle.sk_batches.specs.Frames.{FramePost, frame_refused, sealed_of, next_payload, first_cause}
+pub use Rattle.sk_batches.specs.Places.{PlacesView, has_room}
+pub use Rattle.sk_batches.specs.Queue.{kept_of, last_in, awaits, decided, first_taken, next_records, undecided, is_kept}
+pub use Rattle.sk_batches.specs.Queue.{QueueView, tell, is_sent, send, is_failed, is_refused, past, kept_records}
+pub use Rattle.sk_batches.specs.Queue.{is_decided, decision_of, first_failed, is_taken, left, cut_off}
+pub use Rattle.sk_batches.specs.Records.{kept, is_struck, but_last, payload, RecordView}
+pub use Rattle.sk_batches.specs.Runs.{Story, story_after, Decides, Runs, Syncs, KeepsTheRest, synced_after, Stops}
+pub use Rattle.sk_batches.specs.Runs.{Fails, struck_in, NoneIsKept, struck_of, Appends, records_in, behind, Rise}
+pub use Rattle.sk_batches.specs.Runs.{behind_of, has, LogsWhatIsSynced, Happens, Call, with_oldest, LosesNothing}
+pub use Rattle.sk_batches.specs.Runs.{Withdraws, Takes, DecidesInOrder, struck, with_decided, Cuts}
+pub use Rattle.sk_batches.specs.declared.batch.Batch.{Batch}
+pub use Rattle.sk_batches.specs.declared.batch.Stage.{Stage}
+pub use Rattle.sk_batches.specs.declared.batch.Stage.TheVariants.{Kept, Failed, Refused, Sent, Synced}
+pub use Rattle.sk_batches.specs.declared.frames.Sealed.{Sealed}
+pub use Rattle.sk_batches.specs.declared.queue.Cut.{Cut}
+pub use Rattle.sk_batches.specs.declared.queue.Decision.{Decision}
+pub use Rattle.sk_batches.specs.declared.refusal.Refusal.{Refusal}
+pub use Rattle.sk_batches.specs.declared.refusal.Refusal.TheVariants.{Short, Full}
+pub use Rattle.sk_log.specs.Frame.{frame}
+pub use Rattle.sk_log.specs.declared.frame.TheConstants.{NUMBER_LIMIT}
+pub use borrow.Rule.Slice.PartMut.{post_of, put_mid, mid_of, Post-is, put_same}

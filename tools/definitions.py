@@ -40,6 +40,8 @@ SAID = {
         "TakesRenamed": "a step is the same where keys have other names, no two of which stand for one key",
     },
     "sk_engine": {
+        "lead_told": "what the answer to a try to lead tells",
+        "no_rounds": "no round was taken, and nothing waits",
         "after_batch": "the keys of the engine after a try of a batch",
         "after_cut": "the keys of the engine after a try of a cut",
         "after_fence": "the keys of the engine after a try of a fence",

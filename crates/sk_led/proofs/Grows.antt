@@ -24,7 +24,7 @@ pub frames_split : (first : ℕ) (log : List (List RecordView)) (cs ds : List Ca
 frames_split first log [] ds = refl
 frames_split first log (c ∷ cs) ds = frames_split first (frames_by first c log) cs ds
 
-synced_split : (told : List ℕ) (cs ds : List Call) → synced_from told (cs ++ ds) ≡ synced_from (synced_from told cs) ds
+pub synced_split : (told : List ℕ) (cs ds : List Call) → synced_from told (cs ++ ds) ≡ synced_from (synced_from told cs) ds
 synced_split told [] ds = refl
 synced_split told (c ∷ cs) ds = synced_split (synced_by c told) cs ds
 

@@ -1,4 +1,10 @@
 pub mod Names
 pub mod Grows
+pub mod Late
+pub mod Wound
 pub mod Leads
+pub mod Ended
+pub mod Led
 pub mod Order
+pub mod Waiting
+pub mod Host

@@ -1,7 +1,7 @@
 -- One order of commands over many leaderships.
 use Rattle.sk_led.proofs.Names.{◌≡◌, List, [], ◌∷◌, ◌++◌, take, refl, sym, ◌∙◌, ap, Entries}
 use Rattle.sk_led.proofs.Names.{after_works, entries_after, entry_after, Entry, logged, OneOrder}
-use Rattle.sk_led.proofs.Leads.{leaders_go_on}
+use Rattle.sk_led.proofs.Led.{leaders_go_on}
 
 joined : (xs ys : List Entry) (start : Entries)
     → entries_after (xs ++ ys) start ≡ entries_after ys (entries_after xs start)

@@ -1,5 +1,5 @@
 -- What the engine has of a store, for ever, and what a later leadership begins with.
-use Rattle.std.specs.Prelude.{◌≡◌, ◌≢◌, ◌+◌, ◌<◌, ◌≤◌, ℕ, true, List, [], ◌∷◌, ◌++◌, length, map, Some}
+use Rattle.std.specs.Prelude.{◌≡◌, ◌≢◌, ◌+◌, ◌<◌, ◌≤◌, ℕ, true, false, List, [], ◌∷◌, ◌++◌, length, map, Some, None, slice_get}
 use Rattle.std.specs.List.{Contains}
 use Rattle.sk_record.specs.Notes.{has}
 use Rattle.sk_batches.specs.Records.{payload, RecordView}
@@ -12,13 +12,15 @@ use Rattle.sk_commands.specs.Requests.{log_text}
 use Rattle.sk_plain_store.specs.Plain.{Entries}
 use Rattle.sk_replay.specs.Frames.{SayAll}
 use Rattle.sk_replay.specs.Snapshot.{after_works}
-use Rattle.sk_served.specs.Served.{Asked, Runs}
+use Rattle.sk_served.specs.Plain.{entries_after}
+use Rattle.sk_served.specs.Served.{Asked, Entry, Runs}
 use Rattle.sk_durable.specs.declared.limits.Limits.{Limits}
 use Rattle.sk_durable.specs.declared.store.Next.{Next}
 use Rattle.sk_durable.specs.Calls.{Call, Decides}
 use Rattle.sk_durable.specs.History.{entries, past, stands, stands_on, Command}
-use Rattle.sk_durable.specs.Laws.{HasDone, IsLogged, IsRecovered}
-use Rattle.sk_durable.specs.Store.{StoreView}
+use Rattle.sk_durable.specs.Laws.{HasDone, IsGone, IsLogged, IsRecovered}
+use Rattle.sk_durable.specs.Posts.{HasNoneReady}
+use Rattle.sk_durable.specs.Store.{first_answer, has_refusals, StoreView}
 use Rattle.sk_engine.specs.Moves.{new_world, owner_of, whole, Happens, Move, Reads, Runs as Moves, World}
 use Rattle.sk_led.specs.Led.{IsLed}
 
@@ -63,3 +65,27 @@ LeadersGoOn = (payload_in : List ℕ → List ℕ) (moves : List Move) (w : Worl
     → IsLed payload_in w leadership gap next cs → (values : List (List ℕ)) → AreOf w leadership next.frame values
     → ((u : List ℕ) → whole w (next.frame + length values) ≡ Some u → owner_of u ≢ leadership)
     → (works : List Work) → SayAll (map payload_in values) works → IsRecovered start cs s (after_works works start)
+
+-- Just some of these commands, one after another, leave this.
+pub record AreLeft (start : Entries) (those : List Entry) (left : Entries) : Type 0 where
+  pub order : List Entry
+  pub left_is : left ≡ entries_after order start
+  pub among : (entry : Entry) → Contains order entry → Contains those entry
+
+-- Where a ticket was told that nothing was done, no command with it stands; and what is found of the leadership's frames is what commands
+-- leave that stand.
+abbrev pub RefusedIsNowhere : Type 0
+RefusedIsNowhere = (payload_in : List ℕ → List ℕ) (moves : List Move) (w : World) (leadership gap : ℕ) (limits : Limits) (next : Next)
+    (start : Entries) (cs : List Call) (s : StoreView) → Moves new_world moves w → HasDone limits next start cs s
+    → IsLed payload_in w leadership gap next cs → (values : List (List ℕ)) → AreOf w leadership next.frame values
+    → ((u : List ℕ) → whole w (next.frame + length values) ≡ Some u → owner_of u ≢ leadership)
+    → (works : List Work) → SayAll (map payload_in values) works
+    → (t k : ℕ) (channel : Channel) → channel_at s.channels t ≡ Some channel → slice_get (past t cs).told k ≡ Some None
+    → IsGone t cs (k + 1) × AreLeft start (entries (stands cs)) (after_works works start)
+
+-- Once no batch is undecided, and all was told that may be, each ticket that was given was told: so a store that is wound up keeps nobody
+-- waiting.
+abbrev pub NobodyWaits : Type 0
+NobodyWaits = (limits : Limits) (next : Next) (start : Entries) (cs : List Call) (s : StoreView) → HasDone limits next start cs s
+    → s.batched.kernel.parts.opens ≡ [] → (t : ℕ) (channel : Channel) → channel_at s.channels t ≡ Some channel → HasNoneReady t s
+    → has_refusals (Some channel) (first_answer s t) ≡ false → length (past t cs).told ≡ length (past t cs).asked

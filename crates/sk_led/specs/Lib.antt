@@ -1,3 +1,4 @@
 pub mod Led
 pub mod Laws
 pub mod Order
+pub mod Host

@@ -1,5 +1,6 @@
 //! What holds of stores whose log lies in an engine. Each law is the contract of a function that does nothing.
-ghost use Rattle.sk_led.specs.Laws.{LeadersGoOn, LoggedIsInEngine, RepliesRestOnEngine};
+ghost use Rattle.sk_led.specs.Host.{RepliesAreNewest};
+ghost use Rattle.sk_led.specs.Laws.{LeadersGoOn, LoggedIsInEngine, NobodyWaits, RefusedIsNowhere, RepliesRestOnEngine};
 ghost use Rattle.sk_led.specs.Order.{OneOrder};
 
 /// What a batch logs that was told as logged stands in the engine for ever, and each later leadership finds it.
@@ -16,6 +17,21 @@ pub fn replies_law()
 /// logs which was told as logged.
 pub fn found_law()
     ensures { LeadersGoOn }
+{}
+
+/// What was refused, also as the leadership was over, is not among what is found of it.
+pub fn refused_law()
+    ensures { RefusedIsNowhere }
+{}
+
+/// Once no batch is undecided, each ticket was told its answer, or that nothing was done.
+pub fn ended_law()
+    ensures { NobodyWaits }
+{}
+
+/// A reply goes out only behind a round that was taken after its command was carried out, and that has held: so it is not old.
+pub fn newest_law()
+    ensures { RepliesAreNewest }
 {}
 
 /// Over any number of leaderships there is one order of commands, of each the first that it logged, with all that are settled, and the

@@ -1,4 +1,4 @@
-use Rattle.sk_led.proofs.Leads.{logged_is_in_engine}
+use Rattle.sk_led.proofs.Led.{logged_is_in_engine}
 use Rattle.sk_led.proofs.laws.logged_law.Goals as goal
 
 pub returns : goal.returns

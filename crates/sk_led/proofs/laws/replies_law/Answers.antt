@@ -1,4 +1,4 @@
-use Rattle.sk_led.proofs.Leads.{replies_rest_on_engine}
+use Rattle.sk_led.proofs.Led.{replies_rest_on_engine}
 use Rattle.sk_led.proofs.laws.replies_law.Goals as goal
 
 pub returns : goal.returns

@@ -2,7 +2,6 @@ pub mod Records
 pub mod Queue
 pub mod Calls
 pub mod Runs
-pub mod Rounds
 pub mod Places
 pub mod Frames
 pub mod Dense

@@ -10,10 +10,8 @@ pub mod queue;
 mod record;
 mod records;
 pub mod refusal;
-pub mod rounds;
 
 pub use frames::{Sealed, may_take_frame, take_frame};
 pub use places::{Place, Places};
 pub use queue::{Cut, Decision, Queue, Taken};
 pub use refusal::Refusal;
-pub use rounds::Rounds;

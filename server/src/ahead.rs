@@ -16,16 +16,15 @@ pub struct Ahead {
 }
 
 impl Ahead {
-    /// Sends an answer that may be undone, with its number.
-    pub fn send(&mut self, text: &[u8], unsent: &mut Vec<u8>) {
+    /// What is sent for an answer that may be undone: it, and its number.
+    pub fn sent(&mut self, text: &[u8]) -> Vec<u8> {
         self.told += 1;
-        unsent.extend_from_slice(format!("*2\r\n:{}\r\n", self.told).as_bytes());
-        unsent.extend_from_slice(text);
         self.waiting.push_back(text.into());
+        [format!("*2\r\n:{}\r\n", self.told).as_bytes(), text].concat()
     }
 
-    /// Takes what goes out of the channel: of what was sent ahead it is seen whether it stands. Whether it was all as is promised.
-    pub fn put_out(&mut self, bytes: &[u8], unsent: &mut Vec<u8>) -> bool {
+    /// What is sent of what goes out of the channel: of what was sent ahead it is only seen whether it stands.
+    pub fn put_out(&mut self, bytes: &[u8]) -> Vec<u8> {
         self.coming.extend_from_slice(bytes);
         let mut rest = self.coming.as_slice();
         while let Some(text) = self.waiting.front() {
@@ -39,11 +38,14 @@ impl Ahead {
             }
             self.waiting.pop_front();
         }
-        if self.waiting.is_empty() {
-            unsent.extend_from_slice(rest);
-            rest = &[];
-        }
-        self.coming = rest.into();
+        let rest = rest.to_vec();
+        let (coming, sent) = if self.waiting.is_empty() { (Vec::new(), rest) } else { (rest, Vec::new()) };
+        self.coming = coming;
+        sent
+    }
+
+    /// Whether what went out may still be as is promised: the next answer that was sent ahead, or that it was undone.
+    pub fn is_right(&self) -> bool {
         self.waiting.front().is_none_or(|text| self.coming.len() < text.len().max(REFUSAL.len()))
     }
 }

@@ -1,7 +1,7 @@
 //! What clients ask the server itself: requests that the store hands to its host, which answers each in its turn.
 use crate::ahead::Ahead;
 use crate::door::{self, OK};
-use crate::trusted::server::Server;
+use crate::server::Server;
 use std::mem;
 
 fn words(words: &[&str]) -> Vec<u8> {
@@ -23,10 +23,20 @@ fn setting(name: &[u8]) -> Vec<u8> {
     }
 }
 
+/// What a client asks of itself.
+fn of_client(what: &[u8], id: u64) -> Vec<u8> {
+    match what.to_ascii_uppercase().as_slice() {
+        b"SETNAME" | b"SETINFO" => OK.into(),
+        b"GETNAME" => b"$-1\r\n".into(),
+        b"ID" => format!(":{id}\r\n").into(),
+        _ => b"-ERR unknown subcommand of CLIENT\r\n".into(),
+    }
+}
+
 impl Server {
     /// Answers what a channel asks, if that can be told now.
     pub fn answer(&mut self, channel: u16) {
-        let words = self.asked(channel);
+        let words = self.channels.asked(channel);
         let words: Vec<&[u8]> = words.iter().map(Vec::as_slice).collect();
         if let Some(told) = self.told(channel, &words) {
             self.tell(channel, &told);
@@ -35,7 +45,7 @@ impl Server {
 
     /// The answer of what a channel asks, or nothing where that is told later.
     fn told(&mut self, channel: u16, words: &[&[u8]]) -> Option<Vec<u8>> {
-        let next = self.log().next();
+        let batch = self.batch();
         let guest = self.guest(channel)?;
         let (word, rest) = words.split_first()?;
         let told: &[u8] = match (word.to_ascii_uppercase().as_slice(), rest) {
@@ -43,7 +53,7 @@ impl Server {
             (b"NOMEMORY", _) => b"-OOM as much memory is used as may be, nothing of it was done\r\n",
             (b"WAITALL", []) if guest.ahead.is_none() => OK,
             (b"SPEC" | b"WAITALL", []) => {
-                guest.waits = Some(next);
+                guest.waits = Some(batch);
                 self.house.waiting.push(channel);
                 return None;
             }
@@ -62,12 +72,7 @@ impl Server {
             (b"SELECT", [b"0"]) => OK,
             (b"SELECT", _) => b"-ERR DB index is out of range\r\n",
             (b"CONFIG", [get, name]) if get.eq_ignore_ascii_case(b"GET") => return Some(setting(name)),
-            (b"CLIENT", [what, ..]) => match what.to_ascii_uppercase().as_slice() {
-                b"SETNAME" | b"SETINFO" => OK,
-                b"GETNAME" => b"$-1\r\n",
-                b"ID" => return Some(format!(":{}\r\n", guest.id).into()),
-                _ => b"-ERR unknown subcommand of CLIENT\r\n",
-            },
+            (b"CLIENT", [what, ..]) => return Some(of_client(what, guest.id)),
             (name, _) => {
                 if name == b"QUIT" {
                     self.end(channel);
@@ -83,10 +88,10 @@ impl Server {
     pub fn answer_waiting(&mut self) {
         for channel in mem::take(&mut self.house.waiting) {
             let Some(guest) = self.guest(channel) else { continue };
-            let Some(frame) = guest.waits else { continue };
+            let Some(batch) = guest.waits else { continue };
             let is_over = match &guest.ahead {
                 Some(ahead) => ahead.waiting.is_empty(),
-                None => self.log().is_decided(frame) || self.counts().undecided == 0,
+                None => self.is_decided(batch),
             };
             if !is_over {
                 self.house.waiting.push(channel);

@@ -2,6 +2,8 @@
 use crate::ahead::Ahead;
 use crate::house::House;
 use crate::options::Options;
+use crate::server::State;
+use crate::trusted::channels::Fed;
 use std::hint::black_box;
 
 /// No request at the door is longer.
@@ -24,9 +26,6 @@ pub enum Admit {
     Instead(&'static [u8], usize),
     /// So many bytes are answered here, where nothing was fed of this client.
     Tell(Vec<u8>, usize),
-    /// More is to come first, or nothing more is taken.
-    Wait,
-    End,
 }
 
 /// What stands beside knows of a client.
@@ -37,42 +36,45 @@ pub struct Guest {
     /// Whether it said the password, or needn't, and whether it said at the door that it goes.
     pub is_in: bool,
     pub leaves: bool,
-    /// The frame up to which all is to be decided before it is answered, and what it was sent ahead.
+    /// What it waits for, and what is waited for of its socket: to be read and to be written.
+    pub state: State,
+    pub asks: (bool, bool),
+    /// The batch up to which all is to be decided before it is answered, and what it was sent ahead.
     pub waits: Option<u64>,
     pub ahead: Option<Ahead>,
 }
 
 impl Guest {
-    /// What is done with the front of some bytes, of which the store has nothing yet.
-    pub fn admit(&mut self, bytes: &[u8], house: &House, has_room: bool) -> Admit {
+    /// What is done with the front of some bytes, of which the store has nothing yet; or more is to come first, or nothing more is taken.
+    pub fn admit(&mut self, bytes: &[u8], house: &House, has_room: bool) -> Result<Admit, Fed> {
         if !self.is_in {
             return self.greet(bytes, &house.options);
         }
         let (names, instead): (_, &[u8]) = match (has_room, house.is_heavy) {
-            (true, false) => return Admit::Feed(bytes.len()),
+            (true, false) => return Ok(Admit::Feed(bytes.len())),
             (false, _) => (&WRITES[..], b"NOROOM\r\n"),
             _ => (&WRITES[2..], b"NOMEMORY\r\n"),
         };
         let is_away = |word: &&[u8]| names.iter().any(|name| word.eq_ignore_ascii_case(name.as_bytes()));
         match request(bytes) {
-            Ok((words, count)) if words.first().is_some_and(is_away) => Admit::Instead(instead, count),
-            Ok((_, count)) => Admit::Feed(count),
-            Err(Lack::Part) if bytes.len() <= house.options.limits.bytes + LONGEST => Admit::Wait,
-            Err(_) => Admit::Feed(bytes.len()),
+            Ok((words, count)) if words.first().is_some_and(is_away) => Ok(Admit::Instead(instead, count)),
+            Ok((_, count)) => Ok(Admit::Feed(count)),
+            Err(Lack::Part) if bytes.len() <= house.options.limits.bytes + LONGEST => Err(Fed::Lacks),
+            Err(_) => Ok(Admit::Feed(bytes.len())),
         }
     }
 
     /// Answers the request of a client that is not in.
-    fn greet(&mut self, bytes: &[u8], options: &Options) -> Admit {
+    fn greet(&mut self, bytes: &[u8], options: &Options) -> Result<Admit, Fed> {
         match request(bytes) {
             Ok((words, count)) => {
                 let (told, is_in) = greet(options, &words, false);
                 (self.is_in, self.leaves) =
                     (is_in, words.first().is_some_and(|word| word.eq_ignore_ascii_case(b"QUIT")));
-                Admit::Tell(told.unwrap_or_default(), count)
+                Ok(Admit::Tell(told.unwrap_or_default(), count))
             }
-            Err(Lack::Part) if bytes.len() <= LONGEST => Admit::Wait,
-            Err(_) => Admit::End,
+            Err(Lack::Part) if bytes.len() <= LONGEST => Err(Fed::Lacks),
+            Err(_) => Err(Fed::Over),
         }
     }
 }

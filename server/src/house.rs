@@ -1,10 +1,9 @@
 //! What stands beside the loop: it looks at counts, wishes for snapshots, says for what there is no room, and when a stop is over.
 use crate::door::Guest;
-use crate::info;
 use crate::keeper::Keeper;
 use crate::options::Options;
-use crate::trusted::server::Server;
-use crate::trusted::system::SIGUSR1;
+use crate::server::Server;
+use crate::trusted::system::{self, SIGUSR1};
 use std::io;
 use std::time::{Duration, Instant};
 
@@ -23,9 +22,10 @@ pub struct House {
     /// How many clients came, and how many commands; since when, and when memory was last looked at, and was too much.
     connected: u64,
     pub commands: u64,
-    /// Batches that are logged, those that were refused, and keys that were taken back.
+    /// Batches that are logged, those that were refused, those that a cut kept, and keys that were taken back.
     pub logged: u64,
     pub refused: u64,
+    pub kept: usize,
     pub taken_back: usize,
     pub begun: Instant,
     weighed: Instant,
@@ -38,10 +38,11 @@ impl House {
     #[rustfmt::skip]
     pub fn new(options: Options, keys: u64, keeper: Keeper) -> House {
         let (begun, waiting) = (Instant::now(), Vec::new());
-        let (connected, commands, logged, refused, taken_back) = (0, 0, 0, 0, 0);
+        let (connected, commands, logged, refused, kept, taken_back) = (0, 0, 0, 0, 0, 0);
         let (keys, weighed, is_heavy, stopping) = ((keys, begun, 0), begun, false, None);
         House {
-            options, keys, keeper, waiting, connected, commands, logged, refused, taken_back, begun, weighed, is_heavy, stopping,
+            options, keys, keeper, waiting, connected, commands, logged, refused, kept, taken_back, begun, weighed, is_heavy,
+            stopping,
         }
     }
 
@@ -58,7 +59,7 @@ impl Server {
         self.answer_waiting();
         let house = &mut self.house;
         if house.options.memory > 0 && !house.keeper.is_keeping && house.weighed.elapsed() > WEIGHED {
-            (house.weighed, house.is_heavy) = (Instant::now(), info::memory() > house.options.memory);
+            (house.weighed, house.is_heavy) = (Instant::now(), system::memory() > house.options.memory);
         }
         self.keep()
     }
@@ -76,7 +77,7 @@ impl Server {
     /// At a stop, whether all that came is decided and answered, or it has waited long enough.
     pub fn is_over(&mut self) -> io::Result<bool> {
         let Some(until) = self.house.stopping else { return Ok(false) };
-        let (is_late, undecided) = (Instant::now() > until, self.counts().undecided);
+        let (is_late, undecided) = (Instant::now() > until, self.channels.counts().undecided);
         if is_late && undecided > 0 {
             return Err(io::Error::other(format!("{undecided} bytes of writes are undecided, and were not answered")));
         }

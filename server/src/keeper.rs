@@ -1,14 +1,15 @@
 //! When snapshots are made, and backups.
-use crate::trusted::folder::{named, Folder, Made};
+use crate::info::named;
+use crate::server::Server;
+use crate::tell::Tell;
+use crate::trusted::folder::{Folder, Made};
 use crate::trusted::log::{Closed, Segments};
-use crate::trusted::server::Server;
 use std::collections::VecDeque;
 use std::fs::{self, File};
-use std::io::{self, ErrorKind, Write};
+use std::io::{self, ErrorKind};
 use std::os::unix::net::UnixStream;
 use std::path::{Path, PathBuf};
-use std::sync::mpsc::{channel, Receiver, Sender};
-use std::sync::Arc;
+use std::sync::mpsc::Receiver;
 use std::thread;
 use std::time::Instant;
 
@@ -23,11 +24,10 @@ pub struct Wish {
 type Word = (Wish, io::Result<Made>);
 
 pub struct Keeper {
-    /// What is wished for, and what came of it, which wakes the loop.
+    /// What is wished for, and what came of it.
     wishes: VecDeque<Wish>,
-    tell: Sender<Word>,
+    tell: Tell<Word>,
     words: Receiver<Word>,
-    wake: Arc<UnixStream>,
     /// The segments that one was to stand for, those that one stands for, with its bytes, and whether one is being made.
     tried: u64,
     pub kept: u64,
@@ -37,21 +37,21 @@ pub struct Keeper {
 
 impl Keeper {
     pub fn new(kept: u64, wake: UnixStream) -> Keeper {
-        let ((tell, words), wishes) = (channel(), VecDeque::new());
-        Keeper { wishes, tell, words, wake: Arc::new(wake), tried: kept, kept, bytes: 0, is_keeping: false }
+        let ((tell, words), wishes) = (Tell::new(wake), VecDeque::new());
+        Keeper { wishes, tell, words, tried: kept, kept, bytes: 0, is_keeping: false }
     }
 
     /// Makes a snapshot on a thread of its own.
     fn begin(&mut self, wish: Wish, closed: Closed, folder: &str, undecided: u32) {
-        let (folder, tell, wake) = (Folder(folder.into()), self.tell.clone(), self.wake.clone());
+        let (folder, tell) = (Folder(folder.into()), self.tell.clone());
         self.is_keeping = true;
         thread::spawn(move || {
             let did = match &wish.backup {
                 Some(path) => backup(&folder, undecided, &closed, path),
-                None => folder.snapshot(undecided, &closed),
+                None => folder.write(undecided, &closed, &folder).and_then(|made| folder.remove().map(|()| made)),
             };
             drop(closed);
-            let _ = tell.send((wish, did)).map(|()| (&mut &*wake).write(&[0]));
+            tell.tell((wish, did));
         });
     }
 }
@@ -66,7 +66,7 @@ fn backup(folder: &Folder, undecided: u32, closed: &Closed, path: &Path) -> io::
     }
     let _ = fs::remove_dir_all(&new.0);
     new.make()?;
-    let (_, made) = folder.write(undecided, closed, &new)?;
+    let made = folder.write(undecided, closed, &new)?;
     named(path, fs::rename(&new.0, path).and_then(|()| File::open(&home.0)?.sync_all()))?;
     Ok(made)
 }
@@ -74,7 +74,7 @@ fn backup(folder: &Folder, undecided: u32, closed: &Closed, path: &Path) -> io::
 impl Server {
     /// Wishes for a snapshot of all that is in the log up to now, and who is told when it is made.
     pub fn wish(&mut self, channel: u16, backup: Option<&str>) -> Option<Vec<u8>> {
-        let Some(Segments { written: up_to, .. }) = self.log().segments() else {
+        let Some(Segments { written: up_to, .. }) = self.channels.log().segments() else {
             return Some(b"-ERR no snapshots are made of this log\r\n".into());
         };
         let client = self.guest(channel).map_or(0, |guest| guest.id);
@@ -91,7 +91,7 @@ impl Server {
         while let Ok((wish, did)) = self.house.keeper.words.try_recv() {
             self.snapshot_made(wish, did);
         }
-        let Some(Segments { closed, lacks_room, .. }) = self.log().segments() else { return Ok(()) };
+        let Some(Segments { closed, lacks_room, .. }) = self.channels.log().segments() else { return Ok(()) };
         let (keeper, options) = (&mut self.house.keeper, &self.house.options);
         let news = closed.saturating_sub(keeper.tried).saturating_mul(options.limits.segment);
         if news >= options.snapshot.max(keeper.bytes) || lacks_room && news > 0 {
@@ -99,7 +99,7 @@ impl Server {
             keeper.tried = closed;
         }
         let Some(wish) = keeper.wishes.pop_front() else { return Ok(()) };
-        match self.close_segments(wish.up_to)? {
+        match self.channels.close_segments(wish.up_to)? {
             None => self.house.keeper.wishes.push_front(wish),
             Some(closed) => {
                 let (keeper, options) = (&mut self.house.keeper, &self.house.options);

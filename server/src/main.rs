@@ -2,7 +2,7 @@
 //!
 //! What this program must do for the library's theorem to hold of what clients see; the lines that do it are marked by these numbers,
 //! and stand in `trusted/`. All else stands beside: it has no store, no log and no socket in its hands but by the functions of
-//! `trusted::server::Server` that are public.
+//! `trusted::channels::Channels` that are public, each of which does as the sentences say whenever it is called.
 //!
 //!  1. A frame, or a head, is written whole, at the place in the segment that the library said, and nothing else there (`disk.rs`).
 //!  2. It is told as synced only when that write and then a sync through the same file handle answered Ok; else it is told as
@@ -13,15 +13,16 @@
 //!  5. A cut is told as made, and a start serves, only when its head is on the disk; else a cut is tried in another segment, or the
 //!     program ends and answers nothing more (`log.rs`).
 //!  6. Bytes that came on a socket, behind those that say the password, are fed to its channel, in order and once; where there is no
-//!     room for what a request writes, one that the store hands back is fed in its place (`sockets.rs`).
+//!     room for what a request writes, one that the store hands back is fed in its place (`channels.rs`).
 //!  7. What a channel puts out goes to its socket, in order and once, behind what is answered at the door, and nothing else does; but
-//!     a client that wishes so is sent answers ahead, each with a number, until it waits for all (`sockets.rs`).
+//!     a client that wishes so is sent answers ahead, each with a number, until it waits for all (`channels.rs`).
 //!  8. What a start reads of a log it writes again and syncs before it serves, since what can be read needn't be on the disk
 //!     (`folder.rs`).
 //!  9. A start gives the library the newest snapshot, the heads of all segments behind, and then these whole, in order, but for the
 //!     last ones if they are zeros. One is removed only when a snapshot of it is on the disk with its name, which is made only of
 //!     segments in which nothing is written any more, nor waits to be cut off; no other is made anew (`folder.rs`, `log.rs`).
 //! 10. One process has the folder, and one thread makes all calls of a store (`folder.rs`; a `Store` is not `Send`).
+#![deny(unsafe_code)]
 
 /// Writes a line on stderr, if it can be written.
 macro_rules! say {
@@ -39,18 +40,20 @@ mod house;
 mod info;
 mod keeper;
 mod options;
+mod server;
+mod tell;
 mod trusted;
 
 use house::House;
 use keeper::Keeper;
 use options::Options;
+use server::Server;
 use std::io;
 use std::net::TcpListener;
 use std::os::unix::net::UnixStream;
 use std::process::ExitCode;
 use trusted::folder::Folder;
 use trusted::log::DiskLog;
-use trusted::server::Server;
 use trusted::system;
 
 /// Says what a start on a folder would.

@@ -50,11 +50,9 @@ FAULTS = dict(fault="30,30,20", mixed="30,30,20", cut="0,0,30")
 # Hosts that are wrong on purpose: the file, what stands there, and what is put in its place.
 WRONG = {
     "reply at once": [("log.rs", "self.under_way.push(at);",
-                       "self.under_way.push(at);\n                    if !self.is_cutting {\n"
+                       "self.under_way.push(at);\n                    if self.cutting.is_none() {\n"
                        "                        done(store.synced(at.frame), \"synced\")?;\n                    }"),
-                      ("log.rs", "return done(store.synced(at.frame), \"synced\"); // [2]", "return Ok(());"),
-                      ("log.rs", "self.is_cutting = true;\n        if !is_head {\n            return done(store.failed(at.frame), \"failed\"); // [2]",
-                       "if !is_head {\n            return Ok(());")],
+                      ("log.rs", "Ok(()) => done(store.synced(at.frame), \"synced\"), // [2]", "Ok(()) => Ok(()),\n            Err(_) if !job.is_head => Ok(()),")],
     "no sync": [("disk.rs", "    file.sync_data()?; // [2]\n", "")],
     "no cut": [("disk.rs", "let did = write(&folder, &mut own, &job.at, &job.bytes);",
                 "let did = if job.is_head { Ok(()) } else { write(&folder, &mut own, &job.at, &job.bytes) };")],
@@ -75,16 +73,16 @@ WRONG = {
                                      "let _ = file.write_at(&bytes[..at.len], at.offset)?;")],
     "start that writes nothing again": [("folder.rs", "read(path, again, feed)", "read(path, false, feed)")],
     "refusal before the cut": [("log.rs", "self.under_way.push(at);",
-                                "self.under_way.push(at);\n                    if self.is_cutting {\n"
+                                "self.under_way.push(at);\n                    if self.cutting.is_some() {\n"
                                 "                        done(store.cut(1), \"cut\")?;\n                    }"),
-                               ("log.rs", "return done(store.cut(1), \"cut\"); // [5]", "return Ok(());"),
+                               ("log.rs", "                done(store.cut(1), \"cut\") // [5]", "                Ok(())"),
                                ("log.rs", "return done(store.turn(), \"turn\");", "return Ok(());")],
-    "snapshot that isn't on the disk": [("folder.rs", "fill(&mut file).and_then(|bytes| file.sync_all().map(|()| bytes))", "fill(&mut file)")],
-    "segments removed before the snapshot has its name": [("folder.rs", "named(path, did.and_then(|bytes| File::open(&self.0)?.sync_all().map(|()| bytes)))",
-                                                           "named(path, did)")],
+    "snapshot that isn't on the disk": [("folder.rs", "            file.sync_all()?;\n", "")],
+    "segments removed before the snapshot has its name": [("folder.rs", "            File::open(&self.0)?.sync_all()?;\n            Ok(did)", "            Ok(did)"),
+                                                          ("folder.rs", "        File::open(&self.0)?.sync_all()?;\n        for", "        for")],
     "snapshot of what is written": [("log.rs", "self.under_way.iter().map(|at| at.segment).min().unwrap_or(self.at.written) - 1", "self.at.written")],
     "all stands before it is decided": [("asked.rs", "Some(ahead) => ahead.waiting.is_empty(),", "Some(_) => true,")],
-    "replies wait for all": [("server.rs", "            self.take_output();", "            if self.store.counts().undecided == 0 {\n"
+    "replies wait for all": [("server.rs", "            self.take_output();", "            if self.channels.counts().undecided == 0 {\n"
                               "                self.take_output();\n            }")],
     "start that serves before its head": [("log.rs", "disk::write(&folder, &mut None, &place, &head)?; // [5]", "let _ = head;")],
 }

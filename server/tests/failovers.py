@@ -15,35 +15,39 @@ in a second they wait for beside, and go on elsewhere: an answer that comes late
     acknowledged writes are there              refused ones are not, and no reader ever saw one
     INCR answers no number twice               MSET is whole
     appends are there once, and in order       somebody leads again within a while
+    while the engine is full a read is answered, and a write once there is room
 """
 import argparse
+import base64
 import concurrent.futures
+import contextlib
+import itertools
+import os
 import pathlib
 import random
 import re
+import select
 import shutil
 import signal
-import socket
 import statistics
-import subprocess
 import sys
 import tempfile
 import threading
 import time
 
+import cluster
 import crashes
-from crashes import ROOMS, Link, Wrong, free_port, home, need
+from crashes import ROOMS, Link, Wrong, need
 
 CLIENTS, LISTS, COUNTERS, PAIRS = 8, 3, 3, 4
-LEASE = 2
 BACK, BACK_OF_WRONG = 120, 30
 # How soon somebody is to lead again where a host was killed, in the median, by how much longer for each second that a thread sleeps longer than it wished.
 SOON, SOON_BY_LATE = 3.0, 100
 # What hosts say.
-CUT, COPIED = "is cut off up to", "is copied from"
+CUT, COPIED, LEADS, OVER = "is cut off up to", "is copied from", "listening on", "leads no more"
+# Where values lie that fill the engine, beside what hosts put.
+FILLER, FILLER_END = "filler/", "filler0"
 PUT_GUARDS = "[is_made(&leader, self.revision), has_value(&leader, &self.token), is_made(&key, 0)]"
-KINDS = ["host killed", "host sleeps", "member stopped, host killed", "host cut off", "host sleeps beside an idle one", "host stopped a while",
-         "member stopped, host sleeps", "member killed", "two killed", "member stopped", "answers lost, host sleeps long", "host loses its folder"]
 SLEEPS = ["host sleeps", "host sleeps beside an idle one", "member stopped, host sleeps"]
 # Hosts that are wrong on purpose: the faults that are tried, and the file, what stands there, and what is put in its place.
 WRONG = {
@@ -52,12 +56,11 @@ WRONG = {
     "no guard of the leader": (["host sleeps beside an idle one", "host cut off", "member stopped, host sleeps"],
                                [("etcd/engine.rs", PUT_GUARDS, "[is_made(&key, 0)]")]),
     "a time out is a failure": (["member stopped", "host cut off", "host stopped a while", "two killed"],
-                                [("etcd/engine.rs", "Err(_) => drop(thread::spawn(move || tell.tell(leadership.settled(&asked)))),",
-                                  "Err(_) => tell.tell(Heard { word: asked.batch.as_ref().map_or(Word::Over, |it| Word::Lost(it.number)),"
-                                  " turn: 0, micros: 0 }),")]),
+                                [("etcd/engine.rs", "leadership.settled(&asked)",
+                                  "Heard { word: asked.batch.as_ref().map_or(Word::Over, |it| Word::Lost(it.number)), turn: 0, micros: 0 }")]),
     "absent is never, behind a cut": (["answers lost, host sleeps long"],
                                       [("etcd/engine.rs", "let snap = did.found(2).map_or(0, |entry| up_to(&entry.value));", "let snap = 0;")]),
-    "nothing is deleted behind the gap": (["member stopped, host killed", "member stopped, host sleeps", "two killed"],
+    "nothing is deleted behind the gap": (["batches lost, host killed", "member stopped, host sleeps"],
                                           [("etcd/engine.rs", ", delete(&self.keys.log(gap), &self.keys.log_end())],", "],")]),
 }
 
@@ -273,103 +276,17 @@ class Client(threading.Thread):
         link.close()
 
 
-class Gate:
-    """What goes between a host and a member, which can be held up, and goes on late; what comes back can be lost."""
-
-    def __init__(self, port):
-        self.target, self.open, self.socket = port, threading.Event(), socket.create_server((home(), 0))
-        self.open.set()
-        self.moved, self.muted = 0, 0.0
-        self.port = self.socket.getsockname()[1]
-        threading.Thread(target=self.takes, daemon=True).start()
-
-    def takes(self):
-        while True:
-            try:
-                near, _ = self.socket.accept()
-            except OSError:
-                return
-            threading.Thread(target=self.joins, args=(near,), daemon=True).start()
-
-    def joins(self, near):
-        self.open.wait()
-        try:
-            far = socket.create_connection((home(), self.target), timeout=5)
-            far.settimeout(None)
-        except OSError:
-            near.close()
-            return
-        for ends in ((near, far), (far, near)):
-            for end in ends:
-                end.setsockopt(socket.IPPROTO_TCP, socket.TCP_NODELAY, 1)
-            threading.Thread(target=self.moves, args=(*ends, time.monotonic(), ends[0] is far), daemon=True).start()
-
-    def moves(self, source, target, begun, is_back):
-        try:
-            while piece := source.recv(1 << 16):
-                self.open.wait()
-                if not is_back or begun > self.muted:
-                    target.sendall(piece)
-                self.moved += 0 if is_back else len(piece)
-            target.shutdown(socket.SHUT_WR)
-        except OSError:
-            for end in (source, target):
-                end.close()
-
-
-class Process:
-    """A host or a member."""
-
-    def __init__(self, words, log):
-        self.words, self.log, self.process, self.sleeps = [str(word) for word in words], log, None, False
-
-    def start(self):
-        with self.log.open("ab") as log:
-            self.process = subprocess.Popen(self.words, stdout=log, stderr=log)
-
-    def stop(self):
-        self.process.send_signal(signal.SIGSTOP)
-        self.sleeps = True
-
-    def wake(self):
-        self.process.send_signal(signal.SIGCONT)
-        self.sleeps = False
-
-    def kill(self):
-        if self.process is not None:
-            self.process.kill()
-            self.process.wait()
-        self.sleeps = False
-
-
-class Host(Process):
-    def __init__(self, trial, name, members, room):
-        self.port, self.gates, self.folder = free_port(), [Gate(member.port) for member in members], room / f"folder-{name}"
-        where = ",".join(f"{home()}:{gate.port}" for gate in self.gates)
-        options = trial.options
-        super().__init__([options.server, "--log", f"etcd:{where}", "--address", f"{home()}:{self.port}", "--lease", LEASE,
-                          "--batches", options.batches, "--clock", options.clock, "--folder", self.folder,
-                          "--snapshot", options.snapshot, "--segment", "64k", "--undecided", "60k"], room / f"host-{name}.log")
-
-
 class Trial:
     """Three members, two hosts, and clients."""
 
     def __init__(self, options, room):
         self.options, self.room, self.book, self.over, self.calm = options, room, Book(), threading.Event(), threading.Event()
-        self.dice, self.wrong, self.back, self.late, self.probes = random.Random(f"{options.seed}"), None, [], [], {}
-        ports = [(free_port(), free_port()) for _ in range(3)]
-        cluster = ",".join(f"m{place}=http://{home()}:{peer}" for place, (_, peer) in enumerate(ports))
-        self.members = []
-        for place, (port, peer) in enumerate(ports):
-            client, between = f"http://{home()}:{port}", f"http://{home()}:{peer}"
-            member = Process(["etcd", "--name", f"m{place}", "--data-dir", room / f"m{place}", "--listen-client-urls", client,
-                              "--advertise-client-urls", client, "--listen-peer-urls", between, "--initial-advertise-peer-urls",
-                              between, "--initial-cluster", cluster, "--initial-cluster-token", room.name, "--log-level", "error",
-                              "--quota-backend-bytes", 2 << 30], room / f"m{place}.log")
-            member.port = port
-            self.members.append(member)
-        self.hosts = [Host(self, name, self.members[place:] + self.members[:place], room) for place, name in enumerate("abc"[:options.hosts])]
+        self.dice, self.wrong, self.back, self.late, self.probes, self.moved = random.Random(f"{options.seed}"), None, [], [], {}, 0
+        # What is cut off, and numbers of what fills the engine.
+        self.cut, self.fillers = set(), itertools.count()
+        self.members = cluster.engine(room, self.cut, cluster.SMALL if any("full" in kind for kind in options.kinds) else cluster.LARGE)
+        around = [self.members[place:] + self.members[:place] for place in range(options.hosts)]
+        self.hosts = [cluster.Host(options, name, members, room, self.cut) for name, members in zip("abc", around)]
 
     def lags(self):
         """How much longer a thread sleeps than it wished, which tells what the machine has for others."""
@@ -394,19 +311,19 @@ class Trial:
             for host in self.hosts:
                 if host.process.poll() is not None:
                     host.start()
-                if host.sleeps or host is not_this:
-                    continue
-                try:
-                    link = Link(host.port)
-                    link.socket.settimeout(1.0)
-                    told = link.ask("GET", "nothing")
-                    link.close()
-                    if told is None:
-                        return host
-                except OSError:
-                    pass
+                if not host.sleeps and host is not not_this and self.reads(host):
+                    return host
             time.sleep(0.05)
         raise Wrong("nobody leads")
+
+    def reads(self, host, patience=1.0):
+        """Whether a host answers a read that rests on nothing."""
+        try:
+            with contextlib.closing(Link(host.port)) as link:
+                link.socket.settimeout(patience)
+                return link.ask("GET", "nothing") is None
+        except OSError:
+            return False
 
     def check(self, host, most=40):
         """What must hold at the host that leads: what is known when it is asked counts."""
@@ -507,7 +424,7 @@ class Trial:
             self.calm.clear()
         self.leader(host)
         if not is_idle:
-            time.sleep(0.3)
+            self.goes_on()
         if member:
             member.wake()
             time.sleep(0.3)
@@ -519,17 +436,71 @@ class Trial:
         time.sleep(0.3)
         self.calm.set()
 
-    def holds_up(self, host, seconds):
-        """Nothing goes between a host and the engine for a while, and what was sent meanwhile arrives late."""
-        self.probe(host)
-        for gate in host.gates:
-            gate.open.clear()
-        time.sleep(seconds)
-        waiting = self.questions(host)
-        for gate in host.gates:
-            gate.open.set()
+    def goes_on(self):
+        """Waits until more is acknowledged, which whoever sleeps doesn't have."""
+        wanted, until = self.book.totals["acknowledged"] + 50, time.monotonic() + BACK
+        while self.book.totals["acknowledged"] < wanted and time.monotonic() < until:
+            self.looked()
+            time.sleep(0.05)
+
+    def stops(self, process, least, most):
+        """Stops a host or a member for a while."""
+        process.stop()
+        time.sleep(self.dice.uniform(least, most))
+        process.wake()
+
+    def kills(self, count, most):
+        """Kills members, which start again after a while."""
+        members = self.dice.sample(self.members, count)
+        for member in members:
+            member.kill()
+        time.sleep(self.dice.uniform(0, most))
+        for member in members:
+            member.start()
+
+    def kills_behind(self, host):
+        """Stops the member that has batches of the host, kills this, and wakes the member once another leads."""
+        member = self.asked(host)
+        member.stop()
+        time.sleep(self.dice.choice([0.05, 1.0, 1.01, 1.02, 1.03, 1.05]))
+        host.kill()
+        self.leader()
+        member.wake()
+
+    def cuts_off(self, process):
+        """Nothing goes between a host and the engine, or between a member and the others, for a while, in which a host is asked. What was sent
+        arrives late."""
+        if process in self.hosts:
+            self.probe(process)
+        self.cut.add(process.end)
+        time.sleep(self.dice.uniform(0.2, 5))
+        waiting = self.questions(process)
+        self.cut.discard(process.end)
         for thread in waiting:
             thread.join(31)
+
+    def mutes(self, host):
+        """The answers to a host are lost, and it sleeps while others lead and cut the log off."""
+        for gate in host.gates:
+            gate.muted = time.monotonic()
+        time.sleep(0.1)
+        host.stop()
+        self.leader(host)
+        time.sleep(3)
+        host.wake()
+        time.sleep(2)
+
+    def tears(self, host):
+        """Connections break, of the batches that are asked for again some get in, whichever, and the host is killed: so some may be behind a gap."""
+        self.cut.add(host.end)
+        time.sleep(self.dice.uniform(0.1, 0.5))
+        for gate in host.gates:
+            gate.broken, gate.loses = time.monotonic(), 0.6
+        self.cut.discard(host.end)
+        time.sleep(self.dice.uniform(0.4, 0.8))
+        host.kill()
+        for gate in host.gates:
+            gate.loses = 0.0
 
     def said(self, text):
         """How often hosts said something."""
@@ -545,55 +516,48 @@ class Trial:
             need(time.monotonic() < until, "no snapshot is copied")
             time.sleep(0.05)
 
-    def fault(self, kind):
-        host, member = self.leader(), self.dice.choice(self.members)
-        asked = self.asked(host)
-        if kind == "host killed":
-            host.kill()
-        elif kind in ("host sleeps", "host sleeps beside an idle one"):
-            self.sleeps(host, kind != "host sleeps")
-        elif kind == "host stopped a while":
-            host.stop()
-            time.sleep(self.dice.uniform(0.2, 2.8))
-            host.wake()
-        elif kind in ("member stopped, host killed", "member stopped, host sleeps"):
-            if kind.endswith("killed"):
-                asked.stop()
-                time.sleep(self.dice.choice([0.05, 1.0, 1.01, 1.02, 1.03, 1.05]))
+    def fills(self):
+        """Puts values beside what hosts put, by all members at once, until there is no room for more."""
+        value = bytes64(os.urandom(1 << 20))
+
+        def refuses(member):
+            key = bytes64(f"{FILLER}{next(self.fillers):06}".encode())
+            return "space exceeded" in member.asks("kv/put", key=key, value=value).get("error", "")
+        with concurrent.futures.ThreadPoolExecutor(len(self.members)) as pool:
+            while not any(list(pool.map(refuses, self.members))):
+                self.looked()
+
+    def makes_room(self):
+        """What who runs the engine does once it is full, until each member takes something."""
+        asks, (first, end), until = self.members[0].asks, (bytes64(text.encode()) for text in (FILLER, FILLER_END)), time.monotonic() + BACK
+        while any("error" in member.asks("kv/put", key=first) for member in self.members):
+            need(time.monotonic() < until, "no room can be made")
+            gone = asks("kv/deleterange", key=first, range_end=end)
+            asks("kv/compaction", revision=gone.get("header", {}).get("revision", 0), physical=True)
+            for member in self.members:
+                member.asks("maintenance/defragment")
+            for alarm in asks("maintenance/alarm", action="GET").get("alarms", []):
+                asks("maintenance/alarm", **{**alarm, "action": "DEACTIVATE"})
+
+    def is_full(self, is_killed):
+        """The engine has no room for a while: as long as the host leads what is written waits, and is answered once there is some, while reads
+        go on."""
+        led, host, told = (self.said(LEADS), self.said(OVER)), self.leader(), None
+        leads = lambda: (self.said(LEADS), self.said(OVER)) == led
+        self.fills()
+        with contextlib.suppress(OSError), contextlib.closing(Link(host.port)) as link:
+            link.send(("SET", "room", "1"))
+            early, _, _ = select.select([link.socket], [], [], self.dice.uniform(0.5, 3))
+            need(not early or not leads(), "a write was answered while the engine was full")
+            need(self.reads(host, 10) or not leads(), "no read was answered while the engine was full")
+            if is_killed:
                 host.kill()
-                self.leader()
-                asked.wake()
-            else:
-                self.sleeps(host, True, asked)
-        elif kind == "member killed":
-            member.kill()
-            time.sleep(self.dice.random())
-            member.start()
-        elif kind == "member stopped":
-            member.stop()
-            time.sleep(self.dice.uniform(0.5, 3))
-            member.wake()
-        elif kind == "two killed":
-            two = self.dice.sample(self.members, 2)
-            for member in two:
-                member.kill()
-            time.sleep(self.dice.random() * 2)
-            for member in two:
-                member.start()
-        elif kind == "answers lost, host sleeps long":
-            for gate in host.gates:
-                gate.muted = time.monotonic()
-            time.sleep(0.1)
-            host.stop()
-            self.leader(host)
-            time.sleep(3)
-            host.wake()
-            time.sleep(2)
-        elif kind == "host loses its folder":
-            self.loses(self.dice.choice(self.hosts))
-        elif kind == "host cut off":
-            self.holds_up(host, self.dice.uniform(0.2, 5))
-        return host
+            self.makes_room()
+            told = link.reply()
+        self.makes_room()
+        if told != "OK" and not is_killed:
+            self.leader()
+            need(not leads(), "a batch was given up as the engine was full:", told)
 
     def run(self):
         for member in self.members:
@@ -606,17 +570,17 @@ class Trial:
         for client in clients:
             client.start()
         threading.Thread(target=self.lags, daemon=True).start()
-        kinds, moved, tally = self.options.kinds, 0, {}
+        kinds = self.options.kinds
         for place in range(self.options.faults):
             kind = kinds[place % len(kinds)]
-            tally[kind] = tally.get(kind, 0) + 1
             time.sleep(self.dice.uniform(0.2, self.options.seconds))
             begun = time.monotonic()
             try:
-                before = self.fault(kind)
+                before = self.leader()
+                FAULTS[kind](self, before)
                 after = self.leader()
                 self.back.append(time.monotonic() - begun)
-                moved += after is not before
+                self.moved += after is not before
                 back = time.monotonic()
                 self.checked()
                 self.looked()
@@ -629,15 +593,17 @@ class Trial:
             client.join(5)
         self.checked(1 << 30)
         self.looked()
-        self.stops()
+        self.stops_cleanly()
         back, late = statistics.median(self.back), statistics.median(self.late)
         if self.options.back:
             need(back < SOON + SOON_BY_LATE * late, f"another led again after {back:.1f} s (p50), where threads sleep {late:.4f} s too long")
-        counts = [("snapshots", "a snapshot up to .* bytes"), ("cuts", CUT), ("copies", COPIED), ("starts behind a gap", "and [1-9][0-9]* behind a gap")]
-        self.book.totals.update({name: self.said(text) for name, text in counts})
-        return f"{self.options.faults} faults, {moved} changes of leader, {self.book.totals}, back after {back:.1f} s (p50): nothing wrong"
+        return f"{self.options.faults} faults, {self.counts()}, back after {back:.1f} s (p50): nothing wrong"
 
-    def stops(self):
+    def counts(self):
+        counts = [("snapshots", "a snapshot up to .* bytes"), ("cuts", CUT), ("copies", COPIED), ("starts behind a gap", "and [1-9][0-9]* behind a gap")]
+        return {"changes of leader": self.moved, **self.book.totals, **{name: self.said(text) for name, text in counts}}
+
+    def stops_cleanly(self):
         """A clean stop gives the leadership up at once, and what was acknowledged stays."""
         host = self.leader()
         link = Link(host.port)
@@ -657,6 +623,32 @@ class Trial:
             process.kill()
 
 
+# What happens, of each kind, at a moment at which this host leads.
+FAULTS = {
+    "host killed": lambda trial, host: host.kill(),
+    "host sleeps": lambda trial, host: trial.sleeps(host, False),
+    "member stopped, host killed": Trial.kills_behind,
+    "host cut off": Trial.cuts_off,
+    "host sleeps beside an idle one": lambda trial, host: trial.sleeps(host, True),
+    "host stopped a while": lambda trial, host: trial.stops(host, 0.2, 2.8),
+    "member stopped, host sleeps": lambda trial, host: trial.sleeps(host, True, trial.asked(host)),
+    "member killed": lambda trial, host: trial.kills(1, 1),
+    "engine full": lambda trial, host: trial.is_full(False),
+    "two killed": lambda trial, host: trial.kills(2, 2),
+    "member stopped": lambda trial, host: trial.stops(trial.dice.choice(trial.members), 0.5, 3),
+    "member cut off": lambda trial, host: trial.cuts_off(trial.dice.choice([trial.asked(host), *trial.members])),
+    "batches lost, host killed": Trial.tears,
+    "answers lost, host sleeps long": Trial.mutes,
+    "engine full, host killed": lambda trial, host: trial.is_full(True),
+    "host loses its folder": lambda trial, host: trial.loses(trial.dice.choice(trial.hosts)),
+}
+
+
+def bytes64(data):
+    """Bytes as the engine's gateway takes them."""
+    return base64.b64encode(data).decode()
+
+
 def tried(options):
     """So many faults; answers a line."""
     room = pathlib.Path(tempfile.mkdtemp(prefix="failovers-", dir=ROOMS))
@@ -666,7 +658,7 @@ def tried(options):
     except Wrong as wrong:
         logs = "" if options.wrong is not None and not options.tell else "".join(
             f"\n{path.name}: {path.read_text(errors='replace')[-600:]}" for path in sorted(room.glob("host-*.log")))
-        return f"WRONG: {wrong} (seed {options.seed}, {trial.book.totals}){logs}", False
+        return f"WRONG: {wrong} (seed {options.seed}, {trial.counts()}){logs}", False
     finally:
         trial.end()
         shutil.rmtree(room, ignore_errors=True)
@@ -687,7 +679,7 @@ def main():
     words = argparse.ArgumentParser(description=__doc__, formatter_class=argparse.RawDescriptionHelpFormatter)
     words.add_argument("--server", default=str(crashes.TOP / "target/release/hidewillow-server"))
     words.add_argument("--faults", type=int, default=20)
-    words.add_argument("--kinds", default=",".join(kind.replace(", ", "; ") for kind in KINDS), help="with ; in the place of a comma within a name")
+    words.add_argument("--kinds", default=",".join(kind.replace(", ", "; ") for kind in FAULTS), help="with ; in the place of a comma within a name")
     words.add_argument("--seconds", type=float, default=1.0, help="how long clients work before a fault, at most")
     words.add_argument("--rest", type=float, default=0.01, help="how long a client rests between its commands, at most")
     words.add_argument("--seed", type=int, default=1)

@@ -6,14 +6,15 @@ use super::requests::{
     delete, did, found, has_value, is_changed, is_made, is_older, put, range, read, transaction, Entry, Members,
     Request,
 };
+use crate::tell::Tell;
 use hidewillow::engine::{self, Answer, BatchSeen, FenceSeen, Held, Word};
 use std::collections::hash_map::RandomState;
 use std::hash::BuildHasher;
-use std::io::{self, ErrorKind, Write};
+use std::io::{self, ErrorKind};
 use std::mem;
 use std::os::unix::net::UnixStream;
 use std::sync::atomic::{AtomicBool, AtomicU64, Ordering};
-use std::sync::mpsc::{channel, Receiver, Sender};
+use std::sync::mpsc::Receiver;
 use std::sync::Arc;
 use std::thread;
 use std::time::{Duration, Instant};
@@ -302,7 +303,7 @@ impl Leadership {
 
     /// Has the lease run on while this is wanted, and tells once that it is over. What is asked of a member that doesn't answer this is asked of
     /// the next.
-    fn keep(&self, tell: &Tell) {
+    fn keep(&self, tell: &Tell<Heard>) {
         let (pause, mut is_told) = (Duration::from_secs(self.seconds) / 3, false);
         while !self.is_over.load(Ordering::Acquire) {
             let begun = self.begun.elapsed();
@@ -333,20 +334,10 @@ impl Leadership {
     }
 }
 
-/// Tells the loop, and wakes it. That may have ended: then nobody is to be told.
-#[derive(Clone)]
-struct Tell(Sender<Heard>, Arc<UnixStream>);
-
-impl Tell {
-    fn tell(&self, heard: Heard) {
-        let _ = self.0.send(heard).map(|()| (&mut &*self.1).write(&[0]));
-    }
-}
-
 /// A leadership, of which the loop asks and is told.
 pub struct Engine {
     pub leadership: Arc<Leadership>,
-    tell: Tell,
+    tell: Tell<Heard>,
     words: Receiver<Heard>,
 }
 
@@ -354,8 +345,8 @@ impl Engine {
     /// Leads, if nobody does.
     pub fn lead(members: Arc<Members>, keys: &Keys, seconds: u64, wake: UnixStream) -> io::Result<Option<Engine>> {
         let Some(leadership) = Leadership::begin(members, keys, seconds)?.map(Arc::new) else { return Ok(None) };
-        let (tell, words) = channel();
-        let engine = Engine { leadership, tell: Tell(tell, Arc::new(wake)), words };
+        let (tell, words) = Tell::new(wake);
+        let engine = Engine { leadership, tell, words };
         let (keeps, tells) = (engine.leadership.clone(), engine.tell.clone());
         thread::spawn(move || keeps.keep(&tells));
         Ok(Some(engine))
@@ -377,13 +368,16 @@ impl Engine {
         self.ask(self.leadership.round(turn));
     }
 
-    /// Asks at once; where nothing is told the same is asked by a thread of its own until something is.
+    /// Asks at once; where nothing is told that is told, and the same is asked by a thread of its own until something is.
     fn ask(&self, question: Question) {
         let (leadership, tell, question) = (self.leadership.clone(), self.tell.clone(), Arc::new(question));
         let asked = question.clone();
         let hears = move |answer: io::Result<Vec<u8>>| match answer.and_then(|it| leadership.word(&asked, &it)) {
             Ok(heard) => tell.tell(heard),
-            Err(_) => drop(thread::spawn(move || tell.tell(leadership.settled(&asked)))),
+            Err(_) => {
+                tell.tell(Heard { word: Word::Again, turn: asked.turn, micros: 0 });
+                thread::spawn(move || tell.tell(leadership.settled(&asked)));
+            }
         };
         self.leadership.members.begin(&question.request, Box::new(hears));
     }

@@ -4,8 +4,9 @@ use super::engine::{have, read_log, tell_have, Batch, Have, Keys, Leadership, Re
 use super::leader::recovered;
 use super::requests::Members;
 use crate::door::is_password;
+use crate::info::named;
 use crate::options::Options;
-use crate::trusted::folder::{named, Folder};
+use crate::trusted::folder::Folder;
 use crate::trusted::library::Recovery;
 use std::fs::File;
 use std::io::{self, BufRead, BufReader, Read, Write};
@@ -140,8 +141,8 @@ impl Reader {
         let (mut recovery, ..) = self.folder.begin()?;
         let (segment, next) = (batches[last].segment, batches[last].number + 1);
         recovered(&mut recovery, &batches[..=last], next)?;
-        let (path, bytes) = self.folder.write_of(&mut recovery, segment, next)?;
-        self.folder.remove(segment, &path)?;
+        let bytes = self.folder.write_of(&mut recovery, segment, next)?;
+        self.folder.remove()?;
         say!("a snapshot up to batch {} has {bytes} bytes", next - 1);
         Ok(())
     }
@@ -157,10 +158,10 @@ impl Reader {
         let &[segment, next, bytes] = &numbers[..] else { return Err(io::Error::other("no copy is handed out")) };
         let path = self.folder.snapshot_of(segment, next);
         self.folder.place(&path, |file| match io::copy(&mut socket.take(bytes), file)? {
-            copied if copied == bytes => Ok(copied),
+            copied if copied == bytes => Ok(()),
             _ => Err(io::ErrorKind::UnexpectedEof.into()),
         })?;
-        self.folder.remove(segment, &path)?;
+        self.folder.remove()?;
         say!("a snapshot up to batch {} is copied from {}", next - 1, have.copies);
         Ok(())
     }

@@ -3,27 +3,22 @@ use super::engine::{Batch, Engine, Heard, Keys};
 use super::follower::{warmed, Follower};
 use super::requests::Members;
 use crate::house::House;
+use crate::info::LogCounts;
 use crate::keeper::Keeper;
 use crate::options::Options;
+use crate::server::Server;
 use crate::trusted::folder::Folder;
-use crate::trusted::library::{
-    done, well, Recovery, Store, ABSENT, BUSY, DONE, FULL, MEMORY, NOTHING, NO_CUT, REFUSED,
-};
+use crate::trusted::library::{done, well, Next, Recovery, Store, ABSENT, DONE, HEAD};
 use crate::trusted::log::Log;
-use crate::trusted::server::Server;
 use crate::trusted::system::SIGUSR1;
 use hidewillow::engine::Word;
 use hidewillow::store::{FramePlace, ReadCounts, StoreLimits};
-use hidewillow::Told;
-use std::hash::{BuildHasher, RandomState};
 use std::io::{self, ErrorKind, Read};
 use std::net::TcpListener;
 use std::os::unix::net::UnixStream;
 use std::sync::Arc;
 use std::time::Duration;
 
-/// How long the head of a frame is.
-const HEAD: usize = 24;
 /// How often it is looked whether somebody leads, and how many rounds are under way at once.
 const WAIT: Duration = Duration::from_millis(50);
 const ROUNDS: usize = 2;
@@ -34,22 +29,22 @@ pub struct EtcdLog {
     engine: Engine,
     limits: StoreLimits,
     trusts_clock: bool,
-    /// The batches under way, and the number of the next.
+    /// The batches under way.
     under_way: Vec<u64>,
-    next: u64,
     /// The turn of the loop behind which this host led, by batches and rounds, the last turn behind which one of them was sent, and how many
     /// rounds are under way.
     led: u64,
     asked: u64,
     rounds: usize,
+    /// Whether nothing was told of the last batch of which something could be.
+    is_silent: bool,
     /// Batches that will never be in the log, once this host leads no more, and whether all is wound up.
     is_losing: bool,
     lost: Vec<u64>,
     is_over: bool,
     /// How many keys the log had.
     found: u64,
-    /// Batches that are in the log, their bytes, the microseconds of all and of the longest, batches that were lost, and rounds.
-    counts: [u64; 6],
+    counts: LogCounts,
 }
 
 /// Feeds batches to the library that has what was before, segment by segment; this is the number behind them.
@@ -97,8 +92,7 @@ impl EtcdLog {
             .map_err(|error| io::Error::new(ErrorKind::InvalidData, format!("the log is damaged: {error}")))?;
         let (all, behind, new) = (next - 1, log.behind, log.gap - ahead);
         say!("{keys} keys, {commands} commands in {all} batches, {new} of them read now, and {behind} behind a gap are deleted");
-        let (seed, mut head) = (RandomState::new().hash_one(std::process::id()), vec![0; HEAD]);
-        let (store, at) = Store::open(&mut recovery, &options.limits, seed, &mut head)?;
+        let (store, at, head) = Store::open(&mut recovery, &options.limits)?;
         // The first batch is decided before any other is sent.
         let first = engine.leadership.to_put(batch(engine.leadership.revision, &at, &head), 0);
         if at.frame != next || engine.leadership.once(&first, WAIT * 80)?.word != Word::Synced(next) {
@@ -108,8 +102,8 @@ impl EtcdLog {
         let (trusts_clock, under_way, lost) = (options.trusts_clock, Vec::new(), Vec::new());
         #[rustfmt::skip]
         let log = EtcdLog {
-            engine, limits: options.limits, trusts_clock, under_way, next: next + 1, led: 0, asked: 0, rounds: 0,
-            is_losing: false, lost, is_over: false, found: keys, counts: [0; 6],
+            engine, limits: options.limits, trusts_clock, under_way, led: 0, asked: 0, rounds: 0,
+            is_silent: false, is_losing: false, lost, is_over: false, found: keys, counts: LogCounts::default(),
         };
         Ok(Some((store, log)))
     }
@@ -118,16 +112,16 @@ impl EtcdLog {
     fn came(&mut self, store: &mut Store, Heard { word, turn, micros }: Heard) -> io::Result<()> {
         match word {
             Word::Synced(number) => {
-                self.led = self.led.max(turn);
+                (self.led, self.is_silent) = (self.led.max(turn), false);
                 self.under_way.retain(|it| *it != number);
-                let [batches, _, all, longest, ..] = &mut self.counts;
-                (*batches, *all, *longest) = (*batches + 1, *all + micros, micros.max(*longest));
+                self.counts.synced(0, micros);
                 done(store.synced(number), "synced")?;
             }
+            Word::Again => self.is_silent = true,
             Word::Still(turn) => (self.led, self.rounds) = (self.led.max(turn), self.rounds - 1),
             Word::Lost(number) => {
                 self.under_way.retain(|it| *it != number);
-                (self.is_losing, self.counts[4]) = (true, self.counts[4] + 1);
+                (self.is_losing, self.counts.failures) = (true, self.counts.failures + 1);
                 self.lost.push(number);
             }
             Word::Over => {
@@ -151,16 +145,16 @@ impl EtcdLog {
         for number in std::mem::take(&mut self.lost) {
             done(store.failed(number), "failed")?;
         }
+        let mut bytes = Vec::new();
         loop {
-            let (mut at, mut bytes) = (FramePlace::default(), vec![0; store.counts().next_frame.max(HEAD)]);
-            if store.cut_frame(&mut bytes, &mut at).answer == DONE {
+            if let Next::Frame(_) = store.next_frame(true, &mut bytes)? {
                 done(store.cut(1), "cut")?;
             }
             while store.decide().answer != ABSENT {}
-            match store.take_frame(&mut bytes, &mut at) {
-                Told { answer: DONE, .. } => done(store.failed(at.frame), "failed")?,
-                Told { answer: REFUSED, number: FULL, .. } => done(store.turn(), "turn")?,
-                _ => break,
+            match store.next_frame(false, &mut bytes)? {
+                Next::Frame(at) => done(store.failed(at.frame), "failed")?,
+                Next::Full => done(store.turn(), "turn")?,
+                Next::None => break,
             }
         }
         self.is_over = true;
@@ -185,29 +179,28 @@ impl Log for EtcdLog {
 
     fn send(&mut self, store: &mut Store, turn: u64) -> io::Result<()> {
         while !self.is_losing && self.under_way.len() < self.limits.in_flight.into() {
-            let (mut at, mut bytes) = (FramePlace::default(), vec![0; store.counts().next_frame]);
-            match store.take_frame(&mut bytes, &mut at) {
-                Told { answer: DONE, .. } => {
-                    (self.next, self.asked, self.counts[1]) = (at.frame + 1, turn, self.counts[1] + at.len as u64);
+            let mut bytes = Vec::new();
+            match store.next_frame(false, &mut bytes)? {
+                Next::Frame(at) => {
+                    (self.asked, self.counts.bytes) = (turn, self.counts.bytes + at.len as u64);
                     self.under_way.push(at.frame);
                     self.engine.send(batch(self.engine.leadership.revision, &at, &bytes), turn);
                 }
-                Told { answer: REFUSED, number: FULL, .. } => done(store.turn(), "turn")?,
-                Told { answer: REFUSED, number: NOTHING | BUSY | NO_CUT, .. } | Told { answer: MEMORY, .. } => break,
-                told => done(told, "frame")?,
+                Next::Full => done(store.turn(), "turn")?,
+                Next::None => break,
             }
         }
         Ok(())
     }
 
-    /// What is read rides on the next batch; a round goes where there is none.
+    /// What is read rides on the next batch; a round goes where there is none, or where nothing is told of batches, as by an engine without room.
     fn prove(&mut self, store: &mut Store, read: u64, turn: u64) {
         if self.trusts_clock && !self.is_losing && self.engine.leadership.runs() {
             self.led = turn;
         }
-        let rides = self.asked >= read || store.counts().next_frame > HEAD;
+        let rides = !self.is_silent && (self.asked >= read || store.counts().next_frame > HEAD);
         if read > self.led && !rides && !self.is_losing && self.rounds < ROUNDS {
-            (self.asked, self.rounds, self.counts[5]) = (turn, self.rounds + 1, self.counts[5] + 1);
+            (self.asked, self.rounds, self.counts.rounds) = (turn, self.rounds + 1, self.counts.rounds + 1);
             self.engine.round(turn);
         }
     }
@@ -229,18 +222,8 @@ impl Log for EtcdLog {
         self.is_over
     }
 
-    fn next(&self) -> u64 {
-        self.next
-    }
-
-    fn is_decided(&self, frame: u64) -> bool {
-        self.next > frame && self.under_way.iter().all(|number| *number > frame)
-    }
-
-    fn counts(&self) -> Vec<(&'static str, u64)> {
-        let names =
-            ["syncs", "written_bytes", "sync_microseconds", "sync_longest_microseconds", "batches_lost", "rounds"];
-        names.into_iter().zip(self.counts).collect()
+    fn counts(&self) -> &LogCounts {
+        &self.counts
     }
 }
 

@@ -1,28 +1,32 @@
-//! Threads that write frames and sync them, and work that goes on beside the loop.
+//! Threads that write frames and sync them, and make segments.
 use super::folder::Folder;
+use crate::tell::Tell;
 use hidewillow::store::FramePlace;
 use std::fs::{File, OpenOptions};
-use std::io::{self, Write};
+use std::io;
 use std::os::unix::fs::FileExt;
 use std::os::unix::net::UnixStream;
 use std::sync::mpsc::{channel, Receiver, Sender};
 use std::sync::Arc;
-use std::thread;
-use std::time::Instant;
+use std::time::{Duration, Instant};
+use std::{mem, thread};
 
-/// A frame that is to be written, or the head of a cut.
+/// A longer room for a frame isn't kept.
+const ROOM: usize = 1 << 20;
+
+/// A frame that is to be written, or the head of a cut, and the place of the thread that does it.
 pub struct Job {
+    place: usize,
     pub at: FramePlace,
     pub is_head: bool,
-    pub bytes: Vec<u8>,
+    bytes: Vec<u8>,
     pub begun: Instant,
 }
 
 /// What came of something that went on beside the loop.
 pub enum Word {
-    /// A thread wrote what it was given.
-    Written(usize, Job, io::Result<()>),
-    Segment(u64, io::Result<()>),
+    Written(Job, io::Result<()>),
+    Segment(io::Result<()>),
 }
 
 /// Writes bytes where they are to be, and syncs them, through a handle that its caller alone writes by. It has one for the next time
@@ -40,59 +44,59 @@ pub fn write(folder: &Folder, own: &mut Option<(u64, File)>, at: &FramePlace, by
 
 pub struct Disk {
     folder: Arc<Folder>,
-    /// Threads that write, and the places of those that are idle.
+    /// Threads that write, and of those that are idle the places, each with a room for the next frame.
     threads: Vec<Sender<Job>>,
-    idle: Vec<usize>,
+    idle: Vec<(usize, Vec<u8>)>,
     words: Receiver<Word>,
-    tell: Sender<Word>,
-    wake: Arc<UnixStream>,
-}
-
-/// Tells a word and wakes the loop. That may have ended: then nobody is to be told. Where too many wait to wake it, it is awake.
-fn hears(tell: &Sender<Word>, wake: &UnixStream, word: Word) {
-    let _ = tell.send(word).map(|()| (&mut &*wake).write(&[0]));
+    tell: Tell<Word>,
 }
 
 impl Disk {
     pub fn start(folder: Folder, threads: u16, wake: UnixStream) -> Disk {
-        let ((tell, words), folder, wake) = (channel(), Arc::new(folder), Arc::new(wake));
-        let start = |place| {
-            let (folder, tell, wake) = (folder.clone(), tell.clone(), wake.clone());
-            let (jobs, taken) = channel::<Job>();
+        let ((tell, words), folder) = (Tell::new(wake), Arc::new(folder));
+        let start = |_| {
+            let ((jobs, taken), folder, tell) = (channel::<Job>(), folder.clone(), tell.clone());
             thread::spawn(move || {
                 let mut own = None;
                 for job in taken {
                     let did = write(&folder, &mut own, &job.at, &job.bytes);
-                    hears(&tell, &wake, Word::Written(place, job, did));
+                    tell.tell(Word::Written(job, did));
                 }
             });
             jobs
         };
-        let idle: Vec<usize> = (0..threads.into()).collect();
-        Disk { threads: idle.iter().copied().map(start).collect(), idle, folder, words, tell, wake }
+        let threads: Vec<_> = (0..threads.into()).map(start).collect();
+        let idle = (0..threads.len()).map(|place| (place, Vec::new())).collect();
+        Disk { folder, threads, idle, words, tell }
     }
 
-    /// Does something on a thread of its own.
-    pub fn beside(&self, work: impl FnOnce(&Folder) -> Word + Send + 'static) {
-        let (folder, tell, wake) = (self.folder.clone(), self.tell.clone(), self.wake.clone());
-        thread::spawn(move || hears(&tell, &wake, work(&folder)));
+    /// Has a segment made, after a while.
+    pub fn make_segment(&self, segment: u64, bytes: u64, wait: Duration) {
+        let (folder, tell) = (self.folder.clone(), self.tell.clone());
+        thread::spawn(move || {
+            thread::sleep(wait);
+            tell.tell(Word::Segment(folder.make_segment(segment, bytes)));
+        });
     }
 
-    /// Whether a thread is idle.
-    pub fn is_idle(&self) -> bool {
-        !self.idle.is_empty()
+    /// A room for the next frame, where a thread is idle.
+    pub fn room(&mut self) -> Option<&mut Vec<u8>> {
+        self.idle.last_mut().map(|(_, room)| room)
     }
 
-    /// Has an idle thread write.
-    pub fn send(&mut self, job: Job) {
-        let place = self.idle.pop().expect("a thread is idle");
+    /// Has that thread write what the room has.
+    pub fn send(&mut self, at: FramePlace, is_head: bool) {
+        let (place, bytes) = self.idle.pop().expect("a thread is idle");
+        let job = Job { place, at, is_head, bytes, begun: Instant::now() };
         self.threads[place].send(job).expect("disk threads don't end");
     }
 
     pub fn next_word(&mut self) -> Option<Word> {
-        let word = self.words.try_recv().ok()?;
-        if let Word::Written(place, ..) = word {
-            self.idle.push(place);
+        let mut word = self.words.try_recv().ok()?;
+        if let Word::Written(Job { place, bytes, .. }, _) = &mut word {
+            bytes.truncate(ROOM);
+            bytes.shrink_to(ROOM);
+            self.idle.push((*place, mem::take(bytes)));
         }
         Some(word)
     }

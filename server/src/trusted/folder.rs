@@ -1,16 +1,14 @@
 //! What a store has in its folder: `log-N`, segments of zeros with frames over them, and `snapshot-N-F`, which stands for all
 //! segments up to N; the log goes on behind it with frame F.
-use super::library::{done, well, Recovery, ABSENT, DAMAGED, DONE, OPENED, REFUSED, SHOWN};
+use super::library::{done, well, Recovery, ABSENT, DAMAGED, DONE, HEAD, REFUSED, SHOWN};
 use super::log::Closed;
-use crate::info::found;
+use crate::info::{damaged, named};
 use hidewillow::store::ReadCounts;
 use std::fs::{self, File, OpenOptions};
 use std::io::{self, Read, Write};
 use std::os::unix::fs::FileExt;
 use std::path::{Path, PathBuf};
 
-/// How long the head of a frame is.
-pub const HEAD: usize = 24;
 const PIECE: usize = 1 << 20;
 /// No piece of a snapshot is longer. What isn't used of it takes no memory.
 const ENTRIES: usize = 32 << 20;
@@ -30,40 +28,35 @@ pub struct Made {
     pub bytes: u64,
 }
 
-pub fn named<T>(path: &Path, did: io::Result<T>) -> io::Result<T> {
-    did.map_err(|error| io::Error::new(error.kind(), format!("{}: {error}", path.display())))
+fn is_zeros(bytes: &[u8]) -> bool {
+    bytes.iter().all(|byte| *byte == 0)
 }
 
 /// Reads a file to its end, piece by piece, and writes what isn't zeros again where it stands, if asked to.
 fn read(path: &Path, again: bool, mut take: impl FnMut(&[u8]) -> io::Result<()>) -> io::Result<()> {
     let file = OpenOptions::new().read(true).write(again).open(path)?;
     let (mut room, mut at) = (vec![0; PIECE], 0);
-    loop {
-        let count = file.read_at(&mut room, at)?;
+    while let count @ 1.. = file.read_at(&mut room, at)? {
         let piece = &room[..count];
-        if piece.is_empty() {
-            return if again { file.sync_data() } else { Ok(()) };
-        }
         take(piece)?;
-        if again && piece.iter().any(|byte| *byte != 0) {
+        if again && !is_zeros(piece) {
             file.write_all_at(piece, at)?; // [8]
         }
         at += count as u64;
     }
+    if again {
+        file.sync_data()?;
+    }
+    Ok(())
 }
 
 /// Whether a segment was made and nothing was written in it.
-fn is_unused(path: &Path) -> io::Result<bool> {
-    let mut is_unused = true;
-    read(path, false, |piece| {
-        is_unused &= piece.iter().all(|byte| *byte == 0);
-        Ok(())
-    })?;
-    Ok(is_unused)
+fn is_unused(path: &Path) -> bool {
+    read(path, false, |piece| is_zeros(piece).then_some(()).ok_or(io::ErrorKind::Other.into())).is_ok()
 }
 
 impl Folder {
-    pub fn segment(&self, segment: u64) -> PathBuf {
+    pub(super) fn segment(&self, segment: u64) -> PathBuf {
         self.0.join(format!("log-{segment:010}"))
     }
 
@@ -103,19 +96,21 @@ impl Folder {
     }
 
     /// Makes a file, under its name once it is on the disk, in the place of one of this name; and has that on the disk too.
-    pub fn place(&self, path: &Path, fill: impl FnOnce(&mut File) -> io::Result<u64>) -> io::Result<u64> {
+    pub fn place<T>(&self, path: &Path, fill: impl FnOnce(&mut File) -> io::Result<T>) -> io::Result<T> {
         let new = self.0.join(format!("new-0-{}", path.file_name().unwrap_or_default().display()));
-        let mut file = named(&new, File::create(&new))?;
-        let did = fill(&mut file).and_then(|bytes| file.sync_all().map(|()| bytes));
-        let did = did.and_then(|bytes| fs::rename(&new, path).map(|()| bytes));
-        if did.is_err() {
-            let _ = fs::remove_file(&new);
-        }
-        named(path, did.and_then(|bytes| File::open(&self.0)?.sync_all().map(|()| bytes)))
+        let make = || {
+            let mut file = File::create(&new)?;
+            let did = fill(&mut file)?;
+            file.sync_all()?;
+            fs::rename(&new, path)?;
+            File::open(&self.0)?.sync_all()?;
+            Ok(did)
+        };
+        named(path, make().inspect_err(|_| _ = fs::remove_file(&new)))
     }
 
     /// Makes a segment of zeros, in the place of one that is unused.
-    pub fn make_segment(&self, segment: u64, bytes: u64) -> io::Result<()> {
+    pub(super) fn make_segment(&self, segment: u64, bytes: u64) -> io::Result<()> {
         let room = vec![0; PIECE];
         // Each piece is synced, so that a frame that is written meanwhile waits for one of them at most.
         let zeros = |file: &mut File| {
@@ -123,9 +118,9 @@ impl Folder {
                 file.write_all(&room[..PIECE.min((bytes - place) as usize)])?;
                 file.sync_data()?;
             }
-            Ok(bytes)
+            Ok(())
         };
-        self.place(&self.segment(segment), zeros).map(drop) // [3]
+        self.place(&self.segment(segment), zeros) // [3]
     }
 
     /// The segments that the newest snapshot stands for, the next frame, and its file, where there is one.
@@ -136,8 +131,7 @@ impl Folder {
     /// Begins to read a log: the newest snapshot, the segments that it stands for, and the next frame.
     pub fn begin(&self) -> io::Result<(Recovery, u64, u64)> {
         let (kept, first, snapshot) = self.newest()?;
-        let mut log = Recovery::new();
-        well(log.open(first), &[OPENED], "log")?;
+        let mut log = Recovery::new(first)?;
         if let Some(path) = &snapshot {
             named(path, read(path, false, |piece| done(log.feed(0, piece), "piece")))?;
             named(path, well(log.head(kept, &[]), &[ABSENT], "snapshot").map(drop))?;
@@ -150,9 +144,7 @@ impl Folder {
         let ((mut log, kept, _), mut counts) = (self.begin()?, ReadCounts::default());
         let mut segments = self.files("log-")?;
         segments.retain(|(number, ..)| *number > kept);
-        while segments.last().is_some_and(|(.., path)| is_unused(path).unwrap_or(false)) {
-            segments.pop();
-        }
+        while segments.pop_if(|(.., path)| is_unused(path)).is_some() {}
         for (number, _, path) in &segments {
             let mut head = Vec::new();
             named(path, File::open(path).and_then(|file| file.take(HEAD as u64).read_to_end(&mut head)))?;
@@ -164,18 +156,17 @@ impl Folder {
         }
         let told = log.end(u64::from(undecided) + 64 * HEAD as u64, &mut counts);
         if told.answer == REFUSED && told.number == DAMAGED {
-            let says = "the log is damaged, more than a crash explains, and nothing was changed; go back to a copy";
-            return Err(io::Error::other(format!("{says}. Before that place are {}", found(&counts))));
+            return Err(damaged(&counts));
         }
         done(told, "log")?;
         Ok(Found { log, counts, kept })
     }
 
-    /// Writes a snapshot that stands for these segments, into this folder or another; and its path.
-    pub fn write(&self, undecided: u32, closed: &Closed, into: &Folder) -> io::Result<(PathBuf, Made)> {
+    /// Writes a snapshot that stands for these segments, into this folder or another.
+    pub fn write(&self, undecided: u32, closed: &Closed, into: &Folder) -> io::Result<Made> {
         let up_to = closed.up_to();
         let Found { mut log, counts: ReadCounts { keys, next, .. }, .. } = self.recover(undecided, up_to, false)?;
-        into.write_of(&mut log, up_to, next).map(|(path, bytes)| (path, Made { keys, bytes }))
+        Ok(Made { keys, bytes: into.write_of(&mut log, up_to, next)? })
     }
 
     /// The name of a snapshot that stands for the segments up to one, behind which this frame is the next.
@@ -183,10 +174,10 @@ impl Folder {
         self.0.join(format!("snapshot-{up_to:010}-{next}"))
     }
 
-    /// Writes a snapshot of a log that was read up to the end of a segment, and behind which this frame is the next; its bytes too.
-    pub fn write_of(&self, log: &mut Recovery, up_to: u64, next: u64) -> io::Result<(PathBuf, u64)> {
-        let (path, mut room) = (self.snapshot_of(up_to, next), vec![0; ENTRIES]);
-        let bytes = self.place(&path, |file| {
+    /// Writes a snapshot of a log that was read up to the end of a segment, and behind which this frame is the next: its bytes.
+    pub fn write_of(&self, log: &mut Recovery, up_to: u64, next: u64) -> io::Result<u64> {
+        let mut room = vec![0; ENTRIES];
+        self.place(&self.snapshot_of(up_to, next), |file| {
             let mut bytes = 0;
             loop {
                 let told = well(log.snapshot(&mut room), &[SHOWN, ABSENT], "snapshot")?;
@@ -196,21 +187,15 @@ impl Folder {
                 file.write_all(&room[..told.bytes])?;
                 bytes += told.bytes as u64;
             }
-        })?;
-        Ok((path, bytes))
+        })
     }
 
-    /// Makes a snapshot that stands for these segments, and removes what it stands for.
-    pub fn snapshot(&self, undecided: u32, closed: &Closed) -> io::Result<Made> {
-        let (path, made) = self.write(undecided, closed, self)?;
-        self.remove(closed.up_to(), &path)?;
-        Ok(made)
-    }
-
-    /// Removes all that a snapshot up to a segment stands for.
-    pub fn remove(&self, up_to: u64, snapshot: &Path) -> io::Result<()> {
+    /// Removes all that the newest snapshot stands for, once its name is on the disk.
+    pub fn remove(&self) -> io::Result<()> {
+        let (kept, _, newest) = self.newest()?;
+        File::open(&self.0)?.sync_all()?;
         for (number, _, old) in [self.files("log-")?, self.files("snapshot-")?].concat() {
-            if number <= up_to && old != snapshot {
+            if number <= kept && newest.as_ref() != Some(&old) {
                 named(&old, fs::remove_file(&old))?; // [9]
             }
         }

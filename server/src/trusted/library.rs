@@ -1,13 +1,16 @@
 //! The library's calls, made safe: `c/hidewillow.h` says what each does and is told.
 use hidewillow::store::*;
 use hidewillow::Told;
+use std::hash::{BuildHasher, RandomState};
 use std::{io, ptr};
 
+/// How long the head of a frame is.
+pub const HEAD: usize = 24;
 /// What a call is told.
 pub const DONE: u32 = 2;
 pub const REFUSED: u32 = 5;
 pub const MEMORY: u32 = 7;
-pub const OPENED: u32 = 9;
+const OPENED: u32 = 9;
 pub const SHOWN: u32 = 10;
 pub const ABSENT: u32 = 11;
 pub const COMMITTED: u32 = 17;
@@ -17,9 +20,9 @@ pub const ASKED: u64 = 7;
 /// Why one is refused.
 pub const DECISION_DUE: u64 = 2;
 pub const FULL: u64 = 3;
-pub const NOTHING: u64 = 6;
-pub const BUSY: u64 = 7;
-pub const NO_CUT: u64 = 11;
+const NOTHING: u64 = 6;
+const BUSY: u64 = 7;
+const NO_CUT: u64 = 11;
 pub const DAMAGED: u64 = 15;
 
 /// What a call was told, where that is one of these answers.
@@ -60,8 +63,10 @@ macro_rules! calls {
 pub struct Recovery(Recovering);
 
 impl Recovery {
-    pub fn new() -> Recovery {
-        Recovery(Recovering { at: ptr::null_mut() })
+    /// Begins to read a log whose first frame has this number.
+    pub fn new(first: u64) -> io::Result<Recovery> {
+        let mut recovery = Recovery(Recovering { at: ptr::null_mut() });
+        well(recovery.open(first), &[OPENED], "log").map(|_| recovery)
     }
 
     calls! {
@@ -80,19 +85,22 @@ impl Drop for Recovery {
     }
 }
 
+/// The next frame: it is in the room, or its segment has none for it, or there is none now.
+pub enum Next {
+    Frame(FramePlace),
+    Full,
+    None,
+}
+
 /// A store. It isn't `Send`: one thread uses it.
 pub struct Store(Durable);
 
 impl Store {
-    /// Goes on behind a log. The head in the room is to be on the disk, at this place, before anything else is done.
-    pub fn open(
-        log: &mut Recovery,
-        limits: &StoreLimits,
-        seed: u64,
-        room: &mut [u8],
-    ) -> io::Result<(Store, FramePlace)> {
-        let (mut store, mut at) = (Store(Durable { at: ptr::null_mut() }), FramePlace::default());
-        well(store.begin(log, limits, seed, room, &mut at), &[OPENED], "store").map(|_| (store, at))
+    /// Goes on behind a log. The head is to be on the disk, at its place, before anything else is done.
+    pub fn open(log: &mut Recovery, limits: &StoreLimits) -> io::Result<(Store, FramePlace, [u8; HEAD])> {
+        let (mut store, mut at, mut head) = (Store(Durable { at: ptr::null_mut() }), FramePlace::default(), [0; HEAD]);
+        well(store.begin(log, limits, RandomState::new().hash_one(0), &mut head, &mut at), &[OPENED], "store")?;
+        Ok((store, at, head))
     }
 
     calls! {
@@ -118,6 +126,21 @@ impl Store {
         fn cut(made: u32) = hidewillow_store_cut(made);
         fn decide() = hidewillow_store_decide();
         fn count(counts: &mut StoreCounts) = hidewillow_store_counts(counts);
+    }
+
+    /// Takes the next frame, or the head that cuts off what failed, into a room that is made long enough.
+    pub fn next_frame(&mut self, is_head: bool, room: &mut Vec<u8>) -> io::Result<Next> {
+        let mut at = FramePlace::default();
+        room.resize(self.counts().next_frame.max(room.len()), 0);
+        let told = if is_head { self.cut_frame(room, &mut at) } else { self.take_frame(room, &mut at) };
+        match told {
+            Told { answer: DONE, .. } => Ok(Next::Frame(at)),
+            Told { answer: REFUSED, number: FULL, .. } => Ok(Next::Full),
+            Told { answer: MEMORY, .. } | Told { answer: REFUSED, number: NOTHING | BUSY | NO_CUT, .. } => {
+                Ok(Next::None)
+            }
+            _ => done(told, "frame").map(|()| Next::None),
+        }
     }
 
     pub fn counts(&mut self) -> StoreCounts {

@@ -1,19 +1,16 @@
 //! The log on a disk: frames to threads, what came of them, cuts, and the segments that they need.
 use super::disk::{self, Disk, Job, Word};
-use super::folder::{Folder, Found, HEAD};
-use super::library::{done, Store, BUSY, DONE, FULL, MEMORY, NOTHING, NO_CUT, REFUSED};
+use super::folder::{Folder, Found};
+use super::library::{done, Next, Store, HEAD};
+use crate::info::{self, LogCounts};
 use hidewillow::store::{FramePlace, StoreLimits};
-use hidewillow::Told;
-use std::hash::BuildHasher;
 use std::os::unix::net::UnixStream;
 use std::sync::Arc;
-use std::time::{Duration, Instant};
-use std::{fs::File, hash::RandomState, io, mem, thread};
+use std::time::Duration;
+use std::{fs::File, io};
 
 /// How often a cut fails, each time in another segment, until the store stops. A full disk counts for nothing.
 const TRIES: u32 = 3;
-/// A longer room for a frame isn't kept.
-const ROOM: usize = 1 << 20;
 
 /// Where the frames of a store go.
 pub trait Log {
@@ -38,16 +35,12 @@ pub trait Log {
     }
     /// Has what was fed up to a turn proved, in a turn behind it.
     fn prove(&mut self, _store: &mut Store, _fed: u64, _turn: u64) {}
-    /// The number of the next frame.
-    fn next(&self) -> u64;
-    /// Whether all is decided that was fed while this was the number of the next frame, where something is undecided.
-    fn is_decided(&self, frame: u64) -> bool;
     /// Whether there is room for writes; else they are refused by name.
     fn has_room(&self) -> bool {
         true
     }
     /// What it counted, as `INFO` tells it.
-    fn counts(&self) -> Vec<(&'static str, u64)>;
+    fn counts(&self) -> &LogCounts;
     /// Its segments, where it has some.
     fn segments(&self) -> Option<Segments> {
         None
@@ -88,22 +81,13 @@ pub struct DiskLog {
     /// Keeps others out of the folder while it is open.
     _lock: File,
     at: Segments,
-    /// How much of the segment is written, what is being written, and the number of the next frame, and of that which has what the
-    /// last cut kept.
+    /// How much of the segment is written, and what is being written.
     end: u64,
     under_way: Vec<FramePlace>,
-    next: u64,
-    sent_again: u64,
-    /// Whether a frame failed and is not cut off yet, how often that was tried, and whether its head is being written.
-    is_cutting: bool,
-    tries: u32,
-    is_heading: bool,
+    /// Where a frame failed and is not cut off yet: how often a head failed that was to do it.
+    cutting: Option<u32>,
     only: Arc<()>,
-    /// A room for the next frame, and those of frames that are written.
-    room: Vec<u8>,
-    spare: Vec<Vec<u8>>,
-    /// Frames on the disk, their bytes, the microseconds of all and of the longest, frames that failed, batches undecided at cuts.
-    counts: [u64; 6],
+    counts: LogCounts,
 }
 
 impl DiskLog {
@@ -111,68 +95,47 @@ impl DiskLog {
     pub fn open(folder: Folder, limits: StoreLimits, wake: UnixStream) -> io::Result<(Store, DiskLog, Found)> {
         let _lock = folder.lock()?;
         let mut found = folder.recover(limits.undecided, u64::MAX, true)?;
-        let (seed, mut head) = (RandomState::new().hash_one(std::process::id()), [0; HEAD]);
-        let (store, place) = Store::open(&mut found.log, &limits, seed, &mut head)?;
+        let (store, place, head) = Store::open(&mut found.log, &limits)?;
         folder.make_segment(place.segment, limits.segment)?;
         disk::write(&folder, &mut None, &place, &head)?; // [5]
         let disk = Disk::start(folder, limits.in_flight, wake);
         let at = Segments { written: place.segment, made: place.segment, ..Segments::default() };
-        let (end, under_way, next, sent_again, counts) = (HEAD as u64, Vec::new(), place.frame + 1, 0, [0; 6]);
-        let (is_cutting, tries, is_heading, only) = (false, 0, false, Arc::new(()));
-        let (room, spare) = (vec![0; HEAD], Vec::new());
-        #[rustfmt::skip]
-        let log = DiskLog {
-            disk, limits, _lock, at, end, under_way, next, sent_again, is_cutting, tries, is_heading, only, room, spare,
-            counts,
-        };
-        Ok((store, log, found))
+        let (end, under_way, cutting, only) = (HEAD as u64, Vec::new(), None, Arc::new(()));
+        let counts = LogCounts::default();
+        Ok((store, DiskLog { disk, limits, _lock, at, end, under_way, cutting, only, counts }, found))
     }
 
     /// What came of a frame, or of the head of a cut.
     fn written(&mut self, store: &mut Store, job: Job, did: io::Result<()>) -> io::Result<()> {
-        let Job { at, is_head, begun, bytes } = job;
-        self.spare.extend((bytes.len() <= ROOM).then_some(bytes));
+        let at = job.at;
         self.under_way.retain(|it| it.frame != at.frame);
-        self.is_heading &= !is_head;
-        let Err(error) = did else {
-            let (micros, [frames, bytes, all, longest, ..]) = (begun.elapsed().as_micros() as u64, &mut self.counts);
-            (*frames, *bytes, *all, *longest) =
-                (*frames + 1, *bytes + at.len as u64, *all + micros, micros.max(*longest));
-            if !is_head {
-                return done(store.synced(at.frame), "synced"); // [2]
+        self.counts.written(&at, job.begun, &did);
+        match did {
+            Ok(()) if job.is_head => {
+                self.cutting = None;
+                done(store.cut(1), "cut") // [5]
             }
-            (self.is_cutting, self.tries, self.sent_again) = (false, 0, self.next);
-            self.counts[5] += store.counts().open_batches as u64;
-            return done(store.cut(1), "cut"); // [5]
-        };
-        say!("frame {} of {} bytes is not on the disk, in segment {}: {error}", at.frame, at.len, at.segment);
-        self.counts[4] += 1;
-        self.is_cutting = true;
-        if !is_head {
-            return done(store.failed(at.frame), "failed"); // [2]
+            Ok(()) => done(store.synced(at.frame), "synced"), // [2]
+            Err(error) => {
+                let failed = self.cutting.get_or_insert(0);
+                if !job.is_head {
+                    return done(store.failed(at.frame), "failed"); // [2]
+                }
+                *failed += u32::from(error.kind() != io::ErrorKind::StorageFull);
+                if *failed < TRIES {
+                    return done(store.turn(), "turn");
+                }
+                store.cut(0);
+                Err(io::Error::other("the log can't be cut, so nothing more is answered"))
+            }
         }
-        self.tries += u32::from(error.kind() != io::ErrorKind::StorageFull);
-        if self.tries < TRIES {
-            return done(store.turn(), "turn");
-        }
-        store.cut(0);
-        Err(io::Error::other("the log can't be cut, so nothing more is answered"))
     }
 
-    /// What came of a segment that was to be made.
-    fn segment_made(&mut self, segment: u64, did: io::Result<()>) {
-        let lacked = mem::replace(&mut self.at.lacks_room, did.is_err());
-        self.at.is_making = false;
-        match did {
-            Err(error) if !lacked => say!("segment {segment} can't be made, and is tried again: {error}"),
-            Err(_) => (),
-            Ok(()) => {
-                self.at.made = segment;
-                if lacked {
-                    say!("segment {segment} is made, so writing goes on");
-                }
-            }
-        }
+    /// What came of the next segment.
+    fn segment_made(&mut self, did: io::Result<()>) {
+        info::say_segment(self.at.made + 1, self.at.lacks_room, &did);
+        (self.at.is_making, self.at.lacks_room) = (false, did.is_err());
+        self.at.made += u64::from(did.is_ok());
     }
 
     /// The log goes on in the next segment, which is made.
@@ -185,11 +148,8 @@ impl DiskLog {
     fn prepare(&mut self) {
         if !self.at.is_making && self.at.made == self.at.written {
             self.at.is_making = true;
-            let (next, bytes, waits) = (self.at.made + 1, self.limits.segment, u64::from(self.at.lacks_room));
-            self.disk.beside(move |folder| {
-                thread::sleep(Duration::from_secs(waits));
-                Word::Segment(next, folder.make_segment(next, bytes))
-            });
+            let wait = Duration::from_secs(self.at.lacks_room.into());
+            self.disk.make_segment(self.at.made + 1, self.limits.segment, wait);
         }
     }
 
@@ -203,8 +163,8 @@ impl Log for DiskLog {
     fn hear(&mut self, store: &mut Store) -> io::Result<()> {
         while let Some(word) = self.disk.next_word() {
             match word {
-                Word::Written(_, job, did) => self.written(store, job, did)?,
-                Word::Segment(segment, did) => self.segment_made(segment, did),
+                Word::Written(job, did) => self.written(store, job, did)?,
+                Word::Segment(did) => self.segment_made(did),
             }
         }
         Ok(())
@@ -212,52 +172,35 @@ impl Log for DiskLog {
 
     /// Gives idle threads the next frames, or the head of the cut that is due.
     fn send(&mut self, store: &mut Store, _turn: u64) -> io::Result<()> {
-        while self.disk.is_idle() && !self.is_heading {
-            let (may_turn, mut at) = (self.at.written < self.at.made, FramePlace::default());
-            let room = &mut self.room;
-            room.resize(store.counts().next_frame.max(room.len()), 0);
-            let told = match self.is_cutting {
-                false => store.take_frame(room, &mut at),
-                true if may_turn => store.cut_frame(room, &mut at),
-                true => break,
-            };
-            match told {
-                Told { answer: DONE, .. } => {
-                    (self.at.written, self.end, self.next) = (at.segment, at.offset + at.len as u64, at.frame + 1);
-                    self.is_heading = self.is_cutting;
+        while self.cutting.is_none() || self.under_way.is_empty() {
+            let Some(room) = self.disk.room() else { break };
+            let may_turn = self.at.written < self.at.made;
+            if self.cutting.is_some() && !may_turn {
+                break;
+            }
+            match store.next_frame(self.cutting.is_some(), room)? {
+                Next::Frame(at) => {
+                    (self.at.written, self.end) = (at.segment, at.offset + at.len as u64);
                     self.under_way.push(at);
-                    let bytes = mem::replace(&mut self.room, self.spare.pop().unwrap_or_default());
-                    self.disk.send(Job { at, is_head: self.is_cutting, bytes, begun: Instant::now() });
+                    self.disk.send(at, self.cutting.is_some());
                 }
-                Told { answer: REFUSED, number: FULL, .. } if may_turn => self.turn(store)?,
-                Told { answer: REFUSED, number: FULL | NOTHING | BUSY | NO_CUT, .. } => break,
-                Told { answer: MEMORY, .. } => break,
-                _ => done(told, "frame")?,
+                Next::Full if may_turn => self.turn(store)?,
+                Next::Full | Next::None => break,
             }
         }
         self.prepare();
         Ok(())
     }
 
-    fn next(&self) -> u64 {
-        self.next
-    }
-
-    fn is_decided(&self, frame: u64) -> bool {
-        let frame = frame.max(self.sent_again);
-        !self.is_cutting && self.next > frame && self.under_way.iter().all(|at| at.frame > frame)
-    }
-
     /// Whether there is room for more than may be undecided, or some can be made.
     fn has_room(&self) -> bool {
         let wanted = u64::from(self.limits.undecided) + 64 * HEAD as u64;
-        let is_short = self.is_cutting || self.end + wanted > self.limits.segment;
+        let is_short = self.cutting.is_some() || self.end + wanted > self.limits.segment;
         !(self.at.lacks_room && self.at.made == self.at.written && is_short)
     }
 
-    fn counts(&self) -> Vec<(&'static str, u64)> {
-        let names = ["syncs", "written_bytes", "sync_microseconds", "sync_longest_microseconds", "sync_failures"];
-        names.into_iter().chain(["batches_at_cuts"]).zip(self.counts).collect()
+    fn counts(&self) -> &LogCounts {
+        &self.counts
     }
 
     fn segments(&self) -> Option<Segments> {
@@ -265,7 +208,7 @@ impl Log for DiskLog {
     }
 
     fn close(&mut self, store: &mut Store, up_to: u64) -> io::Result<Option<Closed>> {
-        if self.is_cutting || Arc::strong_count(&self.only) > 1 {
+        if self.cutting.is_some() || Arc::strong_count(&self.only) > 1 {
             return Ok(None);
         }
         if self.at.written <= up_to && self.at.made > self.at.written {

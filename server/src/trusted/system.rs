@@ -1,6 +1,5 @@
-//! What the system has ready, by `epoll`, and the signals that it sends.
+//! What the system has ready, by `epoll`, the signals that it sends, and the memory that is in use.
 use std::ffi::c_int;
-use std::fs::File;
 use std::io::{self, ErrorKind, Write};
 use std::os::fd::{AsRawFd, FromRawFd, OwnedFd};
 use std::os::unix::net::UnixStream;
@@ -16,11 +15,16 @@ struct Event {
     of: u64,
 }
 
+/// What memory allocated by the C library is: the bytes mapped are the fifth, those in use beside these the eighth.
+#[repr(C)]
+struct Allocated([usize; 10]);
+
 extern "C" {
     fn epoll_create1(flags: c_int) -> c_int;
     fn epoll_ctl(epoll: c_int, op: c_int, fd: c_int, event: *mut Event) -> c_int;
     fn epoll_wait(epoll: c_int, events: *mut Event, most: c_int, timeout: c_int) -> c_int;
     fn pthread_sigmask(how: c_int, set: *const [u64; 16], old: *mut [u64; 16]) -> c_int;
+    fn mallinfo2() -> Allocated;
     fn sigwait(set: *const [u64; 16], signal: *mut c_int) -> c_int;
 }
 
@@ -31,12 +35,11 @@ const SIGINT: u32 = 2;
 pub const SIGUSR1: u32 = 10;
 const SIGTERM: u32 = 15;
 
-fn opened(fd: c_int) -> io::Result<File> {
-    if fd < 0 {
+fn checked(did: c_int) -> io::Result<c_int> {
+    if did < 0 {
         return Err(io::Error::last_os_error());
     }
-    // Safety: the callers hand over what the system has just opened for nobody else.
-    Ok(File::from(unsafe { OwnedFd::from_raw_fd(fd) }))
+    Ok(did)
 }
 
 /// Signals interrupt nothing from now on, in no thread that is started later either: each is told by a byte of its number.
@@ -55,35 +58,39 @@ pub fn signals(mut tell: UnixStream) {
     });
 }
 
-pub struct Poll(File);
+/// How many bytes of memory are in use.
+pub fn memory() -> u64 {
+    // Safety: it takes nothing, and is told by value.
+    let Allocated(of) = unsafe { mallinfo2() };
+    (of[4] + of[7]) as u64
+}
+
+pub struct Poll(OwnedFd);
 
 impl Poll {
     pub fn new() -> io::Result<Poll> {
         // Safety: no pointer is given.
-        Ok(Poll(opened(unsafe { epoll_create1(CLOEXEC) })?))
+        let fd = checked(unsafe { epoll_create1(CLOEXEC) })?;
+        // Safety: the system has just opened it, for nobody else.
+        Ok(Poll(unsafe { OwnedFd::from_raw_fd(fd) }))
     }
 
     /// Waits for a handle, which is new or not, to be read and to be written.
     pub fn ask(&self, is_new: bool, fd: &impl AsRawFd, of: u64, (read, write): (bool, bool)) -> io::Result<()> {
         let mut event = Event { events: if read { IN } else { 0 } | if write { OUT } else { 0 }, of };
-        // Safety: the event lives for the call, and both handles are open.
-        let did = unsafe { epoll_ctl(self.0.as_raw_fd(), if is_new { 1 } else { 3 }, fd.as_raw_fd(), &mut event) };
-        if did < 0 {
-            Err(io::Error::last_os_error())
-        } else {
-            Ok(())
-        }
+        // Safety: the event lives for the call. A handle that isn't open is refused.
+        checked(unsafe { epoll_ctl(self.0.as_raw_fd(), if is_new { 1 } else { 3 }, fd.as_raw_fd(), &mut event) })
+            .map(drop)
     }
 
     /// Waits for so many milliseconds, or -1 for ever, and tells whose handles are ready, and whether to be read.
     pub fn wait(&self, timeout: c_int) -> io::Result<Vec<(u64, bool)>> {
         let mut events = [Event { events: 0, of: 0 }; 256];
         // Safety: there is room for so many events.
-        let count = unsafe { epoll_wait(self.0.as_raw_fd(), events.as_mut_ptr(), 256, timeout) };
-        match (count, io::Error::last_os_error()) {
-            (0.., _) => Ok(events[..count as usize].iter().map(|it| (it.of, it.events & !OUT != 0)).collect()),
-            (_, error) if error.kind() == ErrorKind::Interrupted => Ok(Vec::new()),
-            (_, error) => Err(error),
-        }
+        let count = match checked(unsafe { epoll_wait(self.0.as_raw_fd(), events.as_mut_ptr(), 256, timeout) }) {
+            Err(error) if error.kind() == ErrorKind::Interrupted => 0,
+            did => did?,
+        };
+        Ok(events[..count as usize].iter().map(|it| (it.of, it.events & !OUT != 0)).collect())
     }
 }

@@ -3,3 +3,6 @@ pub mod Shown
 pub mod Counted
 pub mod Spelled
 mod Sideways
+mod Untagged
+mod Regrouped
+mod Ended

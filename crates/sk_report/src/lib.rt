@@ -4,6 +4,8 @@
 
 pub mod directories;
 pub mod footprints;
+mod line;
+mod placed;
 pub mod printed;
 pub mod report;
 pub mod stop;

@@ -99,7 +99,7 @@ impl fmt::Display for PrintedOption {
 struct PrintedRegisters(Registers);
 
 /// A register's value.
-fn value_of(registers: &Registers, number: u8) -> Val
+pub(crate) fn value_of(registers: &Registers, number: u8) -> Val
     requires { number < 8 }
     ensures { result ≡ held registers.now number }
 {

@@ -1,10 +1,13 @@
 //! The report of a kernel, and that of a plain kernel.
-ghost use Rattle.std.specs.Prelude.{◌≡◌, ◌++◌, [], flat_map, OnOk, IfOk};
+ghost use Rattle.std.specs.Prelude.{◌≡◌, ◌≤◌, ◌++◌, flat_map, drop, OnOk, IfSome};
 ghost use Rattle.std.specs.Io.KnownBytes.{Appends};
 ghost use Rattle.std.specs.List.Sorted.{IsStrictlySortedBy};
 ghost use Rattle.sk_ids.specs.Entity.{entity_cmp};
+ghost use Rattle.sk_plain.specs.View.{Shows};
+ghost use Rattle.sk_report.specs.declared.line.TheConstants.{ROOM};
 ghost use Rattle.sk_report.specs.Report.{last_line, steps_line, line_of, with_terminals, body_text, kernel_text, report_text, plain_report_text};
 
+use crate::line::{ROOM, put_with_process, put_with_value};
 use crate::{PrintedEntity, Stop, Subject, write_held};
 use sk_ids::Entity;
 use sk_kernel::Kernel;
@@ -65,9 +68,12 @@ fn write_body<S: Subject, W: Write>(
         (body_text (S.look subject.now) (S.terminal_lines subject.now) (S.end_of subject.now)
         entities.now)) }
 {
-    let terminals = terminals_of(alloc, subject, entities)?;
+    let mut numbers = BTreeSet::new(alloc);
+    let mut lines = Vec::new(alloc);
+    gather(subject, entities, &mut numbers, &mut lines)?;
+    let terminals: Vec<u16> = numbers.iter().copied().collect(alloc)?;
     write_terminals(subject, &terminals, out)?;
-    write_entities(subject, entities, out)?;
+    out.write_all(&lines)?;
     Ok(())
 }
 
@@ -85,20 +91,74 @@ fn write_terminals<S: Subject, W: Write>(
     Ok(())
 }
 
-fn write_entities<S: Subject, W: Write>(
+/// Adds the terminals of the processes among these entities to numbers, and the lines of these entities to lines. Each
+/// entity is looked up once.
+fn gather<S: Subject>(
     subject: &S,
     entities: &[Entity],
-    out: &mut W,
-) -> io::Result<()>
+    numbers: &mut BTreeSet<u16>,
+    lines: &mut Vec<u8>,
+) -> Result<(), AllocError>
     requires { IsStrictlySortedBy entity_cmp entities.now }
-    ensures { OnOk result (Appends (W.contents out.old) (W.contents out.new)
-        (flat_map (line_of (S.look subject.now) (S.end_of subject.now) entities.now)
-        entities.now)) }
+    ensures terminals { OnOk result (numbers.new.keys
+        ≡ with_terminals (S.look subject.now) numbers.old.keys entities.now) }
+    ensures lines { OnOk result (lines.new.items ≡ lines.old.items
+        ++ flat_map (line_of (S.look subject.now) (S.end_of subject.now) entities.now)
+        entities.now) }
 {
+    let mut room = [0; ROOM];
     for entity in entities {
-        write_entity(subject, entities, entity, out)?;
+        let seen = subject.show(entity);
+        if let Some(View::Process(process)) = seen {
+            numbers.insert(process.terminal)?;
+        }
+        add_line(subject, entities, entity, seen, &mut room, lines)?;
     }
     Ok(())
+}
+
+/// Adds the line of an entity, of which this is shown.
+fn add_line<S: Subject>(
+    subject: &S,
+    entities: &[Entity],
+    entity: &Entity,
+    seen: Option<View<'_>>,
+    room: &mut [u8; ROOM],
+    lines: &mut Vec<u8>,
+) -> Result<(), AllocError>
+    requires sorted { IsStrictlySortedBy entity_cmp entities.now }
+    requires seen { Shows (S.look subject.now entity.now) seen }
+    ensures { OnOk result (lines.new.items ≡ lines.old.items
+        ++ line_of (S.look subject.now) (S.end_of subject.now) entities.now entity.now) }
+{
+    if let Some(start) = put_line(subject, entities, entity, seen, room) {
+        return lines.extend_from_slice(&room[start..]);
+    }
+    match write_entity(subject, entities, entity, lines) {
+        Ok(()) => Ok(()),
+        Err(_) => Err(AllocError),
+    }
+}
+
+/// Puts the line of an entity at the end of a room, and returns where it starts; `None` where it isn't there, and where its line
+/// may be longer than the room.
+fn put_line<S: Subject>(
+    subject: &S,
+    entities: &[Entity],
+    entity: &Entity,
+    seen: Option<View<'_>>,
+    room: &mut [u8; ROOM],
+) -> Option<usize>
+    requires { Shows (S.look subject.now entity.now) seen }
+    ensures start { IfSome result (λ start. start ≤ ROOM) }
+    ensures line { IfSome result (λ start. drop start room.new
+        ≡ line_of (S.look subject.now) (S.end_of subject.now) entities.now entity.now) }
+{
+    let end = subject.put_end(entity, room, ROOM)?;
+    match seen? {
+        View::Process(process) => put_with_process(*entity, process, room, end),
+        View::Value(value) => put_with_value(*entity, value, room, end),
+    }
 }
 
 /// Writes an entity and what it has, where it is there.
@@ -130,22 +190,4 @@ fn write_last<W: Write>(kernel: &Kernel, out: &mut W) -> io::Result<()>
     let events = kernel.trace().events().len();
     let undecided = kernel.undecided();
     writeln!(out, "trace {events} undecided {undecided}")
-}
-
-/// The terminals of the processes among these entities, by rising number, each once.
-fn terminals_of<S: Subject>(
-    alloc: Global,
-    subject: &S,
-    entities: &[Entity],
-) -> Result<Vec<u16>, AllocError>
-    ensures { IfOk result (λ numbers.
-        numbers.items ≡ with_terminals (S.look subject.now) [] entities.now) }
-{
-    let mut numbers = BTreeSet::new(alloc);
-    for entity in entities {
-        if let Some(View::Process(process)) = subject.show(entity) {
-            numbers.insert(process.terminal)?;
-        }
-    }
-    numbers.iter().copied().collect(alloc)
 }

@@ -1,11 +1,14 @@
 //! The kernels of which a report is written.
-ghost use Rattle.std.specs.Prelude.{OnOk, []};
+ghost use Rattle.std.specs.Prelude.{◌≡◌, ◌∷◌, ◌++◌, true, OnOk, []};
 ghost use Rattle.std.specs.Io.KnownBytes.{Appends};
 ghost use Rattle.std.specs.FinMap as map;
-ghost use Rattle.sk_kernel.specs.Kernel.{state_at};
+ghost use Rattle.sk_kernel.specs.Kernel.{state_at, tags_at};
+ghost use Rattle.sk_report.specs.declared.subject.TheConstants.{TEXT_ROOM};
+ghost use Rattle.sk_words.specs.Spelling.{spelled};
 ghost use Rattle.sk_report.specs.Report.{counts_line, terminal_lines, terminal_said, texts_lines, entity_end, plain_terminal_said};
 
 use crate::PrintedTags;
+use crate::placed::{put_literal, put_words};
 use sk_ids::{Entity, Text};
 use sk_kernel::Kernel;
 use sk_plain::{Plain, View};
@@ -14,9 +17,13 @@ use sk_terminal::Terminal;
 use std::io;
 use std::io::Write;
 
+/// The places of the end of a line where its entity rests on no guess.
+pub const END: usize = 9;
+
 /// A kernel of which a report is written.
 pub trait Subject {
-    ghost use Rattle.std.specs.Prelude.{ℕ, List, Option, OnOk};
+    ghost use Rattle.std.specs.Prelude.{◌≡◌, ◌≤◌, ◌+◌, ◌∷◌, ◌++◌, ℕ, List, Option, drop, length, IfSome, OnOk};
+    ghost use Rattle.sk_report.specs.declared.subject.TheConstants.{END};
     ghost use Rattle.std.specs.Io.KnownBytes.{Appends};
     ghost use Rattle.sk_ids.specs.declared.entity.Entity.{Entity};
     ghost use Rattle.sk_store.specs.declared.entity_state.EntityState.{EntityState};
@@ -40,6 +47,14 @@ pub trait Subject {
         ensures { OnOk result (Appends (W.contents out.old) (W.contents out.new)
             (terminal_lines self.now number)) };
 
+    /// Puts the end of the line of an entity in a line, before a place, and returns where it starts; `None` for a longer one.
+    fn put_end(&self, entity: &Entity, line: &mut [u8], end: usize) -> Option<usize>
+        requires { (END ≤ end) × (end ≤ length line.old) }
+        ensures line { IfSome result (λ start.
+            drop start line.new ≡ end_of self.now entity.now ++ 10 ∷ drop end line.old) }
+        ensures start { IfSome result (λ start. (start ≤ end) × (end ≤ start + END)) }
+        ensures length { length line.new ≡ length line.old };
+
     /// Writes the end of the line of an entity.
     fn write_end<W: Write>(&self, entity: &Entity, out: &mut W) -> io::Result<()>
         ensures { OnOk result (Appends (W.contents out.old) (W.contents out.new)
@@ -62,6 +77,13 @@ impl Subject for Kernel {
             Some(terminal) => write_shown(number, terminal, out),
             None => write_counts(number, 0, 0, out),
         }
+    }
+
+    fn put_end(&self, entity: &Entity, line: &mut [u8], end: usize) -> Option<usize> {
+        if !rests_on_none(self, entity) {
+            return None;
+        }
+        Some(put_words(b" tags -\n", line, end))
     }
 
     fn write_end<W: Write>(&self, entity: &Entity, out: &mut W) -> io::Result<()> {
@@ -88,8 +110,26 @@ impl Subject for Plain {
         write_texts(texts, out)
     }
 
+    fn put_end(&self, _entity: &Entity, line: &mut [u8], end: usize) -> Option<usize> {
+        Some(put_words(b"\n", line, end))
+    }
+
     fn write_end<W: Write>(&self, _entity: &Entity, _out: &mut W) -> io::Result<()> {
         Ok(())
+    }
+}
+
+/// Whether an entity rests on no undecided guess. It is looked up where there is one.
+#[tactic(auto, using(crate::proofs::Untagged::untagged))]
+fn rests_on_none(kernel: &Kernel, entity: &Entity) -> bool
+    ensures { result ≡ true → tags_at kernel.now entity.now ≡ [] }
+{
+    if kernel.undecided() == 0 {
+        return true;
+    }
+    match kernel.tags_of(entity).ids() {
+        [] => true,
+        _ => false,
     }
 }
 
@@ -119,14 +159,29 @@ fn write_shown<W: Write>(number: u16, terminal: &Terminal, out: &mut W) -> io::R
     write_texts(released, out)
 }
 
+/// The room for the line of a text.
+const TEXT_ROOM: usize = 515;
+
+/// Writes a text, as a literal.
+fn write_text<W: Write>(text: &Text, room: &mut [u8; TEXT_ROOM], out: &mut W) -> io::Result<()>
+    ensures { OnOk result (Appends (W.contents out.old) (W.contents out.new)
+        (spelled text.now ++ 10 ∷ [])) }
+{
+    let bytes = text.as_slice();
+    match put_literal(bytes, b"\n", room, TEXT_ROOM) {
+        Some(start) => out.write_all(&room[start..]),
+        None => writeln!(out, "{}", Literal(bytes)),
+    }
+}
+
 /// Writes texts, a literal a line.
 fn write_texts<W: Write>(texts: &[Text], out: &mut W) -> io::Result<()>
     ensures { OnOk result
         (Appends (W.contents out.old) (W.contents out.new) (texts_lines texts.now)) }
 {
+    let mut room = [0; TEXT_ROOM];
     for text in texts {
-        let literal = Literal(text.as_slice());
-        writeln!(out, "{literal}")?;
+        write_text(text, &mut room, out)?;
     }
     Ok(())
 }

@@ -1,7 +1,7 @@
 -- What clap says of our command line.
-use Rattle.sk_command.proofs.Names.{◌≡◌, List, true, codes, option_map, Option, Some, None, refl, ap, sym, ◌∙◌}
-use Rattle.sk_command.proofs.Names.{option_and_then, unwrap_or, is_simple_and_free, subcommand_name_of, is_simple}
-use Rattle.sk_command.proofs.Names.{subcommand_rows_of, Row, Text, first_of, ArgMatches, out-ArgMatches, command_line}
+use Rattle.sk_command.proofs.Names.{◌≡◌, List, true, option_map, Option, Some, None, refl, ap, sym, ◌∙◌}
+use Rattle.sk_command.proofs.Names.{unwrap_or, is_simple_and_free, subcommand_name_of, is_simple}
+use Rattle.sk_command.proofs.Names.{subcommand_rows_of, Row, Text, ArgMatches, out-ArgMatches, command_line}
 use Rattle.sk_command.proofs.Names.{wish_for, wish_found}
 use Rattle.clap.proofs.OnLiterals.{clap_on_literals}
 
@@ -24,7 +24,7 @@ name_in_rows m name e = e ∙ sym (mapped_twice _ (λ p. p.0) (out-ArgMatches m)
 
 -- what a command that was found asks for, from its name and its rows
 pub wish_in_rows : (found : Option (Text × List Row)) (name : Text) (rows : List Row) → Some name ≡ option_map (λ p. p.0) found → Some rows ≡ option_map (λ p. p.1) found
-    → wish_found found ≡ option_and_then (wish_for name rows) (first_of (codes "FILE") rows)
+    → wish_found found ≡ wish_for name rows
 wish_in_rows None name rows n e = absurd cc
 wish_in_rows (Some command) name rows n e =
     let same_name : name ≡ command.0 = ap (λ o. unwrap_or o name) n in

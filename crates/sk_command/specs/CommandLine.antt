@@ -13,7 +13,8 @@ use Rattle.clap.specs.declared.builder.value_parser.ValueParser.TheVariants as p
 use Rattle.clap.specs.declared.error.kind.ErrorKind.{ErrorKind}
 use Rattle.sk_command.specs.declared.job.Job.{Job}
 use Rattle.sk_command.specs.declared.job.Shows.{Shows}
-use Rattle.sk_command.specs.declared.job.Job.TheVariants as jobs
+use Rattle.sk_command.specs.declared.job.Task.{Task}
+use Rattle.sk_command.specs.declared.job.Task.TheVariants as tasks
 use Rattle.sk_command.specs.declared.job.TheConstants.{WORKERS_MOST, TURNS_MOST}
 use Rattle.sk_command.specs.declared.end.End.{End}
 use Rattle.sk_command.specs.declared.end.End.TheVariants as ends
@@ -72,28 +73,13 @@ command_line = with_subcommand with_files instructions_command.top
 
 -- ---- what words ask for
 
--- to play the scenario of a file and show so much beside it, to play what it declares by the lines of the standard input, to run plainly what the trace of a file leaves, to replay that trace, or to let
--- so many workers take at most so many turns each of a scenario's processes
-pub data Wish : Type 0 where
-  Play : Text → Shows → Wish
-  Talk : Text → Wish
-  Plain : Text → Wish
-  Replay : Text → Wish
-  Work : Text → ℕ → ℕ → Wish
-
-abbrev pub wish_file : Wish → Text
-wish_file (Play file shows) = file
-wish_file (Talk file) = file
-wish_file (Plain file) = file
-wish_file (Replay file) = file
-wish_file (Work file workers turns) = file
+-- what is to be done with the file of this name
+pub record Wish : Type 0 where
+  pub file : Text
+  pub task : Task
 
 abbrev pub wish_of : Job → Wish
-wish_of (jobs.Play file shows) = Play file.now shows
-wish_of (jobs.Talk file) = Talk file.now
-wish_of (jobs.Plain file) = Plain file.now
-wish_of (jobs.Replay file) = Replay file.now
-wish_of (jobs.Work file workers turns) = Work file.now workers turns
+wish_of job = record { file = job.file.now; task = job.task }
 
 -- whether a command was found with this flag
 abbrev pub has_flag : Text → List Row → Bool
@@ -112,22 +98,26 @@ abbrev pub number_found : ℕ → Text → List Row → Option ℕ
 number_found most argument rows = option_and_then (number_said most) (first_of argument rows)
 
 -- 1 to 8 workers, and 1 to 1,000,000 turns
-abbrev pub wish_to_work : List Row → Text → Option Wish
-wish_to_work rows file =
-    option_and_then (λ workers. option_map (λ turns. Work file workers turns) (number_found TURNS_MOST (codes "turns") rows)) (number_found WORKERS_MOST (codes "workers") rows)
+abbrev pub work_for : List Row → Option Task
+work_for rows = option_and_then (λ workers. option_map (λ turns. tasks.Work workers turns) (number_found TURNS_MOST (codes "turns") rows)) (number_found WORKERS_MOST (codes "workers") rows)
 
--- what a command of this name asks for
-abbrev pub wish_for : Text → List Row → Text → Option Wish
-wish_for command rows file =
-    if bytes_eq command (codes "play") then Some (Play file (shows_found rows))
-    else if bytes_eq command (codes "talk") then Some (Talk file)
-    else if bytes_eq command (codes "plain") then Some (Plain file)
-    else if bytes_eq command (codes "replay") then Some (Replay file)
-    else if bytes_eq command (codes "work") then wish_to_work rows file else None
+-- what a command of this name is to do
+abbrev pub task_for : Text → List Row → Option Task
+task_for command rows =
+    if bytes_eq command (codes "play") then Some (tasks.Play (shows_found rows))
+    else if bytes_eq command (codes "talk") then Some tasks.Talk
+    else if bytes_eq command (codes "plain") then Some tasks.Plain
+    else if bytes_eq command (codes "replay") then Some tasks.Replay
+    else if bytes_eq command (codes "work") then work_for rows else None
 
--- what a command that was found with its words asks for, which name a file
+-- the same with the file that it names
+abbrev pub wish_for : Text → List Row → Option Wish
+wish_for command rows =
+    option_and_then (λ file. option_map (λ task. record { file = file; task = task }) (task_for command rows)) (first_of (codes "FILE") rows)
+
+-- what a command that was found with its words asks for
 abbrev pub wish_found : Option (Text × List Row) → Option Wish
-wish_found found = option_and_then (λ command. option_and_then (wish_for command.0 command.1) (first_of (codes "FILE") command.1)) found
+wish_found found = option_and_then (λ command. wish_for command.0 command.1) found
 
 -- what is wrong with words, of which the first is the program's own name; or that they want help
 abbrev pub faults_of : List Text → Kinds
@@ -137,13 +127,10 @@ faults_of words = fault_of command_line words
 abbrev pub wished : List Text → Option Wish
 wished words = wish_found (subcommand_of command_line words)
 
--- the workers of a job and their turns are within their bounds
-abbrev pub IsWithinBounds : Job → Type 0
-IsWithinBounds (jobs.Play file shows) = ⊤
-IsWithinBounds (jobs.Talk file) = ⊤
-IsWithinBounds (jobs.Plain file) = ⊤
-IsWithinBounds (jobs.Replay file) = ⊤
-IsWithinBounds (jobs.Work file workers turns) = IsInRange 1 WORKERS_MOST workers × IsInRange 1 TURNS_MOST turns
+-- workers and their turns are within their bounds
+abbrev pub IsWithinBounds : Task → Type 0
+IsWithinBounds (tasks.Work workers turns) = IsInRange 1 WORKERS_MOST workers × IsInRange 1 TURNS_MOST turns
+IsWithinBounds _ = ⊤
 
 -- words ask for a job
 abbrev pub Asks : List Text → Wish → Type 0

@@ -6,8 +6,8 @@ use Rattle.std.specs.declared.io.ErrorKind.{ErrorKind}
 use Rattle.std.specs.declared.io.ErrorKind.TheVariants as errors
 use Rattle.sk_command.specs.declared.read_all.ReadFault.{ReadFault}
 use Rattle.sk_command.specs.declared.read_all.ReadFault.TheVariants as reads
-use Rattle.sk_command.specs.declared.message.Taker.{Taker}
-use Rattle.sk_command.specs.declared.message.Taker.TheVariants as takers
+use Rattle.sk_command.specs.declared.job.Task.{Task}
+use Rattle.sk_command.specs.declared.job.Task.TheVariants as tasks
 use Rattle.sk_command.specs.declared.message.Message.{Message}
 use Rattle.sk_command.specs.declared.message.Message.TheVariants as messages
 
@@ -32,19 +32,19 @@ cause_word (reads.Failed kind) = failed_word kind
 cause_word reads.NoEnd = codes "no end"
 cause_word reads.Memory = codes "out of memory"
 
--- what a command takes
-abbrev pub takes : Taker → List ℕ
-takes takers.Play = codes "play takes steps or world, "
-takes takers.Talk = codes "talk takes steps or world without an event, "
-takes takers.Plain = codes "plain takes trace, "
-takes takers.Replay = codes "replay takes trace, "
-takes takers.Work = codes "work takes any section, "
+-- what a task takes
+abbrev pub takes : Task → List ℕ
+takes (tasks.Play shows) = codes "play takes steps or world, "
+takes tasks.Talk = codes "talk takes steps or world without an event, "
+takes tasks.Plain = codes "plain takes trace, "
+takes tasks.Replay = codes "replay takes trace, "
+takes (tasks.Work workers turns) = codes "work takes any section, "
 
 -- a message, without the end of its line
 abbrev pub message_text : Message → List ℕ
 message_text (messages.Fault line kind) = codes "speculate: line " ++ decimal line ++ codes ": " ++ kind_word kind
 message_text messages.WrongSection = codes "speculate: wrong section"
-message_text (messages.Other taker file has) = takes taker ++ file.now ++ codes " has " ++ has.now
+message_text (messages.Other t file has) = takes t ++ file.now ++ codes " has " ++ has.now
 message_text (messages.Entry number) = codes "speculate: trace entry " ++ decimal number ++ codes " refused"
 message_text (messages.Unread file) = codes "speculate: cannot read " ++ file.now
 message_text (messages.Cause file fault) = codes "cannot read " ++ file.now ++ codes ": " ++ cause_word fault

@@ -8,17 +8,18 @@ ghost use Rattle.clap.specs.Simple.{app_of, subcommand_rows_of};
 ghost use Rattle.clap.specs.Values.{kind_of};
 ghost use Rattle.clap.specs.Walk.{rows_of, rule_of};
 ghost use Rattle.clap.specs.declared.builder.command.Command.TheViews.{out-Command as fields_of};
-ghost use Rattle.sk_command.specs.CommandLine.{bare_command_line, command_line, file_command, play_command, work_command, instructions_command, file_rule, flag_rule, workers_rule, turns_rule, has_flag, shows_found, number_said, number_found, wish_to_work, wish_for, IsWithinBounds, wish_of, wish_found, wished, faults_of, wish_file};
+ghost use Rattle.sk_command.specs.CommandLine.{bare_command_line, command_line, file_command, play_command, work_command, instructions_command, file_rule, flag_rule, workers_rule, turns_rule, has_flag, shows_found, number_said, number_found, work_for, task_for, IsWithinBounds, wish_of, wish_found, wished, faults_of};
 ghost use Rattle.sk_command.specs.Ends.{EndsFor, EndsWithHelp, IsFlushed};
 
 use crate::end::{End, flushed};
 use crate::help::{
-    COMMAND_LINE, COUNTS_FLAG, FORMS, INSTRUCTIONS, INSTRUCTIONS_TABLE, PLAIN, PLAY, REPLAY,
-    STEPS_FLAG, TALK, TRACE_FLAG, WORK,
+    COMMAND_LINE, COUNTS_FLAG, FORMS, INSTRUCTIONS, PLAIN, PLAY, REPLAY, STEPS_FLAG, TALK,
+    TRACE_FLAG, WORK,
 };
 use clap::builder::ValueParser;
 use clap::error::ErrorKind;
 use clap::{Arg, ArgAction, ArgMatches, Command, Error};
+use sk_script::INSTRUCTIONS_TABLE;
 use std::alloc::{AllocError, Global};
 use std::fmt;
 use std::io::{BufWriter, Write};
@@ -34,47 +35,27 @@ pub struct Shows {
     pub trace: bool,
 }
 
-/// What the words ask for, with the name of the input; `-` is standard input.
+/// What is done with an input.
 #[derive(Clone, Copy, Debug, PartialEq, Eq)]
-pub enum Job<'a> {
+pub enum Task {
     /// The events of a scenario are played, and what is wanted beside it is printed.
-    Play {
-        file: &'a str,
-        shows: Shows,
-    },
+    Play(Shows),
     /// What a scenario declares is played by the lines of the standard input.
-    Talk {
-        file: &'a str,
-    },
+    Talk,
     /// What a trace leaves is run without guesses.
-    Plain {
-        file: &'a str,
-    },
+    Plain,
     /// A trace is taken anew by a kernel.
-    Replay {
-        file: &'a str,
-    },
+    Replay,
     /// Workers, 1 to 8, take turns of a scenario's processes on one desk, each so many at most, 1 to 1,000,000.
-    Work {
-        file: &'a str,
-        workers: u8,
-        turns: u32,
-    },
+    Work { workers: u8, turns: u32 },
 }
 
-impl<'a> Job<'a> {
-    /// The name of the input.
-    pub fn file(self) -> &'a str
-        ensures { result.now ≡ wish_file (wish_of self.entry) }
-    {
-        match self {
-            Job::Play { file, .. }
-            | Job::Talk { file }
-            | Job::Plain { file }
-            | Job::Replay { file }
-            | Job::Work { file, .. } => file,
-        }
-    }
+/// What the words ask for.
+#[derive(Clone, Copy, Debug, PartialEq, Eq)]
+pub struct Job<'a> {
+    /// The name of the input; `-` is standard input.
+    pub file: &'a str,
+    pub task: Task,
 }
 
 /// How many workers `work` can have.
@@ -241,48 +222,40 @@ fn number_of(words: &ArgMatches, argument: &str, most: u32) -> Option<u32>
     }
 }
 
-/// The job that a parse found, if there is one.
-fn job_of<'a>(matches: &ArgMatches<'a>) -> Option<Job<'a>>
-    ensures job { option_map wish_of result ≡ wish_found (subcommand_rows_of matches.now) }
-    ensures within { IfSome result IsWithinBounds }
-{
-    let (command, words) = matches.subcommand()?;
-    let file = words.get_str("FILE")?;
-    job_for(command, words, file)
-}
-
-/// The job of the command of this name on a file.
-fn job_for<'a>(command: &str, words: &ArgMatches, file: &'a str) -> Option<Job<'a>>
-    ensures job { option_map wish_of result
-        ≡ wish_for command.now (rows_of (found_of words.now)) file.entry.now }
-    ensures within { IfSome result IsWithinBounds }
-{
-    match command {
-        "play" => Some(Job::Play {
-            file,
-            shows: shows_of(words),
-        }),
-        "talk" => Some(Job::Talk { file }),
-        "plain" => Some(Job::Plain { file }),
-        "replay" => Some(Job::Replay { file }),
-        "work" => work_on(file, words),
-        _ => None,
-    }
-}
-
-/// The job of the command `work` on a file, with its workers and their turns.
-fn work_on<'a>(file: &'a str, words: &ArgMatches) -> Option<Job<'a>>
-    ensures job { option_map wish_of result
-        ≡ wish_to_work (rows_of (found_of words.now)) file.entry.now }
+/// The task of the command `work`, with its workers and their turns.
+fn work_of(words: &ArgMatches) -> Option<Task>
+    ensures task { result ≡ work_for (rows_of (found_of words.now)) }
     ensures within { IfSome result IsWithinBounds }
 {
     let workers = u8::try_from(number_of(words, "workers", WORKERS_MOST)?).ok()?;
     let turns = number_of(words, "turns", TURNS_MOST)?;
-    Some(Job::Work {
-        file,
-        workers,
-        turns,
-    })
+    Some(Task::Work { workers, turns })
+}
+
+/// The task of the command of this name.
+fn task_of(command: &str, words: &ArgMatches) -> Option<Task>
+    ensures task { result ≡ task_for command.now (rows_of (found_of words.now)) }
+    ensures within { IfSome result IsWithinBounds }
+{
+    match command {
+        "play" => Some(Task::Play(shows_of(words))),
+        "talk" => Some(Task::Talk),
+        "plain" => Some(Task::Plain),
+        "replay" => Some(Task::Replay),
+        "work" => work_of(words),
+        _ => None,
+    }
+}
+
+/// The job that a parse found, if there is one.
+fn job_of<'a>(matches: &ArgMatches<'a>) -> Option<Job<'a>>
+    ensures job { option_map wish_of result ≡ wish_found (subcommand_rows_of matches.now) }
+    ensures within { IfSome result (λ job. IsWithinBounds job.task) }
+{
+    let (command, words) = matches.subcommand()?;
+    let file = words.get_str("FILE")?;
+    let task = task_of(command, words)?;
+    Some(Job { file, task })
 }
 
 /// What the program's words ask for, of which the first is its own name; `None` where they name no file.
@@ -291,7 +264,7 @@ pub fn asked<'a>(alloc: Global, words: &'a [String]) -> Result<Option<Job<'a>>, 
     ensures faultless { OnOk result (faults_of (map string_bytes words.now) ≡ []) }
     ensures job { IfOk result (λ job. option_map wish_of job
         ≡ wished (map string_bytes words.now)) }
-    ensures within { IfOk result (λ job. IfSome job IsWithinBounds) }
+    ensures within { IfOk result (λ job. IfSome job (λ job. IsWithinBounds job.task)) }
     ensures err { IfErr result (HasKind (faults_of (map string_bytes words.now))) }
 {
     let parser = command(alloc)?;

@@ -3,20 +3,11 @@ ghost use Rattle.std.specs.Prelude.{◌≡◌, ◌++◌, ◌∷◌, [], OnOk};
 ghost use Rattle.std.specs.Io.KnownBytes.{Appends};
 ghost use Rattle.sk_command.specs.Messages.{kind_word, cause_word, message_text};
 
+use crate::job::Task;
 use crate::read_all::ReadFault;
 use sk_words::FaultKind;
 use std::io::{ErrorKind, Write};
 use std::{fmt, io};
-
-/// The commands, by what sections they take.
-#[derive(Clone, Copy, Debug, PartialEq, Eq)]
-pub enum Taker {
-    Play,
-    Talk,
-    Plain,
-    Replay,
-    Work,
-}
 
 /// Why a run does not end well.
 #[derive(Clone, Copy, Debug)]
@@ -28,9 +19,9 @@ pub enum Message<'a> {
     },
     /// The section is not what the command takes.
     WrongSection,
-    /// What the command takes, and what the file of this name has in its place.
+    /// What the task takes, and what the file of this name has in its place.
     Other {
-        taker: Taker,
+        task: Task,
         file: &'a str,
         has: &'a str,
     },
@@ -54,15 +45,15 @@ impl fmt::Display for Message<'_> {
                 write!(f, "speculate: line {line}: {kind}")
             }
             Message::WrongSection => write!(f, "speculate: wrong section"),
-            Message::Other { taker, file, has } => match taker {
-                Taker::Play => write!(f, "play takes steps or world, {file} has {has}"),
-                Taker::Talk => write!(
+            Message::Other { task, file, has } => match task {
+                Task::Play(_) => write!(f, "play takes steps or world, {file} has {has}"),
+                Task::Talk => write!(
                     f,
                     "talk takes steps or world without an event, {file} has {has}"
                 ),
-                Taker::Plain => write!(f, "plain takes trace, {file} has {has}"),
-                Taker::Replay => write!(f, "replay takes trace, {file} has {has}"),
-                Taker::Work => write!(f, "work takes any section, {file} has {has}"),
+                Task::Plain => write!(f, "plain takes trace, {file} has {has}"),
+                Task::Replay => write!(f, "replay takes trace, {file} has {has}"),
+                Task::Work { .. } => write!(f, "work takes any section, {file} has {has}"),
             },
             Message::Entry(number) => write!(f, "speculate: trace entry {number} refused"),
             Message::Unread(file) => write!(f, "speculate: cannot read {file}"),

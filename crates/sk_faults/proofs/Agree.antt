@@ -7,7 +7,8 @@ use Rattle.sk_faults.proofs.Names.{Agrees}
 use Rattle.sk_words.specs.declared.fault.FaultKind.TheVariants as kinds
 use Rattle.sk_words.specs.Operands.{none_of, one_of, both, the_two, two_of, three_of}
 use Rattle.sk_faults.specs.declared.found.Why.TheVariants as why
-use Rattle.sk_faults.proofs.Readings.{OnlyOperand, IsReading}
+use Rattle.sk_script.proofs.Readings.{OnlyOperand, IsReading}
+use Rattle.sk_script.proofs.Shapes.{AllRows}
 
 -- ---- open literals are told first
 
@@ -137,12 +138,13 @@ then_agrees {A} {B} ws (Err e) found g h o = err_then A B ws e found h
 
 -- ---- tables
 
+-- a rule tells of these words what their forms do
+abbrev pub Told : {A : Type 0} → List (List ℕ) → List Form → Rule A → Type 0
+Told ws fs rule = Agrees ws (rule ws) (operand_fault None (Some fs) ws)
+
 -- row by row
 abbrev pub AllAgree : {A : Type 0} → List (List ℕ × Rule A) → Table → List (List ℕ) → Type 0
-AllAgree [] [] ws = Unit {0}
-AllAgree [] (t ∷ ts) ws = ⊥
-AllAgree (r ∷ rs) [] ws = ⊥
-AllAgree (r ∷ rs) (t ∷ ts) ws = (r.0 ≡ t.0) × Agrees ws (r.1 ws) (operand_fault None (Some t.1) ws) × AllAgree rs ts ws
+AllAgree rs ts ws = AllRows (Told ws) rs ts
 
 pub in_table : {A : Type 0} (rs : List (List ℕ × Rule A)) (ts : Table) (others : Rule A) (forms : Option (List Form)) (word : List ℕ) (ws : List (List ℕ))
     → AllAgree rs ts ws → Agrees ws (others ws) (operand_fault None forms ws) → Agrees ws (rule_in rs others word ws) (operand_fault None (forms_in ts forms word) ws)

@@ -5,9 +5,9 @@ use Rattle.sk_faults.proofs.Names.{Call, Table, input_forms, forms_in, second, i
 use Rattle.sk_faults.proofs.Names.{Agrees}
 use Rattle.sk_scenario.specs.Calls.{call}
 use Rattle.sk_scenario.specs.declared.call.Call.TheVariants as calls
-use Rattle.sk_faults.specs.declared.form.Form.TheVariants as forms
+use Rattle.sk_script.specs.declared.form.Form.TheVariants as forms
 use Rattle.sk_faults.specs.declared.part.Part.TheVariants as parts
-use Rattle.sk_faults.proofs.Readings.{reads_guess}
+use Rattle.sk_script.proofs.Readings.{reads_guess}
 use Rattle.sk_faults.proofs.Agree.{then_agrees, one_so, in_table}
 use Rattle.sk_faults.proofs.Steps.{step_agrees, last_forms, unknown_told}
 

@@ -1,6 +1,5 @@
 pub mod Names
 pub mod Places
-pub mod Readings
 pub mod Agree
 pub mod Scripts
 pub mod ScriptLines
@@ -8,3 +7,4 @@ pub mod Lists
 pub mod Sections
 pub mod Steps
 pub mod Calls
+pub mod Somewhere

@@ -14,9 +14,9 @@ use Rattle.sk_scenario.specs.declared.declarations.Heading.TheVariants as headin
 use Rattle.sk_scenario.specs.declared.declarations.Said.TheVariants as says
 use Rattle.sk_scenario.specs.Declarations.{declares, says_next}
 use Rattle.sk_scenario.specs.WorldEvents.{world_event}
-use Rattle.sk_faults.specs.declared.form.Form.TheVariants as forms
+use Rattle.sk_script.specs.declared.form.Form.TheVariants as forms
 use Rattle.sk_faults.specs.declared.part.Part.TheVariants as parts
-use Rattle.sk_faults.proofs.Readings.{reads_literal, reads_name, reads_index, reads_natural, reads_short, reads_process}
+use Rattle.sk_script.proofs.Readings.{reads_literal, reads_name, reads_index, reads_natural, reads_short, reads_process}
 use Rattle.sk_faults.proofs.Agree.{OnlyOther, then_agrees, none_so, one_so, one_agrees, two_agrees, three_agrees, three_so, in_table}
 
 -- ---- a world

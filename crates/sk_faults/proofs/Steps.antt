@@ -13,10 +13,10 @@ use Rattle.sk_script.specs.declared.instruction.Input.TheVariants as inputs
 use Rattle.sk_script.specs.StepInput.{content_of, content, input}
 use Rattle.sk_trace.specs.Lines.{step, numbered_step, event}
 use Rattle.sk_trace.specs.declared.event.Event.TheVariants as events
-use Rattle.sk_faults.specs.declared.form.Form.TheVariants as forms
+use Rattle.sk_script.specs.declared.form.Form.TheVariants as forms
 use Rattle.sk_faults.specs.declared.part.Part.TheVariants as parts
 use Rattle.sk_faults.specs.declared.found.Why.TheVariants as why
-use Rattle.sk_faults.proofs.Readings.{OnlyOperand, reads_natural, reads_literal, reads_guess, reads_process}
+use Rattle.sk_script.proofs.Readings.{OnlyOperand, reads_natural, reads_literal, reads_guess, reads_process}
 use Rattle.sk_faults.proofs.Agree.{after_open, then_agrees, one_so, in_table}
 
 -- ---- nothing but words and operands is told of these lines

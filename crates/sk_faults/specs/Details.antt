@@ -23,6 +23,11 @@ abbrev pub IsAtFound : Option Found → List ℕ → ℕ → List ℕ → Type 0
 IsAtFound (Some f) line start word = IsAt line f.index start word
 IsAtFound None line start word = (start ≡ length line) × (word ≡ [])
 
+-- at the word that is found, if one is
+abbrev pub IsAtWord : Option Found → List ℕ → ℕ → List ℕ → Type 0
+IsAtWord (Some f) line start word = IsAt line f.index start word
+IsAtWord None line start word = ⊥
+
 -- where a fault of this kind is told of a line that stands in a part
 abbrev pub IsTold : FaultKind → Part × List ℕ → ℕ → List ℕ → Type 0
 IsTold kinds.Word x start word = IsAtFound (found_of x.0 (first_of (words x.1))) x.1 start word

@@ -6,12 +6,12 @@ use Rattle.sk_words.specs.Words.{is_open, first_of}
 use Rattle.sk_script.specs.StepInput.{no_input}
 use Rattle.sk_faults.specs.declared.part.Part.{Part}
 use Rattle.sk_faults.specs.declared.part.Part.TheVariants as parts
-use Rattle.sk_faults.specs.declared.form.Form.{Form}
+use Rattle.sk_script.specs.declared.form.Form.{Form}
 use Rattle.sk_faults.specs.declared.found.Found.{Found}
 use Rattle.sk_faults.specs.declared.found.InputWord.{InputWord}
 use Rattle.sk_faults.specs.declared.found.Why.{Why}
 use Rattle.sk_faults.specs.declared.found.Why.TheVariants as why
-use Rattle.sk_faults.specs.Forms.{fits, is_input, brings_content}
+use Rattle.sk_script.specs.Forms.{fits, is_input, brings_content}
 use Rattle.sk_faults.specs.Tables.{forms_of}
 
 -- a fault of the word of this index, where the first word of the line has the index 0

@@ -7,12 +7,13 @@ ghost use Rattle.sk_faults.specs.Details.{IsAt, IsSomewhere, IsAtFound, IsTold, 
 ghost use Rattle.sk_faults.specs.Parts.{line_at};
 ghost use Rattle.sk_faults.specs.declared.part.Part.TheVariants.{Declarations};
 
-use crate::form::Form;
 use crate::found::{Found, Why, find};
 use crate::part::{Part, line_at};
 use crate::place::{Place, place_of};
 use crate::reason::{Reason, Thing};
 use crate::tables::{forms_of, is_label};
+use crate::wanted::Wanted;
+use sk_script::Form;
 use sk_words::{Fault, FaultKind, Index, Lines, Operand, first_word};
 use std::io::Write;
 use std::{fmt, io};
@@ -48,7 +49,7 @@ fn end_of(line: &[u8]) -> Place<'_>
 }
 
 /// The place of the word of this index, or the line's end where there is none.
-fn place_at(line: &[u8], index: usize) -> Place<'_>
+pub(crate) fn place_at(line: &[u8], index: usize) -> Place<'_>
     ensures { IsAt line.now index result.start result.word.now }
 {
     match place_of(line, index) {
@@ -58,14 +59,14 @@ fn place_at(line: &[u8], index: usize) -> Place<'_>
 }
 
 /// The same, of some word.
-fn somewhere(line: &[u8], index: usize) -> Place<'_>
+pub(crate) fn somewhere(line: &[u8], index: usize) -> Place<'_>
     ensures { IsSomewhere line.now result.start result.word.now }
 {
     place_at(line, index)
 }
 
 /// The first word of a line; no byte where it has none.
-fn first_in(line: &[u8]) -> &[u8] {
+pub(crate) fn first_in(line: &[u8]) -> &[u8] {
     match first_word(line) {
         Some((word, _)) => word,
         None => &[],
@@ -73,17 +74,23 @@ fn first_in(line: &[u8]) -> &[u8] {
 }
 
 /// What is at fault with the word that was found.
-fn reason_of<'a>(part: Part, first: &'a [u8], why: Why, word: &'a [u8]) -> Reason<'a> {
+pub(crate) fn reason_of<'a>(part: Part, first: &'a [u8], why: Why, word: &'a [u8]) -> Reason<'a> {
     match why {
         Why::Unknown => Reason::Unknown { word, part },
         Why::Open => Reason::Open,
         Why::Input => Reason::Malformed {
             word,
-            form: Form::Input,
+            wanted: Wanted::Form(Form::Input),
         },
-        Why::Missing(form) => Reason::Missing { first, form },
+        Why::Missing(form) => Reason::Missing {
+            first,
+            wanted: Wanted::Form(form),
+        },
         Why::Surplus => Reason::Surplus { word, first },
-        Why::Malformed(form) => Reason::Malformed { word, form },
+        Why::Malformed(form) => Reason::Malformed {
+            word,
+            wanted: Wanted::Form(form),
+        },
     }
 }
 

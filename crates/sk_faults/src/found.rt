@@ -3,9 +3,9 @@ ghost use Rattle.std.specs.Prelude.{◌≡◌, Some};
 ghost use Rattle.sk_words.specs.Words.{words, first_of};
 ghost use Rattle.sk_faults.specs.Found.{open_at, count_at, wrong_at, input_word, second, third, input_of_step, input_of_event, input_in, is_wide, unknown_input, operand_fault, found_behind, found_of};
 
-use crate::form::{Form, brings_content, is_input};
 use crate::part::Part;
 use crate::tables::forms_of;
+use sk_script::{Form, brings_content, is_input};
 use sk_words::{Words, first_word, is_open};
 
 /// Why a word is at fault.
@@ -44,7 +44,7 @@ struct InputWord {
 const INDEX_MOST: usize = 4_294_967_295;
 
 /// The first literal without its closing quote.
-fn open_at(words: &Words) -> Option<Found>
+pub(crate) fn open_at(words: &Words) -> Option<Found>
     ensures { result ≡ open_at 1 words.now }
 {
     let mut words = words.again();

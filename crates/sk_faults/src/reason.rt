@@ -1,11 +1,15 @@
 //! What is at fault in a line, and what was expected there.
-use crate::form::Form;
 use crate::part::Part;
+use crate::wanted::Wanted;
 use sk_words::Unquoted;
 use std::fmt;
 
 /// How many bytes of a word are told.
 const SHOWN: usize = 60;
+
+/// The first words of the lines of a talk that are no events.
+const QUESTIONS: &str =
+    "value, tags, dependents, terminal, released, counts, trace, report, epoch, lease";
 
 /// What is declared by a name, a label or a number.
 #[derive(Clone, Copy, Debug, PartialEq, Eq)]
@@ -40,14 +44,16 @@ impl Thing {
 pub enum Reason<'a> {
     /// The first word of a line is unknown in its part.
     Unknown { word: &'a [u8], part: Part },
+    /// The first word of a line of a talk is unknown, where the events of this part are talked of.
+    Unheard { word: &'a [u8], part: Part },
     /// A literal has no closing quote.
     Open,
-    /// The line ends where a word of this form is wanted.
-    Missing { first: &'a [u8], form: Form },
+    /// The line ends where this is wanted.
+    Missing { first: &'a [u8], wanted: Wanted },
     /// One word more than the first word takes.
     Surplus { word: &'a [u8], first: &'a [u8] },
-    /// A word has not the form that is wanted.
-    Malformed { word: &'a [u8], form: Form },
+    /// A word is not what is wanted.
+    Malformed { word: &'a [u8], wanted: Wanted },
     /// A thing is declared twice.
     Twice { word: &'a [u8], thing: Thing },
     /// A thing is not declared.
@@ -138,14 +144,26 @@ fn write_surplus<W: fmt::Write>(
     )
 }
 
+fn write_unheard<W: fmt::Write>(word: &[u8], part: Part, f: &mut fmt::Formatter<W>) -> fmt::Result {
+    if has_mark(word) {
+        return write!(f, "a byte order mark before the first word (expected none)");
+    }
+    let word = Shown(word);
+    let events = first_words(part);
+    write!(
+        f,
+        "unknown word {word} in a talk (expected {events}, {QUESTIONS}, or end alone)"
+    )
+}
+
 fn write_malformed<W: fmt::Write>(
     word: &[u8],
-    form: Form,
+    wanted: Wanted,
     f: &mut fmt::Formatter<W>,
 ) -> fmt::Result {
     let word = Shown(word);
-    let called = form.called();
-    write!(f, "{word} is no {called} (expected {form})")
+    let called = wanted.called();
+    write!(f, "{word} is no {called} (expected {wanted})")
 }
 
 fn write_twice<W: fmt::Write>(word: &[u8], thing: Thing, f: &mut fmt::Formatter<W>) -> fmt::Result {
@@ -164,14 +182,15 @@ impl fmt::Display for Reason<'_> {
     fn fmt<W: fmt::Write>(&self, f: &mut fmt::Formatter<W>) -> fmt::Result {
         match *self {
             Reason::Unknown { word, part } => write_unknown(word, part, f),
+            Reason::Unheard { word, part } => write_unheard(word, part, f),
             Reason::Open => write!(f, "a literal without its closing quote"),
-            Reason::Missing { first, form } => {
+            Reason::Missing { first, wanted } => {
                 let first = Shown(first);
-                let called = form.called();
-                write!(f, "{first} lacks its {called} (expected {form})")
+                let called = wanted.called();
+                write!(f, "{first} lacks its {called} (expected {wanted})")
             }
             Reason::Surplus { word, first } => write_surplus(word, first, f),
-            Reason::Malformed { word, form } => write_malformed(word, form, f),
+            Reason::Malformed { word, wanted } => write_malformed(word, wanted, f),
             Reason::Twice { word, thing } => write_twice(word, thing, f),
             Reason::Undeclared { word, thing } => {
                 let called = thing.called();

@@ -1,156 +1,17 @@
 //! What forms the words behind a first word have to have.
 ghost use Rattle.std.specs.Prelude.{◌≡◌, ◌∷◌, None, Some, MatchOption};
 ghost use Rattle.sk_script.specs.Scripting.{label_in};
-ghost use Rattle.sk_faults.specs.declared.form.Form.TheVariants.{Guess, Process};
-ghost use Rattle.sk_faults.specs.Tables.{forms_in, value_forms, outer_of, byte_of, object_of, place_of, instruction_forms, script_forms, is_labelled, declaration_forms, step_forms, world_forms, event_forms, input_forms, forms_of};
+ghost use Rattle.sk_script.specs.declared.form.Form.TheVariants.{Guess, Process};
+ghost use Rattle.sk_script.specs.InstructionForms.{forms_in, instruction_forms};
+ghost use Rattle.sk_faults.specs.Tables.{script_forms, is_labelled, declaration_forms, step_forms, world_forms, event_forms, input_forms, forms_of};
 
-use crate::form::Form::{
-    self, Guess, Index, Input, Label, Literal, Name, Natural, Number, Process, Register, Short,
-};
 use crate::part::Part;
-use sk_words::{Label as LabelWord, Operand};
-
-/// The forms behind a first word, in order.
-type Forms = &'static [Form];
-
-/// Behind an instruction.
-fn instruction_forms(word: &[u8]) -> Option<Forms>
-    ensures { MatchOption result (instruction_forms word.now ≡ None)
-        (λ forms. instruction_forms word.now ≡ Some forms.now) }
-{
-    if b"set".as_slice() == word {
-        return Some(&[Register, Number]);
-    }
-    if b"move".as_slice() == word {
-        return Some(&[Register, Register]);
-    }
-    if b"add".as_slice() == word {
-        return Some(&[Register, Register]);
-    }
-    if b"text".as_slice() == word {
-        return Some(&[Literal]);
-    }
-    if b"len".as_slice() == word {
-        return Some(&[Register]);
-    }
-    if b"self".as_slice() == word {
-        return Some(&[Register]);
-    }
-    if b"boot".as_slice() == word {
-        return Some(&[Register, Index]);
-    }
-    place_of(word)
-}
-
-/// Behind an instruction about places, or one of the others.
-fn place_of(word: &[u8]) -> Option<Forms>
-    ensures { MatchOption result (place_of word.now ≡ None)
-        (λ forms. place_of word.now ≡ Some forms.now) }
-{
-    if b"jump".as_slice() == word {
-        return Some(&[Label]);
-    }
-    if b"zero".as_slice() == word {
-        return Some(&[Register, Label]);
-    }
-    if b"neg".as_slice() == word {
-        return Some(&[Register, Label]);
-    }
-    if b"handler".as_slice() == word {
-        return Some(&[Label]);
-    }
-    if b"return".as_slice() == word {
-        return Some(&[]);
-    }
-    object_of(word)
-}
-
-/// Behind an instruction about objects and names, or one of the others.
-fn object_of(word: &[u8]) -> Option<Forms>
-    ensures { MatchOption result (object_of word.now ≡ None)
-        (λ forms. object_of word.now ≡ Some forms.now) }
-{
-    if b"mkfile".as_slice() == word {
-        return Some(&[Register]);
-    }
-    if b"mkdir".as_slice() == word {
-        return Some(&[Register]);
-    }
-    if b"mkpipe".as_slice() == word {
-        return Some(&[Register]);
-    }
-    if b"look".as_slice() == word {
-        return Some(&[Register, Register, Name]);
-    }
-    if b"link".as_slice() == word {
-        return Some(&[Register, Name, Register]);
-    }
-    if b"unlink".as_slice() == word {
-        return Some(&[Register, Name]);
-    }
-    byte_of(word)
-}
-
-/// Behind an instruction about bytes, or one of the others.
-fn byte_of(word: &[u8]) -> Option<Forms>
-    ensures { MatchOption result (byte_of word.now ≡ None)
-        (λ forms. byte_of word.now ≡ Some forms.now) }
-{
-    if b"size".as_slice() == word {
-        return Some(&[Register]);
-    }
-    if b"write".as_slice() == word {
-        return Some(&[Register, Register]);
-    }
-    if b"read".as_slice() == word {
-        return Some(&[Register, Register]);
-    }
-    if b"cut".as_slice() == word {
-        return Some(&[Register, Register]);
-    }
-    if b"put".as_slice() == word {
-        return Some(&[Register]);
-    }
-    if b"take".as_slice() == word {
-        return Some(&[Register, Register]);
-    }
-    if b"shut".as_slice() == word {
-        return Some(&[Register]);
-    }
-    outer_of(word)
-}
-
-/// Behind an instruction about processes, the terminal and the server.
-fn outer_of(word: &[u8]) -> Option<Forms>
-    ensures { MatchOption result (outer_of word.now ≡ None)
-        (λ forms. outer_of word.now ≡ Some forms.now) }
-{
-    if b"fork".as_slice() == word {
-        return Some(&[Register, Label]);
-    }
-    if b"wait".as_slice() == word {
-        return Some(&[Register, Register]);
-    }
-    if b"kill".as_slice() == word {
-        return Some(&[Register, Register]);
-    }
-    if b"exit".as_slice() == word {
-        return Some(&[Register]);
-    }
-    if b"say".as_slice() == word {
-        return Some(&[]);
-    }
-    if b"fetch".as_slice() == word {
-        return Some(&[Name]);
-    }
-    if b"store".as_slice() == word {
-        return Some(&[Name]);
-    }
-    None
-}
+use sk_script::Form::{Guess, Index, Input, Literal, Name, Natural, Process, Short};
+use sk_script::{Forms, instruction_forms};
+use sk_words::{Label, Operand};
 
 /// The label of a word that is a label and a colon.
-fn label_in(word: &[u8]) -> Option<LabelWord>
+fn label_in(word: &[u8]) -> Option<Label>
     ensures { result ≡ label_in word.now }
 {
     match word {

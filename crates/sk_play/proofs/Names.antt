@@ -2,10 +2,9 @@
 pub use Rattle.std.proofs.Common.{ap, Some, ◌++◌, length, Bool, ℕ, subst, true, Ok, drop, ◌∷◌, sym, decimal, None, suc}
 pub use Rattle.std.proofs.Common.{zero, ◌≤◌, ◌≡◌, rules, take, ◌+◌, false, Option, ◌<◌, arith, refl, List, Result, []}
 pub use Rattle.std.proofs.Common.{◌∙◌, ◌==◌, get_or, map}
-pub use Rattle.std.proofs.KnownBytes.{Appends-kept}
 pub use Rattle.std.proofs.lemmas.Fmt.{length-decimal-le}
 pub use Rattle.std.proofs.lemmas.List.{take_all, append_assoc, take_more, append-nil}
-pub use Rattle.std.specs.Io.KnownBytes.{Appends, Keeps}
+pub use Rattle.std.specs.Io.KnownBytes.{Appends}
 pub use Rattle.std.specs.Prelude.{OnOk}
 pub use Rattle.sk_client.proofs.Upcoming.{event_foreseen}
 pub use Rattle.sk_client.proofs.WorldFacts.{newest_is}
@@ -21,13 +20,12 @@ pub use Rattle.sk_kernel.specs.Footprint.{appended, IsForeseen}
 pub use Rattle.sk_kernel.specs.Kernel.{next_guess, with_event, KernelView}
 pub use Rattle.sk_kernel.specs.declared.kernel.Outcome.{Outcome}
 pub use Rattle.sk_plain.specs.declared.refusal.Refusal.{Refusal}
-pub use Rattle.sk_play.specs.Played.{answer_line}
-pub use Rattle.sk_play.specs.Plays.{Reported, Tells, Plays}
+pub use Rattle.sk_play.specs.Plays.{Plays}
 pub use Rattle.sk_play.specs.Replays.{replayed, told_by, call_of, Replays, StopsAt}
 pub use Rattle.sk_play.specs.Session.{DecisionTold, AnswerMatches, held_after, StepTold, GuessTold}
 pub use Rattle.sk_play.specs.Told.{told_line}
 pub use Rattle.sk_play.specs.Upcoming.{upcoming}
-pub use Rattle.sk_play.specs.Worlds.{seeded, Happens, WorldReported, WorldTells}
+pub use Rattle.sk_play.specs.Worlds.{seeded, Happens}
 pub use Rattle.sk_play.specs.declared.answer.CallAnswer.{CallAnswer}
 pub use Rattle.sk_play.specs.declared.told.WorldTold.{WorldTold}
 pub use Rattle.sk_record.specs.Notes.{has}

@@ -1,41 +1,27 @@
 -- What was done, once the buffer is written out.
-use Rattle.sk_run.proofs.Names.{◌≡◌, inl, inr, ℕ, List, [], length, Option, Result, Ok, Err, refl, sym, subst, OnOk}
-use Rattle.sk_run.proofs.Names.{Appends, Appends-kept, Keeps-refl, WorldEvent, KernelView, start_of, PlainView, FaultIn}
-use Rattle.sk_run.proofs.Names.{TraceFault, BootView, Event, Declared, Call, plain_report_text, report_text, Stop, End}
-use Rattle.sk_run.proofs.Names.{Shows, IsFlushed, world_reported_kept, reported_kept, Reported, declared_kernel}
-use Rattle.sk_run.proofs.Names.{Replays, replayed, declared_world, WorldReported, beside, happened, left_by}
-use Rattle.sk_run.proofs.Names.{trace_fault_end, HasRun, HasSoundTrace, EndsReplayed, IsPlayed, IsWorldPlayed}
-use Rattle.sk_run.proofs.Names.{EndsReport, EndsPlain, EndsPlayed, EndsWorld, HasAnswered, HasHappened}
+use Rattle.sk_run.proofs.Names.{◌≡◌, inl, inr, ℕ, List, length, Option, Result, Ok, Err, refl, sym, subst, OnOk}
+use Rattle.sk_run.proofs.Names.{Appends, Appends-kept, Keeps-refl, KernelView, start_of, PlainView, FaultIn, TraceFault}
+use Rattle.sk_run.proofs.Names.{BootView, Event, plain_report_text, report_text, Stop, End, Shows, IsFlushed, Reported}
+use Rattle.sk_run.proofs.Names.{Replays, replayed, Lists, happened, left_by, trace_fault_end, HasRun, HasSoundTrace}
+use Rattle.sk_run.proofs.Names.{EndsReplayed, IsPlayed, EndsReport, EndsPlain, EndsPlay, HasAnswered}
 use Rattle.sk_plain.specs.declared.replay.TraceFault.TheVariants as faults
 use Rattle.sk_report.specs.declared.stop.Stop.TheVariants as stops
 use Rattle.sk_command.specs.declared.end.End.TheVariants as ends
-use Rattle.sk_run.proofs.Begun.{answered_kept, happened_kept}
+use Rattle.sk_run.proofs.InTurn.{answered_kept, reported_kept}
 
--- steps that were played
-pub played_out : (shows : Shows) (d : Declared) (steps : List Call) (written : Result (Unit {0}) Stop) (end : End) (buffer : List ℕ) (old mid new : Option (List ℕ))
-    → OnOk written (Reported (beside shows.steps) (IsPlayed shows) steps [] (declared_kernel d) old mid)
-    → (written ≡ Err stops.Memory → HasAnswered shows.steps steps [] (declared_kernel d) old mid) → EndsReport written end buffer mid new → EndsPlayed shows d steps end old new
-played_out shows d steps (Ok u) ends.Done buffer old mid new played memory ended = reported_kept (beside shows.steps) (IsPlayed shows) steps [] (declared_kernel d) old mid new played ended.1
-played_out shows d steps (Ok u) ends.Fault buffer old mid new played memory ended = ended.0
-played_out shows d steps (Ok u) ends.Usage buffer old mid new played memory ended = ended.0
-played_out shows d steps (Ok u) ends.Trouble buffer old mid new played memory ended = absurd ended.0
-played_out shows d steps (Ok u) ends.OutputRefused buffer old mid new played memory ended = tt
-played_out shows d steps (Err stops.Memory) end buffer old mid new played memory ended =
-    subst (λ x. EndsPlayed shows d steps x old new) (sym ended.0) (answered_kept shows.steps steps [] (declared_kernel d) old mid new (memory refl) ended.1)
-played_out shows d steps (Err stops.Output) end buffer old mid new played memory ended = subst (λ x. EndsPlayed shows d steps x old new) (sym ended) tt
-
--- the events of a world
-pub world_out : (shows : Shows) (d : Declared) (es : List WorldEvent) (written : Result (Unit {0}) Stop) (end : End) (buffer : List ℕ) (old mid new : Option (List ℕ))
-    → OnOk written (WorldReported (beside shows.steps) (IsWorldPlayed shows) es (declared_world d) old mid)
-    → (written ≡ Err stops.Memory → HasHappened shows.steps es (declared_world d) old mid) → EndsReport written end buffer mid new → EndsWorld shows d es end old new
-world_out shows d es (Ok u) ends.Done buffer old mid new played memory ended = world_reported_kept (beside shows.steps) (IsWorldPlayed shows) es (declared_world d) old mid new played ended.1
-world_out shows d es (Ok u) ends.Fault buffer old mid new played memory ended = ended.0
-world_out shows d es (Ok u) ends.Usage buffer old mid new played memory ended = ended.0
-world_out shows d es (Ok u) ends.Trouble buffer old mid new played memory ended = absurd ended.0
-world_out shows d es (Ok u) ends.OutputRefused buffer old mid new played memory ended = tt
-world_out shows d es (Err stops.Memory) end buffer old mid new played memory ended =
-    subst (λ x. EndsWorld shows d es x old new) (sym ended.0) (happened_kept shows.steps es (declared_world d) old mid new (memory refl) ended.1)
-world_out shows d es (Err stops.Output) end buffer old mid new played memory ended = subst (λ x. EndsWorld shows d es x old new) (sym ended) tt
+-- items that were played
+pub play_out : {S I : Type 0} (kernel_of : S → KernelView) (Takes : ℕ → I → S → S → List ℕ → Type 0) (report : S → List ℕ) (shows : Shows) (items : List I) (s : S) (written : Result (Unit {0}) Stop) (end : End) (buffer : List ℕ)
+    (old mid new : Option (List ℕ)) → OnOk written (Reported (Lists kernel_of Takes shows.steps) (IsPlayed kernel_of report shows) items s old mid)
+    → (written ≡ Err stops.Memory → HasAnswered (Lists kernel_of Takes shows.steps) items s old mid) → EndsReport written end buffer mid new → EndsPlay kernel_of Takes report shows items s end old new
+play_out kernel_of Takes report shows items s (Ok u) ends.Done buffer old mid new played memory ended =
+    reported_kept (Lists kernel_of Takes shows.steps) (IsPlayed kernel_of report shows) items s old mid new played ended.1
+play_out kernel_of Takes report shows items s (Ok u) ends.Fault buffer old mid new played memory ended = ended.0
+play_out kernel_of Takes report shows items s (Ok u) ends.Usage buffer old mid new played memory ended = ended.0
+play_out kernel_of Takes report shows items s (Ok u) ends.Trouble buffer old mid new played memory ended = absurd ended.0
+play_out kernel_of Takes report shows items s (Ok u) ends.OutputRefused buffer old mid new played memory ended = tt
+play_out kernel_of Takes report shows items s (Err stops.Memory) end buffer old mid new played memory ended =
+    subst (λ x. EndsPlay kernel_of Takes report shows items s x old new) (sym ended.0) (answered_kept (Lists kernel_of Takes shows.steps) items s old mid new (memory refl) ended.1)
+play_out kernel_of Takes report shows items s (Err stops.Output) end buffer old mid new played memory ended = subst (λ x. EndsPlay kernel_of Takes report shows items s x old new) (sym ended) tt
 
 -- a trace of which all that it leaves was run
 pub plain_out : (boot : BootView) (es : List Event) (k : PlainView) (steps : ℕ) (written : Result (Unit {0}) Stop) (end : End) (buffer : List ℕ) (old mid new : Option (List ℕ))

@@ -1,5 +1,5 @@
 pub mod Names
-mod Begun
+mod InTurn
 mod Ended
 pub mod Talked
 mod Plainly

@@ -17,8 +17,6 @@ pub use Rattle.std.specs.Result.{result_ok}
 pub use Rattle.std.specs.Str.Lines.{lines}
 pub use Rattle.std.specs.declared.io.buffered.BufReader.{BufReader}
 pub use Rattle.sk_client.specs.Desk.{DeskView}
-pub use Rattle.sk_client.specs.WorldView.{WorldView}
-pub use Rattle.sk_client.specs.declared.world.WorldEvent.{WorldEvent}
 pub use Rattle.sk_command.specs.Ends.{IsWritten, IsFlushed}
 pub use Rattle.sk_command.specs.declared.end.End.{End}
 pub use Rattle.sk_command.specs.declared.job.Shows.{Shows}
@@ -35,14 +33,10 @@ pub use Rattle.sk_plain.specs.declared.refusal.Refusal.{Refusal}
 pub use Rattle.sk_plain.specs.declared.replay.TraceFault.{TraceFault}
 pub use Rattle.sk_plain.specs.declared.replay.TraceFault.TheVariants.{Memory}
 pub use Rattle.sk_play.proofs.Foreseen.{call_foreseen, happening_foreseen}
-pub use Rattle.sk_play.proofs.Happened.{world_reported_kept}
-pub use Rattle.sk_play.proofs.Turns.{tells_more, reported_kept}
 pub use Rattle.sk_play.specs.Played.{answer_line}
-pub use Rattle.sk_play.specs.Plays.{Reported, Answered, declared_kernel}
 pub use Rattle.sk_play.specs.Replays.{replayed, Replays}
 pub use Rattle.sk_play.specs.Told.{told_line}
 pub use Rattle.sk_play.specs.Upcoming.{upcoming}
-pub use Rattle.sk_play.specs.Worlds.{declared_world, WorldReported, WorldAnswered}
 pub use Rattle.sk_questions.specs.Questions.{asked_by}
 pub use Rattle.sk_questions.specs.declared.asked.Asked.{Asked}
 pub use Rattle.sk_record.proofs.Machine.{nil_right}
@@ -52,21 +46,19 @@ pub use Rattle.sk_record.specs.Run.{effects, marked_effect, IsLegal, after, run,
 pub use Rattle.sk_record.specs.Step.{Effect}
 pub use Rattle.sk_record.specs.Trace.{IsSound}
 pub use Rattle.sk_report.specs.Footprints.{event_lines, listed, touched_lines}
-pub use Rattle.sk_report.specs.Report.{report_text, world_report_text, plain_report_text}
+pub use Rattle.sk_report.specs.Report.{report_text, plain_report_text}
 pub use Rattle.sk_report.specs.declared.stop.Stop.{Stop}
-pub use Rattle.sk_run.specs.Listing.{foreseen, touched, lines_of, foreseen_lines, beside}
+pub use Rattle.sk_run.specs.InTurn.{Answered, HasAnswered, Lists, Reported, Tells}
+pub use Rattle.sk_run.specs.Listing.{foreseen, touched, lines_of, foreseen_lines}
 pub use Rattle.sk_run.specs.Plainly.{HasRun, happened, after_step, HasSoundTrace, left_by, all_run, AllTaken}
 pub use Rattle.sk_run.specs.Plainly.{trace_fault_end}
 pub use Rattle.sk_run.specs.Replayed.{EndsReplayed}
-pub use Rattle.sk_run.specs.Run.{EndsReport, counts_section, IsCounted, WritesCounts, HasHappened, IsPlayed, EndsPlain}
-pub use Rattle.sk_run.specs.Run.{trace_section, HasAnswered, IsBehind, IsWorldPlayed, where_wanted, EndsWorld, Prints}
-pub use Rattle.sk_run.specs.Run.{EndsPlayed}
+pub use Rattle.sk_run.specs.Run.{EndsReport, counts_section, IsCounted, WritesCounts, IsPlayed, EndsPlain}
+pub use Rattle.sk_run.specs.Run.{trace_section, IsBehind, where_wanted, EndsPlay, Prints}
 pub use Rattle.sk_run.specs.Talk.{Answers, is_end, number_behind, EndsTalk, EndsOpened, Talks, talked, begun, AnswersAs}
 pub use Rattle.sk_run.specs.Talk.{TakesLine}
 pub use Rattle.sk_run.specs.declared.talking.Talk.{Talk}
-pub use Rattle.sk_scenario.specs.Declarations.{Declared}
 pub use Rattle.sk_scenario.specs.Scenario.{section_view}
-pub use Rattle.sk_scenario.specs.declared.call.Call.{Call}
 pub use Rattle.sk_script.specs.Boot.{BootView}
 pub use Rattle.sk_script.specs.Scripts.{ScriptMap}
 pub use Rattle.sk_script.specs.declared.instruction.Input.{Input}

@@ -58,8 +58,8 @@ fault_line line kind = Some (message_text (messages.Fault line kind) ++ 10 ∷ [
 
 -- what is written of a line of this number that is told so, the next event having that number
 abbrev pub told_as : ℕ → ℕ → LineTold → Option (List ℕ)
-told_as line number (tells.Answered a) = Some (answer_line number a)
-told_as line number (tells.Happened t) = Some (told_line number t)
+told_as line number (tells.Answered a) = Some (codes "event " ++ answer_line number a)
+told_as line number (tells.Happened t) = Some (codes "event " ++ told_line number t)
 told_as line number tells.Nothing = Some []
 told_as line number (tells.Fault kind) = fault_line line kind
 
@@ -146,6 +146,19 @@ EndsOpened None input end old new = EndsUnwritten ends.Fault end old new
 EndsOpened (Some play) input end old new = EndsTalk play input end old new
 
 -- ---- what functions answer, in these words
+
+-- the fault of a line that was told so, want of memory too
+abbrev pub fault_of : LineTold → Option FaultKind
+fault_of (tells.Answered a) = None
+fault_of (tells.Happened t) = None
+fault_of tells.Nothing = None
+fault_of (tells.Fault kind) = Some kind
+
+-- whether this is the fault of a line, if it has one
+abbrev pub IsFaultAs : Result (Option Asked) FaultKind → List ℕ → Play → Play → Option FaultKind → Type 0
+IsFaultAs (Ok (Some asked)) line old new fault = fault ≡ None
+IsFaultAs (Ok None) line old new fault = (told : LineTold) × LineTaken told line old new × (fault ≡ fault_of told)
+IsFaultAs (Err kind) line old new fault = fault ≡ Some kind
 
 -- the answer to a question is written
 abbrev pub WritesAnswer : Play → Question → Option (List ℕ) → Option (List ℕ) → Type 0

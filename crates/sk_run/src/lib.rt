@@ -4,7 +4,7 @@
 pub mod ending;
 pub mod listing;
 pub mod plain_run;
+pub mod player;
 pub mod playing;
 pub mod replaying;
 pub mod talking;
-pub mod worlds;

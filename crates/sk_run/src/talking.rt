@@ -1,6 +1,6 @@
 //! Talking: what a scenario declares is played by the lines of a reader, each of which is answered before the next one
 //! is read.
-ghost use Rattle.std.specs.Prelude.{◌≡◌, ◌<◌, ◌^◌, ◌-◌, ◌+◌, ◌++◌, ◌∷◌, ℕ, List, [], None, Some, Ok, Err, OnOk, codes};
+ghost use Rattle.std.specs.Prelude.{◌≡◌, ◌<◌, ◌^◌, ◌-◌, ◌+◌, ◌++◌, ◌∷◌, ℕ, List, [], None, Some, Ok, Err, IfOk, OnOk, codes};
 ghost use Rattle.std.specs.Str.Lines.{lines};
 ghost use Rattle.std.specs.Io.KnownBytes.{Appends};
 ghost use Rattle.std.specs.Io.Buffered.{writer_buffer, writer_contents};
@@ -16,12 +16,14 @@ ghost use Rattle.sk_talk.specs.Lines.{LineTaken};
 ghost use Rattle.sk_words.specs.declared.fault.FaultKind.TheVariants as kinds;
 ghost use Rattle.sk_talk.specs.declared.line.LineTold.TheVariants as tells;
 ghost use Rattle.sk_report.specs.declared.stop.Stop.TheVariants as stops;
-ghost use Rattle.sk_run.specs.Talk.{begun, is_alone, fault_line, told_as, number_behind, handed_behind, AnswersAs, Answers, BeginsEpoch, HandsOut, Serves, TellsLease, WritesAnswer, EndsTalk, EndsOpened, TakesLine, WantsMemory};
+ghost use Rattle.sk_questions.specs.Questions.{asked_by};
+ghost use Rattle.sk_run.specs.Talk.{begun, is_alone, fault_line, fault_of, IsFaultAs, told_as, number_behind, handed_behind, AnswersAs, Answers, BeginsEpoch, HandsOut, Serves, TellsLease, WritesAnswer, EndsTalk, EndsOpened, TakesLine, WantsMemory};
 
 use sk_command::end::{End, flushed, tell_unread, tell_wrong_section};
 use sk_command::message::{Message, write_message};
 use sk_command::open_input::OpenInput;
 use sk_command::read_all::ReadFault;
+use sk_faults::{Part, write_line_detail};
 use sk_ids::Pid;
 use sk_play::{EpochTold, LeaseTold, write_answer, write_told};
 use sk_questions::{Asked, Question};
@@ -106,10 +108,12 @@ fn write_line<W: Write>(line: u64, number: usize, told: &LineTold, out: &mut W) 
 {
     match told {
         LineTold::Answered(answer) => {
+            out.write_all(b"event ")?;
             write_answer(number, answer, out)?;
             Ok(())
         }
         LineTold::Happened(told) => {
+            out.write_all(b"event ")?;
             write_told(number, told, out)?;
             Ok(())
         }
@@ -126,6 +130,16 @@ fn number_behind(told: &LineTold, number: usize) -> usize
     match told {
         LineTold::Answered(_) | LineTold::Happened(_) => number + 1,
         LineTold::Nothing | LineTold::Fault(_) => number,
+    }
+}
+
+/// The fault of a line that was told so.
+fn fault_of(told: &LineTold) -> Option<FaultKind>
+    ensures { result ≡ fault_of told.now }
+{
+    match told {
+        LineTold::Fault(kind) => Some(*kind),
+        LineTold::Answered(_) | LineTold::Happened(_) | LineTold::Nothing => None,
     }
 }
 
@@ -231,18 +245,28 @@ impl Talk {
         }
     }
 
-    /// Makes the call that the line of this number says, and writes what it is told.
+    /// The part of a scenario whose events are talked of.
+    fn part(&self) -> Part {
+        match self.play {
+            Play::Steps(_) => Part::Steps,
+            Play::World(_) => Part::World,
+        }
+    }
+
+    /// Makes the call that the line of this number says, and writes what it is told: its fault, if it has one.
     fn take<W: Write>(
         &mut self,
         alloc: Global,
         number: u64,
         line: &[u8],
         out: &mut W,
-    ) -> Result<(), Stop>
+    ) -> Result<Option<FaultKind>, Stop>
         requires { self.old.number < 2 ^ 64 - 1 }
         ensures written { OnOk result
             ((text : List ℕ) × AnswersAs (Ok None) number line.now self.old self.new text
             × Appends (W.contents out.old) (W.contents out.new) text) }
+        ensures fault { IfOk result
+            (λ fault. IsFaultAs (Ok None) line.now self.old.play self.new.play fault) }
         ensures memory { result ≡ Err stops.Memory
             → LineTaken (tells.Fault kinds.Memory) line.now self.old.play self.new.play
             × (out.new ≡ out.old) }
@@ -250,38 +274,48 @@ impl Talk {
         let told = self.play.line(alloc, line);
         write_line(number, self.number, &told, out)?;
         self.number = number_behind(&told, self.number);
-        Ok(())
+        Ok(fault_of(&told))
     }
 
-    /// Writes the answer to the line of this number.
+    /// Writes the answer to the line of this number: its fault, if it has one.
     fn tell<W: Write>(
         &mut self,
         alloc: Global,
         number: u64,
         line: &[u8],
         out: &mut W,
-    ) -> Result<(), Stop>
+    ) -> Result<Option<FaultKind>, Stop>
         requires { self.old.number < 2 ^ 64 - 1 }
         ensures written { OnOk result
             ((text : List ℕ) × Answers number line.now self.old self.new text
             × Appends (W.contents out.old) (W.contents out.new) text) }
+        ensures fault { IfOk result
+            (λ fault. IsFaultAs (asked_by line.now) line.now self.old.play self.new.play fault) }
         ensures memory { result ≡ Err stops.Memory
             → WantsMemory line.now self.old.play self.new.play × (out.new ≡ out.old) }
     {
         match Asked::of(line) {
-            Ok(Some(asked)) => self.serve(alloc, &asked, out),
+            Ok(Some(asked)) => {
+                self.serve(alloc, &asked, out)?;
+                Ok(None)
+            }
             Ok(None) => self.take(alloc, number, line, out),
-            Err(kind) => write_wrong(number, kind, out),
+            Err(kind) => {
+                write_wrong(number, kind, out)?;
+                Ok(Some(kind))
+            }
         }
     }
 
-    /// Writes the answer to the line of this number, and writes out what the output buffers.
-    fn answer<W: Write + Drop>(
+    /// Writes the answer to the line of this number, and writes out what the output buffers; and then where its fault stands, if it
+    /// has one.
+    fn answer<W: Write + Drop, E: Write>(
         &mut self,
         alloc: Global,
         number: u64,
         line: &[u8],
         out: &mut BufWriter<W>,
+        err: &mut E,
     ) -> Result<(), Stop>
         requires { self.old.number < 2 ^ 64 - 1 }
         ensures written { OnOk result
@@ -292,8 +326,11 @@ impl Talk {
         ensures memory { result ≡ Err stops.Memory
             → WantsMemory line.now self.old.play self.new.play × (out.new ≡ out.old) }
     {
-        self.tell(alloc, number, line, out)?;
+        let fault = self.tell(alloc, number, line, out)?;
         out.flush()?;
+        if let Some(kind) = fault {
+            let _ = write_line_detail(self.part(), number, line, kind, err);
+        }
         Ok(())
     }
 }
@@ -324,7 +361,7 @@ pub fn answer_lines<R: BufRead, W: Write + Drop, E: Write>(
         if is_alone(b"end", text) {
             return flushed(out);
         }
-        match talk.answer(alloc, number, text, out) {
+        match talk.answer(alloc, number, text, out, err) {
             Ok(()) => {}
             Err(Stop::Memory) => return End::Trouble,
             Err(Stop::Output) => return End::OutputRefused,

@@ -7,7 +7,7 @@ pub use Rattle.std.specs.Cmp.{eq_by_cmp_equiv, Equal-is}
 pub use Rattle.std.specs.Io.KnownBytes.{Appends}
 pub use Rattle.std.specs.List.{find, AllByRecursion, list_any}
 pub use Rattle.std.specs.Ordering.{eq_by_cmp}
-pub use Rattle.sk_ids.proofs.Entities.{entity_total, entity_exact}
+pub use Rattle.sk_ids.specs.EntityLemma.{entity_total, entity_exact}
 pub use Rattle.sk_ids.specs.Entity.{entity_cmp}
 pub use Rattle.sk_ids.specs.declared.entity.Entity.{Entity}
 pub use Rattle.sk_ids.specs.declared.entity.Entity.TheVariants.{Exit, Sig, Link, Obj, Proc, Copy}

@@ -6,10 +6,10 @@ pub use Rattle.std.proofs.lemmas.List.{take_rest}
 pub use Rattle.std.specs.Io.KnownBytes.{Appends}
 pub use Rattle.std.specs.Prelude.{IfSome}
 pub use Rattle.sk_client.specs.Desk.{DeskView}
-pub use Rattle.sk_command.specs.CommandLine.{Plain, Replay, Work, wish_of, Play, Talk, Wish}
 pub use Rattle.sk_command.specs.Ends.{fault_end}
 pub use Rattle.sk_command.specs.ReadAll.{INPUT_LIMIT}
 pub use Rattle.sk_command.specs.declared.end.End.{End}
+pub use Rattle.sk_command.specs.declared.job.Task.{Task}
 pub use Rattle.sk_crew.specs.Crewed.{IsCrewed}
 pub use Rattle.sk_report.specs.Report.{desk_report_text, workers_line}
 pub use Rattle.sk_run.specs.Talk.{EndsOpened}

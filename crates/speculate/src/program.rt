@@ -1,23 +1,24 @@
 //! The run of the program, from its words to its end.
 ghost use Rattle.std.specs.Prelude.{◌≡◌, None, Some, MatchResult, map, codes, string_bytes};
 ghost use Rattle.std.specs.Io.Buffered.{writer_buffer, writer_contents};
-ghost use Rattle.sk_command.specs.CommandLine.{wish_file, wish_of, IsWithinBounds};
+ghost use Rattle.sk_command.specs.CommandLine.{wish_of, IsWithinBounds};
 ghost use Rattle.sk_command.specs.Ends.{IsFlushed};
 ghost use Rattle.sk_command.specs.Messages.{message_text};
 ghost use Rattle.sk_scenario.specs.Scenario.{section_view};
 ghost use Rattle.speculate.specs.Program.{EndsRead, EndsText, EndsFile, EndsWords, section_told};
 
 use crate::working::run_work;
+use sk_client::World;
 use sk_command::end::{End, tell_fault, tell_wrong_section};
-use sk_command::job::{Job, asked, explain};
-use sk_command::message::{Message, Taker, write_message};
+use sk_command::job::{Job, Task, asked, explain};
+use sk_command::message::{Message, write_message};
 use sk_command::open_input::{OpenInput, input};
 use sk_faults::write_detail;
+use sk_play::Session;
 use sk_run::plain_run::run_trace;
-use sk_run::playing::run_steps;
+use sk_run::playing::run_play;
 use sk_run::replaying::run_replay;
 use sk_run::talking::talk_declared;
-use sk_run::worlds::run_world;
 use sk_scenario::{Scenario, Section};
 use sk_words::Fault;
 use std::alloc::Global;
@@ -55,14 +56,14 @@ fn run_file<R: Threads + Wait + Sync, O: OpenInput, W: Write + Drop, E: Write>(
     out: &mut BufWriter<W>,
     err: &mut E,
 ) -> End
-    requires { IsWithinBounds job }
+    requires { IsWithinBounds job.task }
     ensures end { let wish = wish_of job.entry in
-        EndsFile wish (O.bytes_of inputs.now (codes "-"))
-        (O.bytes_of inputs.now (wish_file wish)) result
+        EndsFile wish.task (O.bytes_of inputs.now (codes "-"))
+        (O.bytes_of inputs.now wish.file) result
         (writer_contents W.contents out.old) (writer_contents W.contents out.new) }
     ensures flushed { IsFlushed result (writer_buffer out.new) }
 {
-    match input(alloc, inputs, job.file(), err) {
+    match input(alloc, inputs, job.file, err) {
         Ok(text) => run_text(rt, alloc, job, &text, inputs, out, err),
         Err(end) => end,
     }
@@ -78,8 +79,8 @@ fn run_text<R: Threads + Wait + Sync, O: OpenInput, W: Write + Drop, E: Write>(
     out: &mut BufWriter<W>,
     err: &mut E,
 ) -> End
-    requires { IsWithinBounds job }
-    ensures end { EndsText (wish_of job.entry) (O.bytes_of inputs.now (codes "-")) text.now result
+    requires { IsWithinBounds job.task }
+    ensures end { EndsText job.entry.task (O.bytes_of inputs.now (codes "-")) text.now result
         (writer_contents W.contents out.old) (writer_contents W.contents out.new) }
     ensures flushed { IsFlushed result (writer_buffer out.new) }
 {
@@ -87,7 +88,7 @@ fn run_text<R: Threads + Wait + Sync, O: OpenInput, W: Write + Drop, E: Write>(
     let fault = fault_of(&read);
     let end = run_read(rt, alloc, job, read, inputs, out, err);
     if let Some(fault) = fault {
-        let _ = write_detail(job.file(), text, &fault, err);
+        let _ = write_detail(job.file, text, &fault, err);
     }
     end
 }
@@ -107,21 +108,14 @@ fn other_section<'a>(job: Job<'a>, section: &Section) -> Message<'a>
     ensures { message_text result
         ≡ section_told (wish_of job.entry) (section_view section.now) }
 {
-    let taker = match job {
-        Job::Play { .. } => Taker::Play,
-        Job::Talk { .. } => Taker::Talk,
-        Job::Plain { .. } => Taker::Plain,
-        Job::Replay { .. } => Taker::Replay,
-        Job::Work { .. } => Taker::Work,
-    };
-    let has = match (job, section) {
+    let Job { file, task } = job;
+    let has = match (task, section) {
         (_, Section::Trace(_)) => "trace",
-        (Job::Talk { .. }, _) => "events",
+        (Task::Talk, _) => "events",
         (_, Section::Steps(_)) => "steps",
         (_, Section::World(_)) => "world",
     };
-    let file = job.file();
-    Message::Other { taker, file, has }
+    Message::Other { task, file, has }
 }
 
 /// Does a job with what was read, or tells its fault.
@@ -134,8 +128,8 @@ fn run_read<R: Threads + Wait + Sync, O: OpenInput, W: Write + Drop, E: Write>(
     out: &mut BufWriter<W>,
     err: &mut E,
 ) -> End
-    requires { IsWithinBounds job }
-    ensures end { EndsRead (wish_of job.entry) (O.bytes_of inputs.now (codes "-")) read result
+    requires { IsWithinBounds job.task }
+    ensures end { EndsRead job.entry.task (O.bytes_of inputs.now (codes "-")) read result
         (writer_contents W.contents out.old) (writer_contents W.contents out.new) }
     ensures flushed { IsFlushed result (writer_buffer out.new) }
 {
@@ -147,27 +141,27 @@ fn run_read<R: Threads + Wait + Sync, O: OpenInput, W: Write + Drop, E: Write>(
         Err(fault) => return tell_fault(&fault, err),
     };
     let other = other_section(job, &section);
-    match (job, section) {
-        (Job::Play { shows, .. }, Section::Steps(steps)) => {
-            run_steps(alloc, &declarations, steps.as_slice(), shows, out)
+    match (job.task, section) {
+        (Task::Play(shows), Section::Steps(steps)) => {
+            run_play::<Session, W>(alloc, &declarations, steps.as_slice(), shows, out)
         }
-        (Job::Play { shows, .. }, Section::World(events)) => {
-            run_world(alloc, &declarations, events.as_slice(), shows, out)
+        (Task::Play(shows), Section::World(events)) => {
+            run_play::<World, W>(alloc, &declarations, events.as_slice(), shows, out)
         }
-        (Job::Talk { .. }, section) => {
+        (Task::Talk, section) => {
             let end = talk_declared(alloc, &declarations, &section, inputs, out, err);
             if end == End::Fault {
                 let _ = write_message(&other, err);
             }
             end
         }
-        (Job::Plain { .. }, Section::Trace(trace)) => {
+        (Task::Plain, Section::Trace(trace)) => {
             run_trace(alloc, declarations.boot(), &trace, out, err)
         }
-        (Job::Replay { .. }, Section::Trace(trace)) => {
+        (Task::Replay, Section::Trace(trace)) => {
             run_replay(alloc, &declarations, &trace, out, err)
         }
-        (Job::Work { workers, turns, .. }, _) => {
+        (Task::Work { workers, turns }, _) => {
             run_work(rt, alloc, workers, turns, &declarations, out)
         }
         _ => {

@@ -1,6 +1,6 @@
 -- Nothing is told beside the line.
-use Rattle.sk_run.proofs.Names.{rules, ◌≡◌, Ok, sym, subst, OnOk, Appends, append-nil, told_line}
-use Rattle.sk_run.proofs.worlds.take_event.Goals as goal
+use Rattle.sk_run.proofs.Names.{rules, ◌≡◌, [], ◌++◌, Ok, refl, sym, subst, OnOk, Appends, append-nil, told_line}
+use Rattle.sk_run.proofs.player.WorldPlayer.take.Goals as goal
 
 pub returns-clause-told : goal.returns-clause-told
 returns-clause-told g c =
@@ -9,4 +9,4 @@ returns-clause-told g c =
     let new = g.W.Write.contents c.happen_told.new.out in
     let line = told_line c.args.number told.0 in
     let is : c.in_ok-written.written ≡ Ok tt = search rules in
-    (told.0, told.1, subst (λ ls. Appends old new ls) (sym (append-nil line)) (subst (λ r. OnOk r (Appends old new line)) is told.2))
+    (line ++ [], (line, (told.0, told.1, refl), refl), subst (λ ls. Appends old new ls) (sym (append-nil line)) (subst (λ r. OnOk r (Appends old new line)) is told.2))

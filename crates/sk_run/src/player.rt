@@ -1,0 +1,162 @@
+//! What is played: a kernel, by calls, or a world, by events.
+ghost use Rattle.sk_play.specs.Worlds.{declared_world};
+ghost use Rattle.sk_report.specs.Report.{world_report_text};
+ghost use Rattle.sk_run.specs.Run.{declared_session, kernel_of_session, session_report, kernel_of_world, CallTakes, EventTakes};
+
+use crate::listing::{foresee, write_foreseen};
+use sk_client::{World, WorldEvent};
+use sk_kernel::Kernel;
+use sk_play::{Session, happen, happen_told, upcoming, world_of, write_answer, write_told};
+use sk_report::{Stop, write_report, write_world_report};
+use sk_scenario::{Call, Declarations};
+use std::alloc::{AllocError, Global};
+use std::io::Write;
+
+/// What is declared, at play.
+pub trait Player: Sized {
+    ghost use Rattle.std.specs.Prelude.{◌≡◌, ℕ, List, IfOk, OnOk, Err, true, false};
+    ghost use Rattle.std.specs.Io.KnownBytes.{Appends};
+    ghost use Rattle.sk_kernel.specs.Kernel.{KernelView};
+    ghost use Rattle.sk_report.specs.declared.stop.Stop.TheVariants as stops;
+    ghost use Rattle.sk_scenario.specs.Declarations.{Declared};
+    ghost use Rattle.sk_run.specs.InTurn.{Lists, Writes};
+
+    /// A call or an event.
+    type Item;
+
+    /// What is declared, at its start.
+    ghost declared: { Declared → Self };
+
+    /// Its kernel.
+    ghost kernel_of: { Self → KernelView };
+
+    /// An item of this number is taken, which leaves that, and this line is told of it.
+    ghost takes: { ℕ → Self.Item → Self → Self → List ℕ → Type 0 };
+
+    /// Its report.
+    ghost report: { Self → List ℕ };
+
+    /// What is declared, at its start.
+    fn begin(alloc: Global, declarations: &Declarations) -> Result<Self, AllocError>
+        ensures { IfOk result (λ player. player ≡ declared declarations.now) };
+
+    /// Its kernel.
+    fn inner_kernel(&self) -> &Kernel
+        ensures { result.now ≡ kernel_of self.now };
+
+    /// Takes an item, and writes the line that is told of it.
+    fn take<W: Write>(&mut self, number: usize, item: &Self::Item, out: &mut W) -> Result<(), Stop>
+        ensures told { OnOk result
+            (Writes (Lists kernel_of takes false) number item.now self.old self.new
+            (W.contents out.old) (W.contents out.new)) }
+        ensures memory { result ≡ Err stops.Memory → out.new ≡ out.old };
+
+    /// The same, and below the line what the item touched.
+    fn list<W: Write>(&mut self, number: usize, item: &Self::Item, out: &mut W) -> Result<(), Stop>
+        ensures told { OnOk result
+            (Writes (Lists kernel_of takes true) number item.now self.old self.new
+            (W.contents out.old) (W.contents out.new)) }
+        ensures memory { result ≡ Err stops.Memory → out.new ≡ out.old };
+
+    /// Writes its report.
+    fn write_report<W: Write>(&self, alloc: Global, out: &mut W) -> Result<(), Stop>
+        ensures { OnOk result
+            (Appends (W.contents out.old) (W.contents out.new) (report self.now)) };
+
+    /// Fails the guesses that are left, and ends.
+    fn finish(self);
+}
+
+impl Player for Session {
+    type Item = Call;
+
+    ghost declared = { declared_session };
+
+    ghost kernel_of = { kernel_of_session };
+
+    ghost takes = { CallTakes };
+
+    ghost report = { session_report };
+
+    fn begin(alloc: Global, declarations: &Declarations) -> Result<Session, AllocError> {
+        Session::new(alloc, declarations)
+    }
+
+    fn inner_kernel(&self) -> &Kernel {
+        self.kernel()
+    }
+
+    fn take<W: Write>(&mut self, number: usize, item: &Call, out: &mut W) -> Result<(), Stop> {
+        let answer = self.execute(item)?;
+        write_answer(number, &answer, out)?;
+        Ok(())
+    }
+
+    fn list<W: Write>(&mut self, number: usize, item: &Call, out: &mut W) -> Result<(), Stop> {
+        let foreseen = foresee(self.kernel(), upcoming(item));
+        let answer = self.execute(item)?;
+        write_answer(number, &answer, out)?;
+        write_foreseen(self.kernel(), &foreseen, out)?;
+        Ok(())
+    }
+
+    fn write_report<W: Write>(&self, alloc: Global, out: &mut W) -> Result<(), Stop> {
+        write_report(alloc, self.kernel(), out)
+    }
+
+    fn finish(self) {
+        self.end();
+    }
+}
+
+impl Player for World {
+    type Item = WorldEvent;
+
+    ghost declared = { declared_world };
+
+    ghost kernel_of = { kernel_of_world };
+
+    ghost takes = { EventTakes };
+
+    ghost report = { world_report_text };
+
+    fn begin(alloc: Global, declarations: &Declarations) -> Result<World, AllocError> {
+        world_of(alloc, declarations)
+    }
+
+    fn inner_kernel(&self) -> &Kernel {
+        self.desk().kernel()
+    }
+
+    fn take<W: Write>(
+        &mut self,
+        number: usize,
+        item: &WorldEvent,
+        out: &mut W,
+    ) -> Result<(), Stop> {
+        let written = happen_told(self, number, item, out)?;
+        written?;
+        Ok(())
+    }
+
+    fn list<W: Write>(
+        &mut self,
+        number: usize,
+        item: &WorldEvent,
+        out: &mut W,
+    ) -> Result<(), Stop> {
+        let foreseen = foresee(self.desk().kernel(), self.upcoming(item));
+        let told = happen(self, item)?;
+        write_told(number, &told, out)?;
+        write_foreseen(self.desk().kernel(), &foreseen, out)?;
+        Ok(())
+    }
+
+    fn write_report<W: Write>(&self, alloc: Global, out: &mut W) -> Result<(), Stop> {
+        write_world_report(alloc, self, out)
+    }
+
+    fn finish(self) {
+        self.abandon();
+    }
+}

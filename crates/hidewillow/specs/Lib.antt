@@ -66,6 +66,7 @@ pub use Rattle.sk_plain.specs.Leased
 pub use Rattle.sk_plain.specs.Plain
 pub use Rattle.sk_plain.specs.Replay
 pub use Rattle.sk_plain.specs.Standing
+pub use Rattle.sk_plain.specs.TidyState
 pub use Rattle.sk_machine.specs.Parts
 pub use Rattle.sk_kernel.specs.Opening
 pub use Rattle.sk_kernel.specs.Kernel

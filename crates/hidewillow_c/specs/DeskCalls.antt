@@ -19,7 +19,7 @@ use Rattle.sk_client.specs.declared.desk.Given.{Given}
 use Rattle.sk_client.specs.declared.desk.ReplyRefusal.{ReplyRefusal}
 use Rattle.sk_client.specs.declared.desk.ReplyRefusal.TheVariants.{OutOfTurn, WrongKind, Memory}
 use Rattle.sk_client.specs.declared.desk.Turn.{Turn}
-use Rattle.sk_client.specs.declared.pending.PendingRequest.{PendingRequest}
+use Rattle.sk_client.specs.Pending.{PendingRequest}
 use Rattle.sk_play.specs.Plays.{declared_kernel}
 use Rattle.sk_report.specs.Report.{report_text, terminal_said}
 use Rattle.sk_scenario.specs.Declarations.{Declared}

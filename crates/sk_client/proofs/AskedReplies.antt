@@ -12,7 +12,7 @@ use Rattle.sk_client.specs.declared.desk.Given.TheVariants as gives
 use Rattle.sk_client.specs.declared.world.WorldAnswer.TheVariants as told
 use Rattle.sk_client.specs.declared.world.Cause.TheVariants as causes
 use Rattle.sk_client.proofs.First.{first_world, reached}
-use Rattle.sk_client.proofs.Seen.{Comes}
+use Rattle.sk_client.proofs.EventsKeep.{Comes}
 use Rattle.sk_client.proofs.SeenReply.{comes, whole, accepted}
 use Rattle.sk_client.proofs.SeenWorld.{World}
 use Rattle.sk_client.proofs.WorldFacts.{Oldest, oldest}

@@ -14,6 +14,7 @@ use Rattle.sk_client.proofs.Names.{too_many, guess_refused, with_event, StepPost
 use Rattle.sk_client.proofs.Names.{IsNextEpoch, EpochPost, IsAsLent, HandInPost, TakesIn, alone_step, alone_entry}
 use Rattle.sk_client.proofs.Names.{with_steps, HandIn, NoPlaces, Memory, EpochRefusal, Outcome, Stranger, FailRefusal}
 use Rattle.sk_client.proofs.Names.{HasSoundTrace, images_more, no_step, stands_handed, IsNumbered, entry, WasBooted}
+use Rattle.sk_client.proofs.Names.{cons_cases, no_member, plain_tidy, tidy_start}
 use Rattle.std.proofs.Common.{append_assoc}
 use Rattle.sk_script.specs.declared.instruction.Input.TheVariants as inputs
 use Rattle.sk_store.specs.declared.entity_state.EntityState.TheVariants as stored
@@ -24,10 +25,7 @@ use Rattle.sk_kernel.specs.declared.kernel.EpochRefusal.TheVariants as epoch_ref
 use Rattle.sk_kernel.specs.declared.kernel.Outcome.TheVariants as outcomes
 use Rattle.sk_kernel.specs.declared.kernel.FailRefusal.TheVariants as refusals
 use Rattle.sk_kernel.proofs.Undecided.{undecided_is}
-use Rattle.sk_client.proofs.Each.{cons_cases, no_member}
 use Rattle.sk_client.proofs.PlaceFacts.{used, opens_taken, used_step, used_guess, used_commit, step_sound, guess_sound, commit_sound, fail_sound, used_fail}
-use Rattle.sk_client.proofs.Runs.{plain_tidy}
-use Rattle.sk_client.proofs.Tidy.{tidy_start}
 use Rattle.sk_client.proofs.DeskFacts.{Did, none_first, none_later, none_test, ok_of}
 
 pub was_booted : (number : ℕ) (boot : BootView) (limit : ℕ) → IsNumbered boot → WasBooted (booted number boot limit)

@@ -16,13 +16,14 @@ use Rattle.sk_client.proofs.Names.{Outcome, buffer_of, KeptAnswer, guesses_of, I
 use Rattle.sk_client.proofs.Names.{asked_count, no_place, rule_refused, rests_of, is_lost, lost_by, guess_refused_at}
 use Rattle.sk_client.proofs.Names.{no_number, kept_for, entry, input_of, decided, given_to, given, asks_for, LeaseView}
 use Rattle.sk_client.proofs.Names.{Lends, lease_of, blocked_why, unless_asked, desk_lease}
+use Rattle.sk_client.proofs.Names.{and-false}
 use Rattle.sk_server.specs.declared.reply.Answer.TheVariants as answers
 use Rattle.sk_script.specs.declared.instruction.Input.TheVariants as inputs
 use Rattle.sk_store.specs.declared.entity_state.EntityState.TheVariants as stored
 use Rattle.sk_trace.specs.declared.event.Event.{Event}
 use Rattle.sk_trace.specs.declared.event.Event.TheVariants as events
 use Rattle.sk_plain.specs.declared.view.View.TheVariants as views
-use Rattle.sk_client.specs.declared.rule.Rule.TheVariants as rules
+use Rattle.sk_client.specs.Rule as rules
 use Rattle.sk_kernel.specs.declared.kernel.Outcome.TheVariants as outcomes
 use Rattle.sk_client.proofs.Each.{any_map, any_same}
 
@@ -79,10 +80,6 @@ given_reply a inputs.None is = cc
 given_reply a input is = tt
 
 -- ---- what a request rests on
-
-and_false : (b : Bool) → (b && false) ≡ false
-and_false true = refl
-and_false false = refl
 
 module _ (k : KernelView) (sound : HasSoundTrace k) where
   -- the tags of an entity are undecided
@@ -141,7 +138,7 @@ module _ (k : KernelView) (sound : HasSoundTrace k) where
         sym (ap (λ b. not b && not (list_any (commits g) k.trace)) ((is_undecided (plain k.scripts) k.start (events_of k) sound.sound g).1 ((is Undecided).0 e)))
     lost_case (Some Committed) e =
         let there : list_any (commits g) k.trace ≡ true = committed_is g ∙ (has_commit (events_of k) g).1 ((is Committed).0 e) in
-        sym (ap (λ b. not (has g (undecided_at k)) && not b) there ∙ and_false (not (has g (undecided_at k))))
+        sym (ap (λ b. not (has g (undecided_at k)) && not b) there ∙ and-false (not (has g (undecided_at k))))
     lost_case q e = sym (others_lost (λ o. let bad : q ≡ Some Undecided = sym e ∙ o in absurd cc) (λ o. let bad : q ≡ Some Committed = sym e ∙ o in absurd cc))
 
     pub lost_is : lost_by r ≡ is_lost k g

@@ -2,8 +2,9 @@
 use Rattle.sk_client.proofs.Names.{◌≡◌, ℕ, Bool, true, false, cond, List, [], ◌∷◌, ◌++◌, inl, inr, refl, sym, ◌∙◌, ap}
 use Rattle.sk_client.proofs.Names.{subst, arith, zero, suc, ◌≤◌, length, Some, ◌⊎◌, ◌==◌, list_any, Contains, filter}
 use Rattle.sk_client.proofs.Names.{or_parts, or_left, or_right, or_cases, true≢false, eq-eqb, eqb-true, cases_Bool}
-use Rattle.sk_client.proofs.Names.{list_any-append, Contains-push_cases, Contains-append_cases, Contains-append_left}
-use Rattle.sk_client.proofs.Names.{Contains-append_right, keep, has, paired}
+use Rattle.sk_client.proofs.Names.{list_any-append, Contains-push_cases}
+use Rattle.sk_client.proofs.Names.{keep, has, paired}
+use Rattle.sk_client.proofs.Names.{cons_cases, cons_first, cons_later, no_member}
 use Rattle.std.proofs.Common.{slice_get}
 use Rattle.std.specs.Prelude.{◌||◌, map}
 
@@ -29,22 +30,6 @@ pub each_none : {A : Type 0} (X : A → Type 0) (xs : List A) (bs : List Bool) �
 each_none X [] bs h = tt
 each_none X (x ∷ xs) [] h = tt
 each_none X (x ∷ xs) (b ∷ bs) h = let parts = or_parts _ _ h in ((λ is. absurd (true≢false (sym is ∙ parts.0))), each_none X xs bs parts.1)
-
-pub cons_cases : {A : Type 0} (y : A) (xs : List A) (x : A) → Contains (y ∷ xs) x → (y ≡ x) ⊎ Contains xs x
-cons_cases y xs x h =
-    elim (Contains-append_cases (y ∷ []) xs x h) [
-      | inl one ↦ elim (Contains-push_cases [] y x one) [ inl none ↦ absurd (let lt = none.1 in omega arith) | inr is ↦ inl is ]
-      | inr more ↦ inr more
-    ]
-
-pub cons_first : {A : Type 0} (x : A) (xs : List A) → Contains (x ∷ xs) x
-cons_first x xs = Contains-append_left (x ∷ []) xs x (0, omega arith, refl)
-
-pub cons_later : {A : Type 0} (y : A) (xs : List A) (x : A) → Contains xs x → Contains (y ∷ xs) x
-cons_later y xs x h = Contains-append_right (y ∷ []) xs x h
-
-pub no_member : {A : Type 0} (x : A) → Contains [] x → ⊥
-no_member x h = let lt = h.1 in omega arith
 
 -- what holds of each element and each one behind it
 abbrev pub Pairs : {A : Type 0} → (A → A → Type 0) → List A → Type 0

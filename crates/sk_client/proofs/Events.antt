@@ -9,11 +9,12 @@ use Rattle.sk_client.proofs.Names.{Commit, Fail, HasEntry, IsSound, record_of, u
 use Rattle.sk_client.proofs.Names.{own_dirt, has_filter, and_both, record_more, sound_taken, sound_commit, sound_fail}
 use Rattle.sk_client.proofs.Names.{drawn_more, undecided_is, fresh_from, entries_are, has_commit, is_commit, has_entry}
 use Rattle.sk_client.proofs.Names.{Input, Good, Yes, Dropped, PendingRequest, name_of, sent, input_of, Store, Answer}
-use Rattle.sk_client.proofs.Names.{remembered, Bytes}
+use Rattle.sk_client.proofs.Names.{remembered, Bytes, cons_first, cons_later}
+use Rattle.sk_client.proofs.Names.{not-true}
 use Rattle.sk_client.proofs.CausedWorld.{For, Caused, Served, Table, kernel, is_lost, least, rests_of, Sets, IsTable, Takes}
-use Rattle.sk_client.proofs.Each.{survives, at_number, at_same, at_other, cons_first, cons_later, pairs_push}
+use Rattle.sk_client.proofs.Each.{survives, at_number, at_same, at_other, pairs_push}
 use Rattle.sk_client.proofs.TraceFacts.{has_mark, open_taken, open_commit, open_fail, failed_shut, legal_of, entry_drawn, open_entry}
-use Rattle.sk_client.proofs.Records.{Quiet, entries_taken, entries_failed, ready_taken, ready_failed, lost_more, ready_kept, not_true, tags_of_step}
+use Rattle.sk_client.proofs.Records.{Quiet, entries_taken, entries_failed, ready_taken, ready_failed, lost_more, ready_kept, tags_of_step}
 use Rattle.sk_client.proofs.Invariant.{never_dropped, Allowed, RestsOnRefused, Entries, Void, tag_at, Ready, HasStep, Invariant, counted, Queue, IsServed, Guesses, ReadyFor, is_accepted, queue_fewer, queue_le, queue_push, remembers_push, still_remembered}
 
 pub no_guess : (o : Option ℕ) (g : ℕ) → o ≡ None → o ≡ Some g → ⊥
@@ -150,7 +151,7 @@ module _ {E V W F : Type 0} (S : Table E V W F) (start : FinMap S.order V) (tabl
         }))
         (λ x _ _ there. inl (subst (λ ns. HasEntry K ns x) (sym same) there))
         (λ q _ x _ _ _ step. subst (λ ns. HasStep S start ns q x) (sym same) step)
-        (λ y lost. false_from_ne_true _ (λ same_h. true≢false (sym is_open ∙ ap (λ y. has y us) (eqb-true h y same_h) ∙ not_true _ (and_both _ _ lost).0)))
+        (λ y lost. false_from_ne_true _ (λ same_h. true≢false (sym is_open ∙ ap (λ y. has y us) (eqb-true h y same_h) ∙ not-true _ (and_both _ _ lost).0)))
         (λ q _ _ ready. inr (subst (λ ns. Ready S start ns vs q) (sym same) (ready_kept S start table ns ns us vs q refl refl (λ y there tag. (fewer y there, tag)) ready)))
 
     -- ---- a failure, of a guess that the server refused

@@ -8,14 +8,15 @@ use Rattle.sk_client.proofs.Names.{IsDrawn, IsSound, record_of, record_after, un
 use Rattle.sk_client.proofs.Names.{Failed, Good, EntryView, plain, KernelView, events_of, record_at, last_guess}
 use Rattle.sk_client.proofs.Names.{below_next, ServerView, LAST_REQUEST, Get, Yes, paired, opened_at, Exchanges, Leads}
 use Rattle.sk_client.proofs.Names.{IsReady, WorldView, joined, PendingRequest, WorldEvent}
+use Rattle.sk_client.proofs.Names.{no_member, cons_first, cons_later, cons_cases}
 use Rattle.sk_record.proofs.Laws.{one_status}
 use Rattle.sk_client.proofs.Labels.{bare_event, labelled, is_bare}
 use Rattle.sk_client.proofs.CausedWorld.{Before, For, Caused, Served, kernel, undecided, bare, table}
-use Rattle.sk_client.proofs.Each.{Each, no_member, cons_first, cons_later, cons_cases, contains_at, at_end, kept_was}
+use Rattle.sk_client.proofs.Each.{Each, contains_at, at_end, kept_was}
 use Rattle.sk_client.proofs.Invariant.{HasStep, queue_le}
 use Rattle.sk_client.proofs.Events.{no_guess}
 use Rattle.sk_client.proofs.RequestFacts.{Once, Rising, in_map}
-use Rattle.sk_client.proofs.Seen.{Comes, all_events}
+use Rattle.sk_client.proofs.EventsKeep.{Comes, all_events}
 use Rattle.sk_client.proofs.SeenWorld.{World, all_served, all_waiting, entries_of, from_before, event_before}
 use Rattle.sk_client.proofs.Table.{is_table}
 use Rattle.sk_client.proofs.TraceFacts.{entry_drawn}

@@ -6,10 +6,10 @@ use Rattle.sk_client.proofs.Names.{list_any, FinMap, get, is_in, dirt, run, effe
 use Rattle.sk_client.proofs.Names.{IsDrawn, IsSound, record_of, undecided_of, Input, Good, Fresh, Stale, ContentView}
 use Rattle.sk_client.proofs.Names.{Ask, Get, Check, Store, Yes, Dropped, No, PendingRequest, name_of, sent, input_of}
 use Rattle.sk_client.proofs.Names.{Bytes, Answer, true≢false, eqb-true, le-leb, Contains-push_cases, has_filter, any_at}
-use Rattle.sk_client.proofs.Names.{any_from, remembered, is_dropped}
+use Rattle.sk_client.proofs.Names.{any_from, remembered, is_dropped, no_member}
 use Rattle.sk_server.specs.declared.reply.Answer.TheVariants.{Copy}
 use Rattle.sk_client.proofs.CausedWorld.{For, Caused, Served, Table, kernel, is_lost, Takes, Sets}
-use Rattle.sk_client.proofs.Each.{Each, Pairs, no_member}
+use Rattle.sk_client.proofs.Each.{Each, Pairs}
 
 abbrev pub is_accepted : Answer → Bool
 is_accepted Yes = true

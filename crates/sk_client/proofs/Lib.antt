@@ -1,7 +1,4 @@
 pub mod Names
-pub mod Tidy
-pub mod Rows
-pub mod Runs
 pub mod Table
 pub mod QueueFacts
 pub mod DeskFacts
@@ -11,7 +8,7 @@ pub mod SeenTurn
 pub mod SeenServe
 pub mod SeenReply
 pub mod Booted
-pub mod Seen
+pub mod EventsKeep
 pub mod RequestSteps
 pub mod AskedReplies
 pub mod Writes

@@ -1,12 +1,12 @@
 -- What the proofs of this crate cite from outside of them, passed on from one place. Declares nothing.
-pub use Rattle.std.proofs.Common.{Some, Bool, subst, ◌-◌, arith, ◌*◌, ◌++◌, suc, refl, [], le_trans, ◌%◌, map, ◌∷◌, inl}
-pub use Rattle.std.proofs.Common.{Option, List, tests, ◌/◌, get_or, ℕ, true, sym, not, cond, inr, zero, rules, ap, Bor}
+pub use Rattle.std.proofs.Common.{Some, Bool, subst, ◌-◌, arith, ◌++◌, suc, refl, [], le_trans, map, ◌∷◌, inl}
+pub use Rattle.std.proofs.Common.{Option, List, tests, get_or, ℕ, true, sym, not, cond, inr, zero, rules, ap, Bor}
 pub use Rattle.std.proofs.Common.{length, IsSome, ◌≤◌, take, false, set, Ok, ◌&&◌, Err, ◌≡◌, ◌+◌, ◌||◌, drop, None, ◌<◌}
 pub use Rattle.std.proofs.Common.{Result, ◌∙◌}
 pub use Rattle.std.proofs.Math.Bool.{and-true}
 pub use Rattle.std.proofs.lemmas.Bool.{cases_Bool, or_right, lt-ltb, or_parts, leb-true, eqb-true, ltb-true}
 pub use Rattle.std.proofs.lemmas.Bool.{false_from_ne_true, eq-eqb, cases_eq, or_from, true_from_ne_false, ltb-false}
-pub use Rattle.std.proofs.lemmas.Bool.{true≢false, or_cases, or_left, leb-false, le-leb, false≢true, le-ltb}
+pub use Rattle.std.proofs.lemmas.Bool.{true≢false, or_cases, or_left, leb-false, le-leb, le-ltb}
 pub use Rattle.std.proofs.lemmas.Fn.{filter_same}
 pub use Rattle.std.proofs.lemmas.Iterator.Consumers.{YieldsList-from_deque, YieldsList-from_filter}
 pub use Rattle.std.proofs.lemmas.Iterator.Consumers.{count_from_yields_List}
@@ -21,11 +21,10 @@ pub use Rattle.std.proofs.lemmas.List.Elements.{Contains-append_right, filter-ap
 pub use Rattle.std.proofs.lemmas.List.Folds.{list_any-append}
 pub use Rattle.std.proofs.lemmas.List.Kept.{IsStrictlySortedBy-filter}
 pub use Rattle.std.proofs.lemmas.List.Sums.{fold-append}
-pub use Rattle.std.proofs.lemmas.Nat.{mod-mul-add, div-mul-add}
 pub use Rattle.std.proofs.lemmas.Option.{slice_get-map}
 pub use Rattle.std.proofs.lemmas.Slice.Eq.{bytes_eq-Decides}
-pub use Rattle.std.specs.Cmp.{eq_by_cmp_equiv, Equal-is, both_ways, IsTotalOrder}
-pub use Rattle.std.specs.FinMap.{get, get-empty, IsAntisymmetric, FinMap, empty}
+pub use Rattle.std.specs.Cmp.{both_ways, IsTotalOrder}
+pub use Rattle.std.specs.FinMap.{get, IsAntisymmetric, FinMap}
 pub use Rattle.std.specs.List.{list_any, fold, filter, Contains}
 pub use Rattle.std.specs.List.Sorted.{IsStrictlySortedBy}
 pub use Rattle.std.specs.Option.{option_map}
@@ -50,11 +49,11 @@ pub use Rattle.sk_client.specs.DeskCalls.{RulePost, DeskEpochPost, ByRule, TurnP
 pub use Rattle.sk_client.specs.DeskInvariant.{IsTidy, guesses_of}
 pub use Rattle.sk_client.specs.Exchanges.{exchanged, Exchanges, with_reply, exchange, Leads}
 pub use Rattle.sk_client.specs.Leasing.{unless_asked, blocked_why, desk_lease}
-pub use Rattle.sk_client.specs.Ready.{IsPlaced, WasBooted, IsTidyState, IsCopy, IsReady, Begins}
+pub use Rattle.sk_client.specs.Ready.{WasBooted, IsTidyState, IsCopy, IsReady, Begins}
 pub use Rattle.sk_client.specs.Replied.{PlacesAreKept, Counts as CountsAt, AreRepliedOnce, IsGiven, StepsAreReplied}
 pub use Rattle.sk_client.specs.Replied.{IsStepOf, DoesAsked, Replied}
 pub use Rattle.sk_client.specs.Requests.{requests_in, IsQueue, RequestsView, IsWhole}
-pub use Rattle.sk_client.specs.Table.{IsNumbered, copy_of, buffer_of, version_of, HasNumber, Bytes}
+pub use Rattle.sk_client.specs.Table.{HasNumber, IsNumbered, copy_of, buffer_of, version_of, Bytes}
 pub use Rattle.sk_client.specs.Upcoming.{reply_step, upcoming, turn_step, first_reply_step}
 pub use Rattle.sk_client.specs.Wish.{brought}
 pub use Rattle.sk_client.specs.WorldView.{served, ServesNext, joined, Turns, taken_from, Numbered, IsJoined, IsNext}
@@ -65,9 +64,9 @@ pub use Rattle.sk_client.specs.Writes.{written_by}
 pub use Rattle.sk_client.specs.declared.desk.Given.{Given}
 pub use Rattle.sk_client.specs.declared.desk.Turn.{Turn, Turn as Told}
 pub use Rattle.sk_client.specs.declared.pending.KeptAnswer.{KeptAnswer}
-pub use Rattle.sk_client.specs.declared.pending.PendingRequest.{PendingRequest}
+pub use Rattle.sk_client.specs.Pending.{PendingRequest}
 pub use Rattle.sk_client.specs.declared.requests.Queued.{Queued}
-pub use Rattle.sk_client.specs.declared.rule.Rule.{Rule}
+pub use Rattle.sk_client.specs.Rule.{Rule}
 pub use Rattle.sk_client.specs.declared.world.Cause.{Cause}
 pub use Rattle.sk_client.specs.declared.world.WorldAnswer.{WorldAnswer}
 pub use Rattle.sk_client.specs.declared.world.WorldEvent.{WorldEvent}
@@ -76,12 +75,10 @@ pub use Rattle.sk_guesses.proofs.Statuses.{nothing_in}
 pub use Rattle.sk_guesses.specs.Token.{Token}
 pub use Rattle.sk_holder.specs.Holder.{HolderView, DecidesPost}
 pub use Rattle.sk_holder.specs.Tokens.{commits}
-pub use Rattle.sk_ids.proofs.Entities.{entity_exact, entity_total}
+pub use Rattle.sk_ids.specs.EntityLemma.{entity_exact, entity_total}
 pub use Rattle.sk_ids.specs.Entity.{entity_cmp}
 pub use Rattle.sk_ids.specs.declared.entity.Entity.{Entity}
-pub use Rattle.sk_ids.specs.declared.entity.Entity.TheVariants.{Copy, Sig, Obj, Exit, Copy as CopyOf, Link, Proc}
-pub use Rattle.sk_ids.specs.declared.pid.ObjId.{ObjId}
-pub use Rattle.sk_ids.specs.declared.text.TheConstants.{TEXT_LIMIT}
+pub use Rattle.sk_ids.specs.declared.entity.Entity.TheVariants.{Copy, Copy as CopyOf, Proc}
 pub use Rattle.sk_kernel.proofs.Appended.{appended_foreseen, unchanged_foreseen}
 pub use Rattle.sk_kernel.proofs.Further.{epoch_commit, epoch_fail, epoch_guess, epoch_step}
 pub use Rattle.sk_kernel.proofs.HandedIn.{images_more, no_step, stands_handed}
@@ -103,36 +100,28 @@ pub use Rattle.sk_kernel.specs.declared.kernel.FailRefusal.{FailRefusal}
 pub use Rattle.sk_kernel.specs.declared.kernel.Outcome.{Outcome}
 pub use Rattle.sk_kernel.specs.declared.kernel.Stranger.{Stranger}
 pub use Rattle.sk_objects.specs.Content.{ContentView}
-pub use Rattle.sk_objects.specs.Pipe.{PipeView}
 pub use Rattle.sk_objects.specs.declared.content.TheConstants.{LAST_VERSION}
-pub use Rattle.sk_objects.specs.declared.pipe.TheConstants.{PIPE_LIMIT}
-pub use Rattle.sk_objects.specs.declared.signals.TheConstants.{LAST_SIGNAL}
-pub use Rattle.sk_objects.specs.declared.value.Kind.{Kind}
 pub use Rattle.sk_objects.specs.declared.value.Value.{Value}
 pub use Rattle.sk_plain.proofs.Adds.{NoneAdded, reply_adds}
-pub use Rattle.sk_plain.proofs.Alone.{keeps_step}
-pub use Rattle.sk_plain.specs.Act.{does, instruction_of, act, private_or, Saying, handled, row, goes_on, Scripts}
-pub use Rattle.sk_plain.specs.Act.{with_input, with_signals, plain}
-pub use Rattle.sk_plain.specs.Files.{on_file, made}
+pub use Rattle.sk_record.proofs.Lemmas.{cons_cases, cons_first, cons_later, no_member}
+pub use Rattle.sk_plain.proofs.Rows.{IsOf, CanWrite, one_of_two, only_one}
+pub use Rattle.sk_plain.proofs.Runs.{found, plain_tidy, IsAt, IsFree, next_turn, fetch_at, store_at, turn_at, steps_on}
+pub use Rattle.sk_plain.proofs.Tidy.{IsNextChild, unborn, tidy_start}
+pub use Rattle.sk_plain.specs.Act.{act, Saying, Scripts}
+pub use Rattle.sk_plain.specs.Act.{with_input, plain}
 pub use Rattle.sk_plain.specs.Leased.{lease_of, Lends, alone_reads}
-pub use Rattle.sk_plain.specs.Names.{target_at, linking, named, no_directory, unlink_from, unless_error, on_directory}
-pub use Rattle.sk_plain.specs.Names.{link_to}
-pub use Rattle.sk_plain.specs.Next.{next_instruction, next_going, next_at, next_of, is_private, is_due, waits}
-pub use Rattle.sk_plain.specs.Pipes.{take_none, put_in, on_pipe}
+pub use Rattle.sk_plain.specs.Next.{next_of}
 pub use Rattle.sk_plain.specs.Planned.{IsReply, refusal_of}
-pub use Rattle.sk_plain.specs.Processes.{LAST_CHILD, LEVEL_FOUR, parent_of, kill, wait, returned, next_child, born}
-pub use Rattle.sk_plain.specs.Processes.{fork, forked, signalled, waited}
 pub use Rattle.sk_plain.specs.Refusal.{cause}
 pub use Rattle.sk_plain.specs.Replay.{image}
-pub use Rattle.sk_plain.specs.Replies.{good, over_copy, stale, from_copy, fresh, fetched}
-pub use Rattle.sk_plain.specs.Rows.{object_in, on_object, with_removal, number_in, who_in, failed, number_to, on_number}
-pub use Rattle.sk_plain.specs.Rows.{with_write, StepTree, alone}
+pub use Rattle.sk_plain.specs.Replies.{over_copy, from_copy, fetched}
+pub use Rattle.sk_plain.specs.Rows.{failed}
+pub use Rattle.sk_plain.specs.Rows.{with_write}
 pub use Rattle.sk_plain.specs.View.{Shows}
 pub use Rattle.sk_plain.specs.declared.next.Next.{Next}
-pub use Rattle.sk_plain.specs.declared.next.Next.TheVariants.{Signal, Private, Other, Waits, Fetch}
-pub use Rattle.sk_plain.specs.declared.refusal.Errno.TheVariants.{StaleCopy, Again}
+pub use Rattle.sk_plain.specs.declared.refusal.Errno.TheVariants.{StaleCopy}
 pub use Rattle.sk_plain.specs.declared.refusal.Refusal.{Refusal}
-pub use Rattle.sk_plain.specs.declared.refusal.Refusal.TheVariants.{Ended, NoProcess, Mismatch, Blocked, TooMany}
+pub use Rattle.sk_plain.specs.declared.refusal.Refusal.TheVariants.{Mismatch, Blocked, TooMany}
 pub use Rattle.sk_plain.specs.declared.refusal.Refusal.TheVariants.{TraceFull}
 pub use Rattle.sk_record.proofs.Chains.{slice_get-keep, dirt_is, in_from}
 pub use Rattle.sk_record.proofs.Epoch.{beyond}
@@ -141,7 +130,7 @@ pub use Rattle.sk_record.proofs.Machine.{nil_right, own_dirt, has_filter, unmark
 pub use Rattle.sk_record.proofs.MachineRuns.{machine_stands}
 pub use Rattle.sk_record.proofs.Merged.{all_kept}
 pub use Rattle.sk_record.proofs.Rising.{above, same_rising}
-pub use Rattle.sk_record.proofs.Sets.{get-put, get-put_all_other}
+pub use Rattle.sk_record.proofs.Sets.{get-put_all_other}
 pub use Rattle.sk_record.proofs.Sound.{sound_taken, mark_is, any_from, marked_is, undecided_is, drawn_more, record_more}
 pub use Rattle.sk_record.proofs.Sound.{has_commit, sound_fail, fresh_from, sound_first, has_entry, sound_commit}
 pub use Rattle.sk_record.proofs.Sound.{undecided_is as is_undecided, entries_are, is_commit, is_drawn}
@@ -154,8 +143,8 @@ pub use Rattle.sk_record.specs.Epoch.{StatusOr, status_in}
 pub use Rattle.sk_record.specs.Machine.{Machine, machine_after}
 pub use Rattle.sk_record.specs.Merged.{with_value, alone_tags, HandsIn, MergedStands}
 pub use Rattle.sk_record.specs.Notes.{has, noted}
-pub use Rattle.sk_record.specs.Run.{effects, run, IsLegal, put_all, marked_effect, System, put, after, outcome}
-pub use Rattle.sk_record.specs.Step.{Done, Refuse, perform, with_read, Step, Effect}
+pub use Rattle.sk_record.specs.Run.{effects, run, IsLegal, marked_effect, System, after, outcome}
+pub use Rattle.sk_record.specs.Step.{Refuse, perform, with_read, Step, Effect}
 pub use Rattle.sk_record.specs.Strike.{strike, struck}
 pub use Rattle.sk_record.specs.Trace.{Event, Record, still_marked, IsDrawn, IsAllowed, recorded, Fail, StatusIs}
 pub use Rattle.sk_record.specs.Trace.{record_of, Taken, marks, HasEntry, no_record, record_after, undecided_of, IsSound}
@@ -164,11 +153,7 @@ pub use Rattle.sk_record.specs.declared.status.Status.{Status}
 pub use Rattle.sk_record.specs.declared.status.Status.TheVariants.{Committed, Failed, Undecided}
 pub use Rattle.sk_script.specs.Boot.{BootView}
 pub use Rattle.sk_script.specs.Lease.{after_private, LeaseView}
-pub use Rattle.sk_script.specs.Private.{private_step}
-pub use Rattle.sk_script.specs.Process.{beginning, root}
-pub use Rattle.sk_script.specs.Registers.{held}
 pub use Rattle.sk_script.specs.Scripts.{ScriptMap}
-pub use Rattle.sk_script.specs.declared.boot.BootObject.{BootObject}
 pub use Rattle.sk_script.specs.declared.boot.BootProcess.{BootProcess}
 pub use Rattle.sk_script.specs.declared.instruction.Input.{Input}
 pub use Rattle.sk_script.specs.declared.instruction.Input.TheVariants.{Stale, Fresh, Good}
@@ -186,8 +171,7 @@ pub use Rattle.sk_server.specs.declared.request.Ask.{Ask}
 pub use Rattle.sk_server.specs.declared.request.Ask.TheVariants.{Get, Check, Store}
 pub use Rattle.sk_server.specs.declared.request.Request.{Request as Sent, Request}
 pub use Rattle.sk_server.specs.declared.server.TheConstants.{LAST_REQUEST}
-pub use Rattle.sk_store.specs.Start.{start_of, with_processes, with_links, with_copies, boot_object, with_process}
-pub use Rattle.sk_store.specs.Start.{with_objects, first_value, with_root}
+pub use Rattle.sk_store.specs.Start.{start_of}
 pub use Rattle.sk_store.specs.State.{State}
 pub use Rattle.sk_store.specs.declared.entity_state.EntityState.{EntityState}
 pub use Rattle.sk_terminal.specs.Terminals.{released_at, TerminalMap}
@@ -195,3 +179,6 @@ pub use Rattle.sk_trace.specs.Entry.{EntryView}
 pub use Rattle.sk_trace.specs.Kept.{input_in}
 pub use Rattle.sk_trace.specs.Trace.{TraceView}
 pub use Rattle.sk_trace.specs.declared.event.Event.{Event as Logged}
+pub use Rattle.sk_record.proofs.Lemmas.{filter_alike}
+pub use Rattle.std.proofs.lemmas.Bool.{not-true}
+pub use Rattle.std.proofs.Math.Bool.{and-false}

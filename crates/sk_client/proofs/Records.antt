@@ -1,5 +1,5 @@
 -- The record of a world through steps, commits and failures.
-use Rattle.sk_client.proofs.Names.{◌≡◌, ℕ, ◌<◌, Bool, true, false, not, ◌&&◌, ◌||◌, List, [], ◌∷◌, ◌++◌, map, Option}
+use Rattle.sk_client.proofs.Names.{◌≡◌, ℕ, ◌<◌, true, false, not, ◌&&◌, ◌||◌, List, [], ◌∷◌, ◌++◌, map, Option}
 use Rattle.sk_client.proofs.Names.{Some, Ok, inl, inr, refl, sym, ◌∙◌, ap, subst, ◌⊎◌, list_any, Contains, FinMap, get}
 use Rattle.sk_client.proofs.Names.{or_parts, or_left, or_right, or_cases, or_from, true≢false, false_from_ne_true}
 use Rattle.sk_client.proofs.Names.{Contains-push_cases, Contains-append_cases, list_any-append, Effect, is_in, hit}
@@ -7,14 +7,11 @@ use Rattle.sk_client.proofs.Names.{dirt, touches, outcome, marked_effect, run, e
 use Rattle.sk_client.proofs.Names.{Event, undecided_of, still_marked, footprint, unmarked_hits, and_both, any_from}
 use Rattle.sk_client.proofs.Names.{mark_is, is_commit, Input, Good, Fresh, Stale, Ask, Get, Check, Store}
 use Rattle.sk_client.proofs.Names.{PendingRequest, name_of, Bytes}
+use Rattle.sk_client.proofs.Names.{not-true}
 use Rattle.sk_client.proofs.CausedWorld.{For, Caused, Table, kernel, own, is_lost, Takes, Sets, IsTable, IsEither}
 use Rattle.sk_client.proofs.Each.{each_none, kept_was}
 use Rattle.sk_client.proofs.TraceFacts.{each_effects_more, each_hits_more, each_effects_left, each_hits_left, value_taken, dirt_taken, value_left, dirt_left}
 use Rattle.sk_client.proofs.Invariant.{Allowed, Entries, Ready, ReadyFor, tag_at}
-
-pub not_true : (b : Bool) → not b ≡ true → b ≡ false
-not_true true h = absurd (true≢false (sym h))
-not_true false h = refl
 
 module _ {E V W F : Type 0} (S : Table E V W F) (start : FinMap S.order V) (table : IsTable S) where
   abbrev pub Quiet : Effect E V W → ℕ → Bytes → Type 0
@@ -162,6 +159,6 @@ module _ {E V W F : Type 0} (S : Table E V W F) (start : FinMap S.order V) (tabl
       → is_lost S start es y ≡ true → is_lost S start (es ++ e ∷ []) y ≡ true
   lost_more es e y fewer other lost =
       let parts = and_both _ _ lost in
-      let shut : has y (undecided_of (kernel S) start (es ++ e ∷ [])) ≡ false = false_from_ne_true _ (λ h. true≢false (sym (fewer h) ∙ not_true _ parts.0)) in
-      let none : list_any (is_commit y) (es ++ e ∷ []) ≡ false = list_any-append (is_commit y) es (e ∷ []) ∙ or_from _ _ (not_true _ parts.1) (or_from _ _ other refl) in
+      let shut : has y (undecided_of (kernel S) start (es ++ e ∷ [])) ≡ false = false_from_ne_true _ (λ h. true≢false (sym (fewer h) ∙ not-true _ parts.0)) in
+      let none : list_any (is_commit y) (es ++ e ∷ []) ≡ false = list_any-append (is_commit y) es (e ∷ []) ∙ or_from _ _ (not-true _ parts.1) (or_from _ _ other refl) in
       λ i. not (shut i) && not (none i)

@@ -3,12 +3,11 @@ use Rattle.sk_client.proofs.Names.{◌≡◌, ℕ, List, [], ◌∷◌, ◌++◌
 use Rattle.sk_client.proofs.Names.{refl, sym, ◌∙◌, ap, subst, Contains, append-nil, map-append, Contains-append_cases}
 use Rattle.sk_client.proofs.Names.{Sent, Reply, Exchanges, with_reply, exchange, exchanged, Leads, Bytes, WorldView}
 use Rattle.sk_client.proofs.Names.{taken_by, reply_to, served, Serves, Replies, Turns, EditsFile, EventPost}
-use Rattle.sk_client.proofs.Names.{PendingRequest, WorldEvent, WorldAnswer, Cause}
+use Rattle.sk_client.proofs.Names.{PendingRequest, WorldEvent, WorldAnswer, Cause, cons_cases, no_member}
 use Rattle.std.proofs.Common.{append_assoc}
 use Rattle.sk_client.specs.declared.world.WorldEvent.TheVariants as events
 use Rattle.sk_client.specs.declared.world.WorldAnswer.TheVariants as answers
 use Rattle.sk_client.specs.declared.world.Cause.TheVariants as causes
-use Rattle.sk_client.proofs.Each.{cons_cases, no_member}
 
 -- the replies of these exchanges were put behind those that were on their way, and the first ones were given
 pub record HandsOn (w : WorldView) (xs : Exchanges) (new : WorldView) : Type 0 where

@@ -3,11 +3,11 @@ use Rattle.sk_client.proofs.Names.{◌≡◌, ℕ, suc, ◌≤◌, ◌<◌, Bool
 use Rattle.sk_client.proofs.Names.{inr, refl, sym, ◌∙◌, ap, subst, arith, le_trans, ◌⊎◌, Contains, FinMap}
 use Rattle.sk_client.proofs.Names.{Contains-push_cases, Contains-append_left, Contains-append_right, Contains-push}
 use Rattle.sk_client.proofs.Names.{keep, struck, Event, Taken, Commit, Fail, record_of, record_more, Good, Answer, Yes}
-use Rattle.sk_client.proofs.Names.{PendingRequest, input_of, KeptAnswer}
+use Rattle.sk_client.proofs.Names.{PendingRequest, input_of, KeptAnswer, cons_first, cons_later, cons_cases, no_member}
 use Rattle.std.proofs.Common.{append_assoc, slice_get}
 use Rattle.sk_client.proofs.CausedWorld.{Before, Own, For, Caused, Served, Table, kernel}
 use Rattle.sk_client.proofs.SeenWorld.{World, all_served, all_waiting, entries_of}
-use Rattle.sk_client.proofs.Each.{Pairs, pairs_push, cons_first, cons_later, cons_cases, no_member, kept_was, at_push, at_kept}
+use Rattle.sk_client.proofs.Each.{Pairs, pairs_push, kept_was, at_push, at_kept}
 use Rattle.sk_client.proofs.Events.{no_guess}
 
 -- ---- request numbers

@@ -12,9 +12,10 @@ use Rattle.sk_client.proofs.Names.{slice_get, option_map, true≢false, false_fr
 use Rattle.sk_client.proofs.Names.{slice_get-map, Happens, Taken, Commit, Fail, ScriptMap, EntryView, Ask}
 use Rattle.sk_client.proofs.Names.{PlacesAreKept, CountsAt, DoesAsked, IsGiven, Replied, IsStepOf, StepsAreReplied}
 use Rattle.sk_client.proofs.Names.{AreRepliedOnce, Input, TerminalMap, TraceView, DeskEpochPost}
+use Rattle.sk_client.proofs.Names.{cons_cases, cons_first, cons_later, no_member}
 use Rattle.sk_client.proofs.CausedWorld.{Caused, Served, kernel, bare, table, Cause, Before, Own, For, Sets}
 use Rattle.sk_client.proofs.Events.{same_request}
-use Rattle.sk_client.proofs.Each.{cons_cases, cons_first, cons_later, no_member, contains_at, each_at, place_at}
+use Rattle.sk_client.proofs.Each.{contains_at, each_at, place_at}
 use Rattle.sk_client.proofs.First.{out_of_map, first_world, reached, world_of, later_on, Stands, IsDueStep, request_stands, step_at, rising_places, Counts, its_reply, its_step}
 use Rattle.sk_client.proofs.RequestFacts.{in_map, map_front, Once, Rising, rising_apart, rising_same}
 use Rattle.sk_client.proofs.SeenWorld.{entries_seen, steps_seen, Traced, World, all_served, entries_of, law_served, answered_there, answered_here, all_waiting, unanswered}
@@ -24,7 +25,7 @@ use Rattle.sk_client.proofs.Booted.{begins_anew}
 use Rattle.sk_client.proofs.Replies.{hands_on}
 use Rattle.sk_client.proofs.WorldFacts.{no_requests}
 use Rattle.sk_client.proofs.Labels.{bare_event}
-use Rattle.sk_client.proofs.Seen.{Comes}
+use Rattle.sk_client.proofs.EventsKeep.{Comes}
 
 -- ---- elements of lists
 

@@ -8,12 +8,11 @@ use Rattle.sk_client.proofs.Names.{Refusal, TraceFull, KernelView, undecided_at,
 use Rattle.sk_client.proofs.Names.{trace_full, step_refused, with_event, Answer, Yes, No, Dropped, Reply, name_of}
 use Rattle.sk_client.proofs.Names.{DeskView, is_asked, asked_count, kept_after, answer_kept, entry, fits_ask, decided}
 use Rattle.sk_client.proofs.Names.{input_of, stepped, answered, given_to, given, is_void, Exchanges, WorldView}
-use Rattle.sk_client.proofs.Names.{KeptAnswer, PendingRequest, IsTidyState}
+use Rattle.sk_client.proofs.Names.{KeptAnswer, PendingRequest, IsTidyState, cons_first}
 use Rattle.sk_trace.specs.declared.event.Event.TheVariants as events
 use Rattle.sk_server.specs.declared.reply.Answer.TheVariants.{Copy}
 use Rattle.sk_client.proofs.CausedWorld.{Caused, For, Served, kernel, state, undecided, asked_entry, is_lost, is_void as law_void, table, Takes, Sets}
 use Rattle.sk_client.proofs.DeskFacts.{reply_free, given_reply}
-use Rattle.sk_client.proofs.Each.{cons_first}
 use Rattle.sk_client.proofs.Invariant.{Invariant, Ready, HasStep, is_accepted, any_of, never_dropped}
 use Rattle.sk_client.proofs.Events.{no_guess, inv_plain, inv_commit, inv_fail, inv_drop, inv_done}
 use Rattle.sk_client.proofs.PlaceFacts.{used, used_step, used_commit, used_fail}

@@ -8,12 +8,12 @@ use Rattle.sk_client.proofs.Names.{or_full, no_room, step_misfit, guess_misfits,
 use Rattle.sk_client.proofs.Names.{DeskView, pending, asked_count, asks_for, asks_on, kept_for, fetch_rule, store_rule}
 use Rattle.sk_client.proofs.Names.{unless_kept, cached, buffer, rule_next, rule_of, no_place, no_number, entry}
 use Rattle.sk_client.proofs.Names.{rule_refused, request_of, turned, RulePost, ByRule, TurnPost, Exchanges, Bytes}
-use Rattle.sk_client.proofs.Names.{version_of, buffer_of, WorldView, PendingRequest, Rule, Told}
+use Rattle.sk_client.proofs.Names.{version_of, buffer_of, WorldView, PendingRequest, Rule, Told, fetch_at, store_at}
 use Rattle.sk_script.specs.declared.instruction.Input.TheVariants as inputs
 use Rattle.sk_trace.specs.declared.event.Event.TheVariants as events
 use Rattle.sk_plain.specs.declared.next.Next.TheVariants as nexts
 use Rattle.sk_server.specs.declared.request.Ask.TheVariants as asks
-use Rattle.sk_client.specs.declared.rule.Rule.TheVariants as rules
+use Rattle.sk_client.specs.Rule as rules
 use Rattle.sk_client.proofs.CausedWorld.{Caused, For, kernel, state, own, or_zero, table, Takes}
 use Rattle.sk_client.proofs.DeskFacts.{asked_more, none_first, none_later, none_test, ok_of}
 use Rattle.sk_client.proofs.Invariant.{Invariant, ReadyFor}
@@ -22,7 +22,6 @@ use Rattle.sk_client.proofs.PlaceFacts.{used_step, used_guess}
 use Rattle.sk_client.proofs.RequestFacts.{RequestFacts, facts_own, facts_ask, facts_guess}
 use Rattle.sk_client.proofs.SeenWorld.{does_seen, state_seen, rests_seen, settled_seen, last_more, traced_step, traced_guess, World, law_served, unanswered}
 use Rattle.sk_client.proofs.Table.{is_table, not_there, takes_fresh, takes_checked, takes_stale, takes_store}
-use Rattle.sk_client.proofs.Runs.{fetch_at, store_at}
 use Rattle.sk_script.specs.declared.instruction.Instruction.TheVariants as does_
 use Rattle.sk_client.proofs.Worlds.{IsFor, AreFor, more_for, forgets, no_good, not_its, not_on, IsClear, quiet_turn, Reached, reached_by}
 

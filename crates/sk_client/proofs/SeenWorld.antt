@@ -10,6 +10,7 @@ use Rattle.sk_client.proofs.Names.{act, plain, image, KernelView, events_of, rec
 use Rattle.sk_client.proofs.Names.{last_guess, next_guess, number_after, settled, effect_at, with_event, HasSoundTrace}
 use Rattle.sk_client.proofs.Names.{undecided_sorted, below_next, entry, rests_of, is_lost, is_void, Bytes}
 use Rattle.sk_client.proofs.Names.{PendingRequest, EntryView, Sent, Ask, Answer, Reply, WorldView}
+use Rattle.sk_client.proofs.Names.{filter_alike}
 use Rattle.std.specs.Prelude.{length}
 use Rattle.std.specs.List.Sorted.{IsStrictlySortedBy}
 use Rattle.sk_script.specs.declared.instruction.Input.TheVariants as inputs
@@ -71,15 +72,6 @@ event_before (Commit g) = Commit g
 event_before (Fail g) = Fail g
 
 -- ---- what the laws compute
-
--- ---- lists
-
-pub same_filter : (p q : ℕ → Bool) (xs : List ℕ) → ((g : ℕ) → has g xs ≡ true → p g ≡ q g) → filter p xs ≡ filter q xs
-same_filter p q [] same = refl
-same_filter p q (x ∷ xs) same =
-    let head : p x ≡ q x = same x (or_left (x == x) (has x xs) (eq-eqb x x refl)) in
-    let tail : filter p xs ≡ filter q xs = same_filter p q xs (λ g there. same g (or_right (x == g) (has g xs) there)) in
-    (λ i. cond (head i) (x ∷ tail i) (tail i))
 
 -- ---- the least of some numbers that rise is the first
 
@@ -146,7 +138,7 @@ module _ (es : List (Happens Caused)) (k : KernelView) (t : Traced es k) where
   pub rests_seen : (pid : ℕ) (name : Bytes) → law_rests (table k.scripts) k.start es pid name ≡ rests_of k pid name
   rests_seen pid name =
       ap (filter (is_tag (table k.scripts) k.start es pid name)) undecided_seen
-      ∙ same_filter (is_tag (table k.scripts) k.start es pid name) (λ g. has g (tags_at k (Proc pid)) || has g (tags_at k (CopyOf name))) (undecided_at k)
+      ∙ filter_alike (is_tag (table k.scripts) k.start es pid name) (λ g. has g (tags_at k (Proc pid)) || has g (tags_at k (CopyOf name))) (undecided_at k)
       (λ g there i. sym (tag_seen g (Proc pid) there) i || sym (tag_seen g (CopyOf name) there) i)
 
   pub settled_seen : least (suc (last_guess k)) (undecided (table k.scripts) k.start es) ≡ settled k

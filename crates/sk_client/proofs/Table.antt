@@ -6,19 +6,19 @@ use Rattle.sk_client.proofs.Names.{outcome, run, Proc, Copy, entity_total, entit
 use Rattle.sk_client.proofs.Names.{Scripts, act, with_input, Input, Bytes, buffer_of, copy_of, version_of, IsTidyState}
 use Rattle.sk_client.proofs.Names.{IsCopy, lt-ltb, Refuse, perform, with_read, Entity, ContentView, LAST_VERSION}
 use Rattle.sk_client.proofs.Names.{EntityState, Mismatch, StaleCopy, failed, with_write, fetched, from_copy, over_copy}
-use Rattle.sk_client.proofs.Names.{Good, Fresh, Stale, Get, Check, Store}
+use Rattle.sk_client.proofs.Names.{Good, Fresh, Stale, Get, Check, Store, cons_first}
+use Rattle.sk_client.proofs.Names.{found, plain_tidy, IsAt, IsFree, next_turn, store_at, turn_at, steps_on, IsNextChild, unborn}
 use Rattle.sk_script.specs.declared.instruction.Instruction.TheVariants as does_
 use Rattle.sk_store.specs.declared.entity_state.EntityState.TheVariants as stored
 use Rattle.sk_plain.specs.declared.next.Next.TheVariants as nexts
-use Rattle.sk_client.proofs.CausedWorld.{Caused, kernel, own, table, IsTable, or_zero, Takes, IsEither}
+use Rattle.sk_client.proofs.CausedWorld.{Caused, kernel, own, table, bare, IsTable, or_zero, Takes, IsEither}
 use Rattle.sk_script.specs.declared.instruction.Input.TheVariants as inputs
 use Rattle.sk_client.proofs.DeskFacts.{Did}
-use Rattle.sk_client.proofs.Tidy.{IsNextChild, unborn}
-use Rattle.sk_client.proofs.Rows.{IsOf, CanWrite, one_of_two, only_one}
-use Rattle.sk_client.proofs.Runs.{next_in, found, run_tidy, IsAt, IsFree, next_turn, store_at, turn_at, steps_on}
+use Rattle.sk_client.proofs.Names.{IsOf, CanWrite, one_of_two, only_one, plain}
+use Rattle.sk_plain.specs.Act.{next_in}
+use Rattle.sk_client.proofs.Labels.{run_bare}
 use Rattle.sk_objects.specs.declared.value.Value.TheVariants as values
 use Rattle.sk_plain.specs.Rows.{answered}
-use Rattle.sk_client.proofs.Each.{cons_first}
 
 pub steps_so : (scripts : Scripts) (s : State) (pid : ℕ) (i : Instruction) (x : Input) (is : IsAt scripts s pid i)
     → perform (get s) (act scripts pid x) ≡ with_read (Proc pid) (Some (stored.Process is.process)) (perform (get s) (with_input pid is.process (Some i) x))
@@ -130,6 +130,9 @@ module _ (scripts : Scripts) (s : State) (pid : ℕ) (name : Bytes) where
       }
 
 -- ---- the table
+
+run_tidy : (scripts : Scripts) (s : State) (ns : List Caused) → IsTidyState s → IsTidyState (run (kernel (table scripts)) s ns)
+run_tidy scripts s ns h = subst IsTidyState (sym (run_bare bare (plain scripts) s ns)) (plain_tidy scripts s (map bare ns) h)
 
 module _ (scripts : Scripts) (start : State) (tidy : IsTidyState start) where
   abbrev reached : List Caused → State

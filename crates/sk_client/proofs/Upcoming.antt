@@ -9,7 +9,7 @@ use Rattle.sk_client.proofs.Names.{upcoming, turn_step, reply_step, first_reply_
 use Rattle.std.proofs.Common.{option_map}
 use Rattle.sk_script.specs.declared.instruction.Input.TheVariants as inputs
 use Rattle.sk_trace.specs.declared.event.Event.TheVariants as trace
-use Rattle.sk_client.specs.declared.rule.Rule.TheVariants as rules
+use Rattle.sk_client.specs.Rule as rules
 use Rattle.sk_client.specs.declared.world.WorldEvent.TheVariants as events
 use Rattle.sk_client.specs.declared.world.WorldAnswer.TheVariants as answers
 use Rattle.sk_client.specs.declared.world.Cause.TheVariants as causes

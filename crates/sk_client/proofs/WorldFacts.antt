@@ -12,7 +12,7 @@ use Rattle.sk_client.proofs.Names.{input_of, is_void, ByRule, TurnPost, WorldVie
 use Rattle.sk_client.proofs.Names.{IsJoined, reply_to, served, taken_from, taken_by, ServesNext}
 use Rattle.sk_script.specs.declared.instruction.Input.TheVariants as inputs
 use Rattle.sk_server.specs.Server.{answered}
-use Rattle.sk_client.specs.declared.rule.Rule.TheVariants as rules
+use Rattle.sk_client.specs.Rule as rules
 use Rattle.sk_client.proofs.DeskFacts.{none_first, none_later, none_test}
 
 -- ---- one request more

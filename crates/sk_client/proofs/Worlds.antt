@@ -9,18 +9,19 @@ use Rattle.sk_client.proofs.Names.{refused_by, listed, remembered, is_dropped, j
 use Rattle.sk_client.proofs.Names.{Store, Answer, Yes, No, Dropped, pending, name_of, sent, kept_for, forgotten}
 use Rattle.sk_client.proofs.Names.{kept_after, answer_kept, asks_for, asks_on, fits_ask, input_of, Exchanges}
 use Rattle.sk_client.proofs.Names.{PlacesAreKept, Bytes, WorldView, KeptAnswer, PendingRequest, IsTidyState}
+use Rattle.sk_client.proofs.Names.{cons_first, cons_later, next_turn}
+use Rattle.sk_client.proofs.Names.{not-true}
 use Rattle.std.specs.Prelude.{◌||◌}
 use Rattle.sk_script.specs.declared.instruction.Input.TheVariants as inputs
 use Rattle.sk_plain.specs.declared.next.Next.TheVariants as nexts
 use Rattle.sk_server.specs.declared.reply.Answer.TheVariants.{Copy}
 use Rattle.sk_client.proofs.CausedWorld.{Caused, Served, Table, kernel, own, is_lost, is_void, state, undecided, table, Takes}
-use Rattle.sk_client.proofs.Each.{cons_first, cons_later, filter_was}
-use Rattle.sk_client.proofs.Records.{Quiet, not_true}
+use Rattle.sk_client.proofs.Each.{filter_was}
+use Rattle.sk_client.proofs.Records.{Quiet}
 use Rattle.sk_client.proofs.Invariant.{ReadyFor, Ready, Invariant, is_accepted, queue_le, not_dropped}
 use Rattle.sk_client.proofs.RequestFacts.{RequestFacts, NoGood}
 use Rattle.sk_client.proofs.SeenWorld.{Traced, World, all_served, all_waiting, law_served, unanswered, answered_there, answered_here}
 use Rattle.sk_client.proofs.Table.{is_table, owns, copies}
-use Rattle.sk_client.proofs.Runs.{next_turn}
 use Rattle.sk_client.proofs.DeskFacts.{Did}
 use Rattle.sk_client.proofs.WorldFacts.{Fitting, answer_suits}
 
@@ -158,10 +159,10 @@ module _ {E V W F : Type 0} (S : Table E V W F) (start : FinMap S.order V) where
       elim (i.guesses.stand x above x_le) [
         | inl there ↦
             true≢false (sym ((undecided_is (kernel S) start es i.sound x).1 (
-              (λ done. true≢false (sym ((has_commit es x).1 done) ∙ not_true _ parts.1)),
+              (λ done. true≢false (sym ((has_commit es x).1 done) ∙ not-true _ parts.1)),
               (λ failed. true≢false (sym (i.guesses.failed x above failed) ∙ good)),
               there,
-            )) ∙ not_true _ parts.0)
+            )) ∙ not-true _ parts.0)
         | inr rests_on ↦ elim rests_on.2 [
           | inl own ↦ true≢false (sym rests_on.1 ∙ ap i.bad own ∙ good)
           | inr carries ↦ true≢false (sym rests_on.1 ∙ i.guesses.good x above le good rests_on.0 carries)

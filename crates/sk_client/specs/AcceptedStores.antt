@@ -18,7 +18,7 @@ use Rattle.sk_client.specs.Table.{Bytes, copy_of}
 use Rattle.sk_client.specs.Desk.{pending}
 use Rattle.sk_client.specs.Exchanges.{Exchanges}
 use Rattle.sk_client.specs.WorldView.{WorldView}
-use Rattle.sk_client.specs.declared.pending.PendingRequest.{PendingRequest}
+use Rattle.sk_client.specs.Pending.{PendingRequest}
 
 -- parts of two lists, side by side
 abbrev pub paired : {A B : Type 0} → List A → List B → List (A × B)

@@ -7,7 +7,7 @@ use Rattle.sk_server.specs.declared.reply.Answer.TheVariants as answers
 use Rattle.sk_server.specs.declared.reply.Reply.{Reply}
 use Rattle.sk_client.specs.Desk.{entry, input_of}
 use Rattle.sk_client.specs.WorldView.{WorldView, EventPost}
-use Rattle.sk_client.specs.declared.pending.PendingRequest.{PendingRequest}
+use Rattle.sk_client.specs.Pending.{PendingRequest}
 use Rattle.sk_client.specs.declared.desk.Given.TheVariants as gives
 use Rattle.sk_client.specs.declared.world.WorldEvent.TheVariants as events
 use Rattle.sk_client.specs.declared.world.WorldAnswer.TheVariants as told

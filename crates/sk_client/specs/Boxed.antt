@@ -1,9 +1,6 @@
 -- What is seen of a request whose bytes stand in a box.
-use Rattle.std.specs.Coded.{Coded}
 use Rattle.sk_server.specs.declared.request.Ask.{Ask}
 use Rattle.sk_server.specs.declared.request.Ask.TheVariants.{Get, Check, Store}
-use Rattle.sk_client.specs.declared.pending.PendingRequest.{PendingRequest}
-use Rattle.sk_client.specs.contracts.pending.PendingRequest as pending_row
 use Rattle.sk_client.specs.declared.pending.BoxedAsk.{BoxedAsk}
 use Rattle.sk_client.specs.declared.pending.BoxedAsk.TheVariants as boxed
 
@@ -11,6 +8,3 @@ abbrev pub ask_of : BoxedAsk → Ask
 ask_of (boxed.Get name) = Get name
 ask_of (boxed.Check name version) = Check name version
 ask_of (boxed.Store name version bytes) = Store name version bytes.value
-
-abbrev pub request_code : Coded PendingRequest
-request_code = pending_row.the_row.coded

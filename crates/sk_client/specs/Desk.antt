@@ -27,12 +27,11 @@ use Rattle.sk_server.specs.declared.reply.Answer.TheVariants.{Yes, No, Copy, Dro
 use Rattle.sk_server.specs.declared.reply.Reply.{Reply}
 use Rattle.sk_server.specs.declared.server.TheConstants.{LAST_REQUEST}
 use Rattle.sk_client.specs.Table.{version_of, buffer_of}
-use Rattle.sk_client.specs.declared.pending.PendingRequest.{PendingRequest}
+use Rattle.sk_client.specs.Pending.{PendingRequest, request_code}
 use Rattle.sk_client.specs.declared.pending.KeptAnswer.{KeptAnswer}
-use Rattle.sk_client.specs.contracts.pending.PendingRequest as pending_row
 use Rattle.sk_client.specs.contracts.pending.KeptAnswer as kept_row
-use Rattle.sk_client.specs.declared.rule.Rule.{Rule}
-use Rattle.sk_client.specs.declared.rule.Rule.TheVariants as rules
+use Rattle.sk_client.specs.Rule.{Rule}
+use Rattle.sk_client.specs.Rule as rules
 use Rattle.sk_client.specs.declared.desk.Turn.{Turn}
 use Rattle.sk_client.specs.declared.desk.Turn.TheVariants as turns
 use Rattle.sk_client.specs.declared.desk.Given.{Given}
@@ -53,7 +52,7 @@ pub record DeskView : Type 0 where
 abbrev pub desk_code : Coded DeskView
 desk_code =
     code_by (KernelView × (List PendingRequest × (List PendingRequest × (ℕ × (ℕ × List KeptAnswer)))))
-    (coded× kernel_code (coded× (coded_list pending_row.the_row.coded) (coded× (coded_list pending_row.the_row.coded) (coded× coded_ℕ (coded× coded_ℕ (coded_list kept_row.the_row.coded))))))
+    (coded× kernel_code (coded× (coded_list request_code) (coded× (coded_list request_code) (coded× coded_ℕ (coded× coded_ℕ (coded_list kept_row.the_row.coded))))))
     (λ d. (d.kernel, (d.taken, (d.waiting, (d.first, (d.next, d.kept))))))
     (λ p. record { kernel = p.0; taken = p.1.0; waiting = p.1.1.0; first = p.1.1.1.0; next = p.1.1.1.1.0; kept = p.1.1.1.1.1 }) (λ _. refl)
 

@@ -8,7 +8,7 @@ use Rattle.sk_kernel.specs.Calls.{LeavesTexts, EpochPost}
 use Rattle.sk_kernel.specs.declared.kernel.EpochRefusal.{EpochRefusal}
 use Rattle.sk_kernel.specs.declared.kernel.EpochRefusal.TheVariants as epoch_refusals
 use Rattle.sk_server.specs.declared.reply.Reply.{Reply}
-use Rattle.sk_client.specs.declared.rule.Rule.{Rule}
+use Rattle.sk_client.specs.Rule.{Rule}
 use Rattle.sk_client.specs.declared.desk.Turn.{Turn}
 use Rattle.sk_client.specs.declared.desk.Given.{Given}
 use Rattle.sk_client.specs.declared.desk.Pending.{Pending}

@@ -1,7 +1,7 @@
 -- What holds of the parts of a desk between its calls.
 use Rattle.std.specs.Prelude.{◌≡◌, ℕ, ◌+◌, ◌≤◌, length, List, [], ◌∷◌, ◌++◌}
 use Rattle.sk_record.specs.Trace.{marks}
-use Rattle.sk_client.specs.declared.pending.PendingRequest.{PendingRequest}
+use Rattle.sk_client.specs.Pending.{PendingRequest}
 
 -- the guesses of requests
 abbrev pub guesses_of : List PendingRequest → List ℕ

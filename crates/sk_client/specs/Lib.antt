@@ -1,3 +1,5 @@
+pub mod Pending
+pub mod Rule
 pub mod Table
 pub mod Desk
 pub mod DeskCalls

@@ -21,7 +21,7 @@ use Rattle.sk_client.specs.Desk.{pending, asked_count, input_of}
 use Rattle.sk_client.specs.Exchanges.{Exchanges}
 use Rattle.sk_client.specs.AcceptedStores.{steps_at}
 use Rattle.sk_client.specs.WorldView.{WorldView}
-use Rattle.sk_client.specs.declared.pending.PendingRequest.{PendingRequest}
+use Rattle.sk_client.specs.Pending.{PendingRequest}
 
 -- the trace keeps its limit, with a place for the decision of each undecided guess and for the step of each asked request
 abbrev pub PlacesAreKept : WorldView → Type 0

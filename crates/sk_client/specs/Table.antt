@@ -1,11 +1,10 @@
 -- The table of instructions as a desk looks at it.
-use Rattle.std.specs.Prelude.{◌<◌, ℕ, List, [], All, Option, Some, None}
+use Rattle.std.specs.Prelude.{ℕ, List, [], Option, Some, None}
 use Rattle.sk_objects.specs.Content.{ContentView}
 use Rattle.sk_objects.specs.declared.value.Value.TheVariants as values
-use Rattle.sk_script.specs.Boot.{BootView}
-use Rattle.sk_script.specs.declared.boot.BootProcess.{BootProcess}
 use Rattle.sk_store.specs.declared.entity_state.EntityState.{EntityState}
 use Rattle.sk_store.specs.declared.entity_state.EntityState.TheVariants as stored
+pub use Rattle.sk_plain.specs.TidyState.{HasNumber, IsNumbered}
 
 -- names and bytes are lists of numbers
 abbrev pub Bytes : Type 0
@@ -24,11 +23,3 @@ version_of _ = None
 abbrev pub buffer_of : Option EntityState → Bytes
 buffer_of (Some (stored.Process p)) = p.buffer
 buffer_of _ = []
-
--- a process of a boot has a number of 16 bits, from 1 on
-abbrev pub HasNumber : BootProcess → Type 0
-HasNumber p = (0 < p.number) × (p.number < 65536)
-
--- each process of a boot has a number of 16 bits, from 1 on
-abbrev pub IsNumbered : BootView → Type 0
-IsNumbered boot = All HasNumber boot.processes

@@ -5,8 +5,8 @@ use Rattle.sk_script.specs.declared.instruction.Input.TheVariants as inputs
 use Rattle.sk_plain.specs.declared.refusal.Refusal.{Refusal}
 use Rattle.sk_server.specs.declared.request.Ask.{Ask}
 use Rattle.sk_server.specs.declared.request.Ask.TheVariants.{Get, Check, Store}
-use Rattle.sk_client.specs.declared.rule.Rule.{Rule}
-use Rattle.sk_client.specs.declared.rule.Rule.TheVariants as rules
+use Rattle.sk_client.specs.Rule.{Rule}
+use Rattle.sk_client.specs.Rule as rules
 use Rattle.sk_client.specs.declared.rule.Wish.{Wish}
 use Rattle.sk_client.specs.declared.rule.Wish.TheVariants as wishes
 use Rattle.sk_client.specs.declared.rule.Wanted.{Wanted}

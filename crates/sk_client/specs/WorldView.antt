@@ -11,7 +11,7 @@ use Rattle.sk_server.specs.contracts.reply.Reply as reply_row
 use Rattle.sk_server.specs.declared.server.TheConstants.{LAST_REQUEST}
 use Rattle.sk_server.specs.Server.{ServerView, server_code, answer_to, answered}
 use Rattle.sk_server.specs.Calls.{Edits}
-use Rattle.sk_client.specs.declared.pending.PendingRequest.{PendingRequest}
+use Rattle.sk_client.specs.Pending.{PendingRequest}
 use Rattle.sk_client.specs.declared.desk.ReplyRefusal.TheVariants as refusals
 use Rattle.sk_client.specs.declared.world.WorldEvent.{WorldEvent}
 use Rattle.sk_client.specs.declared.world.WorldEvent.TheVariants as events

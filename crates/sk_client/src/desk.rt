@@ -8,8 +8,8 @@ ghost use Rattle.sk_holder.specs.Holder.{DecidesPost};
 ghost use Rattle.sk_trace.specs.Kept.{input_in};
 ghost use Rattle.sk_client.specs.Boxed.{ask_of};
 ghost use Rattle.sk_client.specs.Wish.{wanted, brought, wished, wished_at};
-ghost use Rattle.sk_client.specs.declared.rule.Rule.TheVariants as rules;
-ghost use Rattle.sk_client.specs.Desk.{opened, pending, requests_taken, asks_for, asks_on, asked_count, kept_for, forgotten, kept_after, answer_kept, cached, buffer, rule, rule_next, unless_kept, guess_refused_at, rests_of, request_of, sent, first_sent, first_taken, first_guess, expected, fits_ask, reply_refused, is_lost, lost_by, is_void, given, given_answer, decision, decision_answer, input_of};
+ghost use Rattle.sk_client.specs.Rule as rules;
+ghost use Rattle.sk_client.specs.Desk.{opened, pending, requests_taken, asks_for, asks_on, asked_count, kept_for, forgotten, kept_after, answer_kept, cached, buffer, rule, rule_next, rule_of, unless_kept, guess_refused_at, rests_of, request_of, sent, first_sent, first_taken, first_guess, expected, fits_ask, reply_refused, is_lost, lost_by, is_void, given, given_answer, decision, decision_answer, input_of};
 ghost use Rattle.sk_client.specs.Upcoming.{turn_step, reply_step};
 ghost use Rattle.sk_client.specs.DeskCalls.{TurnPost, RulePost, ReplyPost, handed_back, ShutPost, DeskEpochPost};
 
@@ -372,15 +372,22 @@ impl Desk {
         Ok(unless_kept(kept_for(&self.kept, pid), wish))
     }
 
-    /// The wish of a turn of a process, by the first rule that applies.
-    fn wish(&self, pid: Pid) -> Result<Wish, Refusal>
-        ensures { wished_at self.now pid result ≡ rule self.now pid }
+    /// The wish of a turn where this is what the process does next, or why it does nothing.
+    fn wish_behind(&self, pid: Pid, next: Result<Next, Refusal>) -> Result<Wish, Refusal>
+        ensures { wished_at self.now pid result ≡ rule_of self.now pid next }
     {
-        let next = self.kernel().next_of(pid)?;
+        let next = next?;
         if self.asks_for(pid) {
             return Err(Refusal::Blocked);
         }
         self.wish_next(pid, next)
+    }
+
+    /// The wish of a turn of a process, by the first rule that applies.
+    fn wish(&self, pid: Pid) -> Result<Wish, Refusal>
+        ensures { wished_at self.now pid result ≡ rule self.now pid }
+    {
+        self.wish_behind(pid, self.kernel().heading(pid))
     }
 
     /// The process and the input of the step that a turn would take, where its rule takes one. This takes no memory.

@@ -10,5 +10,5 @@ pub mod rule;
 pub mod world;
 
 pub use desk::{Desk, Given, Pending, ReplyRefusal, Turn};
-pub use pending::{KeptAnswer, PendingRequest};
+pub use pending::KeptAnswer;
 pub use world::{Cause, World, WorldAnswer, WorldEvent, WorldNews, WorldStop};

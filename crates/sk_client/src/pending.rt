@@ -9,21 +9,6 @@ use sk_script::Input;
 use sk_server::{Ask, AskRef, Request, RequestRef};
 use std::marker::Model;
 
-/// A request without a reply.
-#[derive(Drop)]
-pub struct PendingRequest {
-    /// Its number, from 1 in the order in which requests are made.
-    pub number: u64,
-    pub process: Pid,
-    pub ask: Ask,
-    /// The guess that its reply decides; `None` where the process waits for the reply.
-    pub guess: Option<GuessId>,
-    /// The guesses that were undecided when it was made, and on which it rests, its own apart.
-    pub rests: TagSet,
-    /// Every guess below this number was decided when it was made.
-    pub settled: u64,
-}
-
 /// What is asked of a file, with the bytes of a store in a box.
 #[derive(Drop)]
 pub(crate) enum BoxedAsk {
@@ -32,20 +17,24 @@ pub(crate) enum BoxedAsk {
     Store(Name, u64, Box<Text>),
 }
 
-/// A request without a reply as a desk has it, of which contracts see what they see of a `PendingRequest`.
+/// A request without a reply.
 #[derive(Drop)]
 pub(crate) struct BoxedRequest {
+    /// Its number, from 1 in the order in which requests are made.
     pub(crate) number: u64,
     pub(crate) process: Pid,
     pub(crate) ask: BoxedAsk,
+    /// The guess that its reply decides; `None` where the process waits for the reply.
     pub(crate) guess: Option<GuessId>,
+    /// The guesses that were undecided when it was made, and on which it rests, its own apart.
     pub(crate) rests: TagSet,
+    /// Every guess below this number was decided when it was made.
     pub(crate) settled: u64,
 }
 
 impl Model for BoxedRequest {
-    ghost use Rattle.sk_client.specs.declared.pending.PendingRequest.{PendingRequest};
-    ghost use Rattle.sk_client.specs.Boxed.{ask_of, request_code};
+    ghost use Rattle.sk_client.specs.Pending.{PendingRequest, request_code};
+    ghost use Rattle.sk_client.specs.Boxed.{ask_of};
 
     ghost Value = { PendingRequest };
 
@@ -66,15 +55,6 @@ impl Model for BoxedRequest {
 pub struct KeptAnswer {
     pub process: Pid,
     pub input: Input,
-}
-
-impl PendingRequest {
-    /// Whether the process waits for the reply.
-    pub fn is_asked(&self) -> bool
-        ensures { result ≡ is_asked self.now }
-    {
-        self.guess.is_none()
-    }
 }
 
 impl BoxedAsk {

@@ -6,19 +6,6 @@ ghost use Rattle.sk_client.specs.Wish.{wished};
 
 use sk_ids::Name;
 use sk_objects::content::LAST_VERSION;
-use sk_script::Input;
-use sk_server::Ask;
-
-/// What a turn does.
-#[derive(Clone, Copy)]
-pub enum Rule {
-    /// It takes a step with this input.
-    Steps(Input),
-    /// It guesses that the cached copy is good, and asks whether it is.
-    Guesses(Ask),
-    /// It asks, and takes no step.
-    Asks(Ask),
-}
 
 /// What is asked of a file, but for the bytes of a store, which are the buffer of the process.
 #[derive(Clone, Copy)]

@@ -1,5 +1,5 @@
 -- What becomes of held tokens when one more event stands in the trace, or a token is taken out.
-use Rattle.sk_holder.proofs.Names.{◌≡◌, ℕ, zero, suc, ◌<◌, ◌≤◌, drop, Bool, true, false, not, ◌&&◌, ◌||◌, List, [], ◌∷◌}
+use Rattle.sk_holder.proofs.Names.{◌≡◌, ℕ, zero, suc, ◌<◌, ◌≤◌, drop, Bool, true, false, not, ◌||◌, List, [], ◌∷◌}
 use Rattle.sk_holder.proofs.Names.{◌++◌, map, length, get_or, refl, sym, ap, ◌∙◌, arith, subst, Some, Contains}
 use Rattle.sk_holder.proofs.Names.{list_all, list_any, remove, ne_eqb, eq-eqb, eqb-true, true≢false, list_any-append}
 use Rattle.sk_holder.proofs.Names.{slice_get, has, Happens, Commit, Fail, StatusIs, status_in, Undecided, Struck}
@@ -7,18 +7,9 @@ use Rattle.sk_holder.proofs.Names.{in_trace, draws, is_commit, is_fail, has_comm
 use Rattle.sk_holder.proofs.Names.{EntryView, Event, plain, image, KernelView, events_of, next_guess, with_event, IsNew}
 use Rattle.sk_holder.proofs.Names.{IsStranger, HasSoundTrace, drawn_here, makes, commits, fails, is_unspent}
 use Rattle.sk_holder.proofs.Names.{all_unspent, none_of, is_held, ids, but}
+use Rattle.sk_holder.proofs.Names.{and_parts, and_from, not-true, false_from_ne_true}
 use Rattle.std.proofs.Common.{◌==◌}
 use Rattle.sk_trace.specs.declared.event.Event.TheVariants as events
-
-pub both : (a b : Bool) → (a && b) ≡ true → (a ≡ true) × (b ≡ true)
-both true true e = (refl, refl)
-both true false e = absurd cc
-both false b e = absurd cc
-
-pair : (a b : Bool) → a ≡ true → b ≡ true → (a && b) ≡ true
-pair true true e f = refl
-pair true false e f = absurd cc
-pair false b e f = absurd cc
 
 -- ---- taking a token out
 
@@ -26,15 +17,15 @@ pair false b e f = absurd cc
 all_but : {A : Type 0} (p : A → Bool) (i : ℕ) (xs : List A) → list_all p xs ≡ true → list_all p (remove xs i) ≡ true
 all_but p zero [] h = refl
 all_but p (suc i) [] h = refl
-all_but p zero (x ∷ xs) h = (both (p x) (list_all p xs) h).1
+all_but p zero (x ∷ xs) h = (and_parts (p x) (list_all p xs) h).1
 all_but p (suc i) (x ∷ xs) h =
-    let b = both (p x) (list_all p xs) h in
-    pair (p x) (list_all p (remove xs i)) b.0 (all_but p i xs b.1)
+    let b = and_parts (p x) (list_all p xs) h in
+    and_from (p x) (list_all p (remove xs i)) b.0 (all_but p i xs b.1)
 
 all_at : {A : Type 0} (p : A → Bool) (i : ℕ) (xs : List A) (d : A) → i < length xs → list_all p xs ≡ true → p (get_or xs i d) ≡ true
 all_at p i [] d lt h = absurd (omega arith)
-all_at p zero (x ∷ xs) d lt h = (both (p x) (list_all p xs) h).0
-all_at p (suc i) (x ∷ xs) d lt h = all_at p i xs d (omega arith) (both (p x) (list_all p xs) h).1
+all_at p zero (x ∷ xs) d lt h = (and_parts (p x) (list_all p xs) h).0
+all_at p (suc i) (x ∷ xs) d lt h = all_at p i xs d (omega arith) (and_parts (p x) (list_all p xs) h).1
 
 pub not_same : (a b : ℕ) → not (a == b) ≡ true → a ≡ b → ⊥
 not_same a b h e =
@@ -53,16 +44,12 @@ pub record IsUnspent (k : KernelView) (t : Token) : Type 0 where
   pub uncommitted : list_any (commits t.id) k.trace ≡ false
   pub unfailed : list_any (fails t.id) k.trace ≡ false
 
-negated : (b : Bool) → not b ≡ true → b ≡ false
-negated true e = absurd cc
-negated false e = refl
-
 told : (k : KernelView) (t : Token) → is_unspent k t ≡ true → IsUnspent k t
 told k t h =
-    let a = both (t.kernel == k.number) _ h in
-    let b = both (list_any (makes t.id) k.trace) _ a.1 in
-    let c = both (not (list_any (commits t.id) k.trace)) _ b.1 in
-    record { own = eqb-true t.kernel k.number a.0; made = b.0; uncommitted = negated _ c.0; unfailed = negated _ c.1 }
+    let a = and_parts (t.kernel == k.number) _ h in
+    let b = and_parts (list_any (makes t.id) k.trace) _ a.1 in
+    let c = and_parts (not (list_any (commits t.id) k.trace)) _ b.1 in
+    record { own = eqb-true t.kernel k.number a.0; made = b.0; uncommitted = not-true _ c.0; unfailed = not-true _ c.1 }
 
 tested : (k : KernelView) (t : Token) → IsUnspent k t → is_unspent k t ≡ true
 tested k t u = rw (eq-eqb t.kernel k.number u.own, u.made, u.uncommitted, u.unfailed) refl
@@ -74,8 +61,8 @@ pub record AllUnspent (k : KernelView) (t : Token) (ts : List Token) : Type 0 wh
 
 pub parts : (k : KernelView) (t : Token) (ts : List Token) → all_unspent k (t ∷ ts) ≡ true → AllUnspent k t ts
 parts k t ts h =
-    let a = both (is_unspent k t) _ h in
-    let b = both (none_of t.id ts) _ a.1 in
+    let a = and_parts (is_unspent k t) _ h in
+    let b = and_parts (none_of t.id ts) _ a.1 in
     record { first = told k t a.0; apart = b.0; rest = b.1 }
 
 whole : (k : KernelView) (t : Token) (ts : List Token) → AllUnspent k t ts → all_unspent k (t ∷ ts) ≡ true
@@ -96,7 +83,7 @@ taken_out k (suc i) (t ∷ ts) d lt h =
     let one = all_at (λ u. not (u.id == t.id)) i ts d (omega arith) a.apart in
     record {
       unspent = o.unspent;
-      apart = pair (not (t.id == (get_or ts i d).id)) (none_of (get_or ts i d).id (remove ts i)) (turned (get_or ts i d).id t.id one) o.apart;
+      apart = and_from (not (t.id == (get_or ts i d).id)) (none_of (get_or ts i d).id (remove ts i)) (turned (get_or ts i d).id t.id one) o.apart;
       rest = whole k t (remove ts i) (record { first = a.first; apart = all_but (λ u. not (u.id == t.id)) i ts a.apart; rest = o.rest });
     }
 
@@ -119,20 +106,20 @@ still p es e some = list_any-append p es (e ∷ []) ∙ ap (λ b. b || list_any 
 commits_other : (e : Event) (ts : List Token) (t : Token) → DecidesNone e (t ∷ ts) → commits t.id e ≡ false
 commits_other (events.Step pid input) ts t none = refl
 commits_other (events.Guess h pid input) ts t none = refl
-commits_other (events.Commit h) ts t none = ne_eqb h t.id (λ e. not_same t.id h (both (not (t.id == h)) (none_of h ts) none).0 (sym e))
+commits_other (events.Commit h) ts t none = ne_eqb h t.id (λ e. not_same t.id h (and_parts (not (t.id == h)) (none_of h ts) none).0 (sym e))
 commits_other (events.Fail h) ts t none = refl
 
 fails_other : (e : Event) (ts : List Token) (t : Token) → DecidesNone e (t ∷ ts) → fails t.id e ≡ false
 fails_other (events.Step pid input) ts t none = refl
 fails_other (events.Guess h pid input) ts t none = refl
 fails_other (events.Commit h) ts t none = refl
-fails_other (events.Fail h) ts t none = ne_eqb h t.id (λ e. not_same t.id h (both (not (t.id == h)) (none_of h ts) none).0 (sym e))
+fails_other (events.Fail h) ts t none = ne_eqb h t.id (λ e. not_same t.id h (and_parts (not (t.id == h)) (none_of h ts) none).0 (sym e))
 
 fewer : (e : Event) (t : Token) (ts : List Token) → DecidesNone e (t ∷ ts) → DecidesNone e ts
 fewer (events.Step pid input) t ts none = none
 fewer (events.Guess id pid input) t ts none = none
-fewer (events.Commit id) t ts none = (both (not (t.id == id)) (none_of id ts) none).1
-fewer (events.Fail id) t ts none = (both (not (t.id == id)) (none_of id ts) none).1
+fewer (events.Commit id) t ts none = (and_parts (not (t.id == id)) (none_of id ts) none).1
+fewer (events.Fail id) t ts none = (and_parts (not (t.id == id)) (none_of id ts) none).1
 
 still_unspent : (k : KernelView) (e : Event) (t : Token) (ts : List Token) → DecidesNone e (t ∷ ts) → IsUnspent k t → IsUnspent (with_event k e) t
 still_unspent k e t ts none u = record {
@@ -171,17 +158,13 @@ fails_is id (events.Guess g pid input) = refl
 fails_is id (events.Commit g) = refl
 fails_is id (events.Fail g) = refl
 
-never : (b : Bool) → (b ≡ true → ⊥) → b ≡ false
-never true h = absurd (h refl)
-never false h = refl
-
 -- ---- a guess is drawn
 
 none_more : (id : ℕ) (ts : List Token) (t : Token) → none_of id ts ≡ true → not (t.id == id) ≡ true → none_of id (ts ++ t ∷ []) ≡ true
 none_more id [] t h n = rw n refl
 none_more id (u ∷ us) t h n =
-    let b = both (not (u.id == id)) (none_of id us) h in
-    pair (not (u.id == id)) (none_of id (us ++ t ∷ [])) b.0 (none_more id us t b.1 n)
+    let b = and_parts (not (u.id == id)) (none_of id us) h in
+    and_from (not (u.id == id)) (none_of id (us ++ t ∷ [])) b.0 (none_more id us t b.1 n)
 
 -- the token of the guess that is drawn next
 abbrev pub drawn_token : KernelView → Token
@@ -214,8 +197,8 @@ drawn_unspent k pid input ts sound fresh u =
     with_new k new ts fresh u (more_unspent k e ts tt u) (record {
       own = refl;
       made = list_any-append (makes id) k.trace (e ∷ []) ∙ or_last (list_any (makes id) k.trace) (id == id) (eq-eqb id id refl);
-      uncommitted = never _ (λ some. undecided.0 ((has_commit (events_of new) id).0 (sym (mapped (commits id) (is_commit id) (commits_is id) new.trace) ∙ some)));
-      unfailed = never _ (λ some. undecided.1 ((has_fail (events_of new) id).0 (sym (mapped (fails id) (is_fail id) (fails_is id) new.trace) ∙ some)));
+      uncommitted = false_from_ne_true _ (λ some. undecided.0 ((has_commit (events_of new) id).0 (sym (mapped (commits id) (is_commit id) (commits_is id) new.trace) ∙ some)));
+      unfailed = false_from_ne_true _ (λ some. undecided.1 ((has_fail (events_of new) id).0 (sym (mapped (fails id) (is_fail id) (fails_is id) new.trace) ∙ some)));
     }) where
       or_last : (a b : Bool) → b ≡ true → (a || (b || false)) ≡ true
       or_last true b is = refl
@@ -270,10 +253,10 @@ id_of ts i id t at e =
 same_id : (ts : List Token) (i id : ℕ) (t : ℕ) → none_of t ts ≡ true → slice_get (ids ts) i ≡ Some id → (t == id) ≡ false
 same_id [] i id t n at = absurd cc
 same_id (u ∷ ts) zero id t n at =
-    let b = both (not (u.id == t)) (none_of t ts) n in
+    let b = and_parts (not (u.id == t)) (none_of t ts) n in
     let is : u.id ≡ id = cc in
     ne_eqb t id (λ e. not_same u.id t b.0 (is ∙ sym e))
-same_id (u ∷ ts) (suc i) id t n at = same_id ts i id t (both (not (u.id == t)) (none_of t ts) n).1 at
+same_id (u ∷ ts) (suc i) id t n at = same_id ts i id t (and_parts (not (u.id == t)) (none_of t ts) n).1 at
 
 -- the token at a place is the only one of its guess
 pub removed_but : (k : KernelView) (ts : List Token) (i id : ℕ) → all_unspent k ts ≡ true → slice_get (ids ts) i ≡ Some id → ids (remove ts i) ≡ but id (ids ts)

@@ -4,7 +4,7 @@ use Rattle.sk_holder.proofs.Names.{Option, Result, Ok, Err, inl, inr, refl, sym,
 use Rattle.sk_holder.proofs.Names.{Contains, remove, eq-eqb, eqb-true, true≢false, or_cases, or_left, or_right}
 use Rattle.sk_holder.proofs.Names.{false_from_ne_true, Contains-push, list_any-append, has, effects, strike, Fail}
 use Rattle.sk_holder.proofs.Names.{Record, IsSound, all_recorded, no_record, recorded, undecided_of, still_marked}
-use Rattle.sk_holder.proofs.Names.{Undecided, status_in, in_trace, nil_right, has_filter, and_both, recorded_more}
+use Rattle.sk_holder.proofs.Names.{Undecided, status_in, in_trace, nil_right, has_filter, and_parts, recorded_more}
 use Rattle.sk_holder.proofs.Names.{sound_fail, is_undecided, entity_total, entity_exact, Token, Input, EntryView, Event}
 use Rattle.sk_holder.proofs.Names.{plain, image, Refusal, KernelView, HasStatus, events_of, next_guess, undecided_at}
 use Rattle.sk_holder.proofs.Names.{with_event, StepPost, GuessPost, DecisionPost, CommitPost, FailPost, HasSoundTrace}
@@ -34,7 +34,7 @@ module _ (k : KernelView) where
 
   pub after_commit : (id g : ℕ) → has g (undecided_at (with_event k (events.Commit id))) ≡ true → (has g (undecided_at k) ≡ true) × (g ≡ id → ⊥)
   after_commit id g h =
-      let b = and_both (not (g == id)) (has g (undecided_at k)) (sym (has_filter (λ t. not (t == id)) g (undecided_at k)) ∙ sym (undecided_more (events.Commit id) g) ∙ h) in
+      let b = and_parts (not (g == id)) (has g (undecided_at k)) (sym (has_filter (λ t. not (t == id)) g (undecided_at k)) ∙ sym (undecided_more (events.Commit id) g) ∙ h) in
       (b.1, λ same. true≢false (sym b.0 ∙ ap not (eq-eqb g id same)))
 
   failed : HasSoundTrace k → (id : ℕ) → HasStatus k id Undecided → has id (undecided_at (with_event k (events.Fail id))) ≡ false
@@ -49,7 +49,7 @@ module _ (k : KernelView) where
   after_fail sound id is_open g h =
       let r = all_recorded (plain k.scripts) k.start no_record (events_of k) in
       let left = still_marked (effects (plain k.scripts) k.start (strike (plain k.scripts) k.start r.entries id)) in
-      let b = and_both (left g) (has g (undecided_at k)) (sym (has_filter left g (undecided_at k)) ∙ sym (undecided_more (events.Fail id) g) ∙ h) in
+      let b = and_parts (left g) (has g (undecided_at k)) (sym (has_filter left g (undecided_at k)) ∙ sym (undecided_more (events.Fail id) g) ∙ h) in
       (b.1, λ same. true≢false (sym h ∙ subst (λ x. has x (undecided_at (with_event k (events.Fail id))) ≡ false) (sym same) (failed sound id is_open)))
 
 -- ---- the tokens

@@ -3,7 +3,7 @@ pub use Rattle.std.proofs.Common.{Some, Bool, subst, inr, Ok, ◌∷◌, Err, �
 pub use Rattle.std.proofs.Common.{List, get_or, ap, ◌++◌, length, append_assoc, ◌||◌, ℕ, true, drop, sym, None, suc}
 pub use Rattle.std.proofs.Common.{◌≤◌, false, ◌<◌, refl, Result, [], ◌∙◌, not, map}
 pub use Rattle.std.proofs.lemmas.Bool.{true≢false, or_right, or_cases, false_from_ne_true, or_left, eqb-true, eq-eqb}
-pub use Rattle.std.proofs.lemmas.Bool.{ne_eqb}
+pub use Rattle.std.proofs.lemmas.Bool.{ne_eqb, and_parts, and_from, not-true}
 pub use Rattle.std.proofs.lemmas.List.Elements.{Contains-push}
 pub use Rattle.std.proofs.lemmas.List.Folds.{list_any-append}
 pub use Rattle.std.specs.List.{remove, Contains, list_all, list_any}
@@ -11,7 +11,7 @@ pub use Rattle.std.specs.Prelude.{IfErr, replicate, slice_get, ◌⊎◌, ◌==�
 pub use Rattle.sk_guesses.specs.Token.{Token}
 pub use Rattle.sk_holder.specs.Holder.{HolderView, but, DecidesPost, ids, FailsSome, BeginsPost}
 pub use Rattle.sk_holder.specs.Tokens.{fails, makes, commits, none_of, IsHeld, all_unspent, is_held, is_unspent}
-pub use Rattle.sk_ids.proofs.Entities.{entity_total, entity_exact}
+pub use Rattle.sk_ids.specs.EntityLemma.{entity_total, entity_exact}
 pub use Rattle.sk_kernel.proofs.HandedIn.{no_step}
 pub use Rattle.sk_kernel.proofs.Undecided.{drawn_here, undecided_is, struck_is_decided}
 pub use Rattle.sk_kernel.proofs.Whole.{map_more}
@@ -34,7 +34,6 @@ pub use Rattle.sk_record.proofs.Machine.{has_filter, nil_right}
 pub use Rattle.sk_record.proofs.Sound.{undecided_is as is_undecided, draws, is_commit, has_fail, is_drawn, has_commit}
 pub use Rattle.sk_record.proofs.Sound.{is_fail, sound_fail}
 pub use Rattle.sk_record.proofs.Tidy.{recorded_more}
-pub use Rattle.sk_record.proofs.UndoStates.{and_both}
 pub use Rattle.sk_record.specs.Epoch.{status_in}
 pub use Rattle.sk_record.specs.Notes.{has}
 pub use Rattle.sk_record.specs.Run.{effects}

@@ -3,11 +3,9 @@ pub mod Cells
 pub mod Fronts
 pub mod GuessSets
 pub mod Runs
-pub mod Entities
 pub mod Views
 pub mod Ordered
 pub mod Newest
-pub mod Same
 pub mod Searches
 pub mod Words
 pub mod Padding

@@ -16,37 +16,27 @@ pub use Rattle.std.proofs.lemmas.List.Kept.{IsStrictlySortedBy-filter, Contains-
 pub use Rattle.std.proofs.lemmas.List.Sorted.{list_any-IsPermutation, searched}
 pub use Rattle.std.proofs.lemmas.Map.Keys.{sorted_from_strictly_increasing, sorted_tail, sorted_head}
 pub use Rattle.std.proofs.lemmas.Map.Keys.{IsStrictlyIncreasing-from_sorted}
-pub use Rattle.std.proofs.lemmas.Map.Lookups.{exact_bytes, exact_unsigned, exact_pairs, CmpEqualImpliesEq}
 pub use Rattle.std.proofs.lemmas.Map.Views.{Contains-from_any, list_any-from_Contains}
 pub use Rattle.std.specs.BTreeMap.{is_at}
-pub use Rattle.std.specs.Cmp.{first_so, unsigned_Decides, eq_by_cmp_equiv, ranks, second_so, unsigned_tied}
+pub use Rattle.std.specs.Cmp.{eq_by_cmp_equiv, ranks, unsigned_tied}
 pub use Rattle.std.specs.Cmp.{nat_cmp_total, both_ways, IsTotalOrder, nat_eq_equiv}
-pub use Rattle.std.specs.Cmp.Lexicographic.{slice_cmp, texts_ties, pointwise, pointwise_decides}
+pub use Rattle.std.specs.Cmp.Lexicographic.{slice_cmp, texts_ties, pointwise}
 pub use Rattle.std.specs.FinMap.{get-remove, get-from_entries, from_entries, len-entries, empty_of_len, entries, get}
 pub use Rattle.std.specs.FinMap.{entries-from_sorted, entries-insert, insert, find, get-insert, put, IsAntisymmetric}
 pub use Rattle.std.specs.FinMap.{from_sorted}
 pub use Rattle.std.specs.List.{filter, remove, refill, dedup, AllByRecursion, list_all, list_any}
 pub use Rattle.std.specs.List.Sorted.{IsBinarySearchResult, IsPermutation, IsStrictlySortedBy}
 pub use Rattle.std.specs.Map.{lookup, keys_of}
-pub use Rattle.std.specs.Option.{option_cmp, option_eq}
 pub use Rattle.std.specs.Ordering.{MatchOrdering, nat_cmp, is_eq, ordering_then, eq_by_cmp}
-pub use Rattle.std.specs.Prelude.{Ok, Err, Option, get_or, nat_eq, IfSome, is_some, is_ok, Result}
+pub use Rattle.std.specs.Prelude.{Ok, Err, Option, get_or, IfSome, is_some, is_ok, Result}
 pub use Rattle.std.specs.declared.cmp.Ordering.{Ordering}
 pub use Rattle.std.specs.declared.cmp.Ordering.TheVariants.{Less}
-pub use Rattle.sk_ids.specs.Entity.{entity_cmp, object_cmp}
 pub use Rattle.sk_ids.specs.Invariants.{IsTidyName}
 pub use Rattle.sk_ids.specs.Name.{is_name_byte, IsName}
 pub use Rattle.sk_ids.specs.Word.{word_at}
-pub use Rattle.sk_ids.specs.contracts.entity.EntityEq.TheImpl.Laws.{laws-law as entity_laws}
-pub use Rattle.sk_ids.specs.contracts.entity.EntityOrd.TheImpl.Laws.{total-law}
-pub use Rattle.sk_ids.specs.contracts.pid.ObjIdEq.TheImpl.Laws.{laws-law as object_laws}
-pub use Rattle.sk_ids.specs.declared.entity.Entity.{Entity}
-pub use Rattle.sk_ids.specs.declared.entity.Entity.TheVariants.{Link, Proc, Sig, Obj, Copy, Exit}
 pub use Rattle.sk_ids.specs.declared.name.TheConstants.{NAME_LIMIT}
-pub use Rattle.sk_ids.specs.declared.pid.ObjId.{ObjId}
 pub use Rattle.sk_ids.specs.declared.text.TheConstants.{TEXT_LIMIT}
-pub use Rattle.sk_record.proofs.Exact.{exact_option, exact_from}
 pub use Rattle.sk_record.proofs.Rising.{above}
 pub use Rattle.sk_record.proofs.UndoStates.{and_both}
 pub use Rattle.sk_record.specs.Notes.{without, has}
-pub use Rattle.sk_record.specs.Same.{same_pair, IsExact, same_map}
+pub use Rattle.sk_record.specs.Same.{same_pair, same_map}

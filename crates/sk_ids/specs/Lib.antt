@@ -7,3 +7,5 @@ pub mod PaddedLemma
 pub mod NameLemma
 pub mod Entity
 pub mod Guess
+pub mod EntityLemma
+pub mod SameLemma

@@ -1,8 +1,8 @@
 -- Where no guess is undecided, what comes later is as it would be from the state there.
-use Rattle.sk_kernel.proofs.Names.{◌≡◌, ℕ, ◌<◌, ◌≤◌, length, Bool, true, false, ◌||◌, List, [], ◌∷◌, ◌++◌, cond, Option}
+use Rattle.sk_kernel.proofs.Names.{◌≡◌, ℕ, ◌<◌, ◌≤◌, length, Bool, true, false, ◌||◌, List, [], ◌∷◌, ◌++◌, Option}
 use Rattle.sk_kernel.proofs.Names.{Some, None, inl, inr, IsOk, refl, sym, ◌∙◌, ap, subst, arith, append_assoc, filter}
 use Rattle.sk_kernel.proofs.Names.{list_any, fold, Ordering, IsTotalOrder, FinMap, IsAntisymmetric, or_parts, or_left}
-use Rattle.sk_kernel.proofs.Names.{or_right, or_from, eq-eqb, false≢true, false_from_ne_true, Contains-append_left}
+use Rattle.sk_kernel.proofs.Names.{or_right, or_from, false≢true, false_from_ne_true, Contains-append_left}
 use Rattle.sk_kernel.proofs.Names.{Contains-append_right, Contains-append_cases, list_any-append, MarkedEffect, is_in}
 use Rattle.sk_kernel.proofs.Names.{is_marked, hit, hits, dirt, dirtied, keep, touches, System, outcome, after}
 use Rattle.sk_kernel.proofs.Names.{marked_effect, run, effects, strike, has, without, Taken, Commit, Fail, IsDrawn}
@@ -14,28 +14,18 @@ use Rattle.sk_kernel.proofs.Names.{entries_are, record_more, each_event, sound_b
 use Rattle.sk_kernel.proofs.Names.{sound_commit, sound_fail, accepted_last, drawn_more, undecided_is, tests, status_by}
 use Rattle.sk_kernel.proofs.Names.{status_is, next_epoch, either_is, recorded_more, tags_from, machine_stands}
 use Rattle.sk_kernel.proofs.Names.{plain_run, machine_after}
+use Rattle.sk_kernel.proofs.Names.{any_no, filter_alike}
 use Rattle.std.proofs.Common.{◌↔◌}
 use Rattle.sk_record.specs.Trace.{Event}
 use Rattle.sk_record.proofs.Statuses.{status_of}
 use Rattle.sk_kernel.proofs.Numbers.{number_or, last_after, last_is_greatest}
-
-no_entity : {E : Type 0} (es : List E) → list_any (λ e. false) es ≡ false
-no_entity [] = refl
-no_entity (e ∷ es) = no_entity es
-
--- filters that agree on what is there
-same_filter : (p q : ℕ → Bool) (xs : List ℕ) → ((x : ℕ) → has x xs ≡ true → p x ≡ q x) → filter p xs ≡ filter q xs
-same_filter p q [] h = refl
-same_filter p q (x ∷ xs) h =
-    (λ i. cond (h x (or_left _ _ (eq-eqb x x refl)) i) (x ∷ filter p xs) (filter p xs))
-    ∙ ap (λ rest. cond (q x) (x ∷ rest) rest) (same_filter p q xs (λ y there. h y (or_right _ _ there)))
 
 -- effects without a mark of a guess make nothing dirty
 dirt_later : {E V W : Type 0} (R : E → E → Ordering) (g : ℕ) (ts us : List (MarkedEffect E V W)) → still_marked ts g ≡ false → dirt R g [] (ts ++ us) ≡ dirt R g [] us
 dirt_later R g [] us none = refl
 dirt_later R g (f ∷ ts) us none =
     let parts = or_parts _ _ none in
-    let no_hit : hit R g [] f ≡ false = or_from _ _ parts.0 (no_entity (touches f)) in
+    let no_hit : hit R g [] f ≡ false = or_from _ _ parts.0 (any_no (touches f)) in
     subst (λ b. dirt R g (dirtied b f []) (ts ++ us) ≡ dirt R g [] us) (sym no_hit) (dirt_later R g ts us parts.1)
 
 -- and a failure of it strikes none of them
@@ -46,7 +36,7 @@ strike_later K s (n ∷ ns) ms g none =
     let f = marked_effect K (K.mark n) (outcome K s n) in
     let next = after K (outcome K s n) s in
     let parts = or_parts _ _ none in
-    let no_hit : hit K.order g [] f ≡ false = or_from _ _ parts.0 (no_entity (touches f)) in
+    let no_hit : hit K.order g [] f ≡ false = or_from _ _ parts.0 (any_no (touches f)) in
     subst (λ b. keep (b ∷ hits K.order g (dirtied b f []) (effects K next (ns ++ ms))) (n ∷ (ns ++ ms)) ≡ n ∷ (ns ++ strike K (run K next ns) ms g)) (sym no_hit)
     (ap (λ xs. n ∷ xs) (strike_later K next ns ms g parts.1))
 
@@ -130,7 +120,7 @@ module _ {E V W F N : Type 0} (K : System E V W F N) (total : IsTotalOrder K.ord
       tags_are e =
           ap (λ ns. filter (λ g. is_in K.order (dirt K.order g [] (effects K start ns)) e) (undecided_of K start (es ++ later))) all_entries
           ∙ ap (λ ts. filter (λ g. is_in K.order (dirt K.order g [] ts) e) (undecided_of K start (es ++ later))) (effects_are (record_of K now later))
-          ∙ same_filter _ (λ g. is_in K.order (dirt K.order g [] (effects K now (record_of K now later))) e) (undecided_of K start (es ++ later))
+          ∙ filter_alike _ (λ g. is_in K.order (dirt K.order g [] (effects K now (record_of K now later))) e) (undecided_of K start (es ++ later))
           (λ g there. ap (λ d. is_in K.order d e) (dirt_later K.order g (effects K start so_far) (effects K now (record_of K now later)) (made_later later sound g there)))
           ∙ ap (filter (λ g. is_in K.order (dirt K.order g [] (effects K now (record_of K now later))) e)) c.undecided
           ∙ ap (λ ns. filter (λ g. is_in K.order (dirt K.order g [] (effects K now ns)) e) (undecided_of K now later)) (sym (entries_are K now later))
@@ -156,7 +146,7 @@ module _ {E V W F N : Type 0} (K : System E V W F N) (total : IsTotalOrder K.ord
           ap (λ ns. filter (still_marked (effects K start (strike K start ns g))) (undecided_of K start (es ++ later))) all_entries
           ∙ ap (λ ns. filter (still_marked (effects K start ns)) (undecided_of K start (es ++ later))) (struck_same g is)
           ∙ ap (λ ts. filter (still_marked ts) (undecided_of K start (es ++ later))) (effects_are (strike K now (record_of K now later) g))
-          ∙ same_filter _ (still_marked left) (undecided_of K start (es ++ later))
+          ∙ filter_alike _ (still_marked left) (undecided_of K start (es ++ later))
           (λ h there. list_any-append (λ f. is_marked f.mark h) (effects K start so_far) left ∙ ap (λ b. b || still_marked left h) (made_later later sound h there))
           ∙ ap (filter (still_marked left)) c.undecided
           ∙ ap (λ ns. filter (still_marked (effects K now (strike K now ns g))) (undecided_of K now later)) (sym (entries_are K now later))

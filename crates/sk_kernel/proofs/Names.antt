@@ -32,7 +32,7 @@ pub use Rattle.sk_guesses.specs.Guesses.{undecided_of as undecided_count, decide
 pub use Rattle.sk_guesses.specs.Guesses.{settled, opened, drawn, is_full, GuessesView}
 pub use Rattle.sk_guesses.specs.Token.{Token}
 pub use Rattle.sk_guesses.specs.declared.guesses.TheConstants.{GUESS_LIMIT}
-pub use Rattle.sk_ids.proofs.Entities.{entity_exact, entity_total}
+pub use Rattle.sk_ids.specs.EntityLemma.{entity_exact, entity_total}
 pub use Rattle.sk_ids.specs.Entity.{entity_cmp}
 pub use Rattle.sk_ids.specs.declared.entity.Entity.{Entity}
 pub use Rattle.sk_ids.specs.declared.entity.Entity.TheVariants.{Proc, Sig}
@@ -44,7 +44,7 @@ pub use Rattle.sk_kernel.specs.Footprint.{appended, footprint_of, IsForeseen}
 pub use Rattle.sk_kernel.specs.HandIn.{with_steps, IsAsLent, alone_step, alone_entry}
 pub use Rattle.sk_kernel.specs.Invariant.{IsWhole, Stands}
 pub use Rattle.sk_kernel.specs.Kernel.{HasStatus, booted, said_by_record, next_guess, effect_at, state_at, room}
-pub use Rattle.sk_kernel.specs.Kernel.{number_after, last_guess, no_room, with_event, undecided_at, step_refused}
+pub use Rattle.sk_kernel.specs.Kernel.{number_after, last_guess, no_room, or_full, with_event, undecided_at, step_refused}
 pub use Rattle.sk_kernel.specs.Kernel.{KernelView, crowded, step_misfit, trace_full, RestsOn, too_many, or_else}
 pub use Rattle.sk_kernel.specs.Kernel.{guess_misfits, record_at, events_of, texts_at, tags_at, guess_refused}
 pub use Rattle.sk_kernel.specs.Laws.{KeepsUnwritten, HasSoundTrace, AreEntries, AnswersAlike, WasDrawn, WritesAll}
@@ -129,3 +129,4 @@ pub use Rattle.sk_undo.specs.Count.{notes_in, AreUnnoted, note_count}
 pub use Rattle.sk_undo.specs.Log.{is_empty}
 pub use Rattle.sk_undo.specs.Logs.{look_at, log_at, SlotMap, slot_in}
 pub use Rattle.sk_undo.specs.Slot.{SlotView}
+pub use Rattle.sk_record.proofs.Lemmas.{any_no, filter_alike, shorter, last_more}

@@ -1,9 +1,10 @@
 -- No note is held exactly where nothing rests on an undecided guess.
-use Rattle.sk_kernel.proofs.Names.{◌≡◌, ℕ, ◌≤◌, length, Bool, true, false, not, List, [], ◌∷◌, inl, inr, refl, sym, ◌∙◌}
+use Rattle.sk_kernel.proofs.Names.{◌≡◌, ℕ, ◌≤◌, length, true, false, not, List, [], ◌∷◌, inl, inr, refl, sym, ◌∙◌}
 use Rattle.sk_kernel.proofs.Names.{ap, subst, arith, ◌↔◌, min, list_all, sum_by, true≢false, or_left, eq-eqb}
 use Rattle.sk_kernel.proofs.Names.{entity_cmp, Entity, is_in, Merges, log_of, entries_are, plain, Note, has, last_tags}
 use Rattle.sk_kernel.proofs.Names.{EntityState, is_empty, log_at, AreUnnoted, notes_in, Parts, KernelView, events_of}
 use Rattle.sk_kernel.proofs.Names.{undecided_at, tags_at, Stands, NothingRests, CanHold, AreApart, rests_at, noted_at}
+use Rattle.sk_kernel.proofs.Names.{false_from_ne_true}
 use Rattle.std.specs.Prelude.{◌-◌, ◌^◌}
 use Rattle.sk_kernel.proofs.Bounds.{ones, slots_least, slots_most}
 use Rattle.sk_kernel.proofs.Whole.{tags_computed, tidy, opens_are}
@@ -11,10 +12,6 @@ use Rattle.sk_kernel.proofs.Whole.{tags_computed, tidy, opens_are}
 no_tags : (tags : List ℕ) → ((g : ℕ) → has g tags ≡ false) → tags ≡ []
 no_tags [] none = refl
 no_tags (t ∷ tags) none = absurd (true≢false (sym (or_left _ _ (eq-eqb t t refl)) ∙ none t))
-
-not_true : (b : Bool) → (b ≡ true → ⊥) → b ≡ false
-not_true true h = absurd (h refl)
-not_true false h = refl
 
 not_empty : {A : Type 0} (xs : List A) → (xs ≡ [] → ⊥) → not (is_empty xs) ≡ true
 not_empty [] some = absurd (some refl)
@@ -73,5 +70,5 @@ module _ (k : KernelView) (m : Parts) (stands : Stands k m) where
 
   pub none_undecided : undecided_at k ≡ [] → NothingRests k
   none_undecided none e =
-      no_tags (tags_at k e) (λ g. not_true _ (λ here.
+      no_tags (tags_at k e) (λ g. false_from_ne_true _ (λ here.
       true≢false (sym ((tidy k m stands).known e g (ap (has g) (tags_computed k m stands e) ∙ here)) ∙ ap (has g) (opens_are k m stands ∙ none))))

@@ -8,6 +8,7 @@ use Rattle.sk_kernel.proofs.Names.{GUESS_LIMIT, Token, GuessesView, status_of, s
 use Rattle.sk_kernel.proofs.Names.{is_full, redeemed, redeemed_at, Input, Event, plain, TooMany, Parts, machine_of}
 use Rattle.sk_kernel.proofs.Names.{KernelView, HasStatus, events_of, next_guess, with_event, too_many, IsNew}
 use Rattle.sk_kernel.proofs.Names.{IsStranger, DecisionPost, IsWhole, StatusOr, beyond, entity_total, entity_exact}
+use Rattle.sk_kernel.proofs.Names.{shorter}
 use Rattle.sk_guesses.specs.declared.guess.Redeemed.TheVariants as redeemed_as
 use Rattle.sk_trace.specs.declared.event.Event.TheVariants as events
 use Rattle.sk_kernel.specs.declared.kernel.Outcome.TheVariants as outcomes
@@ -87,12 +88,6 @@ module _ (k : KernelView) (m : Parts) (place : ℕ) (whole : IsWhole k m place) 
         subst (λ (k : KernelView). DecisionPost outcomes.Done t (event t.id) k new) same (told.0, told.1, left ∙ ap (λ g. with_event k (event g)) told.2)
 
 -- ---- a decision leaves fewer open guesses
-
-shorter : {A : Type 0} (p : A → Bool) (xs : List A) → length (filter p xs) ≤ length xs
-shorter p [] = omega arith
-shorter p (x ∷ xs) =
-    let rest = shorter p xs in
-    elim (p x) as (λ b. length (cond b (x ∷ filter p xs) (filter p xs)) ≤ suc (length xs)) [ true ↦ omega (arith, rest) | false ↦ omega (arith, rest) ]
 
 fewer : (p : Open → Bool) (os : List Open) (g : ℕ) → has g (numbers os) ≡ true → has g (numbers (filter p os)) ≡ false → length (filter p os) + 1 ≤ length os
 fewer p [] g here gone = absurd (true≢false (sym here))

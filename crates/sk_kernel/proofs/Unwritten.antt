@@ -9,19 +9,16 @@ use Rattle.sk_kernel.proofs.Names.{all_recorded, no_record, deps, marks, UndoSta
 use Rattle.sk_kernel.proofs.Names.{Machine, RepresentsTrace, took_by, machine_after, in_from, has_filter, tidy_clean}
 use Rattle.sk_kernel.proofs.Names.{same_outcome, stands_taken, machine_stands, plain_run, sound_fail, tags_are, tidy_of}
 use Rattle.sk_kernel.proofs.Names.{written_other}
+use Rattle.sk_kernel.proofs.Names.{last_more}
 use Rattle.std.proofs.Common.{◌==◌}
 use Rattle.sk_record.specs.Trace.{Event}
 use Rattle.sk_record.specs.UndoState.{tags_at}
 
 module _ {V : Type 0} where
-  last_pushed : (d : List ℕ) (log : List (Note V)) (n : Note V) → last_tags d (log ++ n ∷ []) ≡ n.tags
-  last_pushed d [] n = refl
-  last_pushed d (m ∷ log) n = last_pushed m.tags log n
-
   -- after a write the last note has the write's tags
   last_noted : (tags : List ℕ) (v : Option V) (log : List (Note V)) → (tags ≡ [] → log ≡ []) → last_tags [] (log ++ noted true tags v []) ≡ tags
   last_noted [] v log clean = ap (λ l. last_tags [] (l ++ [])) (clean refl)
-  last_noted (t ∷ tags) v log clean = last_pushed [] log (record { tags = t ∷ tags; before = v })
+  last_noted (t ∷ tags) v log clean = last_more [] log (record { tags = t ∷ tags; before = v })
 
 module _ {E V W : Type 0} (a : UndoState E V) (f : MarkedEffect E V W) (tidy : IsTidy a) (g : ℕ) where
   known_at : (es : List E) → list_any (λ e. has g (tags_at a e)) es ≡ true → has g (numbers a.opens) ≡ true

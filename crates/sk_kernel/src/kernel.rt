@@ -6,7 +6,7 @@ ghost use Rattle.sk_ids.specs.Entity.{entity_cmp};
 ghost use Rattle.sk_record.specs.Effects.{is_in};
 ghost use Rattle.sk_record.specs.Notes.{has};
 ghost use Rattle.sk_ids.specs.declared.entity.Entity.{Entity};
-ghost use Rattle.sk_plain.specs.Next.{next_of};
+ghost use Rattle.sk_plain.specs.Next.{next_of, unplanned};
 ghost use Rattle.sk_plain.specs.Seen.{PlansStep};
 ghost use Rattle.sk_plain.specs.Refusal.{cause};
 ghost use Rattle.sk_plain.specs.View.{Shows};
@@ -28,7 +28,9 @@ use crate::{Footprint, Opening};
 use sk_guesses::{Guess, Redeemed, Status};
 use sk_ids::{Entity, GuessId, ObjId, Pid, TagSet};
 use sk_machine::Machine;
-use sk_plain::{Event, InputRef, Next, Plan, Refusal, Trace, View, next_of, plan_into, plan_step};
+use sk_plain::{
+    Event, InputRef, Next, Plan, Refusal, Trace, View, heading_of, next_of, plan_into, plan_step,
+};
 use sk_script::{Boot, Input};
 use sk_store::Look;
 use sk_terminal::{Terminal, Texts};
@@ -307,6 +309,14 @@ impl Kernel {
             }
             Err(why) => Err(why),
         }
+    }
+
+    /// What a process does next, told without a plan: a signal, a fetch and a store are told apart, and all else is
+    /// `Other`. Refused with `NoProcess` or `Ended`. This takes no memory.
+    pub fn heading(&self, pid: Pid) -> Result<Next, Refusal>
+        ensures { result ≡ unplanned (next_at self.now pid) }
+    {
+        heading_of(&self.machine, self.opening.scripts(), pid)
     }
 
     /// Whether the step of a process without input would add a name to a directory that has no room for it.

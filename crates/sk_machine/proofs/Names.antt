@@ -22,8 +22,8 @@ pub use Rattle.sk_guesses.specs.EntitySet.{with_entities}
 pub use Rattle.sk_guesses.specs.Guesses.{decided, drawn, next_of, status_since, GuessesView}
 pub use Rattle.sk_guesses.specs.Opens.{left_to, but, depending, dependents_of, opens_of, OpenGuess, not_resting}
 pub use Rattle.sk_guesses.specs.Opens.{after_commit}
-pub use Rattle.sk_ids.proofs.Entities.{entity_total, entity_exact}
-pub use Rattle.sk_ids.proofs.Same.{exact_bytes}
+pub use Rattle.sk_ids.specs.EntityLemma.{entity_total, entity_exact}
+pub use Rattle.sk_ids.specs.SameLemma.{exact_bytes}
 pub use Rattle.sk_ids.specs.Entity.{entity_cmp}
 pub use Rattle.sk_ids.specs.declared.entity.Entity.{Entity}
 pub use Rattle.sk_ids.specs.declared.entity.Entity.TheVariants.{Link, Proc, Sig, Obj, Copy, Exit}

@@ -7,7 +7,7 @@ use Rattle.sk_ids.specs.declared.entity.Entity.{Entity}
 use Rattle.sk_ids.specs.declared.entity.Entity.TheVariants.{Proc, Sig, Exit, Obj, Link, Copy}
 use Rattle.sk_ids.specs.contracts.entity.EntityOrd.TheImpl as entity_ord
 use Rattle.sk_ids.specs.contracts.pid.ObjIdOrd.TheImpl as object_ord
-use Rattle.sk_ids.proofs.Entities.{entity_same, entity_exact}
+use Rattle.sk_ids.specs.EntityLemma.{entity_same, entity_exact}
 
 pub entity_tells : IsAntisymmetric (entity_ord.ghosts).cmp
 entity_tells = subst IsAntisymmetric (sym entity_same) entity_exact

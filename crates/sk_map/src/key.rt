@@ -83,7 +83,7 @@ impl Key for Name {
 
 impl Key for Entity {
     ghost use Rattle.sk_ids.specs.Entity.{entity_cmp};
-    ghost use Rattle.sk_ids.proofs.Entities.{entity_same};
+    ghost use Rattle.sk_ids.specs.EntityLemma.{entity_same};
     ghost use Rattle.sk_map.specs.KeyLemma.{entity_tells};
 
     ghost order = { entity_cmp };

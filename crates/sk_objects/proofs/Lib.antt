@@ -4,5 +4,4 @@ pub mod FileLaw
 pub mod InPlace
 pub mod Joined
 pub mod Rings
-pub mod Same
 pub mod Seen

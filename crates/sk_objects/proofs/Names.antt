@@ -15,23 +15,14 @@ pub use Rattle.std.proofs.lemmas.List.{append-nil}
 pub use Rattle.std.proofs.lemmas.List.Elements.{All-head, All-get_or, All-tail, All-take, All-drop, All-replicate}
 pub use Rattle.std.proofs.lemmas.List.Elements.{All-append, All-cons}
 pub use Rattle.std.specs.Bool.{Decides}
-pub use Rattle.std.specs.Cmp.{first_so, unsigned_Decides, second_so}
 pub use Rattle.std.specs.Cmp.Lexicographic.{pointwise_decides}
-pub use Rattle.std.specs.Prelude.{◌&&◌, nat_eq, slice_set, if◌then◌else◌, nat_le, nat_lt}
+pub use Rattle.std.specs.Prelude.{◌&&◌, slice_set, if◌then◌else◌, nat_le, nat_lt}
 pub use Rattle.std.specs.Vec.{vec_capacity}
-pub use Rattle.sk_ids.proofs.Same.{exact_object, exact_text}
 pub use Rattle.sk_objects.specs.Blocks.{AreBlocks, blank, joined, BlocksView}
-pub use Rattle.sk_objects.specs.Content.{ContentView}
 pub use Rattle.sk_objects.specs.File.{part, written, cut, blocks_of, overwritten, filled, held}
 pub use Rattle.sk_objects.specs.Pipe.{PipeView}
 pub use Rattle.sk_objects.specs.Ring.{wrapped, turned, ring_bytes}
 pub use Rattle.sk_objects.specs.Same.{same_bytes}
-pub use Rattle.sk_objects.specs.SameLemma.{exact_bytes, exact_pipe}
+pub use Rattle.sk_objects.specs.SameLemma.{exact_bytes}
 pub use Rattle.sk_objects.specs.Slots.{blocks_from, replaced, AreSlots, under_write, blocks_under, CanPut, with_blocks}
 pub use Rattle.sk_objects.specs.Slots.{under_cut}
-pub use Rattle.sk_objects.specs.contracts.content.ContentEq.TheImpl.Laws.{laws-law as content_laws}
-pub use Rattle.sk_objects.specs.contracts.value.ValueEq.TheImpl.Laws.{laws-law as value_laws}
-pub use Rattle.sk_objects.specs.declared.value.Value.{Value}
-pub use Rattle.sk_objects.specs.declared.value.Value.TheVariants.{Signals, Link, File, Pipe, Copy, Exit, Dir}
-pub use Rattle.sk_record.proofs.Exact.{exact_option, exact_from}
-pub use Rattle.sk_record.specs.Same.{IsExact}

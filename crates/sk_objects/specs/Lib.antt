@@ -9,3 +9,4 @@ pub mod Invariants
 pub mod Value
 pub mod Same
 pub mod SameLemma
+pub mod ValueLemma

@@ -1,11 +1,12 @@
 -- What is settled stays settled, and the record is what an event makes of it.
 use Rattle.sk_plain.proofs.Cites.{◌≡◌, ℕ, zero, suc, ◌+◌, arith, Bool, true, false, not, cond, ◌||◌, ◌&&◌, inl, inr}
 use Rattle.sk_plain.proofs.Cites.{List, [], ◌∷◌, ◌++◌, take, drop, Option, Some, None, refl, sym, ◌∙◌, ap, subst}
-use Rattle.sk_plain.proofs.Cites.{filter, prefix_len, or_parts, or_from, or_left, or_right, or_cases, eq-eqb, eqb-true}
-use Rattle.sk_plain.proofs.Cites.{true≢false, false_from_ne_true, ◌==◌, OnOk, is_err, and_both, list_any-append}
+use Rattle.sk_plain.proofs.Cites.{filter, prefix_len, or_parts, or_from, or_cases, eqb-true}
+use Rattle.sk_plain.proofs.Cites.{true≢false, false_from_ne_true, ◌==◌, OnOk, and_both, list_any-append}
 use Rattle.sk_plain.proofs.Cites.{is_marked, run, effects, strike, has, without, marks, still_marked, has_filter}
 use Rattle.sk_plain.proofs.Cites.{run_append, marked_is, mark_is, State, EntryView, Input, Scripts, plain, is_made}
 use Rattle.sk_plain.proofs.Cites.{Standing, seen, is_settled, is_other, Stands, GoesOn, Settles}
+use Rattle.sk_plain.proofs.Cites.{filter_alike}
 use Rattle.std.proofs.Common.{append_assoc}
 use Rattle.std.specs.Prelude.{Result, Ok, Err}
 use Rattle.sk_trace.specs.declared.event.Event.TheVariants as events
@@ -67,13 +68,6 @@ settles scripts old new count is settled behind after undecided start stands =
           λ i. record { entries = whole i; undecided = undecided i },
     )
 
--- two tests that agree on the members of a list keep the same of it
-same_kept : (p q : ℕ → Bool) (gs : List ℕ) → ((g : ℕ) → has g gs ≡ true → p g ≡ q g) → filter p gs ≡ filter q gs
-same_kept p q [] same = refl
-same_kept p q (g ∷ gs) same =
-    (λ i. cond (same g (or_left _ _ (eq-eqb g g refl)) i) (g ∷ filter p gs) (filter p gs))
-    ∙ ap (λ rest. cond (q g) (g ∷ rest) rest) (same_kept p q gs (λ h here. same h (or_right _ _ here)))
-
 pub fails : (scripts : Scripts) (old new : Standing) (g : ℕ)
     → new.settled.items ≡ old.settled.items
     → new.after ≡ old.after
@@ -96,7 +90,7 @@ fails scripts old new g settled after behind undecided start stands fits =
     ∙ ap (λ xs. is_made xs h) entries
     ∙ sym (marked_is K start start (strike K start (ns ++ ms) g) h) in
     let left : new.undecided.items ≡ filter (still_marked (effects K start (strike K start (ns ++ ms) g))) old.undecided.items =
-    undecided ∙ same_kept (is_made new.behind.items) (still_marked (effects K start (strike K start (ns ++ ms) g))) old.undecided.items kept in (
+    undecided ∙ filter_alike (is_made new.behind.items) (still_marked (effects K start (strike K start (ns ++ ms) g))) old.undecided.items kept in (
       record {
         after = after ∙ now ∙ ap (run K start) (sym settled);
         unmade = λ h here.
@@ -130,10 +124,6 @@ adds scripts old new n settled after behind undecided fresh start stands = (
       (λ i. settled i ++ behind i) ∙ sym (append_assoc old.settled.items old.behind.items (n ∷ [])) in
       λ i. record { entries = entries i; undecided = undecided i },
 )
-
-nil_right : {A : Type 0} (xs : List A) → xs ++ [] ≡ xs
-nil_right [] = refl
-nil_right (x ∷ xs) = ap (λ rest. x ∷ rest) (nil_right xs)
 
 none_marked : (g : ℕ) → has g [] ≡ true → ⊥
 none_marked g here = true≢false (sym here)
@@ -181,14 +171,6 @@ commits scripts old new id settled after behind undecided start stands fits = (
 )
 
 -- ---- what a call that ended well says
-pub ran : {A F P : Type 0} (r : Result A F) → false ≡ is_err r → OnOk r P → P
-ran (Ok x) well p = p
-ran (Err why) well p = absurd (true≢false (sym well))
-
-pub on_one : {A F P Q : Type 0} (r : Result A F) → OnOk r P → (P → Q) → OnOk r Q
-on_one (Ok x) p f = f p
-on_one (Err why) p f = tt
-
 pub on_two : {A F P Q R : Type 0} (r : Result A F) → OnOk r P → OnOk r Q → (P → Q → R) → OnOk r R
 on_two (Ok x) p q f = f p q
 on_two (Err why) p q f = tt

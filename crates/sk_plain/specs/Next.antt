@@ -68,3 +68,17 @@ next_at look scripts pid _ = Err NoProcess
 -- what a process does next; of one that is not there, or has ended, why it does nothing
 abbrev pub next_of : (Entity → Option EntityState) → Scripts → ℕ → Result Next Refusal
 next_of look scripts pid = next_at look scripts pid (look (Proc pid))
+
+-- what an instruction tells of it without a plan
+abbrev pub heading : Option Instruction → Next
+heading (Some (does_.Fetch name)) = nexts.Fetch name
+heading (Some (does_.Store name)) = nexts.Store name
+heading i = nexts.Other
+
+-- the same without what takes a plan to tell: a signal, a fetch and a store are told apart, and all else is `Other`
+abbrev pub unplanned : Result Next Refusal → Result Next Refusal
+unplanned (Err why) = Err why
+unplanned (Ok nexts.Signal) = Ok nexts.Signal
+unplanned (Ok (nexts.Fetch name)) = Ok (nexts.Fetch name)
+unplanned (Ok (nexts.Store name)) = Ok (nexts.Store name)
+unplanned (Ok next) = Ok nexts.Other

@@ -2,7 +2,7 @@
 ghost use Rattle.std.specs.Prelude.{◌≡◌, Some};
 ghost use Rattle.sk_ids.specs.declared.entity.Entity.TheVariants.{Sig};
 ghost use Rattle.sk_plain.specs.Act.{next_in};
-ghost use Rattle.sk_plain.specs.Next.{takes_signal, is_due, is_private, waits, next_instruction, next_of};
+ghost use Rattle.sk_plain.specs.Next.{takes_signal, is_due, is_private, waits, next_instruction, next_of, heading, unplanned};
 
 use crate::processes::is_killed;
 use crate::step::{instruction_at, plan_step};
@@ -101,4 +101,35 @@ pub fn next_of<S: Look>(store: &S, scripts: &Scripts, pid: Pid) -> Result<Next, 
         return Ok(Next::Signal);
     }
     Ok(next_instruction(store, scripts, pid, process))
+}
+
+/// What an instruction tells of it without a plan.
+fn heading(scripts: &Scripts, process: &Process) -> Next
+    ensures { result ≡ heading (next_in scripts.now process.now) }
+{
+    match instruction_at(scripts, process) {
+        Some(Instruction::Fetch(name)) => Next::Fetch(*name),
+        Some(Instruction::Store(name)) => Next::Store(*name),
+        _ => Next::Other,
+    }
+}
+
+/// The same without a plan: a signal, a fetch and a store are told apart, and all else is `Other`. Refused with
+/// `NoProcess` or `Ended`. This takes no memory.
+#[tactic(auto, using(crate::proofs::Headings::unplanned_is))]
+pub fn heading_of<S: Look>(store: &S, scripts: &Scripts, pid: Pid) -> Result<Next, Refusal>
+    ensures { result ≡ unplanned (next_of (S.look store.now) scripts.now pid) }
+{
+    let process = match store.value(Entity::Proc(pid)) {
+        Some(EntityState::Process(process)) => process,
+        _ => return Err(Refusal::NoProcess),
+    };
+    if process.ended {
+        return Err(Refusal::Ended);
+    }
+    let signalled = is_due(store, pid, process);
+    if signalled {
+        return Ok(Next::Signal);
+    }
+    Ok(heading(scripts, process))
 }

@@ -2,40 +2,24 @@
 use Rattle.sk_record.proofs.Names.{◌≡◌, ℕ, Bool, true, false, cond, ◌&&◌, ◌||◌, List, [], ◌∷◌, ◌++◌, map, Option, Some}
 use Rattle.sk_record.proofs.Names.{None, Ok, refl, sym, ◌∙◌, ap, subst, append_assoc, list_any, filter, eq_by_cmp}
 use Rattle.sk_record.proofs.Names.{IsTotalOrder, Equal-is, eq_by_cmp_equiv, FinMap, IsAntisymmetric, true≢false}
-use Rattle.sk_record.proofs.Names.{or_left, or_right, or_parts, or_from, eq-eqb, list_any-append, Effect, perform}
+use Rattle.sk_record.proofs.Names.{or_left, or_right, or_parts, or_from, list_any-append, Effect, perform}
 use Rattle.sk_record.proofs.Names.{is_marked, System, marked_effect, Note, has, noted, last_tags, Event, Taken}
 use Rattle.sk_record.proofs.Names.{IsAllowed, marks, numbers, tags_at, step_tags, opened, Machine, with_drawn, Merges}
 use Rattle.sk_record.proofs.Names.{MergedStands, HandsIn, StepsAlone, with_value, alone_tags, last_of, each}
+use Rattle.sk_record.proofs.Names.{and-true, or-false}
+use Rattle.sk_record.proofs.Lemmas.{filter_alike, last_more}
 use Rattle.sk_record.proofs.Machine.{nil_right, has_filter}
 use Rattle.sk_record.proofs.Merged.{all_kept, left_out, in_turn, merged_taken}
 
 -- ---- lists
-or_none : (b : Bool) → (b || false) ≡ b
-or_none true = refl
-or_none false = refl
-
-and_yes : (b : Bool) → (b && true) ≡ b
-and_yes true = refl
-and_yes false = refl
-
 no_number : {A : Type 0} (x : A) → None ≡ Some x → ⊥
 no_number x is = cc
-
-alike : (p q : ℕ → Bool) (xs : List ℕ) → ((x : ℕ) → has x xs ≡ true → p x ≡ q x) → filter p xs ≡ filter q xs
-alike p q [] h = refl
-alike p q (x ∷ xs) h =
-    (λ i. cond (h x (or_left _ _ (eq-eqb x x refl)) i) (x ∷ filter p xs) (filter p xs))
-    ∙ ap (λ rest. cond (q x) (x ∷ rest) rest) (alike p q xs (λ y there. h y (or_right _ _ there)))
 
 none_where : {A : Type 0} (p q : A → Bool) (xs : List A) → ((x : A) → p x ≡ false → q x ≡ false) → list_any p xs ≡ false → list_any q xs ≡ false
 none_where p q [] h none = refl
 none_where p q (x ∷ xs) h none = let parts = or_parts _ _ none in or_from _ _ (h x parts.0) (none_where p q xs h parts.1)
 
 module _ {V : Type 0} where
-  last_more : (t : List ℕ) (ns : List (Note V)) (n : Note V) → last_tags t (ns ++ n ∷ []) ≡ n.tags
-  last_more t [] n = refl
-  last_more t (x ∷ ns) n = last_more x.tags ns n
-
   named_last : (g : ℕ) (t tags : List ℕ) (v : Option V) (ns : List (Note V)) → has g tags ≡ true → has g (last_tags t (ns ++ noted true tags v [])) ≡ true
   named_last g t [] v ns here = absurd (true≢false (sym here))
   named_last g t (x ∷ tags) v ns here = ap (has g) (last_more t ns (record { tags = x ∷ tags; before = v })) ∙ here
@@ -86,7 +70,7 @@ module _ {E V W F N : Type 0} (K : System E V W F N) (total : IsTotalOrder K.ord
         effect = effect_of read w;
         accepted = accepted;
         look = λ e. refl;
-        logs = λ e. subst (λ xs. Merges [] (a.state.logs e ++ xs) ((mid a w).state.logs e)) (λ i. noted (sym (or_none (eq_by_cmp K.order e own)) i) (sym tags i) (a.state.look e) []) (all_kept [] ((mid a w).state.logs e));
+        logs = λ e. subst (λ xs. Merges [] (a.state.logs e ++ xs) ((mid a w).state.logs e)) (λ i. noted (sym (or-false (eq_by_cmp K.order e own)) i) (sym tags i) (a.state.look e) []) (all_kept [] ((mid a w).state.logs e));
         opens = sym (nil_right a.state.opens) ∙ (λ i. a.state.opens ++ opened (sym unmarked i) (sym tags i));
         status = λ g. λ i. with_drawn (sym unmarked i) a.status g;
         texts = λ t. sym (nil_right (a.texts t));
@@ -98,8 +82,8 @@ module _ {E V W F N : Type 0} (K : System E V W F N) (total : IsTotalOrder K.ord
       let p : ℕ → Bool = λ g. list_any (λ e. has g (tags_at (mid a w).state e)) (reads ++ own ∷ []) in
       let q : ℕ → Bool = λ g. list_any (λ e. has g (tags_at a.state e)) (reads ++ own ∷ []) in
       let tags = alone_tags K a own reads in
-      alike p q (numbers a.state.opens) (λ g there.
-      let is : has g tags ≡ q g = has_filter q g (numbers a.state.opens) ∙ ap (λ b. q g && b) there ∙ and_yes (q g) in
+      filter_alike p q (numbers a.state.opens) (λ g there.
+      let is : has g tags ≡ q g = has_filter q g (numbers a.state.opens) ∙ ap (λ b. q g && b) there ∙ and-true (q g) in
       elim (q g) as (λ b. q g ≡ b → p g ≡ b) [
         | true ↦ λ here.
             let self : eq_by_cmp K.order own own ≡ true = (eq_by_cmp_equiv total).refl own in
@@ -121,7 +105,7 @@ module _ {E V W F N : Type 0} (K : System E V W F N) (total : IsTotalOrder K.ord
         effect = effect_of read w;
         accepted = accepted;
         look = λ e. sym (twice e (eq_by_cmp K.order e own));
-        logs = λ e. subst (λ xs. Merges [] ((mid a v).state.logs e ++ xs) ((mid a w).state.logs e)) (λ i. noted (sym (or_none (eq_by_cmp K.order e own)) i) (sym tags i) ((mid a v).state.look e) [])
+        logs = λ e. subst (λ xs. Merges [] ((mid a v).state.logs e ++ xs) ((mid a w).state.logs e)) (λ i. noted (sym (or-false (eq_by_cmp K.order e own)) i) (sym tags i) ((mid a v).state.look e) [])
             (again (eq_by_cmp K.order e own) (alone_tags K a own reads) (a.state.look e) ((mid a v).state.look e) (a.state.logs e));
         opens = sym (nil_right a.state.opens) ∙ (λ i. a.state.opens ++ opened (sym unmarked i) (sym tags i));
         status = λ g. λ i. with_drawn (sym unmarked i) a.status g;

@@ -1,4 +1,5 @@
 pub mod Names
+pub mod Lemmas
 pub mod Sets
 pub mod Runs
 pub mod Later
@@ -21,7 +22,6 @@ pub mod MachineRuns
 pub mod Kept
 pub mod Stays
 pub mod Laws
-pub mod Exact
 pub mod Merged
 pub mod Handed
 pub mod Epoch

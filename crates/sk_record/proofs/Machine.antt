@@ -2,13 +2,14 @@
 use Rattle.sk_record.proofs.Names.{◌≡◌, ℕ, Bool, true, false, cond, not, ◌&&◌, ◌||◌, List, [], ◌∷◌, ◌++◌, map, Option}
 use Rattle.sk_record.proofs.Names.{Some, None, Result, IsOk, Ok, inl, inr, refl, sym, ◌∙◌, ap, subst, ◌==◌, is_ok}
 use Rattle.sk_record.proofs.Names.{list_any, filter, IsTotalOrder, FinMap, get, IsAntisymmetric, Ordering, or_parts}
-use Rattle.sk_record.proofs.Names.{or_left, or_right, or_from, or_cases, true≢false, eq-eqb, eqb-true, filter-append}
+use Rattle.sk_record.proofs.Names.{or_from, or_cases, true≢false, eqb-true, filter-append}
 use Rattle.sk_record.proofs.Names.{list_any-append, any-filter_same, and-true, Effect, perform, MarkedEffect, is_in}
 use Rattle.sk_record.proofs.Names.{is_marked, hit, hits, dirt, dirtied, writes, touches, written_value, value_after}
 use Rattle.sk_record.proofs.Names.{System, outcome, after, marked_effect, run, IsLegal, effects, strike, has, without}
 use Rattle.sk_record.proofs.Names.{noted, last_tags, cut, unwound, committed, rests, next_dirty, notes_of, Taken}
 use Rattle.sk_record.proofs.Names.{Commit, Fail, marks, still_marked, Record, recorded, IsFresh, deps, Open, UndoState}
 use Rattle.sk_record.proofs.Names.{numbers, opened, still_open, tags_at, is_tag, step_tags, Committed, Failed, Took}
+use Rattle.sk_record.proofs.Lemmas.{any_no, filter_alike}
 use Rattle.sk_record.proofs.Values.{get-put_all, get-run}
 use Rattle.sk_record.proofs.Notes.{unwound_is, cut_is}
 use Rattle.sk_record.proofs.Tags.{tags_are, notes_more, commit_is, fewer_guesses}
@@ -18,22 +19,12 @@ filter_no : {A : Type 0} (xs : List A) → filter (λ x. false) xs ≡ []
 filter_no [] = refl
 filter_no (x ∷ xs) = filter_no xs
 
-any_no : {A : Type 0} (xs : List A) → list_any (λ x. false) xs ≡ false
-any_no [] = refl
-any_no (x ∷ xs) = any_no xs
-
 pub nil_right : {A : Type 0} (xs : List A) → xs ++ [] ≡ xs
 nil_right [] = refl
 nil_right (x ∷ xs) = ap (λ ys. x ∷ ys) (nil_right xs)
 
 any_alike : {A : Type 0} (p q : A → Bool) → ((x : A) → p x ≡ q x) → (xs : List A) → list_any p xs ≡ list_any q xs
 any_alike p q h xs = λ i. list_any (λ x. h x i) xs
-
-filter_alike : (p q : ℕ → Bool) (xs : List ℕ) → ((x : ℕ) → has x xs ≡ true → p x ≡ q x) → filter p xs ≡ filter q xs
-filter_alike p q [] h = refl
-filter_alike p q (x ∷ xs) h =
-    (λ i. cond (h x (or_left _ _ (eq-eqb x x refl)) i) (x ∷ filter p xs) (filter p xs))
-    ∙ ap (λ rest. cond (q x) (x ∷ rest) rest) (filter_alike p q xs (λ y there. h y (or_right _ _ there)))
 
 pub has_filter : (p : ℕ → Bool) (g : ℕ) (gs : List ℕ) → has g (filter p gs) ≡ (p g && has g gs)
 has_filter p g gs = any-filter_same (λ t. t == g) p (p g) (λ k is. ap p (eqb-true k g is)) gs

@@ -2,10 +2,11 @@
 pub use Rattle.std.proofs.Common.{Some, Bool, subst, inr, zero, ◌-◌, arith, ap, ◌++◌, length, append_assoc, ltb, suc}
 pub use Rattle.std.proofs.Common.{◌≤◌, take, false, refl, [], map, eqb, Ok, ◌∷◌, ◌&&◌, inl, Err, ◌≡◌, ◌+◌, Option, List}
 pub use Rattle.std.proofs.Common.{IsOk, ◌||◌, ℕ, true, sym, None, ◌<◌, Result, ◌∙◌, not, cond}
-pub use Rattle.std.proofs.Math.Bool.{and-true}
+pub use Rattle.std.proofs.Math.Bool.{and-true, and-false, or-false}
 pub use Rattle.std.proofs.lemmas.Bool.{eqb-false, or_right, or_from, or_parts, eqb-true, ltb-true, true_from_ne_false}
 pub use Rattle.std.proofs.lemmas.Bool.{ltb-false, and_from, true≢false, or_cases, false_from_ne_true, or_left}
 pub use Rattle.std.proofs.lemmas.Bool.{false≢true, eq-eqb, ne_eqb}
+pub use Rattle.std.proofs.lemmas.List.{length-map}
 pub use Rattle.std.proofs.lemmas.List.Elements.{Contains-append_left, Contains-push_cases, filter-append}
 pub use Rattle.std.proofs.lemmas.List.Folds.{list_any-append}
 pub use Rattle.std.proofs.lemmas.List.Kept.{IsStrictlySortedBy-filter, AllPairs-filter}
@@ -16,7 +17,6 @@ pub use Rattle.std.specs.Cmp.{nat_cmp_is, eq_by_cmp_equiv, Equal-is, IsTotalOrde
 pub use Rattle.std.specs.FinMap.{get, get-insert, IsAntisymmetric, get-remove, FinMap}
 pub use Rattle.std.specs.List.{fold, AllPairs, filter, list_all, list_any, Contains, AllByRecursion}
 pub use Rattle.std.specs.List.Sorted.{IsStrictlyIncreasing}
-pub use Rattle.std.specs.Option.{option_eq}
 pub use Rattle.std.specs.Ordering.{eq_by_cmp, nat_cmp}
 pub use Rattle.std.specs.Prelude.{◌↔◌, slice_get, is_ok, ◌==◌, get_or, ◌⊎◌}
 pub use Rattle.std.specs.declared.cmp.Ordering.{Ordering}
@@ -36,7 +36,6 @@ pub use Rattle.sk_record.specs.Notes.{committed, unwound, last_tags, notes_of, h
 pub use Rattle.sk_record.specs.Notes.{carried, noted, without, cut, rests}
 pub use Rattle.sk_record.specs.Release.{said_by, IsReleased, said, said_with, IsFront, IsClear, said_from}
 pub use Rattle.sk_record.specs.Run.{effects, marked_effect, System, put, after, run, outcome, IsLegal, put_all}
-pub use Rattle.sk_record.specs.Same.{IsExact}
 pub use Rattle.sk_record.specs.Step.{with_read, Step, Effect, Done, Ask, Refuse, perform}
 pub use Rattle.sk_record.specs.Strike.{struck, strike}
 pub use Rattle.sk_record.specs.Trace.{IsTagOf, deps, Taken, Event, Record, marks, no_record, HasEntry, record_after}

@@ -1,19 +1,16 @@
 -- What a machine releases is the longest prefix of what the record says whose positions are clear.
-use Rattle.sk_record.proofs.Names.{◌≡◌, ℕ, zero, suc, ◌+◌, Bool, true, false, cond, List, [], ◌∷◌, ◌++◌, map, length}
+use Rattle.sk_record.proofs.Names.{◌≡◌, ℕ, suc, ◌+◌, Bool, true, false, cond, List, [], ◌∷◌, ◌++◌, map, length}
 use Rattle.sk_record.proofs.Names.{Option, Some, None, inl, inr, refl, sym, ◌∙◌, ap, subst, arith, ◌==◌, ◌⊎◌, ◌↔◌}
 use Rattle.sk_record.proofs.Names.{slice_get, Contains, IsTotalOrder, FinMap, IsAntisymmetric, true≢false, MarkedEffect}
 use Rattle.sk_record.proofs.Names.{Dep, hits, System, effects, has, tags_along, Event, IsTagAt, IsSound, effects_of}
 use Rattle.sk_record.proofs.Names.{all_recorded, no_record, said_by, said_from, said_with, said, IsClear, IsReleased}
 use Rattle.sk_record.proofs.Names.{Tagged, released, TextsRepresent}
+use Rattle.sk_record.proofs.Lemmas.{cons_cases, no_member}
 use Rattle.sk_record.proofs.Chains.{flags_are_Dep}
 use Rattle.sk_record.proofs.Output.{carries_is}
 use Rattle.sk_record.proofs.UndoStates.{no_tags}
 use Rattle.sk_record.proofs.Sound.{entries_are, undecided_is}
 use Rattle.sk_record.proofs.Texts.{along_length, along_within, got_map, map_append}
-
-contained_more : {A : Type 0} (y : A) (xs : List A) (x : A) → Contains (y ∷ xs) x → (y ≡ x) ⊎ Contains xs x
-contained_more y xs x (zero, lt, is) = inl is
-contained_more y xs x (suc k, lt, is) = inr (k, omega arith, is)
 
 -- a front part of what is said, and of what is kept
 record Split {W : Type 0} (P : ℕ → Type 0) (said : List (W × ℕ)) (kept : List (Tagged W)) : Type 0 where
@@ -37,9 +34,6 @@ one w a = (w, a) ∷ []
 
 some_same : (b : Bool) → Some b ≡ Some true → b ≡ true
 some_same b is = cc
-
-none_there : {A : Type 0} (x : A) → Contains [] x → ⊥
-none_there x (k, lt, is) = omega arith
 
 module _ {E V W F N : Type 0} (K : System E V W F N) where
   -- a step says one text to the terminal, or none
@@ -71,7 +65,7 @@ module _ {E V W F N : Type 0} (K : System E V W F N) where
   front : (P : ℕ → Type 0) (t i : ℕ) (labels : List (List ℕ)) (ts : List (MarkedEffect E V W)) → length labels ≡ length ts
       → ((k : ℕ) (tags : List ℕ) → slice_get labels k ≡ Some tags → (tags ≡ []) ↔ P (i + k))
       → Split P (said_from K t i ts) (said_with K t labels ts)
-  front P t i [] [] long clear = record { out = []; held = []; split = refl; texts = refl; clear = λ x there. absurd (none_there x there); longest = λ x more is. cc }
+  front P t i [] [] long clear = record { out = []; held = []; split = refl; texts = refl; clear = λ x there. absurd (no_member x there); longest = λ x more is. cc }
   front P t i [] (f ∷ ts) long clear = absurd (omega arith)
   front P t i (tags ∷ labels) [] long clear = absurd (omega arith)
   front P t i ([] ∷ labels) (f ∷ ts) long clear =
@@ -83,7 +77,7 @@ module _ {E V W F N : Type 0} (K : System E V W F N) where
           held = rest.held;
           split = ap (λ xs. xs ++ said_from K t (suc i) ts) one.1 ∙ ap (λ xs. (one.0, i) ∷ xs) rest.split;
           texts = ap (λ xs. released (xs ++ said_with K t labels ts)) one.2 ∙ ap (λ ws. one.0 ∷ ws) rest.texts;
-          clear = λ x there. elim (contained_more (one.0, i) rest.out x there) [
+          clear = λ x there. elim (cons_cases (one.0, i) rest.out x there) [
             | inl is ↦ subst (λ (x : W × ℕ). P x.1) is (subst P (omega arith) ((clear 0 [] refl).0 refl))
             | inr later ↦ rest.clear x later
           ];
@@ -100,7 +94,7 @@ module _ {E V W F N : Type 0} (K : System E V W F N) where
           held = (one.0, i) ∷ said_from K t (suc i) ts;
           split = ap (λ xs. xs ++ said_from K t (suc i) ts) one.1;
           texts = ap (λ xs. released (xs ++ said_with K t labels ts)) one.2;
-          clear = λ y there. absurd (none_there y there);
+          clear = λ y there. absurd (no_member y there);
           longest = λ y more is p.
               let same : i ≡ y.1 = ap (λ ys. place_of i ys) is in
               some_tag x tags ((clear 0 (x ∷ tags) refl).1 (subst P (sym same ∙ omega arith) p));

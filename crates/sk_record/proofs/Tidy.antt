@@ -1,5 +1,5 @@
 -- What follows of a kernel that stands for its record.
-use Rattle.sk_record.proofs.Names.{◌≡◌, ℕ, suc, ◌≤◌, ◌<◌, length, Bool, true, false, cond, not, ◌&&◌, ◌||◌, List, []}
+use Rattle.sk_record.proofs.Names.{◌≡◌, ℕ, suc, ◌<◌, length, Bool, true, false, cond, not, ◌&&◌, ◌||◌, List, []}
 use Rattle.sk_record.proofs.Names.{◌∷◌, ◌++◌, map, Option, inl, inr, refl, sym, ◌∙◌, ap, subst, arith, ◌==◌, list_any}
 use Rattle.sk_record.proofs.Names.{list_all, filter, IsTotalOrder, FinMap, get, IsAntisymmetric, Ordering, or_parts}
 use Rattle.sk_record.proofs.Names.{or_left, or_cases, or_from, true≢false, eq-eqb, eqb-true, MarkedEffect, is_in, hit}
@@ -7,13 +7,11 @@ use Rattle.sk_record.proofs.Names.{hits, dirt, dirtied, keep, writes, written_va
 use Rattle.sk_record.proofs.Names.{without, noted, last_tags, carried, rests, next_dirty, notes_of, Event, still_marked}
 use Rattle.sk_record.proofs.Names.{Record, recorded, all_recorded, deps, Open, UndoState, numbers, still_open}
 use Rattle.sk_record.proofs.Names.{not_struck, tags_at, IsTidy, IsGrowing, Owned, AllOwnTagsExact, Represents}
+use Rattle.sk_record.proofs.Names.{and-false, length-map}
+use Rattle.sk_record.proofs.Lemmas.{shorter}
 use Rattle.sk_record.proofs.Tags.{suffix_is}
 use Rattle.sk_record.proofs.Machine.{inv_tags, has_filter}
 use Rattle.sk_record.proofs.UndoStates.{inv_of, and_both}
-
-and_false : (b : Bool) → (b && false) ≡ false
-and_false true = refl
-and_false false = refl
 
 -- each note rests on some guess
 abbrev pub AllSome : {V : Type 0} → List (Note V) → Type 0
@@ -47,7 +45,7 @@ module _ {E V W : Type 0} (R : E → E → Ordering) (guesses : List ℕ) where
   strangers g none dirty [] e v = refl
   strangers g none dirty (f ∷ fs) e v =
       no_carrier g (is_in R (writes f) e) (rests R guesses dirty f) v _
-      (has_filter (λ g. hit R g (dirty g) f) g guesses ∙ ap (λ b. hit R g (dirty g) f && b) none ∙ and_false (hit R g (dirty g) f))
+      (has_filter (λ g. hit R g (dirty g) f) g guesses ∙ ap (λ b. hit R g (dirty g) f && b) none ∙ and-false (hit R g (dirty g) f))
       (strangers g none (next_dirty R guesses dirty f) fs e (written_value R f.written e v))
 
 module _ {E V W F N : Type 0} (K : System E V W F N) (total : IsTotalOrder K.order) (exact : IsAntisymmetric K.order) (start : FinMap K.order V) where
@@ -95,12 +93,6 @@ module _ {E V W : Type 0} (R : E → E → Ordering) where
         | inr later ↦ own_flag h b (dirtied (hit R h dirty t) t dirty) ts later own.1
       ]
 
-shorter : {A : Type 0} (p : A → Bool) (xs : List A) → length (filter p xs) ≤ length xs
-shorter p [] = omega arith
-shorter p (x ∷ xs) =
-    let rest = shorter p xs in
-    elim (p x) as (λ b. length (cond b (x ∷ filter p xs) (filter p xs)) ≤ suc (length xs)) [ true ↦ omega arith | false ↦ omega arith ]
-
 pub fewer_struck : {E V W F N : Type 0} (K : System E V W F N) (ts : List (MarkedEffect E V W)) (gs : List ℕ) (g : ℕ) → has g gs ≡ true → (os : List Open) → AllOwnTagsExact K ts gs os → has g (numbers os) ≡ true → length (not_struck g os) < length os
 fewer_struck K ts gs g is_open [] own_tags here = absurd (true≢false (sym here))
 fewer_struck K ts gs g is_open (o ∷ os) own_tags here =
@@ -117,15 +109,11 @@ fewer_struck K ts gs g is_open (o ∷ os) own_tags here =
       ]
     ] refl
 
-length_map : {A B : Type 0} (f : A → B) (xs : List A) → length (map f xs) ≡ length xs
-length_map f [] = refl
-length_map f (x ∷ xs) = ap suc (length_map f xs)
-
 pub fewer_open : (g : ℕ) (os : List Open) → has g (numbers os) ≡ true → length (still_open g os) < length os
 fewer_open g [] here = absurd (true≢false (sym here))
 fewer_open g (o ∷ os) here =
     let short = shorter (λ o. not (o.0 == g)) os in
-    let long = length_map {B = Open} (λ (o : Open). (o.0, without g o.1)) (filter (λ o. not (o.0 == g)) os) in
+    let long = length-map {B = Open} (filter (λ o. not (o.0 == g)) os) (λ (o : Open). (o.0, without g o.1)) in
     elim (o.0 == g) as (λ b. (b || has g (numbers os)) ≡ true → length (map {B = Open} (λ (o : Open). (o.0, without g o.1)) (cond (not b) (o ∷ filter (λ o. not (o.0 == g)) os) (filter (λ o. not (o.0 == g)) os))) < suc (length os)) [
       | true ↦ λ _. omega arith
       | false ↦ λ later. let less = fewer_open g os later in omega arith

@@ -91,7 +91,7 @@ pub and_both : (a b : Bool) → (a && b) ≡ true → (a ≡ true) × (b ≡ tru
 and_both true b h = (refl, h)
 and_both false b h = absurd (true≢false (sym h))
 
-has_more : (g : ℕ) (xs ys : List ℕ) → has g xs ≡ true → has g (xs ++ ys) ≡ true
+pub has_more : (g : ℕ) (xs ys : List ℕ) → has g xs ≡ true → has g (xs ++ ys) ≡ true
 has_more g xs ys here = list_any-append (λ t. t == g) xs ys ∙ or_left _ _ here
 
 module _ {E V W F N : Type 0} (K : System E V W F N) (total : IsTotalOrder K.order) (exact : IsAntisymmetric K.order) where

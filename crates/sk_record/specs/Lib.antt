@@ -11,3 +11,4 @@ pub mod Laws
 pub mod Same
 pub mod Merged
 pub mod Epoch
+pub mod Exact

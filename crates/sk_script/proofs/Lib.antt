@@ -2,4 +2,5 @@ pub mod Names
 pub mod Boots
 pub mod Marks
 pub mod Told
-pub mod Same
+pub mod Readings
+pub mod Shapes

@@ -12,26 +12,27 @@ pub use Rattle.std.proofs.lemmas.List.Folds.{list_any_at, list_any-append}
 pub use Rattle.std.proofs.lemmas.List.Quantifiers.{all_pairs_push}
 pub use Rattle.std.proofs.lemmas.Map.Text.{is_eq-slice_cmp}
 pub use Rattle.std.proofs.lemmas.Slice.Eq.{bytes_eq-Decides}
-pub use Rattle.std.specs.Cmp.{booleans_Decides, first_so, unsigned_Decides, eq_by_cmp_equiv, second_so, signed_Decides}
+pub use Rattle.std.specs.Cmp.{eq_by_cmp_equiv}
 pub use Rattle.std.specs.Cmp.{nat_cmp_total}
-pub use Rattle.std.specs.Cmp.Lexicographic.{pointwise_decides, nat_list_cmp_total}
+pub use Rattle.std.specs.Cmp.Lexicographic.{nat_list_cmp_total}
 pub use Rattle.std.specs.FinMap.{get-empty, get-insert}
 pub use Rattle.std.specs.Int.{w64}
-pub use Rattle.std.specs.List.{list_any}
+pub use Rattle.std.specs.List.{list_all, list_any}
 pub use Rattle.std.specs.Ordering.{nat_cmp, eq_by_cmp}
-pub use Rattle.std.specs.Prelude.{ℤ, negsuc, FitsSigned, bytes_eq, ◌⊎◌, pos, SomeIff, if◌then◌else◌, ◌+ℤ◌}
-pub use Rattle.sk_ids.proofs.Same.{exact_bytes, exact_object, exact_text}
+pub use Rattle.std.specs.Prelude.{ℤ, negsuc, neg_ℤ, FitsSigned, bytes_eq, ◌⊎◌, pos, SomeIff, if◌then◌else◌, ◌+ℤ◌}
+pub use Rattle.std.specs.Prelude.{◌*◌, ◌&&◌, nat_lt, nat_le, slice_index}
 pub use Rattle.sk_ids.specs.Name.{name_order}
 pub use Rattle.sk_objects.specs.Content.{ContentView}
-pub use Rattle.sk_record.proofs.Exact.{exact_option, exact_from}
-pub use Rattle.sk_record.specs.Same.{IsExact}
 pub use Rattle.sk_script.specs.Boot.{with_copy, BootView, has_object, with_object, AreFound, with_script, IsBoot}
 pub use Rattle.sk_script.specs.Boot.{has_process, with_process, has_script, has_copy}
 pub use Rattle.sk_script.specs.Instructions.{byte_rules, place_instruction, byte_instruction, object_instruction}
 pub use Rattle.sk_script.specs.Instructions.{Labels, outer_rules, outer_instruction, place_of, value_rules}
-pub use Rattle.sk_script.specs.Instructions.{object_rules, place_rules}
+pub use Rattle.sk_script.specs.Instructions.{object_rules, place_rules, at_label}
+pub use Rattle.sk_script.specs.Forms.{is_said}
+pub use Rattle.sk_script.specs.InstructionForms.{Table, value_forms, place_forms, object_forms, byte_forms, outer_forms}
 pub use Rattle.sk_script.specs.Lease.{LeaseView, ran, advanced, Advances}
 pub use Rattle.sk_script.specs.Private.{fits}
+pub use Rattle.sk_script.specs.Registers.{register}
 pub use Rattle.sk_script.specs.Same.{same_scripts, same_script}
 pub use Rattle.sk_script.specs.SameLemma.{exact_scripts, exact_script}
 pub use Rattle.sk_script.specs.Scripting.{line_of, Does, TellsScript, labels_of, instructions_in, labels_from, opening}
@@ -39,22 +40,23 @@ pub use Rattle.sk_script.specs.Scripting.{script_line, Ignored, ScriptState, Lin
 pub use Rattle.sk_script.specs.Scripting.{next_place}
 pub use Rattle.sk_script.specs.Scripts.{ScriptMap}
 pub use Rattle.sk_script.specs.StepInput.{input_rules, no_input}
-pub use Rattle.sk_script.specs.contracts.process.ProcessEq.TheImpl.Laws.{laws-law as process_laws}
-pub use Rattle.sk_script.specs.contracts.register.ValEq.TheImpl.Laws.{laws-law as val_laws}
 pub use Rattle.sk_script.specs.declared.boot.BootObject.{BootObject}
 pub use Rattle.sk_script.specs.declared.boot.BootProcess.{BootProcess}
 pub use Rattle.sk_script.specs.declared.boot.ObjectKind.{ObjectKind}
+pub use Rattle.sk_script.specs.declared.form.Form.{Form}
 pub use Rattle.sk_script.specs.declared.instruction.Instruction.{Instruction}
 pub use Rattle.sk_script.specs.declared.parse.labels.Mark.{Mark}
-pub use Rattle.sk_script.specs.declared.process.Process.{Process}
-pub use Rattle.sk_script.specs.declared.register.Val.{Val}
-pub use Rattle.sk_script.specs.declared.register.Val.TheVariants.{Who, Obj, Num}
 pub use Rattle.sk_words.proofs.FirstFault.{fault_is_behind}
 pub use Rattle.sk_words.proofs.Taken.{taken}
 pub use Rattle.sk_words.proofs.Unknown.{skipped, no_text}
-pub use Rattle.sk_words.specs.Lines.{last_line}
-pub use Rattle.sk_words.specs.Operands.{next_word}
+pub use Rattle.sk_words.specs.Faults.{◌>>=◌}
+pub use Rattle.sk_words.specs.Lines.{last_line, parts}
+pub use Rattle.sk_words.specs.Literals.{literal, at_most_512, Plain, text_from}
+pub use Rattle.sk_words.specs.Operands.{next_word, is_name, index, is_label_byte, pid, digits, positive, path, integer}
+pub use Rattle.sk_words.specs.Operands.{between, label, three_of, numbered_child, wrong, below, natural, short, none_of}
+pub use Rattle.sk_words.specs.Operands.{two_of, name, child, one_of, path_below}
 pub use Rattle.sk_words.specs.Reading.{read_from, Tells}
-pub use Rattle.sk_words.specs.Tables.{unknown}
+pub use Rattle.sk_words.specs.Tables.{unknown, Rule}
 pub use Rattle.sk_words.specs.Words.{words}
 pub use Rattle.sk_words.specs.declared.fault.Fault.{Fault}
+pub use Rattle.sk_words.specs.declared.fault.FaultKind.{FaultKind}

@@ -5,8 +5,11 @@ pub mod Script
 pub mod Scripts
 pub mod Boot
 pub mod Instructions
+pub mod Forms
+pub mod InstructionForms
 pub mod Scripting
 pub mod StepInput
 pub mod Same
 pub mod SameLemma
 pub mod Lease
+pub mod ProcessLemma

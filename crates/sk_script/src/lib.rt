@@ -2,6 +2,8 @@
 #![tactic(auto)]
 
 pub mod boot;
+pub mod form;
+pub mod help;
 pub mod instruction;
 pub mod lease;
 pub mod parse;
@@ -14,8 +16,11 @@ pub mod shared_script;
 pub mod step_input;
 
 pub use boot::{Boot, BootFault, BootObject, BootProcess, ObjectKind};
+pub use form::{Form, brings_content, is_input};
+pub use help::INSTRUCTIONS_TABLE;
 pub use instruction::{Input, Instruction};
 pub use lease::Lease;
+pub use parse::forms::{Forms, instruction_forms};
 pub use process::{Process, ROOT};
 pub use register::{Register, Registers, Val};
 pub use script::Script;

@@ -8,6 +8,7 @@ ghost use Rattle.sk_script.specs.Script.{INSTRUCTIONS};
 ghost use Rattle.sk_words.specs.Reading.{Leaves};
 ghost use Rattle.sk_script.specs.Scripting.{ScriptState, line_of, label_in, labels_of, labels_from, next_place, added, script_line, script_from, script_of, Parses, Marks, seen};
 
+pub mod forms;
 pub mod labels;
 pub mod table;
 

@@ -16,7 +16,7 @@ pub use Rattle.std.specs.Prelude.{slice_set, Ok, is_none, Err, is_some, OnErr, s
 pub use Rattle.std.specs.Prelude.{get_or}
 pub use Rattle.std.specs.Vec.{vec_len, vec_capacity}
 pub use Rattle.std.specs.declared.cmp.Ordering.{Ordering}
-pub use Rattle.sk_ids.proofs.Same.{exact_bytes}
+pub use Rattle.sk_ids.specs.SameLemma.{exact_bytes}
 pub use Rattle.sk_inversion.specs.Undone.{CanJoin, value_before, FitsBefore}
 pub use Rattle.sk_inversion.specs.declared.before.Before.{Before}
 pub use Rattle.sk_inversion.specs.declared.before.Before.TheVariants.{Was, Changed}

@@ -38,7 +38,7 @@ pub use Rattle.sk_guesses.specs.Opens.{open_in, left_to, but, dependents_of, ope
 pub use Rattle.sk_guesses.specs.Opens.{after_commit}
 pub use Rattle.sk_guesses.specs.Token.{Token}
 pub use Rattle.sk_guesses.specs.declared.guess.Redeemed.{Redeemed}
-pub use Rattle.sk_ids.proofs.Same.{exact_bytes}
+pub use Rattle.sk_ids.specs.SameLemma.{exact_bytes}
 pub use Rattle.sk_outputs.specs.Said.{said_at, Said}
 pub use Rattle.sk_record.proofs.Machine.{has_filter}
 pub use Rattle.sk_record.proofs.Merged.{left_out, all_kept}

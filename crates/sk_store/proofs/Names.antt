@@ -16,7 +16,7 @@ pub use Rattle.std.specs.declared.cmp.Ordering.{Ordering}
 pub use Rattle.std.specs.declared.cmp.Ordering.TheVariants.{Less, Equal, Greater}
 pub use Rattle.sk_changes.specs.declared.change.Change.{Change}
 pub use Rattle.sk_changes.specs.declared.change.Undo.{Undo}
-pub use Rattle.sk_ids.proofs.Entities.{entity_exact, entity_total}
+pub use Rattle.sk_ids.specs.EntityLemma.{entity_exact, entity_total}
 pub use Rattle.sk_ids.specs.Entity.{entity_cmp, object_cmp}
 pub use Rattle.sk_ids.specs.Name.{name_order}
 pub use Rattle.sk_ids.specs.declared.entity.Entity.{Entity}

@@ -6,7 +6,7 @@ use Rattle.std.specs.FinMap.{get, get-insert, get-remove}
 use Rattle.sk_record.specs.Run.{put}
 use Rattle.sk_ids.specs.declared.entity.Entity.{Entity}
 use Rattle.sk_ids.specs.Entity.{entity_cmp}
-use Rattle.sk_ids.proofs.Entities.{entity_total}
+use Rattle.sk_ids.specs.EntityLemma.{entity_total}
 use Rattle.sk_store.specs.State.{State}
 use Rattle.sk_store.specs.declared.entity_state.EntityState.{EntityState}
 

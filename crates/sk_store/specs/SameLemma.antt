@@ -2,10 +2,10 @@
 use Rattle.std.specs.Prelude.{◌≡◌, true}
 use Rattle.std.proofs.Common.{ap}
 use Rattle.sk_record.specs.Same.{IsExact, exact_map}
-use Rattle.sk_record.proofs.Exact.{exact_from}
-use Rattle.sk_ids.proofs.Same.{exact_entity}
-use Rattle.sk_objects.proofs.Same.{exact_value}
-use Rattle.sk_script.proofs.Same.{exact_process}
+use Rattle.sk_record.specs.Exact.{exact_from}
+use Rattle.sk_ids.specs.SameLemma.{exact_entity}
+use Rattle.sk_objects.specs.ValueLemma.{exact_value}
+use Rattle.sk_script.specs.ProcessLemma.{exact_process}
 use Rattle.sk_store.specs.Same.{same_state}
 use Rattle.sk_store.specs.declared.entity_state.EntityState.{EntityState}
 use Rattle.sk_store.specs.declared.entity_state.EntityState.TheVariants.{Process, Value}

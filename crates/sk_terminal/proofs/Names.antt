@@ -28,7 +28,7 @@ pub use Rattle.std.specs.Vec.{vec_capacity}
 pub use Rattle.std.specs.declared.cmp.Ordering.TheVariants.{Less}
 pub use Rattle.sk_ids.proofs.GuessSets.{rising_one}
 pub use Rattle.sk_ids.proofs.Newest.{without_none}
-pub use Rattle.sk_ids.proofs.Same.{exact_text}
+pub use Rattle.sk_ids.specs.SameLemma.{exact_text}
 pub use Rattle.sk_ids.proofs.Searches.{found, taken_at, tells}
 pub use Rattle.sk_map.specs.Seen.{seen}
 pub use Rattle.sk_record.proofs.Machine.{has_filter}

@@ -31,8 +31,8 @@ pub use Rattle.std.specs.declared.cmp.Ordering.{Ordering}
 pub use Rattle.std.specs.declared.cmp.Ordering.TheVariants.{Equal, Less, Greater}
 pub use Rattle.sk_changes.specs.declared.change.Change.{Change}
 pub use Rattle.sk_changes.specs.declared.change.Undo.{Undo}
-pub use Rattle.sk_ids.proofs.Entities.{entity_exact, entity_total}
-pub use Rattle.sk_ids.proofs.Same.{exact_bytes}
+pub use Rattle.sk_ids.specs.EntityLemma.{entity_exact, entity_total}
+pub use Rattle.sk_ids.specs.SameLemma.{exact_bytes}
 pub use Rattle.sk_ids.specs.Entity.{object_cmp, entity_cmp}
 pub use Rattle.sk_ids.specs.Name.{name_order}
 pub use Rattle.sk_ids.specs.contracts.pid.ObjIdOrd.TheImpl.Laws.{total-law}

@@ -2,7 +2,8 @@
 use Rattle.sk_undo.proofs.Cites.{◌≡◌, ℕ, Bool, true, false, cond, ◌&&◌, ◌||◌, List, [], ◌∷◌, ◌++◌, Option, refl, ◌∙◌}
 use Rattle.sk_undo.proofs.Cites.{sym, ap, subst, reverse, list_all, true≢false, or_parts, reverse_onto, Note, has}
 use Rattle.sk_undo.proofs.Cites.{last_tags, cut, carried, unwound, IsGrowing, and_both, RawNote, is_empty, seen}
-use Rattle.sk_undo.proofs.Cites.{CanGoBack, less, before_last, HasNote, newest_tags, rests_last, carries}
+use Rattle.sk_undo.proofs.Cites.{CanGoBack, less, before_last, HasNote, newest_tags, rests_last, carries, nat_cmp}
+use Rattle.std.specs.List.Sorted.{IsStrictlySortedBy}
 
 -- ---- no notes
 more_is_some : {A : Type 0} (xs : List A) (x : A) → is_empty (xs ++ x ∷ []) ≡ false
@@ -216,6 +217,11 @@ module _ {V : Type 0} where
 
   pub newest_of : (n : Note V) (ns : List (Note V)) → last_tags [] (reverse (n ∷ ns)) ≡ n.tags
   newest_of n ns = ap (last_tags []) (reverse_onto ns n []) ∙ last_onto [] (reverse ns) n
+
+-- no tags rise
+pub none_rises : IsStrictlySortedBy nat_cmp []
+unfolding IsStrictlySortedBy
+none_rises = tt
 
 -- the tags of the newest note are those of the last that is seen
 module _ {U V : Type 0} (undone : U → Option V → Option V) where

@@ -5,7 +5,7 @@ use Rattle.std.specs.Ordering.{eq_by_cmp}
 use Rattle.std.specs.FinMap.{get, insert, remove, get-insert, get-remove}
 use Rattle.sk_ids.specs.declared.entity.Entity.{Entity}
 use Rattle.sk_ids.specs.Entity.{entity_cmp}
-use Rattle.sk_ids.proofs.Entities.{entity_total}
+use Rattle.sk_ids.specs.EntityLemma.{entity_total}
 use Rattle.sk_store.specs.declared.entity_state.EntityState.{EntityState}
 use Rattle.sk_undo.specs.Slot.{SlotView, is_bare, slot_wrote}
 use Rattle.sk_undo.specs.Logs.{SlotMap, LogsView, slot_in, look_at, wrote}

@@ -50,10 +50,42 @@ impl Logged for Process {
     }
 }
 
+/// What is lent where a log has no notes.
+#[derive(Drop)]
+struct Untagged {
+    set: TagSet,
+    ghost empty: { set ≡ [] },
+}
+
+impl Untagged {
+    fn new(alloc: Global) -> Untagged {
+        Untagged {
+            set: TagSet::new(alloc),
+        }
+    }
+
+    fn lent(&self) -> &TagSet
+        ensures { result.now ≡ [] }
+    {
+        &self.set
+    }
+}
+
+/// The tags of the newest note.
+fn tags_of<'a, V: Logged>(log: &'a Log<V>, untagged: &'a Untagged) -> &'a TagSet
+    ensures { result.now ≡ newest_tags (reverse log.now.notes.items) }
+{
+    match log.tags() {
+        Some(tags) => tags,
+        None => untagged.lent(),
+    }
+}
+
 /// The undo log of an object.
 #[derive(Drop)]
 pub struct ObjectLog {
     log: Log<Value>,
+    untagged: Untagged,
     ghost grows: { Grows log.notes.items },
 }
 
@@ -64,6 +96,7 @@ impl ObjectLog {
     {
         ObjectLog {
             log: Log::new(alloc),
+            untagged: Untagged::new(alloc),
         }
     }
 
@@ -71,7 +104,7 @@ impl ObjectLog {
     pub fn tags(&self) -> &TagSet
         ensures { result.now ≡ newest_tags (reverse self.now.log.notes.items) }
     {
-        self.log.tags()
+        tags_of(&self.log, &self.untagged)
     }
 
     /// Makes room for the next note.
@@ -171,6 +204,7 @@ impl ObjectLog {
 #[derive(Drop)]
 pub struct ProcessLog {
     log: Log<Process>,
+    untagged: Untagged,
     ghost grows: { Grows log.notes.items },
     ghost whole: { AllSet log.notes.items },
     ghost apart: { is_apart [] (runs_of log.notes.items) ≡ true },
@@ -183,6 +217,7 @@ impl ProcessLog {
     {
         ProcessLog {
             log: Log::new(alloc),
+            untagged: Untagged::new(alloc),
         }
     }
 
@@ -190,7 +225,7 @@ impl ProcessLog {
     pub fn tags(&self) -> &TagSet
         ensures { result.now ≡ last_tags [] (runs_of self.now.log.notes.items) }
     {
-        self.log.tags()
+        tags_of(&self.log, &self.untagged)
     }
 
     /// How many runs there are.

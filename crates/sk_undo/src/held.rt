@@ -76,15 +76,15 @@ impl BoxedState {
     }
 
     /// Changes the value that it is, where it stands. Without memory nothing has changed.
-    pub fn change(&mut self, change: Change) -> Result<Undo, AllocError>
-        requires { FitsAt (Some self.old) change }
-        ensures ok { OnOk result (self.new ≡ changed (Some self.old) change) }
+    pub fn change(&mut self, change: &Change) -> Result<Undo, AllocError>
+        requires { FitsAt (Some self.old) change.now }
+        ensures ok { OnOk result (self.new ≡ changed (Some self.old) change.now) }
         ensures can { IfOk result (λ undo. StateFits self.new undo) }
         ensures back { IfOk result (λ undo. state_undone self.new undo ≡ self.old) }
         ensures err { OnErr result (self.new ≡ self.old) }
     {
         let alloc = *Box::allocator(&self.state);
-        let undo = self.state.change(alloc, change)?;
+        let undo = self.state.change(alloc, *change)?;
         Ok(undo)
     }
 

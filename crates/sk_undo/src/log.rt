@@ -1,5 +1,6 @@
 //! The writes of one value, each with the guesses that it rests on and with what puts it back.
 ghost use Rattle.std.specs.Prelude.{◌≡◌, ◌≤◌, ◌<◌, ◌+◌, ◌++◌, ◌∷◌, [], Bool, true, false, not, length, take, drop, None, OnOk, OnErr, Option, IsOk, reverse};
+ghost use Rattle.std.specs.Option.{option_copied, unwrap_or};
 ghost use Rattle.std.specs.Vec.{vec_len, vec_capacity};
 ghost use Rattle.std.specs.List.{prefix_len, list_all};
 ghost use Rattle.std.specs.List.Sorted.{IsStrictlySortedBy};
@@ -76,9 +77,6 @@ pub struct Note<U> {
 #[derive(Drop)]
 pub struct Log<V> {
     notes: Vec<Note<PutBack<V>>>,
-    /// What `tags` lends where there are no notes.
-    no_tags: TagSet,
-    ghost none: { no_tags ≡ [] },
 }
 
 /// Takes a guess out of the tags of the newest notes, back to the first that does not rest on it, and
@@ -176,7 +174,6 @@ impl<V: Logged> Log<V> {
     {
         Log {
             notes: Vec::new(alloc),
-            no_tags: TagSet::new(alloc),
         }
     }
 
@@ -212,20 +209,33 @@ impl<V: Logged> Log<V> {
         ensures rising { IsStrictlySortedBy nat_cmp
             (newest_tags (reverse self.now.notes.items)) }
     {
-        let ids = self.tags().ids();
+        let ids = self.ids();
         match self.notes.last() {
             Some(newest) => ids.len() >= least && restores(&newest.undo),
             None => least == 0,
         }
     }
 
-    /// The tags of the newest note.
-    pub fn tags(&self) -> &TagSet
-        ensures { result.now ≡ newest_tags (reverse self.now.notes.items) }
+    /// The tags of the newest note; `None` is as none.
+    pub fn tags(&self) -> Option<&TagSet>
+        ensures { unwrap_or (option_copied result) []
+            ≡ newest_tags (reverse self.now.notes.items) }
     {
         match self.notes.last() {
-            Some(note) => &note.tags,
-            None => &self.no_tags,
+            Some(note) => Some(&note.tags),
+            None => None,
+        }
+    }
+
+    /// The same, as a list.
+    #[tactic(auto, using(crate::proofs::SeenNotes::none_rises))]
+    fn ids(&self) -> &[GuessId]
+        ensures value { result.now ≡ newest_tags (reverse self.now.notes.items) }
+        ensures rising { IsStrictlySortedBy nat_cmp result.now }
+    {
+        match self.tags() {
+            Some(tags) => tags.ids(),
+            None => &[],
         }
     }
 

@@ -248,7 +248,7 @@ impl Keeper for Logs {
     }
 
     fn change(&mut self, entity: Entity, change: Change) -> Result<EntityUndo, AllocError> {
-        let how = self.slots.change(&entity, &self.tags, change)?;
+        let how = self.slots.change(&entity, &self.tags, &change)?;
         Ok(EntityUndo { entity, how })
     }
 

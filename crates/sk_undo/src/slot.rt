@@ -1,7 +1,7 @@
 //! What an entity has, with its undo log.
 ghost use Rattle.std.specs.Prelude.{◌≡◌, [], OnOk, OnErr, IfOk, Some, None, is_none, true, false, not, ◌&&◌, length, reverse};
 ghost use Rattle.std.specs.List.Sorted.{IsStrictlySortedBy};
-ghost use Rattle.std.specs.Option.{option_copied};
+ghost use Rattle.std.specs.Option.{option_copied, unwrap_or};
 ghost use Rattle.std.specs.Ordering.{nat_cmp};
 ghost use Rattle.sk_record.specs.Notes.{last_tags, unwound, cut, committed};
 ghost use Rattle.sk_record.specs.Merged.{Merges};
@@ -81,9 +81,9 @@ fn is_bare(value: &Option<BoxedState>, log: &Log<BoxedState>) -> bool
 }
 
 /// Changes a value where it stands. Without memory nothing has changed.
-fn change_in(value: &mut Option<BoxedState>, change: Change) -> Result<Undo, AllocError>
-    requires { FitsAt value.old change }
-    ensures ok { OnOk result (value.new ≡ Some (changed value.old change)) }
+fn change_in(value: &mut Option<BoxedState>, change: &Change) -> Result<Undo, AllocError>
+    requires { FitsAt value.old change.now }
+    ensures ok { OnOk result (value.new ≡ Some (changed value.old change.now)) }
     ensures can { IfOk result (λ undo. Fits (PutBack.Changed undo) value.new) }
     ensures back { IfOk result (λ undo. undone (PutBack.Changed undo) value.new ≡ value.old) }
     ensures err { OnErr result (value.new ≡ value.old) }
@@ -135,11 +135,11 @@ fn process_copy(alloc: Global, value: &Option<BoxedState>) -> Result<Option<Boxe
     }
 }
 
-/// The tags of the newest note.
+/// The tags of the newest note; `None` is as none.
 #[tactic(auto, using(crate::proofs::SeenNotes::tags_seen))]
-fn tags_in<'a>(value: &Option<BoxedState>, log: &'a Log<BoxedState>) -> &'a TagSet
-    ensures { result.now ≡ last_tags []
-        (reverse (seen undone value.now (reverse log.now.notes.items))) }
+fn tags_in<'a>(value: &Option<BoxedState>, log: &'a Log<BoxedState>) -> Option<&'a TagSet>
+    ensures { unwrap_or (option_copied result) []
+        ≡ last_tags [] (reverse (seen undone value.now (reverse log.now.notes.items))) }
 {
     log.tags()
 }
@@ -233,11 +233,11 @@ impl Slot {
     pub fn change(
         &mut self,
         tags: &TagSet,
-        change: Change,
+        change: &Change,
     ) -> Result<Option<PutBack<BoxedState>>, AllocError>
-        requires { FitsAt self.old.now change }
+        requires { FitsAt self.old.now change.now }
         ensures ok { OnOk result
-            (self.new ≡ slot_wrote tags.now self.old (Some (changed self.old.now change))) }
+            (self.new ≡ slot_wrote tags.now self.old (Some (changed self.old.now change.now))) }
         ensures can { IfOk result (λ back. CanGoBackOnce self.new back) }
         ensures back { IfOk result (λ back. slot_back self.new back ≡ self.old) }
         ensures err { OnErr result (self.new ≡ self.old) }
@@ -271,7 +271,7 @@ impl Slot {
             change_alone_in(&mut self.value, change)?;
             return Ok(());
         }
-        self.change(tags, *change)?;
+        self.change(tags, change)?;
         Ok(())
     }
 
@@ -317,9 +317,9 @@ impl Slot {
         }
     }
 
-    /// The tags of the newest note.
-    pub fn tags(&self) -> &TagSet
-        ensures { result.now ≡ last_tags [] (reverse self.now.log) }
+    /// The tags of the newest note; `None` is as none.
+    pub fn tags(&self) -> Option<&TagSet>
+        ensures { unwrap_or (option_copied result) [] ≡ last_tags [] (reverse self.now.log) }
     {
         tags_in(&self.value, &self.log)
     }

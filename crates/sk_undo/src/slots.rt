@@ -124,7 +124,7 @@ impl Slots {
         ensures { unwrap_or (option_copied result) [] ≡ last_tags [] (log_at self.now entity) }
     {
         match self.slots.get(&entity) {
-            Some(slot) => Some(slot.tags()),
+            Some(slot) => slot.tags(),
             None => None,
         }
     }
@@ -242,12 +242,12 @@ impl Slots {
         &mut self,
         entity: &Entity,
         tags: &TagSet,
-        change: Change,
+        change: &Change,
     ) -> Result<TakeBack, AllocError>
-        requires { FitsAt (look_at self.old entity.now) change }
+        requires { FitsAt (look_at self.old entity.now) change.now }
         ensures ok { OnOk result
             (self.new ≡ slots_wrote tags.now self.old entity.now
-            (Some (changed (look_at self.old entity.now) change))) }
+            (Some (changed (look_at self.old entity.now) change.now))) }
         ensures can { IfOk result (λ how. CanTakeBack self.new entity.now how) }
         ensures back { IfOk result (λ how. slots_back self.new entity.now how ≡ self.old) }
         ensures err { OnErr result (self.new ≡ self.old) }

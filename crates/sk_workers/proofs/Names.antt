@@ -12,8 +12,8 @@ pub use Rattle.sk_client.specs.Leasing.{DeskTakesIn, DeskHandInPost}
 pub use Rattle.sk_client.specs.declared.desk.Given.{Given}
 pub use Rattle.sk_client.specs.declared.desk.ReplyRefusal.{ReplyRefusal}
 pub use Rattle.sk_client.specs.declared.desk.Turn.{Turn}
-pub use Rattle.sk_client.specs.declared.pending.PendingRequest.{PendingRequest}
-pub use Rattle.sk_client.specs.declared.rule.Rule.{Rule}
+pub use Rattle.sk_client.specs.Pending.{PendingRequest}
+pub use Rattle.sk_client.specs.Rule.{Rule}
 pub use Rattle.sk_kernel.specs.Kernel.{undecided_at, step_refused}
 pub use Rattle.sk_kernel.specs.declared.hand_in.HandIn.{HandIn}
 pub use Rattle.sk_kernel.specs.declared.hand_in.HandIn.TheVariants.{Stale, TraceFull, Memory}

@@ -9,7 +9,7 @@ use Rattle.sk_workers.proofs.Names.{Answered, Turned, Replied, HandedIn, BookVie
 use Rattle.sk_workers.proofs.Names.{CallPost, TakesInAdds, HandInAdds, TurnAdds, TakesAny, TurnTold, HandInTold}
 use Rattle.sk_workers.proofs.Names.{AnyTold, with_reply, without_reply, without_lease}
 use Rattle.std.proofs.Common.{Option, Some, None}
-use Rattle.sk_client.specs.declared.rule.Rule.TheVariants as rules
+use Rattle.sk_client.specs.Rule as rules
 use Rattle.sk_client.specs.Desk.{entry}
 use Rattle.sk_workers.specs.declared.entry.DeskCall.TheVariants as calls
 

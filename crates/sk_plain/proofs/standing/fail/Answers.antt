@@ -1,11 +1,11 @@
 -- What can be settled is, and the rest is struck out.
+use Rattle.sk_plain.proofs.Others.{then_ok}
 use Rattle.sk_plain.proofs.Cites.{◌≡◌, true, ◌∙◌, ap, has, Record, Fail, recorded, EntryView, plain}
-use Rattle.sk_plain.proofs.Settled.{on_one}
 use Rattle.sk_plain.proofs.standing.fail.Goals as goal
 
 pub returns : goal.returns
 returns c =
-    on_one c.strike_out.result c.strike_out.ensures
+    then_ok c.strike_out.result c.strike_out.ensures
     (λ goes start stands fits.
     let still = c.in_ok-settle.ensures start stands in
     let there : has c.args.guess c.settle.new.standing.undecided.items ≡ true = ap (λ (r : Record EntryView). has c.args.guess r.undecided) still.1 ∙ fits in

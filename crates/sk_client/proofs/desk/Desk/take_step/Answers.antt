@@ -1,7 +1,7 @@
 -- With a place beside those that are kept, the kernel refuses the step as the desk does.
 use Rattle.sk_client.proofs.Names.{◌≡◌, List, None, sym, ◌∙◌, ap, subst, input_in, cause, step_refused, Input}
 use Rattle.sk_client.proofs.Names.{KeptAnswer, brought, DeskView, entry, kept_for, rule_refused}
-use Rattle.sk_client.specs.declared.rule.Rule.TheVariants as rules
+use Rattle.sk_client.specs.Rule as rules
 use Rattle.sk_client.proofs.DeskFacts.{same_refusal}
 use Rattle.sk_client.proofs.desk.Desk.take_step.Goals as goal
 

@@ -5,7 +5,7 @@ use Rattle.sk_ids.proofs.Names.{inl, inr, refl, sym, ◌∙◌, ap, subst, arith
 use Rattle.sk_ids.proofs.Names.{or_right, eqb-true, eq-eqb, has, and_both, above}
 use Rattle.std.specs.List.Sorted.{IsStrictlySortedBy}
 use Rattle.std.proofs.lemmas.Bool.{true≢false}
-use Rattle.sk_ids.proofs.Same.{exact_bytes}
+use Rattle.sk_ids.specs.SameLemma.{exact_bytes}
 use Rattle.sk_ids.proofs.tags.TagSet.covers.Goals as goal
 
 all_at : (p : ℕ → Bool) (g : ℕ) (xs : List ℕ) → list_all p xs ≡ true → has g xs ≡ true → p g ≡ true

@@ -3,4 +3,4 @@ use Rattle.sk_undo.proofs.Runs.{newest_run}
 use Rattle.sk_undo.proofs.entity_logs.ProcessLog.tags.Goals as goal
 
 pub returns : goal.returns
-returns c = c.tags.ensures ∙ newest_run c.args.self.now.log.notes.items c.args.self.now.whole
+returns c = c.tags_of.ensures ∙ newest_run c.args.self.now.log.notes.items c.args.self.now.whole

@@ -13,7 +13,7 @@ returns-in_err-back-in-Some-clause-err c =
 pub returns-clause-ok : goal.returns-clause-ok
 returns-clause-ok c =
     (rw c.in-Some.is at (c.slot_mut.follows.holds c.change.new.self))
-    ∙ given c.args.self.now c.args.entity.now _ c.change.new.self (λ (s : SlotView). slot_wrote c.args.tags.now s (Some (changed s.now c.args.change))) c.in-Some.ensures.value c.in_ok-back-in-Some.ensures.ok
+    ∙ given c.args.self.now c.args.entity.now _ c.change.new.self (λ (s : SlotView). slot_wrote c.args.tags.now s (Some (changed s.now c.args.change.now))) c.in-Some.ensures.value c.in_ok-back-in-Some.ensures.ok
 
 pub returns-clause-can : goal.returns-clause-can
 returns-clause-can c =

@@ -1,7 +1,16 @@
 -- The test that values derive is exact.
-use Rattle.sk_objects.proofs.Names.{nat_eq, ap, unsigned_Decides, first_so, second_so, IsExact, exact_from}
-use Rattle.sk_objects.proofs.Names.{exact_option, exact_text, exact_object, ContentView, exact_bytes, exact_pipe, Value}
-use Rattle.sk_objects.proofs.Names.{File, Dir, Link, Pipe, Signals, Exit, Copy, content_laws, value_laws}
+use Rattle.std.specs.Prelude.{nat_eq}
+use Rattle.std.proofs.Common.{ap}
+use Rattle.std.specs.Cmp.{unsigned_Decides, first_so, second_so}
+use Rattle.sk_record.specs.Same.{IsExact}
+use Rattle.sk_record.specs.Exact.{exact_from, exact_option}
+use Rattle.sk_ids.specs.SameLemma.{exact_text, exact_object}
+use Rattle.sk_objects.specs.Content.{ContentView}
+use Rattle.sk_objects.specs.SameLemma.{exact_bytes, exact_pipe}
+use Rattle.sk_objects.specs.declared.value.Value.{Value}
+use Rattle.sk_objects.specs.declared.value.Value.TheVariants.{File, Dir, Link, Pipe, Signals, Exit, Copy}
+use Rattle.sk_objects.specs.contracts.content.ContentEq.TheImpl.Laws.{laws-law as content_laws}
+use Rattle.sk_objects.specs.contracts.value.ValueEq.TheImpl.Laws.{laws-law as value_laws}
 use Rattle.std.specs.Prelude.{◌≡◌, true, refl}
 use Rattle.sk_ids.specs.contracts.text.TextPartialEq.TheImpl as text
 use Rattle.sk_objects.specs.contracts.content.ContentPartialEq.TheImpl as content

@@ -1,17 +1,20 @@
 -- What a step can end with; and what every row of the table writes: the process, and beside it an
 -- entity that is no process, or a child and what it is born with.
-use Rattle.sk_client.proofs.Names.{◌≡◌, ℕ, suc, ◌+◌, Bool, true, false, cond, ◌&&◌, List, [], ◌∷◌, map, Option, Some}
-use Rattle.sk_client.proofs.Names.{None, inl, inr, refl, sym, ◌∙◌, subst, arith, Result, Ok, Err, ◌⊎◌, ◌==◌, nat_lt}
-use Rattle.sk_client.proofs.Names.{nat_le, Contains, get, leb-true, Refuse, Done, Step, Effect, perform, with_read, put}
-use Rattle.sk_client.proofs.Names.{put_all, and_both, TEXT_LIMIT, ObjId, Entity, Proc, Sig, Exit, Obj, Link, Copy}
-use Rattle.sk_client.proofs.Names.{ContentView, LAST_SIGNAL, Kind, PipeView, PIPE_LIMIT, Value, Process, Instruction}
-use Rattle.sk_client.proofs.Names.{Input, held, private_step, State, EntityState, Refusal, Again, StepTree, object_in}
-use Rattle.sk_client.proofs.Names.{number_in, number_to, who_in, failed, alone, with_write, with_removal, on_object}
-use Rattle.sk_client.proofs.Names.{on_number, on_file, made, no_directory, unless_error, on_directory, target_at, named}
-use Rattle.sk_client.proofs.Names.{link_to, linking, unlink_from, on_pipe, put_in, take_none, LEVEL_FOUR, LAST_CHILD}
-use Rattle.sk_client.proofs.Names.{next_child, forked, parent_of, born, fork, signalled, kill, waited, wait, returned}
-use Rattle.sk_client.proofs.Names.{from_copy, over_copy, good, fresh, stale, row, private_or, does, handled}
-use Rattle.sk_client.proofs.Names.{with_signals, with_input, keeps_step, IsTidyState}
+use Rattle.sk_plain.proofs.Cites.{◌≡◌, ℕ, suc, ◌+◌, Bool, true, false, cond, ◌&&◌, List, [], ◌∷◌, map, Option, Some}
+use Rattle.sk_plain.proofs.Cites.{None, inl, inr, refl, sym, ◌∙◌, subst, arith, Result, Ok, Err, ◌⊎◌, ◌==◌, nat_lt}
+use Rattle.sk_plain.proofs.Cites.{nat_le, Contains, get, leb-true, Refuse, Done, Step, Effect, perform, with_read, put}
+use Rattle.sk_plain.proofs.Cites.{put_all, and_both, TEXT_LIMIT, ObjId, Entity, Proc, Sig, Exit, Obj, Link, Copy}
+use Rattle.sk_plain.proofs.Cites.{ContentView, LAST_SIGNAL, Kind, PipeView, PIPE_LIMIT, Value, Process, Instruction}
+use Rattle.sk_plain.proofs.Cites.{Input, held, private_step, State, EntityState, Refusal, Again, StepTree, object_in}
+use Rattle.sk_plain.proofs.Cites.{number_in, number_to, who_in, failed, alone, with_write, with_removal, on_object}
+use Rattle.sk_plain.proofs.Cites.{on_number, on_file, made, no_directory, unless_error, on_directory, target_at, named}
+use Rattle.sk_plain.proofs.Cites.{link_to, linking, unlink_from, on_pipe, put_in, take_none, LEVEL_FOUR, LAST_CHILD}
+use Rattle.sk_plain.proofs.Cites.{next_child, parent_of, born, fork, signalled, kill, waited, wait, returned, from_copy}
+use Rattle.sk_plain.proofs.Cites.{over_copy, good, fresh, stale, row, private_or, does, handled, with_signals}
+use Rattle.sk_plain.proofs.Cites.{with_input, IsTidyState}
+use Rattle.sk_plain.proofs.Cites.{cons_cases, no_member}
+use Rattle.sk_plain.specs.Processes.{forked}
+use Rattle.sk_plain.proofs.Alone.{keeps_step}
 use Rattle.std.specs.Prelude.{length}
 use Rattle.sk_record.specs.Step.{Ask}
 use Rattle.sk_objects.specs.declared.value.Kind.TheVariants as kinds
@@ -20,8 +23,7 @@ use Rattle.sk_script.specs.declared.instruction.Instruction.TheVariants as does_
 use Rattle.sk_script.specs.declared.instruction.Input.TheVariants as inputs
 use Rattle.sk_store.specs.declared.entity_state.EntityState.TheVariants as stored
 use Rattle.sk_plain.specs.Rows.{Saying}
-use Rattle.sk_client.proofs.Each.{cons_cases, no_member}
-use Rattle.sk_client.proofs.Tidy.{elsewhere, IsPlace, IsNextChild, tidy_own, tidy_place, tidy_copy, tidy_birth}
+use Rattle.sk_plain.proofs.Tidy.{elsewhere, IsPlace, IsNextChild, tidy_own, tidy_place, tidy_copy, tidy_birth}
 
 module _ {E V W F : Type 0} (P : List (E × Option V) → Type 0) where
   -- whatever it is answered, it writes such a list where it is done

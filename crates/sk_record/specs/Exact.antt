@@ -1,5 +1,7 @@
 -- A test is exact where it is true of a value and itself, and of equal values alone.
-use Rattle.sk_record.proofs.Names.{ap, subst, option_eq, IsExact}
+use Rattle.std.proofs.Common.{ap, subst}
+use Rattle.std.specs.Option.{option_eq}
+use Rattle.sk_record.specs.Same.{IsExact}
 use Rattle.std.specs.Prelude.{◌≡◌, true, Bool, Option, Some, None, refl}
 
 pub exact_from : {A : Type 0} (E : A → A → Bool) → ((x : A) → E x x ≡ true) → ((x y : A) → E x y ≡ true → x ≡ y) → IsExact E

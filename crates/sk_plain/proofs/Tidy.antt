@@ -1,14 +1,14 @@
 -- What holds of every state that a kernel comes to, from the start of a boot on: a process that is
 -- there has a number from 1 on, a child is counted by its parent, and a cached copy is one.
-use Rattle.sk_client.proofs.Names.{◌≡◌, ℕ, ◌+◌, ◌*◌, ◌/◌, ◌%◌, ◌≤◌, ◌<◌, Bool, true, false, cond, List, [], Option}
-use Rattle.sk_client.proofs.Names.{Some, None, IsSome, inl, inr, refl, sym, ◌∙◌, ap, subst, arith, ◌∷◌, ◌⊎◌, All, get}
-use Rattle.sk_client.proofs.Names.{empty, get-empty, eq_by_cmp, eq_by_cmp_equiv, Equal-is, cases_eq, false≢true}
-use Rattle.sk_client.proofs.Names.{div-mul-add, mod-mul-add, put, get-put, entity_cmp, Entity, Proc, Sig, Exit, Obj}
-use Rattle.sk_client.proofs.Names.{Link, Copy, entity_total, entity_exact, ContentView, Process, State, EntityState}
-use Rattle.sk_client.proofs.Names.{LAST_CHILD, next_child, All-head, All-tail, BootView, root, beginning, BootObject}
-use Rattle.sk_client.proofs.Names.{BootProcess, boot_object, first_value, with_objects, with_links, with_process}
-use Rattle.sk_client.proofs.Names.{with_processes, with_copies, with_root, start_of, HasNumber, IsNumbered, IsPlaced}
-use Rattle.sk_client.proofs.Names.{IsCopy, IsTidyState}
+use Rattle.sk_plain.proofs.Cites.{◌≡◌, ℕ, ◌+◌, ◌*◌, ◌/◌, ◌%◌, ◌≤◌, ◌<◌, Bool, true, false, cond, List, [], Option, Some}
+use Rattle.sk_plain.proofs.Cites.{None, IsSome, inl, inr, refl, sym, ◌∙◌, ap, subst, arith, ◌∷◌, ◌⊎◌, All, get, empty}
+use Rattle.sk_plain.proofs.Cites.{get-empty, eq_by_cmp, eq_by_cmp_equiv, Equal-is, cases_eq, false≢true, div-mul-add}
+use Rattle.sk_plain.proofs.Cites.{mod-mul-add, put, get-put, entity_cmp, Entity, Proc, Sig, Exit, Obj, Link, Copy}
+use Rattle.sk_plain.proofs.Cites.{entity_total, entity_exact, ContentView, Process, State, EntityState, LAST_CHILD}
+use Rattle.sk_plain.proofs.Cites.{next_child, All-head, All-tail, BootView, root, beginning, BootObject, BootProcess}
+use Rattle.sk_plain.proofs.Cites.{boot_object, first_value, with_objects, with_links, with_process, with_processes}
+use Rattle.sk_plain.proofs.Cites.{with_copies, with_root, start_of, HasNumber, IsNumbered, IsPlaced, IsCopy}
+use Rattle.sk_plain.proofs.Cites.{IsTidyState}
 use Rattle.sk_objects.specs.declared.value.Value.TheVariants as values
 use Rattle.sk_store.specs.declared.entity_state.EntityState.TheVariants as stored
 

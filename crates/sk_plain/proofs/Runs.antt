@@ -1,23 +1,17 @@
 -- A step that is taken keeps a tidy state, and so does a run; and what a process does next, and
 -- what that says of the process.
-use Rattle.sk_client.proofs.Names.{◌≡◌, ℕ, Bool, true, false, cond, List, [], ◌∷◌, map, Option, Some, None, Result, Ok}
-use Rattle.sk_client.proofs.Names.{Err, refl, subst, sym, ◌∙◌, ap, get, Effect, Refuse, perform, with_read, outcome}
-use Rattle.sk_client.proofs.Names.{after, run, Entity, Proc, Sig, Value, Process, Instruction, Input, State}
-use Rattle.sk_client.proofs.Names.{EntityState, Refusal, NoProcess, Ended, Scripts, Saying, act, plain, goes_on}
-use Rattle.sk_client.proofs.Names.{with_input, instruction_of, EntryView, IsTidyState, Next, Signal, Fetch, Private}
-use Rattle.sk_client.proofs.Names.{Waits, Other, is_due, is_private, waits, next_instruction, next_going, next_at}
-use Rattle.sk_client.proofs.Names.{next_of, Bytes}
+use Rattle.sk_plain.proofs.Cites.{◌≡◌, ℕ, Bool, true, false, cond, List, [], ◌∷◌, Option, Some, None, Result, Ok}
+use Rattle.sk_plain.proofs.Cites.{Err, refl, subst, sym, ◌∙◌, ap, get, Effect, Refuse, perform, with_read, outcome}
+use Rattle.sk_plain.proofs.Cites.{after, run, Entity, Proc, Sig, Value, Process, Instruction, Input, State, EntityState}
+use Rattle.sk_plain.proofs.Cites.{Refusal, NoProcess, Ended, Scripts, Saying, act, plain, goes_on, with_input}
+use Rattle.sk_plain.proofs.Cites.{EntryView, IsTidyState, Next, Signal, Fetch, Waits, Other, is_due}
+use Rattle.sk_plain.proofs.Cites.{is_private, waits, next_instruction, next_going, next_at, next_of}
+use Rattle.sk_plain.specs.declared.next.Next.TheVariants.{Private}
 use Rattle.sk_store.specs.declared.entity_state.EntityState.TheVariants as stored
-use Rattle.sk_plain.specs.Act.{StepTree}
-use Rattle.sk_client.proofs.CausedWorld.{Caused, kernel, table, bare}
-use Rattle.sk_client.proofs.Labels.{run_bare}
-use Rattle.sk_client.proofs.Rows.{Keeps, CanWrite, ends_of, input_fine, written_so}
+use Rattle.sk_plain.specs.Act.{StepTree, next_in}
+use Rattle.sk_plain.proofs.Rows.{Keeps, CanWrite, ends_of, input_fine, written_so}
 use Rattle.sk_script.specs.declared.instruction.Instruction.TheVariants as does_
 use Rattle.sk_plain.specs.declared.next.Next.TheVariants.{Store}
-
--- the instruction that a process is at
-abbrev pub next_in : Scripts → Process → Option Instruction
-next_in scripts p = instruction_of (get scripts p.script) p.place
 
 -- what a step that is accepted found
 pub record Found (scripts : Scripts) (s : State) (pid : ℕ) (x : Input) (f : Effect Entity EntityState Saying) : Type 0 where
@@ -87,9 +81,6 @@ module _ (scripts : Scripts) where
   plain_tidy s [] h = h
   plain_tidy s (n ∷ ns) h = let K = plain scripts in plain_tidy (after K (outcome K s n) s) ns (after_tidy s n (outcome K s n) refl h)
 
-  pub run_tidy : (s : State) (ns : List Caused) → IsTidyState s → IsTidyState (run (kernel (table scripts)) s ns)
-  run_tidy s ns h = subst IsTidyState (sym (run_bare bare (plain scripts) s ns)) (plain_tidy s (map bare ns) h)
-
 -- ---- what a process does next, by its instruction
 
 -- neither a signal nor a fetch nor a store
@@ -114,12 +105,12 @@ next_kind look scripts pid p (Some (does_.Fetch name)) = refl
 next_kind look scripts pid p (Some (does_.Store name)) = refl
 next_kind look scripts pid p i = else_of (is_private p i) (waits look scripts pid)
 
-fetch_kind : (i : Option Instruction) (name : Bytes) → IsNextAt i (Fetch name) → i ≡ Some (does_.Fetch name)
+fetch_kind : (i : Option Instruction) (name : List ℕ) → IsNextAt i (Fetch name) → i ≡ Some (does_.Fetch name)
 fetch_kind (Some (does_.Fetch other)) name is = (let same : name ≡ other = cc in ap (λ n. Some (does_.Fetch n)) (sym same))
 fetch_kind (Some (does_.Store other)) name is = cc
 fetch_kind i name is = absurd is
 
-store_kind : (i : Option Instruction) (name : Bytes) → IsNextAt i (Store name) → i ≡ Some (does_.Store name)
+store_kind : (i : Option Instruction) (name : List ℕ) → IsNextAt i (Store name) → i ≡ Some (does_.Store name)
 store_kind (Some (does_.Fetch other)) name is = cc
 store_kind (Some (does_.Store other)) name is = (let same : name ≡ other = cc in ap (λ n. Some (does_.Store n)) (sym same))
 store_kind i name is = absurd is
@@ -150,10 +141,10 @@ module _ (scripts : Scripts) (s : State) (pid : ℕ) where
       let does = not_due (is_due p (get s (Sig pid))) n m calm goes in
       record { process = p; there = g.1; goes = g.2; at = kind (next_in scripts p) (subst (IsNextAt (next_in scripts p)) does (next_kind (get s) scripts pid p (next_in scripts p))) }
 
-  pub fetch_at : (name : Bytes) → next_turn ≡ Ok (Fetch name) → IsAt scripts s pid (does_.Fetch name)
+  pub fetch_at : (name : List ℕ) → next_turn ≡ Ok (Fetch name) → IsAt scripts s pid (does_.Fetch name)
   fetch_at name is = at_of (Fetch name) (does_.Fetch name) (λ no. cc) (λ o. fetch_kind o name) is
 
-  pub store_at : (name : Bytes) → next_turn ≡ Ok (Store name) → IsAt scripts s pid (does_.Store name)
+  pub store_at : (name : List ℕ) → next_turn ≡ Ok (Store name) → IsAt scripts s pid (does_.Store name)
   store_at name is = at_of (Store name) (does_.Store name) (λ no. cc) (λ o. store_kind o name) is
 
 -- ---- and back

@@ -1,7 +1,16 @@
 -- The tests of texts and identifiers are exact.
-use Rattle.sk_ids.proofs.Names.{nat_eq, ap, option_eq, unsigned_Decides, first_so, second_so, pointwise}
-use Rattle.sk_ids.proofs.Names.{pointwise_decides, IsExact, exact_from, exact_option, ObjId, Entity, Proc, Sig, Exit}
-use Rattle.sk_ids.proofs.Names.{Obj, Link, Copy, object_laws, entity_laws}
+use Rattle.std.specs.Prelude.{nat_eq}
+use Rattle.std.proofs.Common.{ap}
+use Rattle.std.specs.Option.{option_eq}
+use Rattle.std.specs.Cmp.{unsigned_Decides, first_so, second_so}
+use Rattle.std.specs.Cmp.Lexicographic.{pointwise, pointwise_decides}
+use Rattle.sk_record.specs.Same.{IsExact}
+use Rattle.sk_record.specs.Exact.{exact_from, exact_option}
+use Rattle.sk_ids.specs.declared.pid.ObjId.{ObjId}
+use Rattle.sk_ids.specs.declared.entity.Entity.{Entity}
+use Rattle.sk_ids.specs.declared.entity.Entity.TheVariants.{Proc, Sig, Exit, Obj, Link, Copy}
+use Rattle.sk_ids.specs.contracts.pid.ObjIdEq.TheImpl.Laws.{laws-law as object_laws}
+use Rattle.sk_ids.specs.contracts.entity.EntityEq.TheImpl.Laws.{laws-law as entity_laws}
 use Rattle.std.specs.Prelude.{◌≡◌, true}
 use Rattle.sk_ids.specs.contracts.text.TextPartialEq.TheImpl as text
 use Rattle.sk_ids.specs.contracts.pid.ObjIdPartialEq.TheImpl as object

@@ -1,7 +1,17 @@
 -- The order of entities is total and tells all apart: from the laws of the order that `Entity` derives, which is the one that specs/ writes.
-use Rattle.sk_ids.proofs.Names.{Option, ap, subst, nat_cmp, option_cmp, slice_cmp, IsTotalOrder, IsAntisymmetric}
-use Rattle.sk_ids.proofs.Names.{CmpEqualImpliesEq, exact_pairs, exact_unsigned, exact_bytes, entity_cmp, object_cmp}
-use Rattle.sk_ids.proofs.Names.{ObjId, Entity, total-law, Proc, Sig, Exit, Obj, Link, Copy}
+use Rattle.std.specs.Prelude.{Option}
+use Rattle.std.proofs.Common.{ap, subst}
+use Rattle.std.specs.Ordering.{nat_cmp}
+use Rattle.std.specs.Option.{option_cmp}
+use Rattle.std.specs.Cmp.Lexicographic.{slice_cmp}
+use Rattle.std.specs.Cmp.{IsTotalOrder}
+use Rattle.std.specs.FinMap.{IsAntisymmetric}
+use Rattle.std.proofs.lemmas.Map.Lookups.{CmpEqualImpliesEq, exact_pairs, exact_unsigned, exact_bytes}
+use Rattle.sk_ids.specs.Entity.{entity_cmp, object_cmp}
+use Rattle.sk_ids.specs.declared.pid.ObjId.{ObjId}
+use Rattle.sk_ids.specs.declared.entity.Entity.{Entity}
+use Rattle.sk_ids.specs.contracts.entity.EntityOrd.TheImpl.Laws.{total-law}
+use Rattle.sk_ids.specs.declared.entity.Entity.TheVariants.{Proc, Sig, Exit, Obj, Link, Copy}
 use Rattle.std.specs.Prelude.{◌≡◌, ℕ, List, Some, None, refl}
 use Rattle.sk_ids.specs.contracts.entity.EntityOrd.TheImpl as entity_ord
 

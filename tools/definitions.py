@@ -107,7 +107,6 @@ SAID = {
         "CutsARange": "where a cut is due it takes away just the batches of one frame, from its first number to its last",
         "decided": "what is decided of the oldest batch, if anything is",
         "is_refused": "a batch was cut off",
-        "no_rounds": "no round was taken, and nothing waits",
         "places_at": "the next frame stands here, in segments of this length",
         "take_refused": "the first cause against the next frame: `Stopped`, `Nothing`, `Busy`, `NoNumber`, `Short`",
         "word_refused": "the first cause against a word on a frame: `Stopped`, `Unknown`",
@@ -257,7 +256,6 @@ SAID = {
     },
     "sk_command": {
         "command_line": "the commands of the program and their words",
-        "wish_file": "the file that is wished for",
         "wish_of": "the wish that a job is, as contracts see it",
     },
     "sk_run": {

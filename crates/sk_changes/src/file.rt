@@ -36,19 +36,19 @@ impl Invertible for File {
 
     fn apply(&mut self, _alloc: Global, change: Change) -> Result<Undo, NotApplied> {
         let _len = self.len();
-        match change {
+        match &change {
             Change::WriteAt { offset, bytes } => {
-                if !is_write(offset as usize, bytes.len()) {
+                if !is_write(*offset as usize, bytes.len()) {
                     return Err(NotApplied::Unfit);
                 }
-                let old = self.write_at(offset as usize, bytes.as_slice())?;
+                let old = self.write_at(*offset as usize, bytes.as_slice())?;
                 Ok(Undo::Restore(old))
             }
             Change::CutTo(count) => {
-                if count as usize > FILE_LIMIT {
+                if *count as usize > FILE_LIMIT {
                     return Err(NotApplied::Unfit);
                 }
-                let old = self.cut_to(count as usize)?;
+                let old = self.cut_to(*count as usize)?;
                 Ok(Undo::Restore(old))
             }
             _ => Err(NotApplied::Unfit),

@@ -45,13 +45,13 @@ pub enum Kind {
     Copy,
 }
 
-/// Up to `count` bytes of a text from a place on; none past the end.
-fn part(text: &Text, at: usize, count: usize) -> Text
-    ensures { result ≡ bytes_part text.now at count }
+/// Up to `count` bytes of a text from a place on, read into another where it stands; none past the end.
+fn part_into(from: &Text, at: usize, count: usize, text: &mut Text)
+    ensures { text.new ≡ bytes_part from.now at count }
 {
-    let bytes = text.as_slice();
+    let bytes = from.as_slice();
     let rest = &bytes[bytes.len().min(at)..];
-    Text::new(&rest[..count.min(rest.len())]).unwrap()
+    text.set(&rest[..count.min(rest.len())]);
 }
 
 impl Value {
@@ -138,7 +138,7 @@ impl Value {
         match self {
             Value::File(file) => file.part_into(at, count, text),
             Value::Pipe(pipe) => *text = pipe.part(at, count),
-            Value::Copy(content) => *text = part(content.text(), at, count),
+            Value::Copy(content) => part_into(content.text(), at, count, text),
             _ => text.set(&[]),
         }
     }

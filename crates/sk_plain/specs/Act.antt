@@ -70,11 +70,16 @@ row pid p (does_.Fetch name) = Refuse NeedsReply
 row pid p (does_.Store name) = Refuse NeedsReply
 row pid p private = alone pid p
 
--- whether an instruction reads or writes a file
-abbrev pub is_access : Instruction → Bool
-is_access (does_.Read f at) = true
-is_access (does_.Write f at) = true
-is_access other = false
+-- the frequent instructions that are not private
+abbrev pub is_frequent : Instruction → Bool
+is_frequent (does_.Read f at) = true
+is_frequent (does_.Write f at) = true
+is_frequent does_.Say = true
+is_frequent (does_.MakeFile r) = true
+is_frequent (does_.Look r d name) = true
+is_frequent (does_.Link d name r) = true
+is_frequent (does_.Unlink d name) = true
+is_frequent other = false
 
 -- a private instruction writes nothing but the process
 abbrev pub private_or : ℕ → Option Process → StepTree → StepTree

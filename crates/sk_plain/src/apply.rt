@@ -610,12 +610,39 @@ fn speak<K: Keeper>(
     let tags = keeper.step_tags()?;
     let back = keeper.write(Entity::Proc(pid), EntityState::Process(*process))?;
     if terminals
-        .say(process.terminal, process.buffer, tags)
+        .say(process.terminal, &process.buffer, tags)
         .is_err()
     {
         keeper.take_back(back);
         return Err(AllocError);
     }
+    Ok(())
+}
+
+/// A process says its buffer to its terminal, and goes on where it stands: nothing is noted of it.
+fn say_unnoted<K: Keeper>(
+    keeper: &mut K,
+    terminals: &mut Terminals,
+    pid: Pid,
+) -> Result<(), AllocError>
+    requires unnoted { K.goes_unnoted keeper.old pid ≡ true }
+    requires there { IsProcess (K.look keeper.old (Proc pid)) }
+    requires place { (process_in (K.look keeper.old (Proc pid))).place + 1 < 2 ^ 32 }
+    ensures writes { OnOk result
+        (keeper.new
+        ≡ K.wrote keeper.old (Proc pid)
+        (Some (stored.Process (moved (process_in (K.look keeper.old (Proc pid))))))) }
+    ensures says { OnOk result
+        (terminals.new
+        ≡ said_to terminals.old (process_in (K.look keeper.old (Proc pid))).terminal
+        ((process_in (K.look keeper.old (Proc pid))).buffer, K.step_tags keeper.old)) }
+    ensures unwritten { OnErr result (keeper.new ≡ keeper.old) }
+    ensures unsaid { OnErr result (terminals.new ≡ terminals.old) }
+{
+    let tags = keeper.step_tags()?;
+    let process = process_at(keeper, pid);
+    terminals.say(process.terminal, &process.buffer, tags)?;
+    keeper.become_unnoted(pid, &Becomes::Moves);
     Ok(())
 }
 
@@ -639,6 +666,9 @@ fn say_buffer<K: Keeper>(
     ensures unwritten { OnErr result (keeper.new ≡ keeper.old) }
     ensures unsaid { OnErr result (terminals.new ≡ terminals.old) }
 {
+    if keeper.goes_unnoted(pid) {
+        return say_unnoted(keeper, terminals, pid);
+    }
     let process = spoken(process_at(keeper, pid));
     speak(keeper, terminals, pid, &process)
 }

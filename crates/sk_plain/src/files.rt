@@ -1,5 +1,5 @@
 //! What the instructions on new objects and on files will do.
-ghost use Rattle.std.specs.Prelude.{◌≡◌, ◌≢◌, ◌+◌, ◌<◌, ◌^◌, Some, Ok};
+ghost use Rattle.std.specs.Prelude.{◌≡◌, ◌≢◌, ◌+◌, ◌<◌, ◌^◌, [], Some, Ok, Option};
 ghost use Rattle.sk_record.specs.Step.{Ask};
 ghost use Rattle.sk_ids.specs.declared.entity.Entity.TheVariants.{Obj};
 ghost use Rattle.sk_objects.specs.declared.value.Value.TheVariants as values;
@@ -7,11 +7,13 @@ ghost use Rattle.sk_store.specs.declared.entity_state.EntityState.TheVariants as
 ghost use Rattle.sk_script.specs.Registers.{held};
 ghost use Rattle.sk_plain.specs.Rows.{object_in, number_in};
 ghost use Rattle.sk_plain.specs.Files.{made as made_row, size as size_row, read as read_row, written_at, write as write_row, cut_to, cut as cut_row};
-ghost use Rattle.sk_plain.specs.Seen.{PlansRow};
+ghost use Rattle.sk_plain.specs.Seen.{PlansAfter, PlansRow};
+ghost use Rattle.sk_script.specs.declared.instruction.Input.TheVariants as Input;
+ghost use Rattle.sk_script.specs.declared.instruction.Instruction.{Instruction};
 
 use crate::shapes::{alone, answered, changed, failed, looked, wrote};
 use crate::values::{file_at, number_at, object_at};
-use crate::{Becomes, Errno, ProcessChange, Row, Writes};
+use crate::{Becomes, Errno, Plan, ProcessChange, Row, Writes};
 use sk_ids::text::TEXT_LIMIT;
 use sk_ids::{Entity, ObjId, Pid};
 use sk_objects::file::FILE_LIMIT;
@@ -45,6 +47,26 @@ pub(crate) fn made<S: Look>(
         count: process.objects + 1,
     };
     wrote(change, Entity::Obj(object), Writes::Empty(kind))
+}
+
+/// The same, put into a plan. A frequent row stands by itself, so that no other one has a place in its frame.
+#[inline(never)]
+#[tactic(auto, using(crate::proofs::Plans::rows))]
+pub(crate) fn put_made<S: Look>(
+    store: &S,
+    pid: Pid,
+    process: &Process,
+    register: Register,
+    kind: Kind,
+    plan: &mut Plan,
+)
+    requires place { process.now.place + 1 < 2 ^ 32 }
+    requires kind { kind ≢ Kind.Link }
+    ensures { (i : Option Instruction)
+        → PlansAfter (S.look store.now) i Input.None process.now [] pid
+        (made_row pid process.now register kind) (Ok plan.new) }
+{
+    *plan = Plan::Acts(made(store, pid, process, register, kind));
 }
 
 /// `size rF`

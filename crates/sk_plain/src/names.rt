@@ -1,15 +1,17 @@
 //! What the instructions on names of directories will do.
-ghost use Rattle.std.specs.Prelude.{◌≡◌, ◌+◌, ◌<◌, ◌^◌, Ok};
+ghost use Rattle.std.specs.Prelude.{◌≡◌, ◌+◌, ◌<◌, ◌^◌, [], Ok, Option};
 ghost use Rattle.sk_record.specs.Step.{Ask};
 ghost use Rattle.sk_ids.specs.declared.entity.Entity.TheVariants.{Obj, Link};
 ghost use Rattle.sk_script.specs.Registers.{held};
 ghost use Rattle.sk_plain.specs.Rows.{object_in};
 ghost use Rattle.sk_plain.specs.Names.{look as look_row, link_to, link as link_row, unlink as unlink_row};
-ghost use Rattle.sk_plain.specs.Seen.{PlansRow};
+ghost use Rattle.sk_plain.specs.Seen.{PlansAfter, PlansRow};
+ghost use Rattle.sk_script.specs.declared.instruction.Input.TheVariants as Input;
+ghost use Rattle.sk_script.specs.declared.instruction.Instruction.{Instruction};
 
 use crate::shapes::{alone, answered, failed, given, linked, looked, looked_up, unlinked};
 use crate::values::{no_directory, object_at, target_at};
-use crate::{Errno, Row};
+use crate::{Errno, Plan, Row};
 use sk_ids::{Entity, Name, ObjId, Pid};
 use sk_script::{Process, Register, Val};
 use sk_store::Look;
@@ -40,6 +42,27 @@ pub(crate) fn look<S: Look>(
         None => failed(Errno::NotLinked),
     };
     looked_up(change, at, name)
+}
+
+/// The same, put into a plan. A frequent row stands by itself, so that no other one has a place in its frame.
+#[inline(never)]
+#[tactic(auto, using(crate::proofs::Plans::rows))]
+pub(crate) fn put_look<S: Look>(
+    store: &S,
+    pid: Pid,
+    process: &Process,
+    register: Register,
+    directory: Register,
+    name: &Name,
+    plan: &mut Plan,
+)
+    requires { process.now.place + 1 < 2 ^ 32 }
+    ensures { (i : Option Instruction)
+        → PlansAfter (S.look store.now) i Input.None process.now [] pid
+        (look_row pid process.now register (object_in (held process.now.registers directory))
+        name.now) (Ok plan.new) }
+{
+    *plan = Plan::Acts(look(store, pid, process, register, directory, name));
 }
 
 /// A name linked in a directory.
@@ -89,6 +112,27 @@ pub(crate) fn link<S: Look>(
     link_to(store, pid, process, &at, name, &object)
 }
 
+/// The same, put into a plan. A frequent row stands by itself, so that no other one has a place in its frame.
+#[inline(never)]
+#[tactic(auto, using(crate::proofs::Plans::rows))]
+pub(crate) fn put_link<S: Look>(
+    store: &S,
+    pid: Pid,
+    process: &Process,
+    directory: Register,
+    name: &Name,
+    object: Register,
+    plan: &mut Plan,
+)
+    requires { process.now.place + 1 < 2 ^ 32 }
+    ensures { (i : Option Instruction)
+        → PlansAfter (S.look store.now) i Input.None process.now [] pid
+        (link_row pid process.now (object_in (held process.now.registers directory)) name.now
+        (object_in (held process.now.registers object))) (Ok plan.new) }
+{
+    *plan = Plan::Acts(link(store, pid, process, directory, name, object));
+}
+
 /// `unlink rD NAME`
 pub(crate) fn unlink<S: Look>(
     store: &S,
@@ -113,4 +157,24 @@ pub(crate) fn unlink<S: Look>(
         return looked_up(failed(Errno::NotLinked), at, name);
     }
     unlinked(answered(0), at, name)
+}
+
+/// The same, put into a plan. A frequent row stands by itself, so that no other one has a place in its frame.
+#[inline(never)]
+#[tactic(auto, using(crate::proofs::Plans::rows))]
+pub(crate) fn put_unlink<S: Look>(
+    store: &S,
+    pid: Pid,
+    process: &Process,
+    directory: Register,
+    name: &Name,
+    plan: &mut Plan,
+)
+    requires { process.now.place + 1 < 2 ^ 32 }
+    ensures { (i : Option Instruction)
+        → PlansAfter (S.look store.now) i Input.None process.now [] pid
+        (unlink_row pid process.now (object_in (held process.now.registers directory)) name.now)
+        (Ok plan.new) }
+{
+    *plan = Plan::Acts(unlink(store, pid, process, directory, name));
 }

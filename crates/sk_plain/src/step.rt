@@ -7,7 +7,7 @@ ghost use Rattle.sk_store.specs.declared.entity_state.EntityState.TheVariants as
 ghost use Rattle.sk_script.specs.declared.instruction.Input.TheVariants as Input;
 ghost use Rattle.sk_script.specs.Private.{private_step};
 ghost use Rattle.sk_trace.specs.Kept.{input_in};
-ghost use Rattle.sk_plain.specs.Act.{row, does, next_in, is_access, due, handled as handled_row, with_signals, with_input};
+ghost use Rattle.sk_plain.specs.Act.{row, does, next_in, is_frequent, due, handled as handled_row, with_signals, with_input};
 ghost use Rattle.sk_plain.specs.Next.{IsAlone};
 ghost use Rattle.sk_plain.specs.Planned.{signals_read, IsReply, said_by};
 ghost use Rattle.sk_plain.specs.declared.plan.Beside.TheVariants as Beside;
@@ -69,28 +69,57 @@ pub(crate) fn is_private(_process: &Process, instruction: &Instruction) -> bool
     }
 }
 
-/// Whether an instruction reads or writes a file: the frequent ones that are not private.
-fn is_access(instruction: &Instruction) -> bool
-    ensures { result ≡ is_access instruction.now }
+/// Whether an instruction is one of the frequent ones that are not private.
+fn is_frequent(instruction: &Instruction) -> bool
+    ensures { result ≡ is_frequent instruction.now }
 {
-    matches!(instruction, Instruction::Read(..) | Instruction::Write(..))
+    matches!(
+        instruction,
+        Instruction::Read(..)
+            | Instruction::Write(..)
+            | Instruction::Say
+            | Instruction::MakeFile(_)
+            | Instruction::Look(..)
+            | Instruction::Link(..)
+            | Instruction::Unlink(..)
+    )
 }
 
-/// What a read or write of a file will do.
-fn access<S: Look>(store: &S, pid: Pid, process: &Process, instruction: &Instruction) -> Row
+/// What a frequent instruction will do, put into a plan.
+#[tactic(auto, using(crate::proofs::Plans::rows))]
+fn frequent<S: Look>(
+    store: &S,
+    pid: Pid,
+    process: &Process,
+    instruction: &Instruction,
+    plan: &mut Plan,
+)
     requires place { process.now.place + 1 < 2 ^ 32 }
-    requires access { is_access instruction.now ≡ true }
-    ensures { PlansRow (S.look store.now) process.now pid (row pid process.now instruction.now)
-        (Ok result) }
+    requires frequent { is_frequent instruction.now ≡ true }
+    ensures { PlansAfter (S.look store.now) (Some instruction.now) Input.None process.now [] pid
+        (row pid process.now instruction.now) (Ok plan.new) }
 {
     match instruction {
-        Instruction::Read(file, at) => files::read(store, pid, process, *file, *at),
-        Instruction::Write(file, at) => files::write(store, pid, process, *file, *at),
+        Instruction::Read(file, at) => {
+            *plan = Plan::Acts(files::read(store, pid, process, *file, *at));
+        }
+        Instruction::Write(file, at) => {
+            *plan = Plan::Acts(files::write(store, pid, process, *file, *at));
+        }
+        Instruction::Say => *plan = Plan::Speaks,
+        Instruction::MakeFile(to) => files::put_made(store, pid, process, *to, Kind::File, plan),
+        Instruction::Look(to, at, name) => {
+            names::put_look(store, pid, process, *to, *at, name, plan);
+        }
+        Instruction::Link(at, name, object) => {
+            names::put_link(store, pid, process, *at, name, *object, plan);
+        }
+        Instruction::Unlink(at, name) => names::put_unlink(store, pid, process, *at, name, plan),
         _ => unreachable!(),
     }
 }
 
-/// What another instruction will do that is not private, without input.
+/// What an instruction will do that is neither private nor frequent, without input.
 #[tactic(auto, using(crate::proofs::Plans::rows))]
 fn tabled<S: Look>(
     store: &S,
@@ -100,24 +129,15 @@ fn tabled<S: Look>(
 ) -> Result<Plan, Refusal>
     requires place { process.now.place + 1 < 2 ^ 32 }
     requires other { is_some (private_step process.now instruction.now) ≡ false }
-    requires access { is_access instruction.now ≡ false }
+    requires frequent { is_frequent instruction.now ≡ false }
     ensures { PlansAfter (S.look store.now) (Some instruction.now) Input.None process.now [] pid
         (row pid process.now instruction.now) result }
 {
     Ok(match instruction {
         Instruction::Handler(place) => alone_does(Becomes::Handler(*place)),
         Instruction::Return => alone_does(Becomes::Returns),
-        Instruction::Say => Plan::Speaks,
-        Instruction::MakeFile(to) => Plan::Acts(files::made(store, pid, process, *to, Kind::File)),
         Instruction::MakeDir(to) => Plan::Acts(files::made(store, pid, process, *to, Kind::Dir)),
         Instruction::MakePipe(to) => Plan::Acts(files::made(store, pid, process, *to, Kind::Pipe)),
-        Instruction::Look(to, at, name) => {
-            Plan::Acts(names::look(store, pid, process, *to, *at, name))
-        }
-        Instruction::Link(at, name, object) => {
-            Plan::Acts(names::link(store, pid, process, *at, name, *object))
-        }
-        Instruction::Unlink(at, name) => Plan::Acts(names::unlink(store, pid, process, *at, name)),
         Instruction::Size(file) => Plan::Acts(files::size(store, pid, process, *file)),
         Instruction::Cut(file, size) => Plan::Acts(files::cut(store, pid, process, *file, *size)),
         Instruction::Put(pipe) => return plan_of(pipes::put(store, pid, process, *pipe)),
@@ -161,7 +181,7 @@ fn put_tabled<S: Look>(
 ) -> Result<(), Refusal>
     requires place { process.now.place + 1 < 2 ^ 32 }
     requires other { is_some (private_step process.now instruction.now) ≡ false }
-    requires access { is_access instruction.now ≡ false }
+    requires frequent { is_frequent instruction.now ≡ false }
     ensures { PlansAfter (S.look store.now) (Some instruction.now) Input.None process.now [] pid
         (row pid process.now instruction.now) (told result plan.new) }
 {
@@ -182,8 +202,8 @@ fn acted<S: Look>(
     ensures { PlansAfter (S.look store.now) (Some instruction.now) Input.None process.now [] pid
         (row pid process.now instruction.now) (told result plan.new) }
 {
-    if is_access(instruction) {
-        *plan = Plan::Acts(access(store, pid, process, instruction));
+    if is_frequent(instruction) {
+        frequent(store, pid, process, instruction, plan);
         return Ok(());
     }
     put_tabled(store, pid, process, instruction, plan)

@@ -209,6 +209,10 @@ impl Keeper for Store {
         true
     }
 
+    fn become_unnoted<C: Becoming>(&mut self, pid: Pid, by: &C) {
+        become_in(self, pid, by);
+    }
+
     fn change_both<C: Becoming>(
         &mut self,
         entity: &Entity,

@@ -70,6 +70,14 @@ pub trait Keeper: Look {
     fn goes_unnoted(&self, pid: Pid) -> bool
         ensures { result ≡ goes_unnoted self.now pid };
 
+    /// Changes a process where it stands, of which nothing is noted, as the last write of a step. This takes
+    /// no memory.
+    fn become_unnoted<C: Becoming>(&mut self, pid: Pid, by: &C)
+        requires unnoted { goes_unnoted self.old pid ≡ true }
+        requires can { CanBecome (C.can by.now) (Self.look self.old (Proc pid)) }
+        ensures { self.new ≡ wrote self.old (Proc pid)
+            (Some (became (C.after by.now) (Self.look self.old (Proc pid)))) };
+
     /// Changes the value of an entity and then a process, of which nothing is noted, as the last writes of a
     /// step. Without memory nothing has changed.
     fn change_both<C: Becoming>(

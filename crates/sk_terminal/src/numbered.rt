@@ -63,15 +63,15 @@ impl Numbered {
     }
 
     /// Says a text to a terminal. Without memory everything is as it was.
-    pub(crate) fn say(&mut self, number: u16, text: Text, tags: TagSet) -> Result<(), AllocError>
-        ensures ok { OnOk result (self.new ≡ said_to self.old number (text, tags)) }
+    pub(crate) fn say(&mut self, number: u16, text: &Text, tags: TagSet) -> Result<(), AllocError>
+        ensures ok { OnOk result (self.new ≡ said_to self.old number (text.now, tags)) }
         ensures err { OnErr result (self.new ≡ self.old) }
     {
         if let Some(terminal) = self.terminals.get_mut(&number) {
-            return terminal.say(text, tags);
+            return terminal.say_lent(text, tags);
         }
         let mut terminal = Terminal::new(self.terminals.alloc());
-        terminal.say(text, tags)?;
+        terminal.say_lent(text, tags)?;
         self.terminals.put(number, terminal)
     }
 

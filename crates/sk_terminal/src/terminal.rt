@@ -106,14 +106,22 @@ impl Terminal {
         ensures said { OnOk result (self.new ≡ self.old ++ (text, tags) ∷ []) }
         ensures refused { OnErr result (self.new ≡ self.old) }
     {
+        self.say_lent(&text, tags)
+    }
+
+    /// The same of a text that is lent: one that goes out at once is copied to those that are out, and nowhere else.
+    pub(crate) fn say_lent(&mut self, text: &Text, tags: TagSet) -> Result<(), AllocError>
+        ensures said { OnOk result (self.new ≡ self.old ++ (text.now, tags) ∷ []) }
+        ensures refused { OnErr result (self.new ≡ self.old) }
+    {
         if self.waiting.is_empty() && tags.ids().is_empty() {
             self.out.reserve(1)?;
-            self.out.push_reserved(text);
+            self.out.push_reserved(*text);
             return Ok(());
         }
         self.out.reserve(self.waiting.len() + 1)?;
         let newest = newest_of(self.newest, &tags);
-        let said = BufferedText::new(text, tags);
+        let said = BufferedText::new(*text, tags);
         self.waiting.push(Held { said, newest })?;
         self.newest = newest;
         release(&mut self.out, &mut self.waiting);

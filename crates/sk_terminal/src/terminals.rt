@@ -83,8 +83,8 @@ impl Terminals {
     }
 
     /// Says a text to a terminal. Without memory everything is as it was.
-    pub fn say(&mut self, number: u16, text: Text, tags: TagSet) -> Result<(), AllocError>
-        ensures ok { OnOk result (self.new ≡ said_to self.old number (text, tags)) }
+    pub fn say(&mut self, number: u16, text: &Text, tags: TagSet) -> Result<(), AllocError>
+        ensures ok { OnOk result (self.new ≡ said_to self.old number (text.now, tags)) }
         ensures err { OnErr result (self.new ≡ self.old) }
     {
         say_or_not(
@@ -123,12 +123,12 @@ fn say_listed(
     numbered: &mut Numbered,
     lists: &mut Vec<Listing>,
     number: u16,
-    text: Text,
+    text: &Text,
     tags: TagSet,
 ) -> Result<(), AllocError>
     requires tidy { AreTidy lists.old.items }
     requires listed { AreListed numbered.old lists.old.items }
-    ensures ok { OnOk result (numbered.new ≡ said_to numbered.old number (text, tags)) }
+    ensures ok { OnOk result (numbered.new ≡ said_to numbered.old number (text.now, tags)) }
     ensures listed { OnOk result (AreListed numbered.new lists.new.items) }
     ensures err { OnErr result (numbered.new ≡ numbered.old) }
     ensures more { OnErr result (ListsAtMost number lists.old.items lists.new.items) }
@@ -145,12 +145,12 @@ fn say_or_not(
     numbered: &mut Numbered,
     lists: &mut Vec<Listing>,
     number: u16,
-    text: Text,
+    text: &Text,
     tags: TagSet,
 ) -> Result<(), AllocError>
     requires tidy { AreTidy lists.old.items }
     requires listed { AreListed numbered.old lists.old.items }
-    ensures ok { OnOk result (numbered.new ≡ said_to numbered.old number (text, tags)) }
+    ensures ok { OnOk result (numbered.new ≡ said_to numbered.old number (text.now, tags)) }
     ensures err { OnErr result (numbered.new ≡ numbered.old) }
     ensures listed { AreListed numbered.new lists.new.items }
     ensures tidy { AreTidy lists.new.items }

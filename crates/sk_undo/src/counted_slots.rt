@@ -17,7 +17,7 @@ ghost use Rattle.sk_undo.specs.Logs.{look_at, log_at, goes_on_at, is_unnoted, mo
 ghost use Rattle.sk_undo.specs.Names.{IsCounted, count_for, link_there, recounted};
 ghost use Rattle.sk_undo.specs.Decisions.{ChangedAt, SlotUnwound, Unwound, Lightened, AreListed, AllRest, AllGrow, NoneBare};
 
-use crate::{Names, Slots, TakeBack};
+use crate::{BoxedState, Names, Slots, TakeBack};
 use sk_changes::Change;
 use sk_ids::{Entity, GuessId, ObjId, Pid, TagSet};
 use sk_store::{Becoming, EntityState, Store};
@@ -72,6 +72,7 @@ fn move_over(
     let Some(state) = store.remove(*entity) else {
         return Ok(());
     };
+    let state = BoxedState::new(slots.alloc(), state)?;
     slots.set(entity, untagged, state)?;
     Ok(())
 }
@@ -162,7 +163,7 @@ impl CountedSlots {
         &mut self,
         entity: &Entity,
         tags: &TagSet,
-        value: EntityState,
+        value: BoxedState,
     ) -> Result<TakeBack, AllocError>
         ensures ok { OnOk result
             (self.new ≡ slots_wrote tags.now self.old entity.now (Some value)) }
@@ -230,6 +231,16 @@ impl CountedSlots {
         ensures { result ≡ is_unnoted tags.now self.now (Proc pid) }
     {
         self.slots.goes_unnoted(pid, tags)
+    }
+
+    /// Changes a process where it stands, of which nothing is noted. This takes no memory.
+    pub fn become_unnoted<C: Becoming>(&mut self, pid: Pid, tags: &TagSet, by: &C)
+        requires unnoted { is_unnoted tags.now self.old (Proc pid) ≡ true }
+        requires can { CanBecome (C.can by.now) (look_at self.old (Proc pid)) }
+        ensures { self.new ≡ slots_wrote tags.now self.old (Proc pid)
+            (Some (became (C.after by.now) (look_at self.old (Proc pid)))) }
+    {
+        self.slots.become_unnoted(pid, tags, by);
     }
 
     /// Changes the value of an entity and then a process, of which nothing is noted. Without memory nothing

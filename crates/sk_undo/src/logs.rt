@@ -16,7 +16,7 @@ ghost use Rattle.sk_store.specs.Names.{IsCount, name_there};
 ghost use Rattle.sk_undo.specs.Log.{is_empty};
 ghost use Rattle.sk_undo.specs.Decisions.{Unwound, Lightened, AreListed, AllRest, AllGrow, NoneBare};
 
-use crate::{CountedSlots, TakeBack};
+use crate::{BoxedState, CountedSlots, TakeBack};
 use sk_changes::Change;
 use sk_ids::{Entity, GuessId, ObjId, Pid, TagSet};
 use sk_store::{Becoming, EntityState, Keeper, Look, Store};
@@ -243,6 +243,7 @@ impl Keeper for Logs {
     }
 
     fn write(&mut self, entity: Entity, stored: EntityState) -> Result<EntityUndo, AllocError> {
+        let stored = BoxedState::new(self.slots.alloc(), stored)?;
         let how = self.slots.set(&entity, &self.tags, stored)?;
         Ok(EntityUndo { entity, how })
     }
@@ -258,6 +259,10 @@ impl Keeper for Logs {
 
     fn goes_unnoted(&self, pid: Pid) -> bool {
         self.slots.goes_unnoted(pid, &self.tags)
+    }
+
+    fn become_unnoted<C: Becoming>(&mut self, pid: Pid, by: &C) {
+        self.slots.become_unnoted(pid, &self.tags, by);
     }
 
     fn change_both<C: Becoming>(

@@ -177,7 +177,7 @@ impl Slots {
         &mut self,
         entity: &Entity,
         tags: &TagSet,
-        value: EntityState,
+        value: BoxedState,
     ) -> Result<TakeBack, AllocError>
         ensures ok { OnOk result
             (self.new ≡ slots_wrote tags.now self.old entity.now (Some value)) }
@@ -185,7 +185,6 @@ impl Slots {
         ensures back { IfOk result (λ how. slots_back self.new entity.now how ≡ self.old) }
         ensures err { OnErr result (self.new ≡ self.old) }
     {
-        let value = BoxedState::new(self.alloc(), value)?;
         if let Some(slot) = self.slot_mut(entity) {
             let back = slot.set(tags, Some(value))?;
             return Ok(TakeBack::UndoLast(back));
@@ -295,7 +294,7 @@ impl Slots {
     }
 
     /// Changes a process where it stands, of which nothing is noted.
-    fn become_unnoted<C: Becoming>(&mut self, pid: Pid, tags: &TagSet, by: &C)
+    pub fn become_unnoted<C: Becoming>(&mut self, pid: Pid, tags: &TagSet, by: &C)
         requires unnoted { is_unnoted tags.now self.old (Proc pid) ≡ true }
         requires can { CanBecome (C.can by.now) (look_at self.old (Proc pid)) }
         ensures { self.new ≡ slots_wrote tags.now self.old (Proc pid)

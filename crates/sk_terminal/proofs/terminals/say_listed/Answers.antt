@@ -11,4 +11,4 @@ returns-in_err-say-clause-more c =
 pub returns-clause-listed : goal.returns-clause-listed
 returns-clause-listed c =
     subst (λ m. AreListed m c.list.new.lists.items) (sym c.in_ok-say.ensures.ok)
-    (said_listed c.args.numbered.now c.args.lists.now.items c.list.new.lists.items c.args.number (c.args.text, c.args.tags) c.requires.listed c.in_ok-list.ensures.ok)
+    (said_listed c.args.numbered.now c.args.lists.now.items c.list.new.lists.items c.args.number (c.args.text.now, c.args.tags) c.requires.listed c.in_ok-list.ensures.ok)

@@ -14,7 +14,7 @@ pub returns-in-Some-clause-ok : goal.returns-in-Some-clause-ok
 returns-in-Some-clause-ok c =
     (rw c.in-Some.is at (c.slot_mut.follows.holds c.set.new.self))
     ∙ given c.args.self.now c.args.entity.now _ c.set.new.self (λ s. slot_wrote c.args.tags.now s (Some c.args.value)) c.in-Some.ensures.value
-    (c.in_ok-back.ensures.ok ∙ ap (λ v. slot_wrote c.args.tags.now c.in-Some.slot.now (Some v)) c.in_ok-value.ensures)
+    c.in_ok-back.ensures.ok
 
 pub returns-in-Some-clause-can : goal.returns-in-Some-clause-can
 returns-in-Some-clause-can c =

@@ -1,7 +1,7 @@
 -- The new text's number is at least those before it.
 use Rattle.sk_terminal.proofs.Names.{List, refl, sym, ◌∙◌, ap, subst, has, TaggedText, AreBounded, Held}
 use Rattle.sk_terminal.proofs.HeldTexts.{bounded_more}
-use Rattle.sk_terminal.proofs.terminal.Terminal.say.Goals as goal
+use Rattle.sk_terminal.proofs.terminal.Terminal.say_lent.Goals as goal
 
 pub invariant_of-self-2 : goal.invariant_of-self-2
 invariant_of-self-2 c =

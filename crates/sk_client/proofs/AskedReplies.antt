@@ -1,10 +1,10 @@
 -- The step of an asked request is accepted, told of a world's calls.
-use Rattle.sk_client.proofs.Names.{◌≡◌, ℕ, Bool, true, false, cond, List, [], ◌∷◌, length, Option, Some, None, Ok, Err}
-use Rattle.sk_client.proofs.Names.{refl, sym, ◌∙◌, ap, subst, has, Input, KernelView, record_at, last_guess}
-use Rattle.sk_client.proofs.Names.{undecided_at, step_refused, with_event, Answer, Reply, TakesStep, StepsAreTaken}
-use Rattle.sk_client.proofs.Names.{ForgottenAreDropped, DeskView, entry, is_void, input_of, stepped, answered, given_to}
-use Rattle.sk_client.proofs.Names.{given, decision_answer, step_answer, given_answer, Exchanges, Leads, Begins}
-use Rattle.sk_client.proofs.Names.{WorldView, IsJoined, Replies, PendingRequest, Given, WorldEvent}
+use Rattle.sk_client.proofs.Names.{Some, Bool, subst, refl, [], ◌∷◌, Option, List, ℕ, true, sym, cond, ap, length}
+use Rattle.sk_client.proofs.Names.{false, Ok, Err, ◌≡◌, None, ◌∙◌, ForgottenAreDropped, TakesStep, StepsAreTaken}
+use Rattle.sk_client.proofs.Names.{is_void, decision_answer, given, answered, given_to, input_of, entry, stepped}
+use Rattle.sk_client.proofs.Names.{step_answer, given_answer, DeskView, Exchanges, Leads, Begins, IsJoined, WorldView}
+use Rattle.sk_client.proofs.Names.{Replies, Given, PendingRequest, WorldEvent, with_event, undecided_at, step_refused}
+use Rattle.sk_client.proofs.Names.{last_guess, KernelView, record_at, has, Input, Answer, Reply}
 use Rattle.sk_trace.specs.declared.event.Event.TheVariants.{Step}
 use Rattle.sk_server.specs.declared.reply.Answer.TheVariants as answers
 use Rattle.sk_client.specs.Desk.{answer_to}
@@ -80,7 +80,7 @@ desk_after d q a number t accepted =
 module _ (drawn begun : ℕ) (old : World) (xs : Exchanges) (v : WorldView) (r : Comes drawn begun old xs v) where
   module _ (p : Reply) (rs : List Reply) (is : v.replies ≡ p ∷ rs) (o : Oldest v.desk p rs v.back) where
     sound : (p.answer ≡ answers.Dropped → ⊥) → is_void v.desk.kernel o.request ≡ true → ⊥
-    sound = whole drawn begun old xs v r.0 o.request o.later rs p.answer (comes drawn begun old xs v r.0 p rs is o)
+    sound = whole drawn begun old xs v o.request o.later p.number rs p.answer (comes drawn begun old xs v r.0 p rs is o)
 
     forgotten : (n : ℕ) (a : Answer) → p.answer ≡ a → gives.Forgotten n ≡ answer_to v.desk.kernel o.request p.answer o.request.guess → a ≡ answers.Dropped
     forgotten n answers.Dropped its h = refl
@@ -96,7 +96,7 @@ module _ (drawn begun : ℕ) (old : World) (xs : Exchanges) (v : WorldView) (r :
   takes n new (p ∷ rs) is h =
       let o = oldest_here p rs is in
       let t = took v.desk.kernel o.request p.answer n o.request.guess refl (h.0.1 ∙ ap (given_answer v.desk p) o.taken) in
-      let ok = accepted drawn begun old xs v r.0 o.request o.later rs p.answer (comes drawn begun old xs v r.0 p rs is o) t.asked t.input t.gives in
+      let ok = accepted drawn begun old xs v o.request o.later p.number rs p.answer (comes drawn begun old xs v r.0 p rs is o) t.asked t.input t.gives in
       let desk : new.desk ≡ record v.desk { taken = o.later; kernel = with_event v.desk.kernel (Step o.request.process t.input) } =
       h.0.2 ∙ ap (given v.desk p) o.taken ∙ desk_after (record v.desk { taken = o.later }) o.request p.answer n t ok in
       record {

@@ -1,12 +1,11 @@
 -- The kernel of a desk, each of whose entries has why it is there, over a table of instructions;
 -- and what the table has to say.
-use Rattle.sk_client.proofs.Names.{◌⊎◌, nat_le, if◌then◌else◌, Input, Good, Ask, Get, Check, Store, Answer}
-use Rattle.sk_client.proofs.Names.{PendingRequest, filter, list_any, Contains, IsTotalOrder, Ordering, FinMap}
-use Rattle.sk_client.proofs.Names.{IsAntisymmetric, Step, Effect, is_in, dirt, System, outcome, run, effects, has}
-use Rattle.sk_client.proofs.Names.{Event, record_of, undecided_of, is_commit, ContentView, Refusal, name_of, Bytes}
-use Rattle.sk_client.proofs.Names.{copy_of, entity_cmp, Entity, Proc, Copy, LAST_VERSION, EntityState, EntryView}
-use Rattle.sk_client.proofs.Names.{Scripts, Saying, act}
-use Rattle.std.specs.Prelude.{◌≡◌, ℕ, suc, Option, zero, Bool, ◌&&◌, ◌||◌, not, List, [], ◌∷◌, map, Some, None, Ok}
+use Rattle.sk_client.proofs.Names.{IsTotalOrder, IsAntisymmetric, FinMap, list_any, Contains, ◌⊎◌, Ordering}
+use Rattle.sk_client.proofs.Names.{DoesAsked, name_of, Bytes, PendingRequest, entity_cmp, Entity, Copy, Proc}
+use Rattle.sk_client.proofs.Names.{LAST_VERSION, act, Saying, Scripts, Refusal, is_commit, has, run, System, outcome}
+use Rattle.sk_client.proofs.Names.{Step, Effect, Event, record_of, undecided_of, Input, Good, Answer, Ask}
+use Rattle.sk_client.proofs.Names.{EntityState, EntryView}
+use Rattle.std.specs.Prelude.{◌≡◌, ℕ, Option, zero, Bool, ◌&&◌, not, List, map, Some, None, Ok}
 
 -- why an entry is in the record, which no step looks at: it was there when the world began; it is a turn that asked
 -- nothing of the server; it belongs to a request
@@ -26,14 +25,15 @@ abbrev pub Served : Type 0
 Served = PendingRequest × Answer
 
 -- the instruction table, as far as a desk looks at it
-pub record Table (E V W F : Type 0) : Type 0 where
+pub record Table (E V W F : Type 0) : Type 1 where
   pub order : E → E → Ordering
   pub goes_to : W → ℕ
   -- the step of a process with an input
   pub act : ℕ → Input → Step E V W F
   pub proc : ℕ → E
   pub copy : Bytes → E
-  pub content : ContentView → V
+  -- what a step with Good writes for what is asked
+  pub does : Ask → List (E × Option V) → Type 0
   -- the last version
   pub last : ℕ
 
@@ -41,11 +41,6 @@ pub record Table (E V W F : Type 0) : Type 0 where
 abbrev pub or_zero : Option ℕ → ℕ
 or_zero None = zero
 or_zero (Some v) = v
-
--- the least of these numbers and d
-abbrev pub least : ℕ → List ℕ → ℕ
-least d [] = d
-least d (g ∷ gs) = if nat_le g (least d gs) then g else least d gs
 
 -- the entry of a turn that asks nothing of the server
 abbrev pub own : ℕ → Input → Caused
@@ -68,16 +63,6 @@ module _ {E V W F : Type 0} (S : Table E V W F) where
     abbrev pub undecided : List (Event Caused) → List ℕ
     undecided es = undecided_of kernel start es
 
-    -- the guess is among the tags of the process or of the copy
-    abbrev pub is_tag : List (Event Caused) → ℕ → Bytes → ℕ → Bool
-    is_tag es p m g =
-        is_in S.order (dirt S.order g [] (effects kernel start (record_of kernel start es))) (S.proc p)
-        || is_in S.order (dirt S.order g [] (effects kernel start (record_of kernel start es))) (S.copy m)
-
-    -- the undecided guesses that a fetch or store of the name by the process depends on
-    abbrev pub rests_of : List (Event Caused) → ℕ → Bytes → List ℕ
-    rests_of es p m = filter (is_tag es p m) (undecided es)
-
     -- a guess that failed or was struck
     abbrev pub is_lost : List (Event Caused) → ℕ → Bool
     is_lost es g = not (has g (undecided es)) && not (list_any (is_commit g) es)
@@ -93,7 +78,7 @@ table scripts = record {
   act = λ pid x. act scripts pid x;
   proc = Proc;
   copy = Copy;
-  content = λ c. copy_of c;
+  does = λ ask ws. DoesAsked ask ws;
   last = LAST_VERSION;
 }
 
@@ -104,12 +89,9 @@ bare n = record { pid = n.process; input = n.input; guess = n.guess }
 -- ---- what the table has to say
 
 module _ {E V W F : Type 0} (S : Table E V W F) where
-  -- what a fetch or store with Good writes: a store sets the copy, a fetch of a copy that is there writes no copy, and one of a copy that is
-  -- not never gets Good
+  -- what a fetch or store with Good writes
   abbrev pub Sets : Ask → Input → List (E × Option V) → Type 0
-  Sets (Store m v b) Good ws = Contains ws (S.copy m, Some (S.content (record { version = suc v; bytes = b })))
-  Sets (Check m v) Good ws = (n : Bytes) → Contains (map (λ w. w.0) ws) (S.copy n) → ⊥
-  Sets (Get m) Good ws = ⊥
+  Sets ask Good ws = S.does ask ws
   Sets ask x ws = Unit {0}
 
   -- an entity is the process or the copy

@@ -1,22 +1,22 @@
 -- What the definitions of a desk come to; and what it lends, from what its kernel would lend.
-use Rattle.sk_client.proofs.Names.{Bor, drop, get_or, ◌≡◌, ℕ, ◌+◌, ◌-◌, ◌<◌, ◌≤◌, Bool, true, false, not, ◌&&◌, ◌||◌}
-use Rattle.sk_client.proofs.Names.{cond, List, [], ◌∷◌, ◌++◌, length, Option, Some, None, Result, Ok, Err, inl, inr}
-use Rattle.sk_client.proofs.Names.{refl, sym, ◌∙◌, ap, subst, arith, ◌↔◌, ◌==◌, nat_lt, IfOk, AllocError, nat_cmp}
-use Rattle.sk_client.proofs.Names.{both_ways, filter, list_any, IsStrictlySortedBy, false_from_ne_true, le-ltb}
-use Rattle.sk_client.proofs.Names.{or_cases, and_both, length-append, append_assoc, append-nil, drop_more}
-use Rattle.sk_client.proofs.Names.{IsStrictlySortedBy-filter, filter-append, get, has, Effect, StatusIs, marks, Status}
-use Rattle.sk_client.proofs.Names.{Undecided, Committed, is_commit, has_commit, is_undecided, one_status, has_filter}
-use Rattle.sk_client.proofs.Names.{same_rising, Answer, Reply, Input, Entity, Proc, CopyOf, Value, EntityState, plain}
-use Rattle.sk_client.proofs.Names.{Saying, image, Shows, IsReply, refusal_of, NoneAdded, reply_adds, Refusal, Blocked}
-use Rattle.sk_client.proofs.Names.{TraceFull, KernelView, HasStatus, events_of, tags_at, undecided_at, room, state_at}
-use Rattle.sk_client.proofs.Names.{effect_at, crowded, no_room, or_else, trace_full, step_misfit, step_refused}
-use Rattle.sk_client.proofs.Names.{guess_refused, guess_misfits, too_many, next_guess, with_event, HasSoundTrace}
-use Rattle.sk_client.proofs.Names.{StatusOr, beyond, undecided_sorted, PendingRequest, commits, HolderView, DecidesPost}
-use Rattle.sk_client.proofs.Names.{Outcome, buffer_of, KeptAnswer, guesses_of, IsTidy, DeskView, pending, is_asked}
-use Rattle.sk_client.proofs.Names.{asked_count, no_place, rule_refused, rests_of, is_lost, lost_by, guess_refused_at}
-use Rattle.sk_client.proofs.Names.{no_number, kept_for, entry, input_of, decided, given_to, given, asks_for, LeaseView}
-use Rattle.sk_client.proofs.Names.{Lends, lease_of, blocked_why, unless_asked, desk_lease}
-use Rattle.sk_client.proofs.Names.{and-false}
+use Rattle.sk_client.proofs.Names.{Some, Bool, subst, ◌-◌, arith, ◌++◌, refl, [], ◌∷◌, inl, Option, List, get_or, ℕ}
+use Rattle.sk_client.proofs.Names.{true, sym, not, cond, inr, ap, Bor, length, ◌≤◌, false, Ok, ◌&&◌, Err, ◌≡◌, ◌+◌}
+use Rattle.sk_client.proofs.Names.{◌||◌, drop, None, ◌<◌, Result, ◌∙◌, false_from_ne_true, or_cases, le-ltb}
+use Rattle.sk_client.proofs.Names.{drop_more, append_assoc, length-append, append-nil, filter-append}
+use Rattle.sk_client.proofs.Names.{IsStrictlySortedBy-filter, both_ways, get, list_any, filter, IsStrictlySortedBy}
+use Rattle.sk_client.proofs.Names.{nat_cmp, ◌↔◌, ◌==◌, IfOk, nat_lt, AllocError, commits, is_lost, lost_by, given}
+use Rattle.sk_client.proofs.Names.{given_to, no_number, asked_count, decided, input_of, pending, rests_of, asks_for}
+use Rattle.sk_client.proofs.Names.{entry, kept_for, no_place, rule_refused, guess_refused_at, DeskView, is_asked}
+use Rattle.sk_client.proofs.Names.{IsTidy, guesses_of, unless_asked, blocked_why, desk_lease, buffer_of, KeptAnswer}
+use Rattle.sk_client.proofs.Names.{PendingRequest, HolderView, DecidesPost, Entity, CopyOf, Proc, undecided_sorted}
+use Rattle.sk_client.proofs.Names.{effect_at, state_at, room, no_room, with_event, undecided_at, step_refused}
+use Rattle.sk_client.proofs.Names.{trace_full, tags_at, guess_refused, HasStatus, next_guess, KernelView, crowded}
+use Rattle.sk_client.proofs.Names.{step_misfit, too_many, or_else, guess_misfits, events_of, HasSoundTrace, Outcome}
+use Rattle.sk_client.proofs.Names.{Value, NoneAdded, reply_adds, Saying, plain, lease_of, Lends, IsReply, refusal_of}
+use Rattle.sk_client.proofs.Names.{image, Shows, Refusal, Blocked, TraceFull, beyond, has_filter, same_rising}
+use Rattle.sk_client.proofs.Names.{has_commit, is_undecided, is_commit, one_status, and_both, StatusOr, has, Effect}
+use Rattle.sk_client.proofs.Names.{StatusIs, marks, Status, Committed, Undecided, LeaseView, Input, Answer, Reply}
+use Rattle.sk_client.proofs.Names.{EntityState, and-false}
 use Rattle.sk_server.specs.declared.reply.Answer.TheVariants as answers
 use Rattle.sk_script.specs.declared.instruction.Input.TheVariants as inputs
 use Rattle.sk_store.specs.declared.entity_state.EntityState.TheVariants as stored

@@ -1,10 +1,9 @@
 -- Parts of two lists side by side, and membership.
-use Rattle.sk_client.proofs.Names.{◌≡◌, ℕ, Bool, true, false, cond, List, [], ◌∷◌, ◌++◌, inl, inr, refl, sym, ◌∙◌, ap}
-use Rattle.sk_client.proofs.Names.{subst, arith, zero, suc, ◌≤◌, length, Some, ◌⊎◌, ◌==◌, list_any, Contains, filter}
-use Rattle.sk_client.proofs.Names.{or_parts, or_left, or_right, or_cases, true≢false, eq-eqb, eqb-true, cases_Bool}
-use Rattle.sk_client.proofs.Names.{list_any-append, Contains-push_cases}
-use Rattle.sk_client.proofs.Names.{keep, has, paired}
-use Rattle.sk_client.proofs.Names.{cons_cases, cons_first, cons_later, no_member}
+use Rattle.sk_client.proofs.Names.{Some, Bool, subst, arith, ◌++◌, suc, refl, [], ◌∷◌, inl, List, ℕ, true, sym, cond}
+use Rattle.sk_client.proofs.Names.{inr, zero, ap, length, ◌≤◌, false, ◌≡◌, ◌∙◌, cases_Bool, or_right, or_parts}
+use Rattle.sk_client.proofs.Names.{eqb-true, eq-eqb, true≢false, or_left, Contains-push_cases, list_any-append}
+use Rattle.sk_client.proofs.Names.{list_any, filter, Contains, ◌==◌, ◌⊎◌, paired, cons_cases, cons_first, cons_later}
+use Rattle.sk_client.proofs.Names.{no_member, keep, has}
 use Rattle.std.proofs.Common.{slice_get}
 use Rattle.std.specs.Prelude.{◌||◌, map}
 
@@ -103,9 +102,6 @@ at_other k a f x apart =
     ]
 
 -- ---- numbers in a list
-pub has_from : (x : ℕ) (xs ys : List ℕ) → has x (xs ++ ys) ≡ true → (has x xs ≡ true) ⊎ (has x ys ≡ true)
-has_from x xs ys h = or_cases (has x xs) (has x ys) (sym (list_any-append (λ t. t == x) xs ys) ∙ h)
-
 pub has_left : (x : ℕ) (xs ys : List ℕ) → has x xs ≡ true → has x (xs ++ ys) ≡ true
 has_left x xs ys h = list_any-append (λ t. t == x) xs ys ∙ or_left (has x xs) (has x ys) h
 

@@ -1,43 +1,23 @@
 -- What holds of a world stays so: by each event of its kernel, by a question, by an answer of the server, by a reply that is given.
-use Rattle.sk_client.proofs.Names.{◌≡◌, ℕ, ◌≤◌, ◌<◌, true, false, not, ◌&&◌, List, [], ◌∷◌, ◌++◌, Option, Some, None}
-use Rattle.sk_client.proofs.Names.{Ok, inl, inr, refl, sym, ◌∙◌, ap, subst, suc, Bool, cond, le_trans, arith, ◌⊎◌}
-use Rattle.sk_client.proofs.Names.{is_ok, ◌==◌, nat_le, list_any, Contains, FinMap, get, or_from, true≢false}
-use Rattle.sk_client.proofs.Names.{false_from_ne_true, cases_Bool, eqb-true, or_cases, cases_eq, leb-true, leb-false}
-use Rattle.sk_client.proofs.Names.{Contains-push_cases, Contains-append_left, Contains-push, list_any-append, Effect}
-use Rattle.sk_client.proofs.Names.{hit, dirt, outcome, marked_effect, run, effects, struck, strike, has, Event, Taken}
-use Rattle.sk_client.proofs.Names.{Commit, Fail, HasEntry, IsSound, record_of, undecided_of, no_record, all_recorded}
-use Rattle.sk_client.proofs.Names.{own_dirt, has_filter, and_both, record_more, sound_taken, sound_commit, sound_fail}
-use Rattle.sk_client.proofs.Names.{drawn_more, undecided_is, fresh_from, entries_are, has_commit, is_commit, has_entry}
-use Rattle.sk_client.proofs.Names.{Input, Good, Yes, Dropped, PendingRequest, name_of, sent, input_of, Store, Answer}
-use Rattle.sk_client.proofs.Names.{remembered, Bytes, cons_first, cons_later}
-use Rattle.sk_client.proofs.Names.{not-true}
-use Rattle.sk_client.proofs.CausedWorld.{For, Caused, Served, Table, kernel, is_lost, least, rests_of, Sets, IsTable, Takes}
+use Rattle.sk_client.proofs.Names.{Some, Bool, subst, arith, ◌++◌, suc, refl, [], ◌∷◌, inl, Option, List, ℕ, true}
+use Rattle.sk_client.proofs.Names.{sym, not, inr, ap, ◌≤◌, false, Ok, ◌&&◌, ◌≡◌, None, ◌<◌, ◌∙◌, cases_Bool, eqb-true}
+use Rattle.sk_client.proofs.Names.{false_from_ne_true, cases_eq, or_from, true≢false, Contains-push}
+use Rattle.sk_client.proofs.Names.{Contains-push_cases, Contains-append_left, list_any-append, get, FinMap, list_any}
+use Rattle.sk_client.proofs.Names.{Contains, ◌⊎◌, is_ok, name_of, input_of, sent, Bytes, PendingRequest, open_taken}
+use Rattle.sk_client.proofs.Names.{open_commit, open_fail, decided_shut, cons_first, cons_later, own_dirt}
+use Rattle.sk_client.proofs.Names.{sound_taken, undecided_is, drawn_more, record_more, has_commit, sound_fail}
+use Rattle.sk_client.proofs.Names.{fresh_from, has_entry, sound_commit, entries_are, is_commit, and_both, hit, dirt}
+use Rattle.sk_client.proofs.Names.{has, effects, run, marked_effect, outcome, Effect, strike, struck, Event, Fail}
+use Rattle.sk_client.proofs.Names.{record_of, Taken, HasEntry, no_record, undecided_of, IsSound, Commit, all_recorded}
+use Rattle.sk_client.proofs.Names.{Input, Good, remembered, Answer, Yes, Dropped, Store, not-true}
+use Rattle.sk_client.proofs.CausedWorld.{For, Caused, Served, Table, kernel, is_lost, Sets, IsTable, Takes}
 use Rattle.sk_client.proofs.Each.{survives, at_number, at_same, at_other, pairs_push}
-use Rattle.sk_client.proofs.TraceFacts.{has_mark, open_taken, open_commit, open_fail, failed_shut, legal_of, entry_drawn, open_entry}
+use Rattle.sk_client.proofs.TraceFacts.{has_mark, legal_of, entry_drawn, open_entry}
 use Rattle.sk_client.proofs.Records.{Quiet, entries_taken, entries_failed, ready_taken, ready_failed, lost_more, ready_kept, tags_of_step}
-use Rattle.sk_client.proofs.Invariant.{never_dropped, Allowed, RestsOnRefused, Entries, Void, tag_at, Ready, HasStep, Invariant, counted, Queue, IsServed, Guesses, ReadyFor, is_accepted, queue_fewer, queue_le, queue_push, remembers_push, still_remembered}
+use Rattle.sk_client.proofs.Invariant.{IsMadeAt, never_dropped, Allowed, RestsOnRefused, Entries, Void, tag_at, Ready, HasStep, Invariant, counted, Queue, IsServed, Guesses, ReadyFor, is_accepted, queue_fewer, queue_le, queue_push, remembers_push, still_remembered}
 
 pub no_guess : (o : Option ℕ) (g : ℕ) → o ≡ None → o ≡ Some g → ⊥
 no_guess o g none some = let same : None ≡ Some g = sym none ∙ some in cc
-
--- the least of some numbers
-less_of : (g m : ℕ) → (cond (nat_le g m) g m ≤ g) × (cond (nat_le g m) g m ≤ m)
-less_of g m = elim (nat_le g m) as (λ b. nat_le g m ≡ b → (cond b g m ≤ g) × (cond b g m ≤ m)) [
-  | true ↦ λ is. (omega arith, leb-true g m is)
-  | false ↦ λ is. (let lt = leb-false g m is in omega (arith, lt), omega arith)
-] refl
-
-pub least_le : (d : ℕ) (gs : List ℕ) → least d gs ≤ d
-least_le d [] = omega arith
-least_le d (g ∷ gs) = le_trans (less_of g (least d gs)).1 (least_le d gs)
-
-pub least_all : (d : ℕ) (gs : List ℕ) (y : ℕ) → has y gs ≡ true → least d gs ≤ y
-least_all d [] y h = absurd (true≢false (sym h))
-least_all d (g ∷ gs) y h =
-    elim (or_cases (g == y) (has y gs) h) [
-      | inl here ↦ subst (λ y. least d (g ∷ gs) ≤ y) (eqb-true g y here) (less_of g (least d gs)).0
-      | inr later ↦ le_trans (less_of g (least d gs)).1 (least_all d gs y later)
-    ]
 
 pub same_request : (q r : PendingRequest) → For q ≡ For r → q ≡ r
 same_request q r is = cc
@@ -167,7 +147,7 @@ module _ {E V W F : Type 0} (S : Table E V W F) (start : FinMap S.order V) (tabl
         let sound = sound_fail K start table.total table.exact es h i.sound undecided in
         let h_le : h ≤ d = i.drawn h (entry_drawn K start es i.sound h (open_entry K start es i.sound h is_open)) in
         let lost : is_lost S start (es ++ e ∷ []) h ≡ true =
-        (let shut = failed_shut K start es h sound in
+        (let shut = decided_shut K start es (Fail h) h sound (inr refl) in
         let none : list_any (is_commit h) (es ++ e ∷ []) ≡ false =
         list_any-append (is_commit h) es (e ∷ []) ∙ or_from _ _ (false_from_ne_true _ (λ is. undecided.0 ((has_commit es h).0 is))) refl in
         λ i. not (shut i) && not (none i)) in
@@ -198,14 +178,6 @@ module _ {E V W F : Type 0} (S : Table E V W F) (start : FinMap S.order V) (tabl
           | inr clean ↦ inr (subst (λ ns. Ready S start ns vs q) (sym same) (ready_failed S start table ns us vs legal h q fewer clean ready))
         ])
 
-  -- what a request rests on
-  pub rests_open : (es : List (Event Caused)) (p : ℕ) (m : Bytes) (y : ℕ) → has y (rests_of S start es p m) ≡ true → has y (undecided_of (kernel S) start es) ≡ true
-  rests_open es p m y h = (and_both _ _ (sym (has_filter (tag_at S start (record_of (kernel S) start es) p m) y (undecided_of (kernel S) start es)) ∙ h)).1
-
-  pub rests_cover : (es : List (Event Caused)) (p : ℕ) (m : Bytes) (y : ℕ) → has y (undecided_of (kernel S) start es) ≡ true → tag_at S start (record_of (kernel S) start es) p m y ≡ true
-      → has y (rests_of S start es p m) ≡ true
-  rests_cover es p m y there tag = has_filter (tag_at S start (record_of (kernel S) start es) p m) y (undecided_of (kernel S) start es) ∙ (λ i. tag i && there i)
-
   open_le : (es : List (Event Caused)) (d : ℕ) (served given : List Served) (pending waiting : List PendingRequest) (memory : List ℕ)
       → Invariant S start es d served given pending waiting memory → (y : ℕ) → has y (undecided_of (kernel S) start es) ≡ true → y ≤ d
   open_le es d served given pending waiting memory i y there = i.drawn y (entry_drawn (kernel S) start es i.sound y (open_entry (kernel S) start es i.sound y there))
@@ -213,14 +185,13 @@ module _ {E V W F : Type 0} (S : Table E V W F) (start : FinMap S.order V) (tabl
   -- ---- a question
   pub inv_ask : (es : List (Event Caused)) (d : ℕ) (served given : List Served) (pending waiting : List PendingRequest) (memory : List ℕ)
       (q : PendingRequest) → Invariant S start es d served given pending waiting memory
-      → q.guess ≡ None → q.rests ≡ rests_of S start es q.process (name_of q.ask) → q.settled ≡ least (suc d) (undecided_of (kernel S) start es)
+      → q.guess ≡ None → IsMadeAt S start es d q
       → ReadyFor S start (run (kernel S) start (record_of (kernel S) start es)) q.process q.ask → (get (run (kernel S) start (record_of (kernel S) start es)) (S.proc q.process) ≡ None → ⊥)
       → ((r : PendingRequest) → Contains pending r → r.guess ≡ None → (r.process ≡ q.process → ⊥) × (name_of r.ask ≡ name_of q.ask → ⊥))
       → Invariant S start es d served given (pending ++ q ∷ []) (waiting ++ q ∷ []) memory
-  inv_ask es d served given pending waiting memory q i asks rests settled ready there blocked =
+  inv_ask es d served given pending waiting memory q i asks made ready there blocked =
       let K = kernel S in
       let us = undecided_of K start es in
-      let opens : (y : ℕ) → has y q.rests ≡ true → has y us ≡ true = λ y h. rests_open es q.process (name_of q.ask) y (ap (has y) (sym rests) ∙ h) in
       record {
         core = record {
           marks = i.marks;
@@ -232,11 +203,11 @@ module _ {E V W F : Type 0} (S : Table E V W F) (start : FinMap S.order V) (tabl
           queue = subst (λ d2. Queue i.made us d2 i.base i.a (waiting ++ q ∷ [])) (ap (λ o. counted o d) asks)
               (queue_push i.made i.made us us d i.base q (record {
                 own = λ g mark. absurd (no_guess q.guess g asks mark);
-                known = λ y h. (opens y h, i.above y (opens y h), open_le es d served given pending waiting memory i y (opens y h));
-                undecided = λ y h. let low = least_all (suc d) us y h in omega arith;
-                next = let low = least_le (suc d) us in omega arith;
+                known = λ y h. let here = made.opens y h in (here, i.above y here, open_le es d served given pending waiting memory i y here);
+                undecided = made.low;
+                next = made.next;
               }) (λ y h. inl h) (λ x le. refl) i.a waiting i.queue);
-          remembers = remembers_push i.bad us us waiting q memory (λ y h is. h) opens i.remembers;
+          remembers = remembers_push i.bad us us waiting q memory (λ y h is. h) made.opens i.remembers;
           answers = i.answers;
         };
         within = i.within;
@@ -244,7 +215,7 @@ module _ {E V W F : Type 0} (S : Table E V W F) (start : FinMap S.order V) (tabl
         asked = λ r h asked. elim (Contains-push_cases pending q r h) [
           | inl before ↦ i.asked r before asked
           | inr is ↦ inr (subst (λ (r : PendingRequest). Ready S start (record_of K start es) us r) is
-              (record { step = ready; there = there; covers = λ y h tag. ap (has y) rests ∙ rests_cover es q.process (name_of q.ask) y h tag }))
+              (record { step = ready; there = there; covers = made.covers }))
         ];
         apart = pairs_push _ pending q i.apart (λ r h asked _. blocked r h asked);
       }
@@ -253,11 +224,11 @@ module _ {E V W F : Type 0} (S : Table E V W F) (start : FinMap S.order V) (tabl
   pub inv_guess : (es : List (Event Caused)) (d : ℕ) (served given : List Served) (pending waiting : List PendingRequest) (memory : List ℕ)
       (q : PendingRequest) (n : Caused) → Invariant S start es d served given pending waiting memory
       → (t : Takes S (run (kernel S) start (record_of (kernel S) start es)) q.process q.ask Good)
-      → q.guess ≡ Some (suc d) → q.rests ≡ rests_of S start es q.process (name_of q.ask) → q.settled ≡ least (suc d) (undecided_of (kernel S) start es)
+      → q.guess ≡ Some (suc d) → IsMadeAt S start es d q
       → n ≡ record { process = q.process; input = Good; guess = q.guess; cause = For q }
       → ((r : PendingRequest) → Contains pending r → r.guess ≡ None → Ready S start (record_of (kernel S) start es) (undecided_of (kernel S) start es) r → Quiet S start table t.effect r.process (name_of r.ask))
       → Invariant S start (es ++ Taken n ∷ []) (suc d) served given (pending ++ q ∷ []) (waiting ++ q ∷ []) memory
-  inv_guess es d served given pending waiting memory q n i t guess rests settled entry quiet =
+  inv_guess es d served given pending waiting memory q n i t guess made entry quiet =
       let K = kernel S in
       let ns = record_of K start es in
       let us = undecided_of K start es in
@@ -268,7 +239,6 @@ module _ {E V W F : Type 0} (S : Table E V W F) (start : FinMap S.order V) (tabl
       let base_le = i.base_le in
       let mark : n.guess ≡ Some (suc d) = ap (λ (n : Caused). n.guess) entry ∙ guess in
       let is_new : (y : ℕ) → n.guess ≡ Some y → y ≡ suc d = λ y is. (let both : Some (suc d) ≡ Some y = sym mark ∙ is in cc) in
-      let opens : (y : ℕ) → has y q.rests ≡ true → has y us ≡ true = λ y h. rests_open es q.process (name_of q.ask) y (ap (has y) (sym rests) ∙ h) in
       let low : (y : ℕ) → has y us ≡ true → y ≤ d = open_le es d served given pending waiting memory i in
       let after : ℕ → PendingRequest = at_number (suc d) q i.made in
       let kept : (x : ℕ) → x ≤ d → after x ≡ i.made x = λ x le. at_other (suc d) q i.made x (λ is. omega arith) in
@@ -298,7 +268,7 @@ module _ {E V W F : Type 0} (S : Table E V W F) (start : FinMap S.order V) (tabl
               let one : q ≡ r = same_request q r (sym cause ∙ is) in
               subst (λ (r : PendingRequest). (has y r.rests ≡ true) ⊎ (r.guess ≡ Some y)) one
               (elim (tags_of_step S start table ns us q.process (name_of q.ask) q.rests n.guess f t.reads t.writes
-              (λ y h tag. ap (has y) rests ∙ rests_cover es q.process (name_of q.ask) y h tag) y
+              made.covers y
               (elim (fewer y h) [ inl was ↦ inl was | inr is ↦ inr (mark ∙ ap Some (sym is)) ]) hits) [
                 | inl carries ↦ inl carries
                 | inr its ↦ inr (guess ∙ sym mark ∙ its)
@@ -339,12 +309,12 @@ module _ {E V W F : Type 0} (S : Table E V W F) (start : FinMap S.order V) (tabl
                   new,
                   ap after new ∙ at_same (suc d) q i.made,
                 ));
-                known = λ y h. (opens y h, i.above y (opens y h), low y (opens y h));
-                undecided = λ y h. let le = least_all (suc d) us y h in omega arith;
-                next = let le = least_le (suc d) us in omega arith;
+                known = λ y h. let here = made.opens y h in (here, i.above y here, low y here);
+                undecided = made.low;
+                next = made.next;
               }) fewer kept i.a waiting i.queue);
           remembers = remembers_push i.bad us vs waiting q memory
-              (λ y h is. elim (fewer y h) [ inl was ↦ was | inr new ↦ absurd (let le = i.guesses.answered y is in omega arith) ]) opens i.remembers;
+              (λ y h is. elim (fewer y h) [ inl was ↦ was | inr new ↦ absurd (let le = i.guesses.answered y is in omega arith) ]) made.opens i.remembers;
           answers = λ x there.
               let s = i.answers x there in
               record {

@@ -1,12 +1,12 @@
 -- What holds of a world after every list of events; and how the requests that wait change, and the
 -- refused guesses that the server remembers.
-use Rattle.sk_client.proofs.Names.{◌≡◌, ℕ, suc, ◌≤◌, ◌<◌, Bool, true, false, not, ◌||◌, List, [], ◌∷◌, Option, Some}
-use Rattle.sk_client.proofs.Names.{None, ◌&&◌, ◌++◌, inl, inr, sym, ◌∙◌, ap, subst, arith, ◌⊎◌, ◌==◌, nat_le, Contains}
-use Rattle.sk_client.proofs.Names.{list_any, FinMap, get, is_in, dirt, run, effects, struck, has, Event, Fail, HasEntry}
-use Rattle.sk_client.proofs.Names.{IsDrawn, IsSound, record_of, undecided_of, Input, Good, Fresh, Stale, ContentView}
-use Rattle.sk_client.proofs.Names.{Ask, Get, Check, Store, Yes, Dropped, No, PendingRequest, name_of, sent, input_of}
-use Rattle.sk_client.proofs.Names.{Bytes, Answer, true≢false, eqb-true, le-leb, Contains-push_cases, has_filter, any_at}
-use Rattle.sk_client.proofs.Names.{any_from, remembered, is_dropped, no_member}
+use Rattle.sk_client.proofs.Names.{Some, Bool, subst, arith, ◌++◌, suc, [], ◌∷◌, inl, Option, List, ℕ, true, sym, not}
+use Rattle.sk_client.proofs.Names.{inr, ap, ◌≤◌, false, ◌&&◌, ◌≡◌, ◌||◌, None, ◌<◌, ◌∙◌, eqb-true, true≢false, le-leb}
+use Rattle.sk_client.proofs.Names.{Contains-push_cases, get, FinMap, list_any, Contains, ◌==◌, ◌⊎◌, nat_le, name_of}
+use Rattle.sk_client.proofs.Names.{input_of, sent, Bytes, PendingRequest, ContentView, no_member, has_filter}
+use Rattle.sk_client.proofs.Names.{any_from, any_at, dirt, is_in, has, effects, run, struck, Event, IsDrawn, Fail}
+use Rattle.sk_client.proofs.Names.{record_of, HasEntry, undecided_of, IsSound, Input, Stale, Fresh, Good, is_dropped}
+use Rattle.sk_client.proofs.Names.{remembered, Answer, Yes, No, Dropped, Ask, Get, Check, Store}
 use Rattle.sk_server.specs.declared.reply.Answer.TheVariants.{Copy}
 use Rattle.sk_client.proofs.CausedWorld.{For, Caused, Served, Table, kernel, is_lost, Takes, Sets}
 use Rattle.sk_client.proofs.Each.{Each, Pairs}
@@ -108,6 +108,13 @@ module _ {E V W F : Type 0} (S : Table E V W F) (start : FinMap S.order V) where
     pub step : ReadyFor (run (kernel S) start ns) q.process q.ask
     pub there : get (run (kernel S) start ns) (S.proc q.process) ≡ None → ⊥
     pub covers : (y : ℕ) → has y us ≡ true → tag_at ns q.process (name_of q.ask) y ≡ true → has y q.rests ≡ true
+
+  -- a new request rests on just the open guesses that its process or its copy depends on, and tells which are decided
+  pub record IsMadeAt (es : List (Event Caused)) (d : ℕ) (q : PendingRequest) : Type 0 where
+    pub opens : (y : ℕ) → has y q.rests ≡ true → has y (undecided_of (kernel S) start es) ≡ true
+    pub covers : (y : ℕ) → has y (undecided_of (kernel S) start es) ≡ true → tag_at (record_of (kernel S) start es) q.process (name_of q.ask) y ≡ true → has y q.rests ≡ true
+    pub low : (y : ℕ) → has y (undecided_of (kernel S) start es) ≡ true → q.settled ≤ y
+    pub next : q.settled ≤ suc d
 
   abbrev pub IsPending : List (Event Caused) → ℕ → List Caused → List ℕ → PendingRequest → Type 0
   IsPending es d ns us q = q.guess ≡ None → Void es d q ⊎ Ready ns us q

@@ -1,12 +1,12 @@
 -- What the proofs of this crate cite from outside of them, passed on from one place. Declares nothing.
-pub use Rattle.std.proofs.Common.{Some, Bool, subst, ◌-◌, arith, ◌++◌, suc, refl, [], le_trans, map, ◌∷◌, inl}
-pub use Rattle.std.proofs.Common.{Option, List, tests, get_or, ℕ, true, sym, not, cond, inr, zero, rules, ap, Bor}
-pub use Rattle.std.proofs.Common.{length, IsSome, ◌≤◌, take, false, set, Ok, ◌&&◌, Err, ◌≡◌, ◌+◌, ◌||◌, drop, None, ◌<◌}
+pub use Rattle.std.proofs.Common.{Some, Bool, subst, ◌-◌, arith, ◌++◌, suc, refl, [], le_trans, map, ◌∷◌, inl, Option}
+pub use Rattle.std.proofs.Common.{List, tests, get_or, ℕ, true, sym, not, cond, inr, zero, rules, ap, Bor, length}
+pub use Rattle.std.proofs.Common.{IsSome, ◌≤◌, take, false, set, Ok, ◌&&◌, Err, ◌≡◌, ◌+◌, ◌||◌, drop, None, ◌<◌}
 pub use Rattle.std.proofs.Common.{Result, ◌∙◌}
-pub use Rattle.std.proofs.Math.Bool.{and-true}
+pub use Rattle.std.proofs.Math.Bool.{and-true, and-false}
 pub use Rattle.std.proofs.lemmas.Bool.{cases_Bool, or_right, lt-ltb, or_parts, leb-true, eqb-true, ltb-true}
 pub use Rattle.std.proofs.lemmas.Bool.{false_from_ne_true, eq-eqb, cases_eq, or_from, true_from_ne_false, ltb-false}
-pub use Rattle.std.proofs.lemmas.Bool.{true≢false, or_cases, or_left, leb-false, le-leb, le-ltb}
+pub use Rattle.std.proofs.lemmas.Bool.{true≢false, or_cases, or_left, le-leb, le-ltb, not-true}
 pub use Rattle.std.proofs.lemmas.Fn.{filter_same}
 pub use Rattle.std.proofs.lemmas.Iterator.Consumers.{YieldsList-from_deque, YieldsList-from_filter}
 pub use Rattle.std.proofs.lemmas.Iterator.Consumers.{count_from_yields_List}
@@ -29,38 +29,38 @@ pub use Rattle.std.specs.List.{list_any, fold, filter, Contains}
 pub use Rattle.std.specs.List.Sorted.{IsStrictlySortedBy}
 pub use Rattle.std.specs.Option.{option_map}
 pub use Rattle.std.specs.Ordering.{nat_cmp, eq_by_cmp}
-pub use Rattle.std.specs.Prelude.{◌↔◌, ◌==◌, replicate, bytes_eq, ◌⊎◌, is_none, is_some, if◌then◌else◌, slice_get, All}
-pub use Rattle.std.specs.Prelude.{is_ok, IfOk, nat_le, nat_lt}
+pub use Rattle.std.specs.Prelude.{◌↔◌, ◌==◌, replicate, bytes_eq, ◌⊎◌, is_none, is_some, slice_get, All, is_ok, IfOk}
+pub use Rattle.std.specs.Prelude.{nat_le, nat_lt}
 pub use Rattle.std.specs.Vec.{vec_capacity}
 pub use Rattle.std.specs.declared.alloc.AllocError.{AllocError}
 pub use Rattle.std.specs.declared.cmp.Ordering.{Ordering}
-pub use Rattle.sk_client.specs.AcceptedStores.{IsDue, paired, StandsIn, StandsAt, StoresStood, steps_at, StandApart}
-pub use Rattle.sk_client.specs.AcceptedStores.{StoresStand, DueStore}
+pub use Rattle.sk_client.specs.AcceptedStores.{paired, steps_at, DoesAsked, IsStepAt, IsGiven, IsDue, DueStore}
+pub use Rattle.sk_client.specs.AcceptedStores.{StoresStand, StoresStood, StandApart}
 pub use Rattle.sk_client.specs.AskedSteps.{ForgottenAreDropped, TakesStep, StepsAreTaken}
 pub use Rattle.sk_client.specs.Boxed.{ask_of}
-pub use Rattle.sk_client.specs.Desk.{request_of, is_void, name_of, rule_next, is_lost, asks_on, rule_of}
+pub use Rattle.sk_client.specs.Desk.{commits, request_of, is_void, name_of, rule_next, is_lost, asks_on, rule_of}
 pub use Rattle.sk_client.specs.Desk.{decision_answer, first_taken, cached, rule, lost_by, first_sent, given, answered}
-pub use Rattle.sk_client.specs.Desk.{fetch_rule, given_to, no_number, asked_count, decided, input_of, pending, decision}
-pub use Rattle.sk_client.specs.Desk.{buffer, opened_at, rests_of, asks_for, store_rule, sent, unless_kept, entry}
-pub use Rattle.sk_client.specs.Desk.{kept_for, first_guess, kept_after, stepped, fits_ask, opened, forgotten, turned}
-pub use Rattle.sk_client.specs.Desk.{no_place, answer_kept, rule_refused, step_answer, guess_refused_at, given_answer}
-pub use Rattle.sk_client.specs.Desk.{answered as stepped_for, DeskView, is_asked}
+pub use Rattle.sk_client.specs.Desk.{fetch_rule, given_to, no_number, asked_count, decided, input_of, pending}
+pub use Rattle.sk_client.specs.Desk.{decision, buffer, opened_at, rests_of, asks_for, store_rule, sent, unless_kept}
+pub use Rattle.sk_client.specs.Desk.{entry, kept_for, first_guess, kept_after, stepped, fits_ask, opened, forgotten}
+pub use Rattle.sk_client.specs.Desk.{turned, no_place, answer_kept, rule_refused, step_answer, guess_refused_at}
+pub use Rattle.sk_client.specs.Desk.{given_answer, answered as stepped_for, DeskView, is_asked}
 pub use Rattle.sk_client.specs.DeskCalls.{RulePost, DeskEpochPost, ByRule, TurnPost}
 pub use Rattle.sk_client.specs.DeskInvariant.{IsTidy, guesses_of}
 pub use Rattle.sk_client.specs.Exchanges.{exchanged, Exchanges, with_reply, exchange, Leads}
 pub use Rattle.sk_client.specs.Leasing.{unless_asked, blocked_why, desk_lease}
 pub use Rattle.sk_client.specs.Ready.{WasBooted, IsTidyState, IsCopy, IsReady, Begins}
-pub use Rattle.sk_client.specs.Replied.{PlacesAreKept, Counts as CountsAt, AreRepliedOnce, IsGiven, StepsAreReplied}
-pub use Rattle.sk_client.specs.Replied.{IsStepOf, DoesAsked, Replied}
+pub use Rattle.sk_client.specs.Replied.{PlacesAreKept, Counts as CountsAt, AreRepliedOnce, StepsAreReplied, IsStepOf}
+pub use Rattle.sk_client.specs.Replied.{Replied}
 pub use Rattle.sk_client.specs.Requests.{requests_in, IsQueue, RequestsView, IsWhole}
 pub use Rattle.sk_client.specs.Table.{HasNumber, IsNumbered, copy_of, buffer_of, version_of, Bytes}
 pub use Rattle.sk_client.specs.Upcoming.{reply_step, upcoming, turn_step, first_reply_step}
 pub use Rattle.sk_client.specs.Wish.{brought}
 pub use Rattle.sk_client.specs.WorldView.{served, ServesNext, joined, Turns, taken_from, Numbered, IsJoined, IsNext}
-pub use Rattle.sk_client.specs.WorldView.{WorldEpochPost, EditsFile, RunsTo, EventPost, AreReplies, taken_by, WorldView}
-pub use Rattle.sk_client.specs.WorldView.{Serves, Replies, reply_to}
-pub use Rattle.sk_client.specs.Writes.{AllFit, all_written, store_of, Write, writes_of, AreWritten, stores_of, is_store}
-pub use Rattle.sk_client.specs.Writes.{written_by}
+pub use Rattle.sk_client.specs.WorldView.{WorldEpochPost, EditsFile, RunsTo, EventPost, AreReplies, taken_by}
+pub use Rattle.sk_client.specs.WorldView.{WorldView, Serves, Replies, reply_to}
+pub use Rattle.sk_client.specs.Writes.{AllFit, all_written, store_of, Write, writes_of, AreWritten, stores_of}
+pub use Rattle.sk_client.specs.Writes.{is_store, written_by}
 pub use Rattle.sk_client.specs.declared.desk.Given.{Given}
 pub use Rattle.sk_client.specs.declared.desk.Turn.{Turn, Turn as Told}
 pub use Rattle.sk_client.specs.declared.pending.KeptAnswer.{KeptAnswer}
@@ -74,7 +74,7 @@ pub use Rattle.sk_client.specs.declared.world.WorldStop.{WorldStop}
 pub use Rattle.sk_guesses.proofs.Statuses.{nothing_in}
 pub use Rattle.sk_guesses.specs.Token.{Token}
 pub use Rattle.sk_holder.specs.Holder.{HolderView, DecidesPost}
-pub use Rattle.sk_holder.specs.Tokens.{commits}
+pub use Rattle.sk_holder.proofs.Opens.{open_taken, open_commit, open_fail, decided_shut, has_filtered}
 pub use Rattle.sk_ids.specs.EntityLemma.{entity_exact, entity_total}
 pub use Rattle.sk_ids.specs.Entity.{entity_cmp}
 pub use Rattle.sk_ids.specs.declared.entity.Entity.{Entity}
@@ -103,26 +103,24 @@ pub use Rattle.sk_objects.specs.Content.{ContentView}
 pub use Rattle.sk_objects.specs.declared.content.TheConstants.{LAST_VERSION}
 pub use Rattle.sk_objects.specs.declared.value.Value.{Value}
 pub use Rattle.sk_plain.proofs.Adds.{NoneAdded, reply_adds}
-pub use Rattle.sk_record.proofs.Lemmas.{cons_cases, cons_first, cons_later, no_member}
+pub use Rattle.sk_record.proofs.Lemmas.{cons_cases, cons_first, cons_later, no_member, shorter}
 pub use Rattle.sk_plain.proofs.Rows.{IsOf, CanWrite, one_of_two, only_one}
-pub use Rattle.sk_plain.proofs.Runs.{found, plain_tidy, IsAt, IsFree, next_turn, fetch_at, store_at, turn_at, steps_on}
+pub use Rattle.sk_plain.proofs.Runs.{found, plain_tidy, IsAt, IsFree, next_turn, fetch_at, store_at, turn_at}
+pub use Rattle.sk_plain.proofs.Runs.{steps_on}
 pub use Rattle.sk_plain.proofs.Tidy.{IsNextChild, unborn, tidy_start}
-pub use Rattle.sk_plain.specs.Act.{act, Saying, Scripts}
-pub use Rattle.sk_plain.specs.Act.{with_input, plain}
+pub use Rattle.sk_plain.specs.Act.{act, Saying, Scripts, with_input, plain}
 pub use Rattle.sk_plain.specs.Leased.{lease_of, Lends, alone_reads}
 pub use Rattle.sk_plain.specs.Next.{next_of}
 pub use Rattle.sk_plain.specs.Planned.{IsReply, refusal_of}
 pub use Rattle.sk_plain.specs.Refusal.{cause}
 pub use Rattle.sk_plain.specs.Replay.{image}
 pub use Rattle.sk_plain.specs.Replies.{over_copy, from_copy, fetched}
-pub use Rattle.sk_plain.specs.Rows.{failed}
-pub use Rattle.sk_plain.specs.Rows.{with_write}
+pub use Rattle.sk_plain.specs.Rows.{failed, with_write}
 pub use Rattle.sk_plain.specs.View.{Shows}
 pub use Rattle.sk_plain.specs.declared.next.Next.{Next}
 pub use Rattle.sk_plain.specs.declared.refusal.Errno.TheVariants.{StaleCopy}
 pub use Rattle.sk_plain.specs.declared.refusal.Refusal.{Refusal}
-pub use Rattle.sk_plain.specs.declared.refusal.Refusal.TheVariants.{Mismatch, Blocked, TooMany}
-pub use Rattle.sk_plain.specs.declared.refusal.Refusal.TheVariants.{TraceFull}
+pub use Rattle.sk_plain.specs.declared.refusal.Refusal.TheVariants.{Mismatch, Blocked, TooMany, TraceFull}
 pub use Rattle.sk_record.proofs.Chains.{slice_get-keep, dirt_is, in_from}
 pub use Rattle.sk_record.proofs.Epoch.{beyond}
 pub use Rattle.sk_record.proofs.Later.{dirtied_other}
@@ -131,9 +129,9 @@ pub use Rattle.sk_record.proofs.MachineRuns.{machine_stands}
 pub use Rattle.sk_record.proofs.Merged.{all_kept}
 pub use Rattle.sk_record.proofs.Rising.{above, same_rising}
 pub use Rattle.sk_record.proofs.Sets.{get-put_all_other}
-pub use Rattle.sk_record.proofs.Sound.{sound_taken, mark_is, any_from, marked_is, undecided_is, drawn_more, record_more}
-pub use Rattle.sk_record.proofs.Sound.{has_commit, sound_fail, fresh_from, sound_first, has_entry, sound_commit}
-pub use Rattle.sk_record.proofs.Sound.{undecided_is as is_undecided, entries_are, is_commit, is_drawn}
+pub use Rattle.sk_record.proofs.Sound.{sound_taken, mark_is, any_from, marked_is, undecided_is, drawn_more}
+pub use Rattle.sk_record.proofs.Sound.{record_more, has_commit, sound_fail, fresh_from, sound_first, has_entry}
+pub use Rattle.sk_record.proofs.Sound.{sound_commit, undecided_is as is_undecided, entries_are, is_commit, is_drawn}
 pub use Rattle.sk_record.proofs.Statuses.{one_status}
 pub use Rattle.sk_record.proofs.Struck.{later_dep, footprint, later, struck_runs}
 pub use Rattle.sk_record.proofs.Tidy.{recorded_more}
@@ -147,8 +145,8 @@ pub use Rattle.sk_record.specs.Run.{effects, run, IsLegal, marked_effect, System
 pub use Rattle.sk_record.specs.Step.{Refuse, perform, with_read, Step, Effect}
 pub use Rattle.sk_record.specs.Strike.{strike, struck}
 pub use Rattle.sk_record.specs.Trace.{Event, Record, still_marked, IsDrawn, IsAllowed, recorded, Fail, StatusIs}
-pub use Rattle.sk_record.specs.Trace.{record_of, Taken, marks, HasEntry, no_record, record_after, undecided_of, IsSound}
-pub use Rattle.sk_record.specs.Trace.{Event as Happens, Commit, all_recorded}
+pub use Rattle.sk_record.specs.Trace.{record_of, Taken, marks, HasEntry, no_record, record_after, undecided_of}
+pub use Rattle.sk_record.specs.Trace.{IsSound, Event as Happens, Commit, all_recorded}
 pub use Rattle.sk_record.specs.declared.status.Status.{Status}
 pub use Rattle.sk_record.specs.declared.status.Status.TheVariants.{Committed, Failed, Undecided}
 pub use Rattle.sk_script.specs.Boot.{BootView}
@@ -179,6 +177,3 @@ pub use Rattle.sk_trace.specs.Entry.{EntryView}
 pub use Rattle.sk_trace.specs.Kept.{input_in}
 pub use Rattle.sk_trace.specs.Trace.{TraceView}
 pub use Rattle.sk_trace.specs.declared.event.Event.{Event as Logged}
-pub use Rattle.sk_record.proofs.Lemmas.{filter_alike}
-pub use Rattle.std.proofs.lemmas.Bool.{not-true}
-pub use Rattle.std.proofs.Math.Bool.{and-false}

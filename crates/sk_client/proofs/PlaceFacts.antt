@@ -1,28 +1,22 @@
 -- What an event makes of a kernel's trace: its places, and that it is sound.
-use Rattle.sk_client.proofs.Names.{◌≡◌, ℕ, suc, ◌+◌, ◌≤◌, ◌<◌, length, Bool, true, false, cond, not, ◌&&◌, List, []}
-use Rattle.sk_client.proofs.Names.{◌∷◌, ◌++◌, Some, None, Ok, inl, inr, refl, sym, ◌∙◌, ap, subst, arith, ◌==◌, is_ok}
-use Rattle.sk_client.proofs.Names.{filter, FinMap, or_cases, true≢false, eqb-true, cases_Bool, eq-eqb, length-append}
-use Rattle.sk_client.proofs.Names.{map-append, System, effects, strike, has, Event, Taken, Commit, Fail, IsDrawn}
-use Rattle.sk_client.proofs.Names.{IsSound, StatusIs, Record, no_record, all_recorded, still_marked, marks}
-use Rattle.sk_client.proofs.Names.{undecided_of, recorded_more, has_filter, Input, Logged, plain, image, entity_total}
-use Rattle.sk_client.proofs.Names.{entity_exact, Undecided, sound_taken, sound_commit, sound_fail, undecided_is}
-use Rattle.sk_client.proofs.Names.{KernelView, events_of, undecided_at, next_guess, effect_at, with_event}
-use Rattle.sk_client.proofs.Names.{HasSoundTrace, below_next, epoch_step, epoch_guess, epoch_commit, epoch_fail, entry}
-use Rattle.sk_client.proofs.TraceFacts.{failed_shut}
+use Rattle.sk_client.proofs.Names.{Some, Bool, subst, arith, ◌++◌, suc, refl, [], ◌∷◌, inl, List, ℕ, true, sym, not}
+use Rattle.sk_client.proofs.Names.{cond, inr, ap, length, ◌≤◌, false, Ok, ◌&&◌, ◌≡◌, ◌+◌, None, ◌<◌, ◌∙◌, cases_Bool}
+use Rattle.sk_client.proofs.Names.{eqb-true, eq-eqb, true≢false, or_cases, map-append, length-append, FinMap, filter}
+use Rattle.sk_client.proofs.Names.{◌==◌, is_ok, entry, decided_shut, entity_exact, entity_total, epoch_commit}
+use Rattle.sk_client.proofs.Names.{epoch_fail, epoch_guess, epoch_step, below_next, effect_at, with_event}
+use Rattle.sk_client.proofs.Names.{undecided_at, next_guess, KernelView, events_of, HasSoundTrace, shorter, plain}
+use Rattle.sk_client.proofs.Names.{image, has_filter, sound_taken, undecided_is, sound_fail, sound_commit}
+use Rattle.sk_client.proofs.Names.{recorded_more, has, effects, System, strike, Event, Record, still_marked, IsDrawn}
+use Rattle.sk_client.proofs.Names.{Fail, StatusIs, Taken, marks, no_record, undecided_of, IsSound, Commit}
+use Rattle.sk_client.proofs.Names.{all_recorded, Undecided, Input, Logged}
 use Rattle.sk_trace.specs.declared.event.Event.TheVariants as events
 use Rattle.sk_client.proofs.DeskFacts.{Did}
-
-pub length_filter : (p : ℕ → Bool) (xs : List ℕ) → length (filter p xs) ≤ length xs
-length_filter p [] = omega arith
-length_filter p (x ∷ xs) =
-    let rest = length_filter p xs in
-    elim (p x) as (λ b. length (cond b (x ∷ filter p xs) (filter p xs)) ≤ suc (length xs)) [ true ↦ omega arith | false ↦ omega arith ]
 
 -- a filter that drops a number makes the list shorter
 pub filter_shorter : (p : ℕ → Bool) (g : ℕ) → p g ≡ false → (xs : List ℕ) → has g xs ≡ true → length (filter p xs) < length xs
 filter_shorter p g none [] here = absurd (true≢false (sym here))
 filter_shorter p g none (x ∷ xs) here =
-    let short = length_filter p xs in
+    let short = shorter p xs in
     elim (or_cases (x == g) (has g xs) here) [
       | inl is ↦
           let out : p x ≡ false = ap p (eqb-true x g is) ∙ none in
@@ -48,7 +42,7 @@ module _ {E V W F N : Type 0} (K : System E V W F N) (start : FinMap K.order V) 
       let p : ℕ → Bool = still_marked (effects K start (strike K start (all_recorded K start no_record es).entries g)) in
       let same : undecided_of K start (es ++ Fail g ∷ []) ≡ filter p us = ap (λ (r : Record N). r.undecided) (recorded_more K start no_record es (Fail g)) in
       let none : p g ≡ false = elim (cases_Bool (p g)) [
-        | inl is ↦ absurd (true≢false (sym (has_filter p g us ∙ (λ i. is i && here i)) ∙ ap (has g) (sym same) ∙ failed_shut K start es g sound))
+        | inl is ↦ absurd (true≢false (sym (has_filter p g us ∙ (λ i. is i && here i)) ∙ ap (has g) (sym same) ∙ decided_shut K start es (Fail g) g sound (inr refl)))
         | inr is ↦ is
       ] in
       subst (λ xs. length xs < length us) (sym same) (filter_shorter p g none us here)

@@ -1,13 +1,14 @@
 -- The replies of a world: each has the number of its request, and they are given in the order in which they were made.
-use Rattle.sk_client.proofs.Names.{◌≡◌, ℕ, List, [], ◌∷◌, ◌++◌, map, Option, Some, None, Result, Ok, Err, inl, inr}
-use Rattle.sk_client.proofs.Names.{refl, sym, ◌∙◌, ap, subst, Contains, append-nil, map-append, Contains-append_cases}
-use Rattle.sk_client.proofs.Names.{Sent, Reply, Exchanges, with_reply, exchange, exchanged, Leads, Bytes, WorldView}
-use Rattle.sk_client.proofs.Names.{taken_by, reply_to, served, Serves, Replies, Turns, EditsFile, EventPost}
-use Rattle.sk_client.proofs.Names.{PendingRequest, WorldEvent, WorldAnswer, Cause, cons_cases, no_member}
+use Rattle.sk_client.proofs.Names.{Some, subst, ◌++◌, refl, [], map, ◌∷◌, inl, Option, List, ℕ, sym, inr, ap, Ok, Err}
+use Rattle.sk_client.proofs.Names.{◌≡◌, None, Result, ◌∙◌, map-append, append-nil, Contains-append_cases, Contains}
+use Rattle.sk_client.proofs.Names.{exchanged, Exchanges, with_reply, exchange, Leads, Bytes, served, Turns, EditsFile}
+use Rattle.sk_client.proofs.Names.{EventPost, taken_by, WorldView, Serves, Replies, reply_to, Cause, WorldAnswer}
+use Rattle.sk_client.proofs.Names.{WorldEvent, cons_cases, no_member, Reply, Sent}
 use Rattle.std.proofs.Common.{append_assoc}
 use Rattle.sk_client.specs.declared.world.WorldEvent.TheVariants as events
 use Rattle.sk_client.specs.declared.world.WorldAnswer.TheVariants as answers
 use Rattle.sk_client.specs.declared.world.Cause.TheVariants as causes
+use Rattle.sk_client.proofs.WorldFacts.{taken_same}
 
 -- the replies of these exchanges were put behind those that were on their way, and the first ones were given
 pub record HandsOn (w : WorldView) (xs : Exchanges) (new : WorldView) : Type 0 where
@@ -70,12 +71,6 @@ serves (Ok x) t new (Some b) h =
     (subst (λ (y : WorldView). HandsOn t ((b, reply_to t.server b) ∷ []) y) (sym h.1) (served_one t b))
 serves (Err why) t new (Some b) h = unchanged t new h.1
 
-taken_same : (w : WorldView) (b : Option Sent) (ws : List PendingRequest) → w.desk.waiting ≡ ws
-    → (taken_by w b).replies ≡ w.replies
-taken_same w (Some q) ws is = refl
-taken_same w None [] is = ap (λ ws. (taken_by (record w { desk = record w.desk { waiting = ws } }) None).replies) is
-taken_same w None (q ∷ qs) is = ap (λ ws. (taken_by (record w { desk = record w.desk { waiting = ws } }) None).replies) is
-
 one_event : (told : Result WorldAnswer Cause) (w : WorldView) (e : WorldEvent) (new : WorldView) → EventPost told w e new
     → HandsOn w (exchanged told w e) new
 one_event told w (events.Turn p) new h = turns told w p new h
@@ -86,7 +81,7 @@ one_event told w events.Serve new h =
       numbers = s.numbers;
       given = s.given;
       order =
-          ap (λ rs. rs ++ map (λ x. x.1) (exchange t.back told)) (sym (taken_same w w.back w.desk.waiting refl))
+          ap (λ rs. rs ++ map (λ x. x.1) (exchange t.back told)) (sym (taken_same w w.back).2)
           ∙ s.order;
     }
 one_event told w events.Reply new h = gives told w new w.replies refl h

@@ -1,9 +1,10 @@
 -- What holds of a world's requests beside the invariant: kept answers, request numbers, the request of each entry, and commits.
-use Rattle.sk_client.proofs.Names.{◌≡◌, ℕ, suc, ◌≤◌, ◌<◌, Bool, true, false, List, [], ◌∷◌, ◌++◌, map, Some, None, inl}
-use Rattle.sk_client.proofs.Names.{inr, refl, sym, ◌∙◌, ap, subst, arith, le_trans, ◌⊎◌, Contains, FinMap}
-use Rattle.sk_client.proofs.Names.{Contains-push_cases, Contains-append_left, Contains-append_right, Contains-push}
-use Rattle.sk_client.proofs.Names.{keep, struck, Event, Taken, Commit, Fail, record_of, record_more, Good, Answer, Yes}
-use Rattle.sk_client.proofs.Names.{PendingRequest, input_of, KeptAnswer, cons_first, cons_later, cons_cases, no_member}
+use Rattle.sk_client.proofs.Names.{Some, Bool, subst, arith, ◌++◌, suc, refl, [], le_trans, map, ◌∷◌, inl, List, ℕ}
+use Rattle.sk_client.proofs.Names.{true, sym, inr, ap, ◌≤◌, false, ◌≡◌, None, ◌<◌, ◌∙◌, map-append, Contains-push}
+use Rattle.sk_client.proofs.Names.{Contains-push_cases, Contains-append_left, Contains-append_right, FinMap, Contains}
+use Rattle.sk_client.proofs.Names.{◌⊎◌, input_of, KeptAnswer, PendingRequest, cons_cases, cons_first, cons_later}
+use Rattle.sk_client.proofs.Names.{no_member, record_more, keep, struck, Event, Fail, record_of, Taken, Commit, Good}
+use Rattle.sk_client.proofs.Names.{Answer, Yes}
 use Rattle.std.proofs.Common.{append_assoc, slice_get}
 use Rattle.sk_client.proofs.CausedWorld.{Before, Own, For, Caused, Served, Table, kernel}
 use Rattle.sk_client.proofs.SeenWorld.{World, all_served, all_waiting, entries_of}
@@ -165,8 +166,7 @@ decided_commit drawn es given q g its h = record {
 
 -- ---- lists of requests
 pub map_front : {A B : Type 0} (f : A → B) (xs ys : List A) (zs : List B) → map f (xs ++ ys) ++ zs ≡ map f xs ++ (map f ys ++ zs)
-map_front f [] ys zs = refl
-map_front f (x ∷ xs) ys zs = ap (λ bs. f x ∷ bs) (map_front f xs ys zs)
+map_front f xs ys zs = ap (λ bs. bs ++ zs) (map-append f xs ys) ∙ append_assoc (map f xs) (map f ys) zs
 
 pub in_map : {A B : Type 0} (f : A → B) (xs : List A) (x : A) → Contains xs x → Contains (map f xs) (f x)
 in_map f [] x there = absurd (no_member x there)

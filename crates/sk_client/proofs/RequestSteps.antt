@@ -1,26 +1,25 @@
 -- The steps of requests in a record: those of accepted stores stand, each at a place of its own; and the steps that count and the
 -- accepted requests whose reply was given are one for one. No request has two replies. Told of a world's calls.
-use Rattle.sk_client.proofs.Names.{◌≡◌, ℕ, suc, ◌+◌, ◌<◌, List, [], ◌∷◌, ◌++◌, map, length, Option, Some, inl, inr}
-use Rattle.sk_client.proofs.Names.{refl, sym, ◌∙◌, ap, subst, arith, zero, Bool, true, false, cond, None, Ok, IsSome}
-use Rattle.sk_client.proofs.Names.{◌≤◌, Contains, Contains-append_left, Contains-append_cases, Contains-append_right}
-use Rattle.sk_client.proofs.Names.{MarkedEffect, effects, Entity, CopyOf, Good, EntityState, Saying, KernelView}
-use Rattle.sk_client.proofs.Names.{record_at, undecided_at, last_guess, ServerView, Sent, Store, Yes, Reply, paired}
-use Rattle.sk_client.proofs.Names.{StandsIn, IsDue, StoresStand, StoresStood, StandsAt, DueStore, StandApart, steps_at}
-use Rattle.sk_client.proofs.Names.{DeskView, opened, opened_at, pending, input_of, Exchanges, Leads, WasBooted, IsReady}
-use Rattle.sk_client.proofs.Names.{Begins, Bytes, copy_of, WorldView, joined, PendingRequest, WorldEvent, ◌==◌}
-use Rattle.sk_client.proofs.Names.{slice_get, option_map, true≢false, false_from_ne_true, eqb-true, eq-eqb}
-use Rattle.sk_client.proofs.Names.{slice_get-map, Happens, Taken, Commit, Fail, ScriptMap, EntryView, Ask}
-use Rattle.sk_client.proofs.Names.{PlacesAreKept, CountsAt, DoesAsked, IsGiven, Replied, IsStepOf, StepsAreReplied}
-use Rattle.sk_client.proofs.Names.{AreRepliedOnce, Input, TerminalMap, TraceView, DeskEpochPost}
-use Rattle.sk_client.proofs.Names.{cons_cases, cons_first, cons_later, no_member}
-use Rattle.sk_client.proofs.CausedWorld.{Caused, Served, kernel, bare, table, Cause, Before, Own, For, Sets}
+use Rattle.sk_client.proofs.Names.{Some, Bool, subst, arith, ◌++◌, suc, refl, [], map, ◌∷◌, inl, Option, List, ℕ}
+use Rattle.sk_client.proofs.Names.{true, sym, cond, inr, zero, ap, length, IsSome, ◌≤◌, false, Ok, ◌≡◌, None, ◌<◌}
+use Rattle.sk_client.proofs.Names.{◌∙◌, eqb-true, false_from_ne_true, eq-eqb, true≢false, Contains-append_cases}
+use Rattle.sk_client.proofs.Names.{Contains-append_left, Contains-append_right, slice_get-map, Contains, option_map}
+use Rattle.sk_client.proofs.Names.{◌==◌, slice_get, paired, steps_at, DoesAsked, IsStepAt, IsGiven, IsDue, DueStore}
+use Rattle.sk_client.proofs.Names.{StoresStand, StoresStood, StandApart, input_of, pending, opened_at, opened}
+use Rattle.sk_client.proofs.Names.{DeskView, DeskEpochPost, Exchanges, Leads, WasBooted, IsReady, Begins}
+use Rattle.sk_client.proofs.Names.{PlacesAreKept, CountsAt, AreRepliedOnce, StepsAreReplied, IsStepOf, Replied}
+use Rattle.sk_client.proofs.Names.{joined, WorldView, PendingRequest, WorldEvent, Entity, undecided_at, last_guess}
+use Rattle.sk_client.proofs.Names.{KernelView, record_at, cons_cases, cons_first, cons_later, no_member, Saying}
+use Rattle.sk_client.proofs.Names.{MarkedEffect, effects, Fail, Taken, Happens, Commit, Input, Good, ServerView}
+use Rattle.sk_client.proofs.Names.{Answer, Yes, Reply, Ask, Store, Sent, EntityState, TerminalMap, EntryView}
+use Rattle.sk_client.proofs.Names.{TraceView}
+use Rattle.sk_client.proofs.CausedWorld.{Caused, Served, kernel, bare, table, Cause, Before, Own, For}
 use Rattle.sk_client.proofs.Events.{same_request}
 use Rattle.sk_client.proofs.Each.{contains_at, each_at, place_at}
 use Rattle.sk_client.proofs.First.{out_of_map, first_world, reached, world_of, later_on, Stands, IsDueStep, request_stands, step_at, rising_places, Counts, its_reply, its_step}
 use Rattle.sk_client.proofs.RequestFacts.{in_map, map_front, Once, Rising, rising_apart, rising_same}
 use Rattle.sk_client.proofs.SeenWorld.{entries_seen, steps_seen, Traced, World, all_served, entries_of, law_served, answered_there, answered_here, all_waiting, unanswered}
 use Rattle.sk_client.proofs.Worlds.{All, Reached}
-use Rattle.sk_server.specs.declared.request.Ask.TheVariants as asks
 use Rattle.sk_client.proofs.Booted.{begins_anew}
 use Rattle.sk_client.proofs.Replies.{hands_on}
 use Rattle.sk_client.proofs.WorldFacts.{no_requests}
@@ -46,44 +45,42 @@ paired_map g (x ∷ xs) (y ∷ ys) = ap (λ zs. (g x, y) ∷ zs) (paired_map g x
 
 -- ---- what the laws say of a request
 
--- a request of the laws that was served with Yes, told as the calls tell it
-record Found (w : World) (q : Sent) : Type 0 where
+-- a request of the laws that was served with this answer, told as the calls tell it
+record Found (w : World) (q : Sent) (a : Answer) : Type 0 where
   pub request : PendingRequest
-  pub there : Contains (all_served w) (request, Yes)
+  pub there : Contains (all_served w) (request, a)
   pub number : request.number ≡ q.number
   pub ask : request.ask ≡ q.ask
   pub guess : request.guess ≡ q.guess
 
 module _ (xs : Exchanges) (w : World) (seen : map answered_there (all_served w) ≡ map answered_here xs) where
-  found : (q : Sent) (r : Reply) → Contains xs (q, r) → r.answer ≡ Yes → Found w q
-  found q r there accepted =
+  found : (q : Sent) (r : Reply) (a : Answer) → Contains xs (q, r) → r.answer ≡ a → Found w q a
+  found q r a there answer =
       let told = subst (λ ys. Contains ys (answered_here (q, r))) (sym seen) (in_map answered_here xs (q, r) there) in
       let x = out_of_map answered_there (all_served w) (answered_here (q, r)) told in
       let same = x.2 in
-      let good : x.0.1 ≡ Yes = ap (λ t. t.1.1.1) same ∙ accepted in
       record {
         request = x.0.0;
-        there = subst (λ a. Contains (all_served w) (x.0.0, a)) good x.1;
+        there = subst (λ a. Contains (all_served w) (x.0.0, a)) (ap (λ t. t.1.1.1) same ∙ answer) x.1;
         number = ap (λ t. t.0) same;
         ask = ap (λ t. t.1.0) same;
         guess = ap (λ t. t.1.1.0) same;
       }
 
-  -- one that is not pending has its reply
-  its_given : (q : Sent) (f : Found w q) → ((p : PendingRequest) → Contains (pending w.view.desk) p → p.number ≡ q.number → ⊥)
-      → Contains w.given (f.request, Yes)
-  its_given q f given =
-      let v = w.view in
-      elim (Contains-append_cases w.given (law_served v.desk.taken v.replies) (f.request, Yes) f.there) [
-        | inl here ↦ here
-        | inr waits ↦
-            let p = served_pending v.desk.taken v.replies (f.request, Yes) waits in
-            absurd (given p.0 (Contains-append_left v.desk.taken v.desk.waiting p.0 p.1) (sym (ap (λ (x : PendingRequest). x.number) p.2) ∙ f.number))
-      ]
+-- one that is not pending has its reply
+its_given : (w : World) (q : Sent) (a : Answer) (f : Found w q a) → IsGiven w.view q → Contains w.given (f.request, a)
+its_given w q a f given =
+    let v = w.view in
+    elim (Contains-append_cases w.given (law_served v.desk.taken v.replies) (f.request, a) f.there) [
+      | inl here ↦ here
+      | inr waits ↦
+          let p = served_pending v.desk.taken v.replies (f.request, a) waits in
+          absurd (given p.0 (Contains-append_left v.desk.taken v.desk.waiting p.0 p.1) (sym (ap (λ (x : PendingRequest). x.number) p.2) ∙ f.number))
+    ]
 
-  due : (q : Sent) (f : Found w q) → IsDue w.view q → IsDueStep w f.request
-  due q f (inl guessed) = inl (guessed.0, f.guess ∙ guessed.1)
-  due q f (inr given) = inr (its_given q f given)
+due : (w : World) (q : Sent) (f : Found w q Yes) → IsDue w.view q → IsDueStep w f.request
+due w q f (inl guessed) = inl (guessed.0, f.guess ∙ guessed.1)
+due w q f (inr given) = inr (its_given w q Yes f given)
 
 -- ---- places of lists
 
@@ -152,12 +149,6 @@ module _ (xs : Exchanges) (w : World) (seen : map answered_there (all_served w) 
       rising_places (all_served w) (all_waiting w) rising i j a.0 b.0 a.1 b.1 (ap (λ t. t.0) a.2 ∙ same ∙ ap (λ t. t.0) (sym b.2))
 
 -- ---- the same words in both
-
-does_asked : (scripts : ScriptMap) (ask : Ask) (ws : List (Entity × Option EntityState)) → Sets (table scripts) ask Good ws → DoesAsked ask ws
-does_asked scripts (asks.Store name version bytes) ws h =
-    (let one : suc version ≡ version + 1 = omega arith in subst (λ n. Contains ws (CopyOf name, Some (copy_of (record { version = n; bytes = bytes })))) one h)
-does_asked scripts (asks.Check name version) ws h = h
-does_asked scripts (asks.Get name) ws h = h
 
 -- a commit is one without causes too
 commit_back : (g : ℕ) (e : Happens Caused) → bare_event bare e ≡ Commit g → e ≡ Commit g
@@ -267,48 +258,20 @@ module _ (drawn begun : ℕ) (old w : World) (all : All drawn begun old w) where
       let steps : s.0 ≡ t.0 = cc in
       sym q_is ∙ ap (λ (q : PendingRequest). q.number) (same_request q r (sym s.2 ∙ ap (λ (n : Caused). n.cause) steps ∙ t.2)) ∙ r_is
 
-  -- it is that of the request's guess, or of none
-  step_of : (place : ℕ) (m : Caused) (f : MarkedEffect Entity EntityState Saying) (q : PendingRequest) (r : Sent) → slice_get steps_now place ≡ Some (m, f) → m.cause ≡ For q
-      → m.input ≡ Good → Counts w m → q.guess ≡ r.guess → q.ask ≡ r.ask → IsStepOf K place r
-  step_of place m f q r at cause good counts guess ask = record {
+  -- a step with Good is that of its request's guess, or of none, and does what was asked
+  does_at : (place : ℕ) (m : Caused) (f : MarkedEffect Entity EntityState Saying) (q : PendingRequest) (mark : Option ℕ) (ask : Ask) → slice_get steps_now place ≡ Some (m, f)
+      → m.cause ≡ For q → m.input ≡ Good → q.guess ≡ mark → q.ask ≡ ask → IsStepAt K place mark ask
+  does_at place m f q mark ask at cause good guess asks = record {
     entry = bare m;
     effect = f;
     there = at_kernel place (m, f) at;
     guess = (all.facts.owners.owner m q (contains_at entries place m (at_entry place (m, f) at)) cause).1 ∙ guess;
     input = good;
-    counts = counts_here w all.traced m counts;
-    does = does_asked K.scripts r.ask f.written
-        (subst (λ ask. Sets (table K.scripts) ask Good f.written) ask (each_at _ entries does all.holds.entries.sets m f
-        (contains_at steps_now place (m, f) at) q cause good));
+    does = subst (λ ask. DoesAsked ask f.written) asks (each_at _ entries does all.holds.entries.sets m f (contains_at steps_now place (m, f) at) q cause good);
   }
 
-  stands_at : (q : PendingRequest) (s : Stands w q) (n : ℕ) (mark : Option ℕ) (name : Bytes) (version : ℕ) (bytes : Bytes) → q.number ≡ n → q.guess ≡ mark
-      → q.ask ≡ Store name version bytes
-      → StandsAt K (place_in entries n) mark name version bytes
-  stands_at q s n mark name version bytes number guess ask =
-      let f = does_there q s n number in
-      record {
-        entry = bare s.0;
-        effect = f.0;
-        there = at_kernel (place_in entries n) (s.0, f.0) f.1;
-        guess = (all.facts.owners.owner s.0 q s.1 s.2).1 ∙ guess;
-        input = s.3;
-        sets = does_asked K.scripts (Store name version bytes) f.0.written (subst (λ ask. Sets (table K.scripts) ask Good f.0.written) ask
-            (each_at _ entries does all.holds.entries.sets s.0 f.0 (contains_at steps_now (place_in entries n) (s.0, f.0) f.1) q s.2 s.3));
-      }
-
-  stands_in : (q : PendingRequest) (s : Stands w q) (mark : Option ℕ) (name : Bytes) (version : ℕ) (bytes : Bytes) → q.guess ≡ mark
-      → q.ask ≡ Store name version bytes → StandsIn K mark name version bytes
-  stands_in q s mark name version bytes guess ask =
-      let t = stands_at q s q.number mark name version bytes refl guess ask in
-      record {
-        entry = t.entry;
-        effect = t.effect;
-        there = contains_at (steps_at K) (place_in entries q.number) (t.entry, t.effect) t.there;
-        guess = t.guess;
-        input = t.input;
-        sets = t.sets;
-      }
+  stands_at : (q : PendingRequest) (s : Stands w q) (n : ℕ) (mark : Option ℕ) (ask : Ask) → q.number ≡ n → q.guess ≡ mark → q.ask ≡ ask → IsStepAt K (place_in entries n) mark ask
+  stands_at q s n mark ask number guess asks = let f = does_there q s n number in does_at (place_in entries n) s.0 f.0 q mark ask f.1 s.2 s.3 guess asks
 
 -- ---- all of it
 
@@ -326,37 +289,36 @@ module _ (drawn begun : ℕ) (old : World) (xs : Exchanges) (v : WorldView) (a :
   place_of n = place_in (entries_of z) n
 
   -- a store's step, once it is due
-  its_store : (q : Sent) (r : Reply) (name : Bytes) (version : ℕ) (bytes : Bytes) (there : Contains xs (q, r)) (accepted : r.answer ≡ Yes)
-      → q.ask ≡ Store name version bytes → IsDue v q
-      → Stands z (found xs w a.answered q r there accepted).request
-  its_store q r name version bytes there accepted asks is_due =
-      let f = found xs w a.answered q r there accepted in
+  its_store : (q : Sent) (f : Found w q Yes) → IsDue v q → Stands z f.request
+  its_store q f is_due =
       request_stands drawn begun w z b.all f.request (b.all.facts.still_served (f.request, Yes) f.there)
-      (elim (due xs w a.answered q f is_due) as (λ _. IsDueStep z f.request) [
+      (elim (due w q f is_due) as (λ _. IsDueStep z f.request) [
         | inl guess ↦ inl guess
         | inr given ↦ inr (b.all.facts.still_given (f.request, Yes) given)
       ])
 
   stand : StoresStand xs v last
   stand q r name version bytes there accepted asks is_due =
-      let f = found xs w a.answered q r there accepted in
-      stands_in drawn begun w z b.all f.request (its_store q r name version bytes there accepted asks is_due) q.guess name version bytes f.guess (f.ask ∙ asks)
+      let f = found xs w a.answered q r Yes there accepted in
+      (place_of q.number, stands_at drawn begun w z b.all f.request (its_store q f is_due) q.number q.guess (Store name version bytes) f.number f.guess (f.ask ∙ asks))
 
   stood : StoresStood (xs ++ ys) v
   stood q r name version bytes g there accepted asks its low =
-      let f = found (xs ++ ys) z b.answered q r there accepted in
+      let f = found (xs ++ ys) z b.answered q r Yes there accepted in
       let guess : f.request.guess ≡ Some g = f.guess ∙ its in
       let h = request_stands drawn begun w z b.all f.request f.there (inl (g, guess)) in
-      let made : f.request.number < v.desk.next = subst (λ n. n < v.desk.next) (sym f.number) low in
-      stands_in drawn begun old w a.all f.request (h.0, b.all.facts.came h.0 f.request g h.1 h.2 guess made, h.2, h.3) (Some g) name version bytes guess (f.ask ∙ asks)
+      let made : f.request.number < v.desk.next = subst (λ n. n < v.desk.next) (sym f.number) low in (
+        place_in (entries_of w) q.number,
+        stands_at drawn begun old w a.all f.request (h.0, b.all.facts.came h.0 f.request g h.1 h.2 guess made, h.2, h.3) q.number (Some g) (Store name version bytes) f.number guess (f.ask ∙ asks),
+      )
 
   -- ---- accepted stores
 
-  abbrev store_found : (s : DueStore xs v) → Found w s.request
-  store_found s = found xs w a.answered s.request s.reply (contains_at xs s.at (s.request, s.reply) s.there) s.accepted
+  abbrev store_found : (s : DueStore xs v) → Found w s.request Yes
+  store_found s = found xs w a.answered s.request s.reply Yes (contains_at xs s.at (s.request, s.reply) s.there) s.accepted
 
   store_step : (s : DueStore xs v) → Stands z (store_found s).request
-  store_step s = its_store s.request s.reply s.name s.version s.bytes (contains_at xs s.at (s.request, s.reply) s.there) s.accepted s.asks s.due
+  store_step s = its_store s.request (store_found s) s.due
 
   one_store : (s t : DueStore xs v) → place_of s.request.number ≡ place_of t.request.number → s.at ≡ t.at
   one_store s t same =
@@ -368,7 +330,7 @@ module _ (drawn begun : ℕ) (old : World) (xs : Exchanges) (v : WorldView) (a :
   standing = record {
     place_of = place_of;
     stands = λ s. (let f = store_found s in stands_at drawn begun w z b.all f.request
-        (store_step s) s.request.number s.request.guess s.name s.version s.bytes f.number f.guess (f.ask ∙ s.asks));
+        (store_step s) s.request.number s.request.guess (Store s.name s.version s.bytes) f.number f.guess (f.ask ∙ s.asks));
     apart = one_store;
   }
 
@@ -380,23 +342,18 @@ module _ (drawn begun : ℕ) (old : World) (xs : Exchanges) (v : WorldView) (a :
       let less = rising_apart (map (λ x. x.0) b.given) (pending last.desk) order q p (in_map (λ (x : Served). x.0) b.given (q, Yes) given) there in
       omega (arith, less, same)
 
-  -- as the laws have it
-  abbrev its_found : (r : Replied (xs ++ ys) last) → Found z r.request
-  its_found r = found (xs ++ ys) z b.answered r.request r.reply (contains_at (xs ++ ys) r.at (r.request, r.reply) r.there) r.accepted
-
   -- the number of the request at a place
   abbrev request_at : ℕ → Option ℕ
   request_at place = number_in (entries_of z) place
 
   replies : (r : Replied (xs ++ ys) last) → (place : ℕ) × (request_at place ≡ Some r.request.number) × IsStepOf last.desk.kernel place r.request
+  unfolding stands_at does_at
   replies r =
-      let f = its_found r in
-      let s = its_step drawn begun w z b.all f.request (its_given (xs ++ ys) z b.answered r.request f r.given) in
-      let place = place_of r.request.number in
-      let does = does_there drawn begun w z b.all f.request s.0 r.request.number f.number in (
-        place,
-        number_is (entries_of z) place s.0.0 f.request r.request.number (at_place drawn begun w z b.all f.request s.0 r.request.number f.number) s.0.2 f.number,
-        step_of drawn begun w z b.all place s.0.0 does.0 f.request r.request does.1 s.0.2 s.0.3 s.1 f.guess f.ask,
+      let f = found (xs ++ ys) z b.answered r.request r.reply Yes (contains_at (xs ++ ys) r.at (r.request, r.reply) r.there) r.accepted in
+      let s = its_step drawn begun w z b.all f.request (its_given z r.request Yes f r.given) in (
+        place_of r.request.number,
+        number_is (entries_of z) (place_of r.request.number) s.0.0 f.request r.request.number (at_place drawn begun w z b.all f.request s.0 r.request.number f.number) s.0.2 f.number,
+        (stands_at drawn begun w z b.all f.request s.0 r.request.number r.request.guess r.request.ask f.number f.guess f.ask, counts_here z b.all.traced s.0.0 s.1),
       )
 
   -- ---- a step that counts
@@ -416,6 +373,7 @@ module _ (drawn begun : ℕ) (old : World) (xs : Exchanges) (v : WorldView) (a :
   steps : (place : ℕ) (n : EntryView) (f : MarkedEffect Entity EntityState Saying) → begun ≤ place → slice_get (steps_at last.desk.kernel) place ≡ Some (n, f)
       → n.input ≡ Good → CountsAt last.desk.kernel n → (r : Replied (xs ++ ys) last) ×
       (request_at place ≡ Some r.request.number) × IsStepOf last.desk.kernel place r.request
+  unfolding does_at
   steps place n f le at good counts =
       let u = at_law drawn begun w z b.all place n f at in
       let m = u.0.0 in
@@ -431,7 +389,7 @@ module _ (drawn begun : ℕ) (old : World) (xs : Exchanges) (v : WorldView) (a :
       let r = is_replied q.0 q.2 in (
         r.0,
         number_is (entries_of z) place m q.0 r.0.request.number here q.1 r.1,
-        step_of drawn begun w z b.all place m u.0.1 q.0 r.0.request u.1 q.1 good_there counts_so r.2 r.3,
+        (does_at drawn begun w z b.all place m u.0.1 q.0 r.0.request.guess r.0.request.ask u.1 q.1 good_there r.2 r.3, counts_here z b.all.traced m counts_so),
       )
 
   -- ---- the step of a request that was pending
@@ -462,38 +420,18 @@ module _ (drawn begun : ℕ) (old : World) (xs : Exchanges) (v : WorldView) (a :
         | inr q ↦ subst IsSome (sym (number_is (entries_of z) place u.0 q.0 q.0.number u.1 q.1 refl)) refl
       ]
 
-  -- an exchanged request, as the laws have it
-  exchanged : (q : Sent) (r : Reply) → Contains (xs ++ ys) (q, r) → (x : Served) × Contains (all_served z) x × (answered_there x ≡ answered_here (q, r))
-  exchanged q r there =
-      out_of_map answered_there (all_served z) (answered_here (q, r)) (subst (λ ts. Contains ts (answered_here (q, r))) (sym b.answered) (in_map answered_here (xs ++ ys) (q, r) there))
-
-  -- where its reply was given
-  exchanged_given : (q : Sent) (x : Served) → Contains (all_served z) x → x.0.number ≡ q.number → IsGiven last q → Contains b.given x
-  exchanged_given q x there number given =
-      elim (Contains-append_cases b.given (law_served last.desk.taken last.replies) x there) [
-        | inl here ↦ here
-        | inr waits ↦
-            let p = served_pending last.desk.taken last.replies x waits in
-            absurd (given p.0 (Contains-append_left last.desk.taken last.desk.waiting p.0 p.1) (sym (ap (λ (x : PendingRequest). x.number) p.2) ∙ number))
-      ]
-
   -- where an answer gives an input
   given_input : (o : Option Input) → IsSome o → (x : Input) × (o ≡ Some x)
   given_input None some = cc
   given_input (Some x) some = (x, refl)
 
-  asked_of : (q : Sent) (r : Reply) (x : Served) (input : Input) → Contains b.given x → answered_there x ≡ answered_here (q, r) → q.guess ≡ None → input_of r.answer ≡ Some input
-      → (place : ℕ) × (request_at place ≡ Some q.number)
-  asked_of q r x input there same none gives =
-      let s = b.all.holds.stands x.0 x.1 input there (ap (λ t. input_of t.1.1.1) same ∙ gives) (ap (λ t. t.1.1.0) same ∙ none) in
-      let place = place_at (entries_of z) s.0 s.1 in
-      (place.0, number_is (entries_of z) place.0 s.0 x.0 q.number place.1 s.2 (ap (λ t. t.0) same))
-
   asked : (q : Sent) (r : Reply) → Contains (xs ++ ys) (q, r) → IsGiven last q → q.guess ≡ None → IsSome (input_of r.answer) → (place : ℕ) × (request_at place ≡ Some q.number)
   asked q r there given none some =
-      let x = exchanged q r there in
+      let f = found (xs ++ ys) z b.answered q r r.answer there refl in
       let gives = given_input (input_of r.answer) some in
-      asked_of q r x.0 gives.0 (exchanged_given q x.0 x.1 (ap (λ t. t.0) x.2) given) x.2 none gives.1
+      let s = b.all.holds.stands f.request r.answer gives.0 (its_given z q r.answer f given) gives.1 (f.guess ∙ none) in
+      let place = place_at (entries_of z) s.0 s.1 in
+      (place.0, number_is (entries_of z) place.0 s.0 f.request q.number place.1 s.2 f.number)
 
   -- a request has one answer
   one_answer : (x y : Served) → Contains (all_served z) x → Contains (all_served z) y → x.0.number ≡ y.0.number → x ≡ y
@@ -504,29 +442,26 @@ module _ (drawn begun : ℕ) (old : World) (xs : Exchanges) (v : WorldView) (a :
       let both : Some x ≡ Some y = sym i.1 ∙ ap (slice_get (all_served z)) same ∙ j.1 in
       cc
 
-  made_of : (q : Sent) (r : Reply) (x : Served) (p : PendingRequest) (m : Caused) → Contains (all_served z) x → answered_there x ≡ answered_here (q, r)
-      → Contains (entries_of z) m → m.cause ≡ For p → p.number ≡ q.number → (m.guess ≡ q.guess) × (q.guess ≡ None → input_of r.answer ≡ Some m.input)
-  made_of q r x p m x_in same here cause number =
-      let owner = b.all.facts.owners.owner m p here cause in
-      let its : p ≡ x.0 =
-      rising_same (map (λ x. x.0) (all_served z) ++ all_waiting z) b.all.facts.numbers.rising p x.0 owner.0
-      (Contains-append_left (map (λ x. x.0) (all_served z)) (all_waiting z) x.0 (in_map (λ (x : Served). x.0) (all_served z) x x_in)) (number ∙ ap (λ t. t.0) (sym same)) in
-      let guess : p.guess ≡ q.guess = ap (λ (q : PendingRequest). q.guess) its ∙ ap (λ t. t.1.1.0) same in (
-        owner.1 ∙ guess,
-        λ none.
-            let a = b.all.facts.owners.asked m p here cause (guess ∙ none) in
-            let one = one_answer (p, a.0) x (b.all.holds.within (p, a.0) a.1) x_in (ap (λ (q : PendingRequest). q.number) its) in
-            subst (λ c. input_of c ≡ Some m.input) (ap (λ (y : Served). y.1) one ∙ ap (λ t. t.1.1.1) same) a.2,
-      )
-
   made : (q : Sent) (r : Reply) (place : ℕ) (n : EntryView) → Contains (xs ++ ys) (q, r) → request_at place ≡ Some q.number → slice_get (record_at last.desk.kernel) place ≡ Some n
       → (n.guess ≡ q.guess) × (q.guess ≡ None → input_of r.answer ≡ Some n.input)
   made q r place n there number at =
       let u = at_record drawn begun w z b.all place n at in
-      let p = is_number q.number u.0.cause (ap number_at (sym u.1) ∙ number) in
-      let x = exchanged q r there in
-      subst (λ (n : EntryView). (n.guess ≡ q.guess) × (q.guess ≡ None → input_of r.answer ≡ Some n.input)) u.2
-      (made_of q r x.0 p.0 u.0 x.1 x.2 (contains_at (entries_of z) place u.0 u.1) p.1 p.2)
+      let m = u.0 in
+      let p = is_number q.number m.cause (ap number_at (sym u.1) ∙ number) in
+      let here = contains_at (entries_of z) place m u.1 in
+      let f = found (xs ++ ys) z b.answered q r r.answer there refl in
+      let owner = b.all.facts.owners.owner m p.0 here p.1 in
+      let its : p.0 ≡ f.request =
+      rising_same (map (λ x. x.0) (all_served z) ++ all_waiting z) b.all.facts.numbers.rising p.0 f.request owner.0
+      (Contains-append_left (map (λ x. x.0) (all_served z)) (all_waiting z) f.request (in_map (λ (x : Served). x.0) (all_served z) (f.request, r.answer) f.there)) (p.2 ∙ sym f.number) in
+      let guess : p.0.guess ≡ q.guess = ap (λ (q : PendingRequest). q.guess) its ∙ f.guess in
+      subst (λ (n : EntryView). (n.guess ≡ q.guess) × (q.guess ≡ None → input_of r.answer ≡ Some n.input)) u.2 (
+        owner.1 ∙ guess,
+        λ none.
+            let a = b.all.facts.owners.asked m p.0 here p.1 (guess ∙ none) in
+            let one = one_answer (p.0, a.0) (f.request, r.answer) (b.all.holds.within (p.0, a.0) a.1) f.there (ap (λ (q : PendingRequest). q.number) its) in
+            subst (λ (y : Served). input_of y.1 ≡ Some m.input) one a.2,
+      )
 
   within : (place number : ℕ) → request_at place ≡ Some number → IsSome (slice_get (record_at last.desk.kernel) place)
   within place number is =

@@ -1,14 +1,15 @@
 -- A turn keeps all that holds of a world.
-use Rattle.sk_client.proofs.Names.{◌≡◌, ℕ, suc, ◌+◌, ◌-◌, ◌≤◌, ◌<◌, Bool, true, false, ◌&&◌, cond, List, [], ◌∷◌, ◌++◌}
-use Rattle.sk_client.proofs.Names.{Option, Some, None, Result, Ok, Err, refl, sym, ◌∙◌, ap, subst, arith, nat_lt}
-use Rattle.sk_client.proofs.Names.{is_some, get, ltb-false, ltb-true, append_assoc, Taken, record_of, Proc, CopyOf}
-use Rattle.sk_client.proofs.Names.{LAST_VERSION, Input, State, next_of, refusal_of, Next, Refusal, Blocked, TraceFull}
-use Rattle.sk_client.proofs.Names.{KernelView, state_at, next_guess, last_guess, room, effect_at, or_else, is_other}
-use Rattle.sk_client.proofs.Names.{or_full, no_room, step_misfit, guess_misfits, too_many, with_event, Ask, name_of}
-use Rattle.sk_client.proofs.Names.{DeskView, pending, asked_count, asks_for, asks_on, kept_for, fetch_rule, store_rule}
-use Rattle.sk_client.proofs.Names.{unless_kept, cached, buffer, rule_next, rule_of, no_place, no_number, entry}
-use Rattle.sk_client.proofs.Names.{rule_refused, request_of, turned, RulePost, ByRule, TurnPost, Exchanges, Bytes}
-use Rattle.sk_client.proofs.Names.{version_of, buffer_of, WorldView, PendingRequest, Rule, Told, fetch_at, store_at}
+use Rattle.sk_client.proofs.Names.{Some, Bool, subst, ◌-◌, arith, ◌++◌, suc, refl, [], ◌∷◌, Option, List, ℕ, true}
+use Rattle.sk_client.proofs.Names.{sym, cond, ap, ◌≤◌, false, Ok, ◌&&◌, Err, ◌≡◌, ◌+◌, None, ◌<◌, Result, ◌∙◌}
+use Rattle.sk_client.proofs.Names.{ltb-true, ltb-false, append_assoc, get, is_some, nat_lt, request_of, name_of}
+use Rattle.sk_client.proofs.Names.{rule_next, asks_on, rule_of, cached, fetch_rule, no_number, asked_count, pending}
+use Rattle.sk_client.proofs.Names.{buffer, asks_for, store_rule, unless_kept, entry, kept_for, turned, no_place}
+use Rattle.sk_client.proofs.Names.{rule_refused, DeskView, RulePost, ByRule, TurnPost, Exchanges, buffer_of}
+use Rattle.sk_client.proofs.Names.{version_of, Bytes, WorldView, Told, PendingRequest, Rule, CopyOf, Proc, effect_at}
+use Rattle.sk_client.proofs.Names.{state_at, room, no_room, with_event, next_guess, last_guess, KernelView, is_other}
+use Rattle.sk_client.proofs.Names.{or_full, step_misfit, too_many, or_else, guess_misfits, LAST_VERSION, fetch_at}
+use Rattle.sk_client.proofs.Names.{store_at, next_of, refusal_of, Next, Refusal, Blocked, TraceFull, record_of}
+use Rattle.sk_client.proofs.Names.{Taken, Input, Ask, State}
 use Rattle.sk_script.specs.declared.instruction.Input.TheVariants as inputs
 use Rattle.sk_trace.specs.declared.event.Event.TheVariants as events
 use Rattle.sk_plain.specs.declared.next.Next.TheVariants as nexts
@@ -20,7 +21,7 @@ use Rattle.sk_client.proofs.Invariant.{Invariant, ReadyFor}
 use Rattle.sk_client.proofs.Events.{inv_plain, inv_ask, inv_guess}
 use Rattle.sk_client.proofs.PlaceFacts.{used_step, used_guess}
 use Rattle.sk_client.proofs.RequestFacts.{RequestFacts, facts_own, facts_ask, facts_guess}
-use Rattle.sk_client.proofs.SeenWorld.{does_seen, state_seen, rests_seen, settled_seen, last_more, traced_step, traced_guess, World, law_served, unanswered}
+use Rattle.sk_client.proofs.SeenWorld.{does_seen, state_seen, made_seen, last_more, traced_step, traced_guess, World, law_served, unanswered}
 use Rattle.sk_client.proofs.Table.{is_table, not_there, takes_fresh, takes_checked, takes_stale, takes_store}
 use Rattle.sk_script.specs.declared.instruction.Instruction.TheVariants as does_
 use Rattle.sk_client.proofs.Worlds.{IsFor, AreFor, more_for, forgets, no_good, not_its, not_on, IsClear, quiet_turn, Reached, reached_by}
@@ -106,7 +107,7 @@ module _ (drawn begun : ℕ) (old : World) (xs : Exchanges) (v : WorldView) (r :
         (subst AreFor pends (more_for (pending v.desk) q a.kinds kind))
         (subst (λ (c : ℕ × (List PendingRequest × List PendingRequest)). Invariant S K.start (r.trace ++ Taken n ∷ []) c.0 served r.given c.1.0 c.1.1 v.server.refused) (λ i. (num i, (pends i, waits i)))
         (inv_guess S K.start (is_table K.scripts) r.trace (last_guess K) served r.given (pending v.desk) waiting v.server.refused q n a.holds takes (ap Some one)
-        (sym (rests_seen r.trace K a.traced p (name_of ask))) (sym (settled_seen r.trace K a.traced)) refl
+        (made_seen r.trace K a.traced q refl refl) refl
         (quiet_turn K.scripts K.start a.tidy r.trace (pending v.desk) p inputs.Good takes.effect t takes.accepted is clear (λ at. absurd (due at)) none)))
         (subst (λ (c : ℕ × (ℕ × List PendingRequest)). RequestFacts S K.start drawn begun old (r.trace ++ Taken n ∷ []) c.0 c.1.0 served r.given c.1.1) (λ i. (num i, (numbers i, waits i)))
         (facts_guess S K.start drawn begun old r.trace (last_guess K) v.desk.next served r.given waiting a.facts q n refl (ap Some one) refl refl))
@@ -132,7 +133,7 @@ module _ (drawn begun : ℕ) (old : World) (xs : Exchanges) (v : WorldView) (r :
         reached_by drawn begun old xs _ r.trace r.given r.answered a.tidy a.traced (subst AreFor pends (more_for (pending v.desk) q a.kinds kind))
         (subst (λ (c : List PendingRequest × List PendingRequest). Invariant S K.start r.trace (last_guess K) served r.given c.0 c.1 v.server.refused) (λ i. (pends i, waits i))
         (inv_ask S K.start (is_table K.scripts) r.trace (last_guess K) served r.given (pending v.desk) waiting v.server.refused q a.holds refl
-        (sym (rests_seen r.trace K a.traced p (name_of ask))) (sym (settled_seen r.trace K a.traced)) ready there
+        (made_seen r.trace K a.traced q refl refl) ready there
         (λ o o_in asked. ((λ same. not_its (pending v.desk) p none o o_in asked (sym same)), λ same. not_on (pending v.desk) (name_of ask) free o o_in asked (sym same)))))
         (subst (λ (c : ℕ × List PendingRequest). RequestFacts S K.start drawn begun old r.trace (last_guess K) c.0 served r.given c.1) (λ i. (numbers i, waits i))
         (facts_ask S K.start drawn begun old r.trace (last_guess K) v.desk.next served r.given waiting a.facts q refl))

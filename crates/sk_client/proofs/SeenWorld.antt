@@ -1,23 +1,24 @@
 -- A world as its callers see it, with what the laws know of it besides. What the laws compute of
 -- a kernel's trace, whose entries have causes, is what its callers compute.
-use Rattle.sk_client.proofs.Names.{◌≡◌, ℕ, suc, ◌≤◌, Bool, true, false, not, ◌&&◌, ◌||◌, cond, List, [], ◌∷◌, ◌++◌, map}
-use Rattle.sk_client.proofs.Names.{get_or, Option, Some, None, Ok, refl, sym, ◌∙◌, ap, arith, ◌==◌, nat_le, get}
-use Rattle.sk_client.proofs.Names.{nat_cmp, filter, list_any, eq-eqb, or_left, or_right, le-leb, map-append}
-use Rattle.sk_client.proofs.Names.{fold-append, and-true, perform, is_in, dirt, outcome, run, effects, has, Happens}
-use Rattle.sk_client.proofs.Names.{Taken, Commit, Fail, record_of, undecided_of, all_recorded, no_record, has_filter}
-use Rattle.sk_client.proofs.Names.{above, entries_are, is_commit, is_undecided, entity_cmp, Entity, Proc, CopyOf, Input}
-use Rattle.sk_client.proofs.Names.{act, plain, image, KernelView, events_of, record_at, state_at, tags_at, undecided_at}
-use Rattle.sk_client.proofs.Names.{last_guess, next_guess, number_after, settled, effect_at, with_event, HasSoundTrace}
-use Rattle.sk_client.proofs.Names.{undecided_sorted, below_next, entry, rests_of, is_lost, is_void, Bytes}
-use Rattle.sk_client.proofs.Names.{PendingRequest, EntryView, Sent, Ask, Answer, Reply, WorldView}
-use Rattle.sk_client.proofs.Names.{filter_alike}
+use Rattle.sk_client.proofs.Names.{Some, Bool, subst, arith, ◌++◌, suc, refl, [], map, ◌∷◌, inl, Option, List, get_or}
+use Rattle.sk_client.proofs.Names.{ℕ, true, sym, not, inr, ap, ◌≤◌, Ok, ◌&&◌, ◌≡◌, ◌||◌, None, ◌∙◌, and-true}
+use Rattle.sk_client.proofs.Names.{eqb-true, eq-eqb, true≢false, or_cases, or_left, map-append, fold-append, get}
+use Rattle.sk_client.proofs.Names.{list_any, nat_cmp, ◌==◌, is_void, name_of, is_lost, rests_of, entry, WorldView}
+use Rattle.sk_client.proofs.Names.{PendingRequest, has_filtered, entity_cmp, Entity, CopyOf, Proc, below_next}
+use Rattle.sk_client.proofs.Names.{undecided_sorted, effect_at, state_at, with_event, settled, undecided_at, tags_at}
+use Rattle.sk_client.proofs.Names.{next_guess, number_after, last_guess, KernelView, record_at, events_of}
+use Rattle.sk_client.proofs.Names.{HasSoundTrace, act, plain, image, has_filter, above, is_undecided, entries_are}
+use Rattle.sk_client.proofs.Names.{is_commit, dirt, is_in, has, effects, run, outcome, perform, Fail, record_of}
+use Rattle.sk_client.proofs.Names.{Taken, no_record, undecided_of, Happens, Commit, all_recorded, Input, Answer}
+use Rattle.sk_client.proofs.Names.{Reply, Ask, Sent, EntryView}
 use Rattle.std.specs.Prelude.{length}
 use Rattle.std.specs.List.Sorted.{IsStrictlySortedBy}
 use Rattle.sk_script.specs.declared.instruction.Input.TheVariants as inputs
 use Rattle.sk_trace.specs.declared.event.Event.{Event}
 use Rattle.sk_trace.specs.declared.event.Event.TheVariants as events
 use Rattle.sk_client.proofs.Labels.{bare_event, is_bare}
-use Rattle.sk_client.proofs.CausedWorld.{Caused, kernel, state, undecided, own, is_tag, rests_of as law_rests, is_lost as law_lost, is_void as law_void, least, bare, table, Before, Served}
+use Rattle.sk_client.proofs.CausedWorld.{Caused, kernel, state, undecided, own, is_lost as law_lost, is_void as law_void, bare, table, Before, Served}
+use Rattle.sk_client.proofs.Invariant.{IsMadeAt}
 use Rattle.sk_client.proofs.DeskFacts.{Did, committed_is}
 use Rattle.sk_client.proofs.Each.{any_map, any_same}
 use Rattle.sk_client.proofs.PlaceFacts.{step_sound, guess_sound, commit_sound, fail_sound}
@@ -71,27 +72,21 @@ event_before (Taken n) = Taken (from_before n)
 event_before (Commit g) = Commit g
 event_before (Fail g) = Fail g
 
--- ---- what the laws compute
+-- ---- the first of some numbers that rise
 
--- ---- the least of some numbers that rise is the first
-
-below_least : (g d : ℕ) (gs : List ℕ) → g ≤ d → ((y : ℕ) → has y gs ≡ true → g ≤ y) → g ≤ least d gs
-below_least g d [] low all = low
-below_least g d (x ∷ xs) low all =
-    let here = all x (or_left (x == x) (has x xs) (eq-eqb x x refl)) in
-    let later = below_least g d xs low (λ y there. all y (or_right (x == y) (has y xs) there)) in
-    elim (nat_le x (least d xs)) as (λ b. g ≤ cond b x (least d xs)) [
-      | true ↦ here
-      | false ↦ later
-    ]
-
-least_is_first : (d : ℕ) (gs : List ℕ) → IsStrictlySortedBy nat_cmp gs → ((y : ℕ) → has y gs ≡ true → y ≤ d) → least d gs ≡ get_or gs 0 d
+first_all : (d : ℕ) (gs : List ℕ) → IsStrictlySortedBy nat_cmp gs → (y : ℕ) → has y gs ≡ true → get_or gs 0 d ≤ y
 unfolding IsStrictlySortedBy
-least_is_first d [] rises low = refl
-least_is_first d (g ∷ gs) rises low =
-    let here = low g (or_left (g == g) (has g gs) (eq-eqb g g refl)) in
-    let lowest = below_least g d gs here (λ y there. (let more = above g gs y rises.0 there in omega (arith, more))) in
-    ap (λ b. cond b g (least d gs)) (le-leb g (least d gs) lowest)
+first_all d [] rises y here = absurd (true≢false (sym here))
+first_all d (g ∷ gs) rises y here = elim (or_cases (g == y) (has y gs) here) [
+  | inl is ↦ (let same = eqb-true g y is in omega (arith, same))
+  | inr later ↦ (let more = above g gs y rises.0 later in omega (arith, more))
+]
+
+first_next : (d : ℕ) (gs : List ℕ) → ((y : ℕ) → has y gs ≡ true → y ≤ d) → get_or gs 0 d ≤ d
+first_next d [] low = omega arith
+first_next d (g ∷ gs) low = low g (or_left (g == g) (has g gs) (eq-eqb g g refl))
+
+-- ---- what the laws compute
 
 commit_seen : (g : ℕ) (e : Happens Caused) → is_commit g e ≡ is_commit g (bare_event bare e)
 commit_seen g (Taken n) = refl
@@ -135,18 +130,20 @@ module _ (es : List (Happens Caused)) (k : KernelView) (t : Traced es k) where
       ∙ and-true _
       ∙ ap (λ fs. is_in entity_cmp (dirt entity_cmp g [] fs) e) (sym steps_seen)
 
-  pub rests_seen : (pid : ℕ) (name : Bytes) → law_rests (table k.scripts) k.start es pid name ≡ rests_of k pid name
-  rests_seen pid name =
-      ap (filter (is_tag (table k.scripts) k.start es pid name)) undecided_seen
-      ∙ filter_alike (is_tag (table k.scripts) k.start es pid name) (λ g. has g (tags_at k (Proc pid)) || has g (tags_at k (CopyOf name))) (undecided_at k)
-      (λ g there i. sym (tag_seen g (Proc pid) there) i || sym (tag_seen g (CopyOf name) there) i)
-
-  pub settled_seen : least (suc (last_guess k)) (undecided (table k.scripts) k.start es) ≡ settled k
-  settled_seen =
+  pub made_seen : (q : PendingRequest) → q.rests ≡ rests_of k q.process (name_of q.ask) → q.settled ≡ settled k → IsMadeAt (table k.scripts) k.start es (last_guess k) q
+  made_seen q rests settled_is =
+      let us = undecided_at k in
+      let either : ℕ → Bool = λ g. has g (tags_at k (Proc q.process)) || has g (tags_at k (CopyOf (name_of q.ask))) in
+      let here : (y : ℕ) → has y (undecided (table k.scripts) k.start es) ≡ true → has y us ≡ true = λ y there. ap (has y) (sym undecided_seen) ∙ there in
       let next : suc (last_guess k) ≡ next_guess k = omega arith in
-      (λ i. least (next i) (undecided_seen i))
-      ∙ least_is_first (next_guess k) (undecided_at k) (undecided_sorted k t.sound)
-      (λ y there. (let less = below_next k t.sound y (entry_drawn (plain k.scripts) k.start (events_of k) t.sound.sound y ((is_undecided (plain k.scripts) k.start (events_of k) t.sound.sound y).0 there).2) in omega (arith, less)))
+      record {
+        opens = λ y there. ap (has y) undecided_seen ∙ has_filtered either us y (ap (has y) (sym rests) ∙ there);
+        covers = λ y there tag. ap (has y) rests ∙ has_filter either y us
+            ∙ (λ i. (tag_seen y (Proc q.process) (here y there) i || tag_seen y (CopyOf (name_of q.ask)) (here y there) i) && here y there i) ∙ and-true _ ∙ tag;
+        low = λ y there. subst (λ n. n ≤ y) (sym settled_is) (first_all (next_guess k) us (undecided_sorted k t.sound) y (here y there));
+        next = subst (λ n. n ≤ suc (last_guess k)) (sym settled_is) (subst (λ n. settled k ≤ n) (sym next) (first_next (next_guess k) us
+            (λ y there. (let less = below_next k t.sound y (entry_drawn (plain k.scripts) k.start (events_of k) t.sound.sound y ((is_undecided (plain k.scripts) k.start (events_of k) t.sound.sound y).0 there).2) in omega (arith, less)))));
+      }
 
   -- ---- guesses that are lost
 

@@ -1,20 +1,20 @@
 -- The kernel's table is one: what the laws of worlds ask of a table holds of it, from the start of
 -- every boot on, by the steps of a fetch and of a store with each input.
-use Rattle.sk_client.proofs.Names.{◌≡◌, ℕ, false, List, map, Some, None, Ok, IsSome, inl, inr, refl, sym, ◌∙◌, ap}
-use Rattle.sk_client.proofs.Names.{subst, suc, ◌+◌, ◌<◌, true, cond, [], ◌∷◌, Option, arith, ◌⊎◌, nat_lt, Contains, get}
-use Rattle.sk_client.proofs.Names.{outcome, run, Proc, Copy, entity_total, entity_exact, Process, Instruction, State}
-use Rattle.sk_client.proofs.Names.{Scripts, act, with_input, Input, Bytes, buffer_of, copy_of, version_of, IsTidyState}
-use Rattle.sk_client.proofs.Names.{IsCopy, lt-ltb, Refuse, perform, with_read, Entity, ContentView, LAST_VERSION}
-use Rattle.sk_client.proofs.Names.{EntityState, Mismatch, StaleCopy, failed, with_write, fetched, from_copy, over_copy}
-use Rattle.sk_client.proofs.Names.{Good, Fresh, Stale, Get, Check, Store, cons_first}
-use Rattle.sk_client.proofs.Names.{found, plain_tidy, IsAt, IsFree, next_turn, store_at, turn_at, steps_on, IsNextChild, unborn}
+use Rattle.sk_client.proofs.Names.{Some, subst, refl, [], map, ◌∷◌, inl, Option, List, ℕ, true, sym, cond, inr, ap}
+use Rattle.sk_client.proofs.Names.{IsSome, false, Ok, ◌≡◌, ◌+◌, None, ◌<◌, ◌∙◌, lt-ltb, get, Contains, ◌⊎◌, nat_lt}
+use Rattle.sk_client.proofs.Names.{IsTidyState, IsCopy, copy_of, buffer_of, version_of, Bytes, entity_exact}
+use Rattle.sk_client.proofs.Names.{entity_total, Entity, Copy, Proc, ContentView, LAST_VERSION, cons_first, IsOf}
+use Rattle.sk_client.proofs.Names.{CanWrite, one_of_two, only_one, found, plain_tidy, IsAt, IsFree, next_turn}
+use Rattle.sk_client.proofs.Names.{store_at, turn_at, steps_on, IsNextChild, unborn, act, Scripts, with_input, plain}
+use Rattle.sk_client.proofs.Names.{over_copy, from_copy, fetched, failed, with_write, StaleCopy, Mismatch, run}
+use Rattle.sk_client.proofs.Names.{outcome, Refuse, perform, with_read, Input, Stale, Fresh, Good, Instruction}
+use Rattle.sk_client.proofs.Names.{Process, Get, Check, Store, State, EntityState}
 use Rattle.sk_script.specs.declared.instruction.Instruction.TheVariants as does_
 use Rattle.sk_store.specs.declared.entity_state.EntityState.TheVariants as stored
 use Rattle.sk_plain.specs.declared.next.Next.TheVariants as nexts
 use Rattle.sk_client.proofs.CausedWorld.{Caused, kernel, own, table, bare, IsTable, or_zero, Takes, IsEither}
 use Rattle.sk_script.specs.declared.instruction.Input.TheVariants as inputs
 use Rattle.sk_client.proofs.DeskFacts.{Did}
-use Rattle.sk_client.proofs.Names.{IsOf, CanWrite, one_of_two, only_one, plain}
 use Rattle.sk_plain.specs.Act.{next_in}
 use Rattle.sk_client.proofs.Labels.{run_bare}
 use Rattle.sk_objects.specs.declared.value.Value.TheVariants as values
@@ -92,17 +92,14 @@ module _ (scripts : Scripts) (s : State) (pid : ℕ) (name : Bytes) where
   -- what a store over this copy writes
   abbrev StoredOver : Process → Option EntityState → ℕ → Type 0
   StoredOver p o v = (q : Process)
-      × (perform (get s) (over_copy pid p name o) ≡ Ok (record { read = []; written = (Copy name, Some (copy_of (record { version = suc v; bytes = p.buffer }))) ∷ (Proc pid, Some (stored.Process q)) ∷ []; said = None }))
-
-  version_after : (n v : ℕ) → n ≡ v → n + 1 ≡ suc v
-  version_after n v is = omega arith
+      × (perform (get s) (over_copy pid p name o) ≡ Ok (record { read = []; written = (Copy name, Some (copy_of (record { version = v + 1; bytes = p.buffer }))) ∷ (Proc pid, Some (stored.Process q)) ∷ []; said = None }))
 
   stored_over : (p : Process) (o : Option EntityState) (v : ℕ) → IsCopy o → or_zero (version_of o) ≡ v → v < LAST_VERSION → StoredOver p o v
   stored_over p None v is cached lt =
-      let version : 1 ≡ suc v = version_after 0 v cached in
+      let version : 1 ≡ v + 1 = ap (λ n. n + 1) cached in
       (answered p 1, (λ i. perform (get s) (with_write pid (Copy name) (values.Copy (record { version = version i; bytes = p.buffer })) (answered p 1))))
   stored_over p (Some (stored.Value (values.Copy c))) v is cached lt =
-      let version : c.version + 1 ≡ suc v = version_after c.version v cached in
+      let version : c.version + 1 ≡ v + 1 = ap (λ n. n + 1) cached in
       let below : nat_lt c.version LAST_VERSION ≡ true = lt-ltb c.version LAST_VERSION (subst (λ n. n < LAST_VERSION) (sym cached) lt) in (
         answered p (c.version + 1),
         ap (λ t. perform (get s) (cond t (with_write pid (Copy name) (values.Copy (record { version = c.version + 1; bytes = p.buffer })) (answered p (c.version + 1))) (Refuse Mismatch))) below
@@ -115,7 +112,7 @@ module _ (scripts : Scripts) (s : State) (pid : ℕ) (name : Bytes) where
   takes_stored v b is buffer copy cached lt =
       let p = is.process in
       let does = stored_over p (get s (Copy name)) v copy cached lt in
-      let written = (Copy name, Some (copy_of (record { version = suc v; bytes = p.buffer }))) ∷ (Proc pid, Some (stored.Process does.0)) ∷ [] in
+      let written = (Copy name, Some (copy_of (record { version = v + 1; bytes = p.buffer }))) ∷ (Proc pid, Some (stored.Process does.0)) ∷ [] in
       record {
         effect = record {
           read = (Proc pid, Some (stored.Process p)) ∷ (Copy name, get s (Copy name)) ∷ [];
@@ -126,7 +123,7 @@ module _ (scripts : Scripts) (s : State) (pid : ℕ) (name : Bytes) where
             ∙ ap (λ r. with_read (Proc pid) (Some (stored.Process p)) (with_read (Copy name) (get s (Copy name)) r)) does.1;
         reads = both;
         writes = turned;
-        sets = subst (λ bytes. Contains written (Copy name, Some (copy_of (record { version = suc v; bytes = bytes })))) buffer (cons_first (Copy name, Some (copy_of (record { version = suc v; bytes = p.buffer }))) ((Proc pid, Some (stored.Process does.0)) ∷ []));
+        sets = subst (λ bytes. Contains written (Copy name, Some (copy_of (record { version = v + 1; bytes = bytes })))) buffer (cons_first (Copy name, Some (copy_of (record { version = v + 1; bytes = p.buffer }))) ((Proc pid, Some (stored.Process does.0)) ∷ []));
       }
 
 -- ---- the table

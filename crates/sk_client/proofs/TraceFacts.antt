@@ -1,20 +1,14 @@
 -- What the events of a sound trace do to its record, its open guesses, tags and values, over any kernel.
-use Rattle.sk_client.proofs.Names.{◌≡◌, ℕ, Bool, true, false, not, List, [], ◌∷◌, ◌++◌, map, Option, Some, None, Ok}
-use Rattle.sk_client.proofs.Names.{inl, inr, refl, sym, ◌∙◌, ap, subst, ◌⊎◌, ◌==◌, slice_get, Contains, IsTotalOrder}
-use Rattle.sk_client.proofs.Names.{FinMap, get, IsAntisymmetric, or_left, or_cases, true≢false, eq-eqb, eqb-true}
-use Rattle.sk_client.proofs.Names.{true_from_ne_false, false_from_ne_true, Contains-push, Effect, MarkedEffect, is_in}
-use Rattle.sk_client.proofs.Names.{hit, hits, dirt, dirtied, place, System, outcome, after, marked_effect, run, IsLegal}
-use Rattle.sk_client.proofs.Names.{effects, struck, strike, has, Event, Taken, Commit, Fail, HasEntry, IsDrawn, IsSound}
-use Rattle.sk_client.proofs.Names.{record_of, marks, still_marked, Record, no_record, all_recorded, undecided_of}
-use Rattle.sk_client.proofs.Names.{slice_get-keep, in_from, dirt_is, get-put_all_other, dirtied_other, struck_runs}
-use Rattle.sk_client.proofs.Names.{later, later_dep, nil_right, has_filter, and_both, recorded_more, undecided_is}
-use Rattle.sk_client.proofs.Names.{has_entry, is_drawn, marked_is}
+use Rattle.sk_client.proofs.Names.{Some, Bool, subst, ◌++◌, refl, [], map, ◌∷◌, Option, List, ℕ, true, sym, ap, false}
+use Rattle.sk_client.proofs.Names.{Ok, ◌≡◌, ◌∙◌, false_from_ne_true, eq-eqb, true_from_ne_false, true≢false, or_left}
+use Rattle.sk_client.proofs.Names.{IsTotalOrder, get, IsAntisymmetric, FinMap, Contains, slice_get, slice_get-keep}
+use Rattle.sk_client.proofs.Names.{dirt_is, in_from, dirtied_other, nil_right, get-put_all_other, marked_is}
+use Rattle.sk_client.proofs.Names.{undecided_is, has_entry, is_drawn, later_dep, later, struck_runs, hit, place, dirt}
+use Rattle.sk_client.proofs.Names.{dirtied, hits, MarkedEffect, is_in, has, effects, run, IsLegal, marked_effect}
+use Rattle.sk_client.proofs.Names.{System, after, outcome, Effect, strike, struck, Event, IsDrawn, record_of, marks}
+use Rattle.sk_client.proofs.Names.{HasEntry, undecided_of, IsSound}
 use Rattle.sk_record.proofs.Sound.{tests}
-use Rattle.sk_client.proofs.Each.{Each, each_keep, has_from}
-
-pub mark_has : (m : Option ℕ) (y : ℕ) → has y (marks m) ≡ true → m ≡ Some y
-mark_has None y h = absurd (true≢false (sym h))
-mark_has (Some x) y h = elim (or_cases _ _ h) [ inl is ↦ ap Some (eqb-true x y is) | inr none ↦ absurd (true≢false (sym none)) ]
+use Rattle.sk_client.proofs.Each.{Each, each_keep}
 
 pub has_mark : (m : Option ℕ) (y : ℕ) → m ≡ Some y → has y (marks m) ≡ true
 has_mark m y h = subst (λ m. has y (marks m) ≡ true) (sym h) (or_left _ _ (eq-eqb y y refl))
@@ -47,26 +41,6 @@ module _ {E V W F N : Type 0} (K : System E V W F N) where
         dirt_more (dirtied (hit K.order g dirty f) f dirty) (after K (outcome K s x) s) ns n
 
 module _ {E V W F N : Type 0} (K : System E V W F N) (start : FinMap K.order V) where
-  pub open_taken : (es : List (Event N)) (n : N) (y : ℕ) → has y (undecided_of K start (es ++ Taken n ∷ [])) ≡ true → (has y (undecided_of K start es) ≡ true) ⊎ (K.mark n ≡ Some y)
-  open_taken es n y h =
-      elim (has_from y (undecided_of K start es) (marks (K.mark n)) (ap (λ (r : Record N). has y r.undecided) (sym (recorded_more K start no_record es (Taken n))) ∙ h)) [
-        | inl before ↦ inl before
-        | inr new ↦ inr (mark_has (K.mark n) y new)
-      ]
-
-  pub open_commit : (es : List (Event N)) (g y : ℕ) → has y (undecided_of K start (es ++ Commit g ∷ [])) ≡ true → has y (undecided_of K start es) ≡ true
-  open_commit es g y h =
-      (and_both _ _ (sym (has_filter (λ t. not (t == g)) y (undecided_of K start es)) ∙ ap (λ (r : Record N). has y r.undecided) (sym (recorded_more K start no_record es (Commit g))) ∙ h)).1
-
-  pub open_fail : (es : List (Event N)) (g y : ℕ) → has y (undecided_of K start (es ++ Fail g ∷ [])) ≡ true → has y (undecided_of K start es) ≡ true
-  open_fail es g y h =
-      let r = all_recorded K start no_record es in
-      (and_both _ _ (sym (has_filter (still_marked (effects K start (strike K start r.entries g))) y r.undecided) ∙ ap (λ (r : Record N). has y r.undecided) (sym (recorded_more K start no_record es (Fail g))) ∙ h)).1
-
-  pub failed_shut : (es : List (Event N)) (g : ℕ) → IsSound K start (es ++ Fail g ∷ []) → has g (undecided_of K start (es ++ Fail g ∷ [])) ≡ false
-  failed_shut es g sound =
-      false_from_ne_true _ (λ is. ((undecided_is K start (es ++ Fail g ∷ []) sound g).0 is).1 (Contains-push es (Fail g)))
-
   pub legal_of : (es : List (Event N)) → IsSound K start es → IsLegal K start (record_of K start es)
   legal_of es sound = sound.legal es [] (sym (nil_right es))
 

@@ -1,17 +1,10 @@
 -- A new epoch of a world's desk leaves it joined with the server.
-use Rattle.sk_client.proofs.Names.{◌≡◌, ◌+◌, List, [], ◌∷◌, ◌++◌, length, Option, Some, None, Result, Ok, Err, refl}
-use Rattle.sk_client.proofs.Names.{sym, ◌∙◌, ap, subst, TerminalMap, TraceView, EpochRefusal, KernelView, Request}
-use Rattle.sk_client.proofs.Names.{Reply, ServerView, PendingRequest, DeskView, opened_at, DeskEpochPost, WorldView}
-use Rattle.sk_client.proofs.Names.{AreReplies, IsJoined, WorldEpochPost}
+use Rattle.sk_client.proofs.Names.{Some, subst, refl, [], ◌∷◌, Option, List, sym, ap, length, Ok, Err, ◌≡◌, ◌+◌, None}
+use Rattle.sk_client.proofs.Names.{Result, ◌∙◌, opened_at, DeskView, DeskEpochPost, IsJoined, WorldEpochPost}
+use Rattle.sk_client.proofs.Names.{AreReplies, WorldView, PendingRequest, KernelView, EpochRefusal, ServerView, Reply}
+use Rattle.sk_client.proofs.Names.{Request, TerminalMap, TraceView}
 use Rattle.sk_kernel.specs.declared.kernel.EpochRefusal.TheVariants as epoch_refusals
-
-none_front : (xs ys : List PendingRequest) → xs ++ ys ≡ [] → xs ≡ []
-none_front [] ys h = refl
-none_front (x ∷ xs) ys h = absurd (let bad : x ∷ (xs ++ ys) ≡ [] = h in cc)
-
-none_behind : (xs ys : List PendingRequest) → xs ++ ys ≡ [] → ys ≡ []
-none_behind [] ys h = h
-none_behind (x ∷ xs) ys h = absurd (let bad : x ∷ (xs ++ ys) ≡ [] = h in cc)
+use Rattle.sk_client.proofs.WorldFacts.{none_of_both}
 
 no_back : (rs : List Reply) (b : Request) → AreReplies rs (Some b) [] → ⊥
 no_back [] b h = h
@@ -29,7 +22,7 @@ joined_anew s rs None k old taken waiting j = record {
 pub epoch_joined : (s : ServerView) (rs : List Reply) (b : Option Request) (result : Result (TraceView × TerminalMap) EpochRefusal) (old new : DeskView) → DeskEpochPost result old new
     → IsJoined old s rs b → IsJoined new s rs b
 epoch_joined s rs b (Ok left) old new h j =
-    subst (λ (d : DeskView). IsJoined d s rs b) (sym h.2) (joined_anew s rs b new.kernel old (none_front old.taken old.waiting h.0) (none_behind old.taken old.waiting h.0) j)
+    subst (λ (d : DeskView). IsJoined d s rs b) (sym h.2) (let none = none_of_both old.taken old.waiting h.0 in joined_anew s rs b new.kernel old none.0 none.1 j)
 epoch_joined s rs b (Err (epoch_refusals.Undecided n)) old new h j = subst (λ (d : DeskView). IsJoined d s rs b) (sym h.2) j
 epoch_joined s rs b (Err epoch_refusals.Memory) old new h j = subst (λ (d : DeskView). IsJoined d s rs b) (sym h.1) j
 
@@ -46,7 +39,7 @@ world_of d s rs b = record { desk = d; server = s; replies = rs; back = b }
 pub epoch_left : (s : ServerView) (rs : List Reply) (b : Option Request) (result : Result (TraceView × TerminalMap) EpochRefusal) (old new : DeskView) → DeskEpochPost result old new
     → IsJoined old s rs b → WorldEpochPost result (world_of old s rs b) (world_of new s rs b)
 epoch_left s rs b (Ok left) old new h j =
-    let none = none_on_its_way rs b (subst (AreReplies rs b) (none_front old.taken old.waiting h.0) j.replies) in
+    let none = none_on_its_way rs b (subst (AreReplies rs b) (none_of_both old.taken old.waiting h.0).0 j.replies) in
     (h, λ i. world_of new s (none.0 i) (none.1 i))
 epoch_left s rs b (Err (epoch_refusals.Undecided n)) old new h j = ((h.0, h.1, refl), λ i. world_of (h.2 i) s rs b)
 epoch_left s rs b (Err epoch_refusals.Memory) old new h j = ((h.0, refl), λ i. world_of (h.1 i) s rs b)

@@ -1,15 +1,15 @@
 -- What holds of a world's parts, behind each of its events.
-use Rattle.sk_client.proofs.Names.{◌≡◌, ℕ, ◌+◌, ◌-◌, ◌<◌, ◌≤◌, get_or, true, false, not, cond, List, [], ◌∷◌, ◌++◌}
-use Rattle.sk_client.proofs.Names.{length, Option, Some, None, Result, Ok, Err, refl, sym, ◌∙◌, ap, subst, arith, ◌==◌}
-use Rattle.sk_client.proofs.Names.{nat_lt, is_some, true≢false, eqb-true, ltb-false, ltb-true, length-append, get_or_at}
-use Rattle.sk_client.proofs.Names.{has, and_both, LAST_VERSION, Input, Refusal, TooMany, or_else, undecided_at}
-use Rattle.sk_client.proofs.Names.{effect_at, guess_misfits, too_many, next_guess, Request, Ask, Get, Check, Store}
-use Rattle.sk_client.proofs.Names.{Reply, Answer, Yes, No, Dropped, LAST_REQUEST, FileMap, file_of, is_fitting}
-use Rattle.sk_client.proofs.Names.{ServerView, is_dropped, remembered, judged, answer_to, PendingRequest, Rule, Turn}
-use Rattle.sk_client.proofs.Names.{DeskView, entry, sent, first_sent, first_taken, fits_ask, no_number, no_place}
-use Rattle.sk_client.proofs.Names.{guess_refused_at, rule, turned, request_of, given, given_to, stepped_for, decided}
-use Rattle.sk_client.proofs.Names.{input_of, is_void, ByRule, TurnPost, WorldView, Numbered, AreReplies, IsNext}
-use Rattle.sk_client.proofs.Names.{IsJoined, reply_to, served, taken_from, taken_by, ServesNext}
+use Rattle.sk_client.proofs.Names.{Some, subst, ◌-◌, arith, ◌++◌, refl, [], ◌∷◌, Option, List, get_or, ℕ, true, sym}
+use Rattle.sk_client.proofs.Names.{not, cond, ap, length, ◌≤◌, false, Ok, Err, ◌≡◌, ◌+◌, None, ◌<◌, Result, ◌∙◌}
+use Rattle.sk_client.proofs.Names.{eqb-true, ltb-true, ltb-false, true≢false, length-append, get_or_at, ◌==◌, is_some}
+use Rattle.sk_client.proofs.Names.{nat_lt, request_of, is_void, first_taken, rule, first_sent, given, given_to}
+use Rattle.sk_client.proofs.Names.{no_number, decided, input_of, sent, entry, fits_ask, turned, no_place}
+use Rattle.sk_client.proofs.Names.{guess_refused_at, stepped_for, DeskView, ByRule, TurnPost, served, ServesNext}
+use Rattle.sk_client.proofs.Names.{taken_from, Numbered, IsJoined, IsNext, AreReplies, taken_by, WorldView, reply_to}
+use Rattle.sk_client.proofs.Names.{Turn, PendingRequest, Rule, effect_at, undecided_at, next_guess, too_many, or_else}
+use Rattle.sk_client.proofs.Names.{guess_misfits, LAST_VERSION, Refusal, TooMany, and_both, has, Input, file_of}
+use Rattle.sk_client.proofs.Names.{FileMap, is_fitting, is_dropped, judged, remembered, ServerView, answer_to, Answer}
+use Rattle.sk_client.proofs.Names.{Yes, No, Dropped, Reply, Ask, Get, Check, Store, Request, LAST_REQUEST}
 use Rattle.sk_script.specs.declared.instruction.Input.TheVariants as inputs
 use Rattle.sk_server.specs.Server.{answered}
 use Rattle.sk_client.specs.Rule as rules
@@ -107,13 +107,13 @@ taken_joined s rs d e q qs w is j =
       last = last;
     })
 
--- the server and the kernel are as they were
-pub taken_same : (w : WorldView) (b : Option Request) → ((taken_by w b).server ≡ w.server) × ((taken_by w b).desk.kernel ≡ w.desk.kernel)
-taken_same w (Some q) = (refl, refl)
+-- the server, the kernel and the replies are as they were
+pub taken_same : (w : WorldView) (b : Option Request) → ((taken_by w b).server ≡ w.server) × ((taken_by w b).desk.kernel ≡ w.desk.kernel) × ((taken_by w b).replies ≡ w.replies)
+taken_same w (Some q) = (refl, refl, refl)
 taken_same w None = from w.desk.waiting where
-  from : (qs : List PendingRequest) → ((taken_from w qs).server ≡ w.server) × ((taken_from w qs).desk.kernel ≡ w.desk.kernel)
-  from [] = (refl, refl)
-  from (q ∷ qs) = (refl, refl)
+  from : (qs : List PendingRequest) → ((taken_from w qs).server ≡ w.server) × ((taken_from w qs).desk.kernel ≡ w.desk.kernel) × ((taken_from w qs).replies ≡ w.replies)
+  from [] = (refl, refl, refl)
+  from (q ∷ qs) = (refl, refl, refl)
 
 pub none_is : (o : Option Request) → is_some o ≡ false → o ≡ None
 none_is None h = refl
@@ -259,11 +259,10 @@ none_back : (d : DeskView) (s : ServerView) (rs : List Reply) (b : Option Reques
 none_back d s [] None replies next none = (let count : length d.waiting ≡ 0 = ap length none in let more = next.1 in omega (arith, count, more))
 none_back d s rs b replies next none = absurd replies
 
-none_left : (d : DeskView) (s : ServerView) (rs : List Reply) (b : Option Request) (ts ws : List PendingRequest) → d.taken ≡ ts → d.waiting ≡ ws → ts ++ ws ≡ [] → IsJoined d s rs b → d.next ≡ s.next
-none_left d s rs b [] [] taken waiting none j = none_back d s rs b (subst (AreReplies rs b) taken j.replies) j.next waiting
-none_left d s rs b [] (q ∷ ws) taken waiting none j = absurd cc
-none_left d s rs b (q ∷ ts) ws taken waiting none j = absurd cc
+pub none_of_both : (xs ys : List PendingRequest) → xs ++ ys ≡ [] → (xs ≡ []) × (ys ≡ [])
+none_of_both [] ys h = (refl, h)
+none_of_both (x ∷ xs) ys h = cc
 
 -- where no request is pending, the desk's next one is the server's next
 pub no_requests : (d : DeskView) (s : ServerView) (rs : List Reply) (b : Option Request) → d.taken ++ d.waiting ≡ [] → IsJoined d s rs b → d.next ≡ s.next
-no_requests d s rs b none j = none_left d s rs b d.taken d.waiting refl refl none j
+no_requests d s rs b none j = let e = none_of_both d.taken d.waiting none in none_back d s rs b (subst (AreReplies rs b) e.0 j.replies) j.next e.1

@@ -1,5 +1,5 @@
 -- The steps of accepted stores.
-use Rattle.std.specs.Prelude.{◌≡◌, ℕ, ◌+◌, ◌<◌, List, [], ◌∷◌, Option, Some, slice_get, ◌⊎◌}
+use Rattle.std.specs.Prelude.{◌≡◌, ℕ, ◌+◌, ◌<◌, List, [], ◌∷◌, map, Option, Some, slice_get, ◌⊎◌}
 use Rattle.std.specs.List.{Contains}
 use Rattle.sk_record.specs.Effects.{MarkedEffect}
 use Rattle.sk_record.specs.Run.{effects}
@@ -11,6 +11,7 @@ use Rattle.sk_trace.specs.Entry.{EntryView}
 use Rattle.sk_plain.specs.Act.{Saying, plain}
 use Rattle.sk_kernel.specs.Kernel.{KernelView, record_at}
 use Rattle.sk_server.specs.declared.request.Request.{Request as Sent}
+use Rattle.sk_server.specs.declared.request.Ask.{Ask}
 use Rattle.sk_server.specs.declared.request.Ask.TheVariants as asks
 use Rattle.sk_server.specs.declared.reply.Answer.TheVariants as answers
 use Rattle.sk_server.specs.declared.reply.Reply.{Reply}
@@ -30,19 +31,32 @@ paired (x ∷ xs) (y ∷ ys) = (x, y) ∷ paired xs ys
 abbrev pub steps_at : KernelView → List (EntryView × MarkedEffect Entity EntityState Saying)
 steps_at k = paired (record_at k) (effects (plain k.scripts) k.start (record_at k))
 
--- the step of a store that was made with this guess, or asked, stands in the kernel's record: it is that of the guess, or
--- of none, it was taken with Good, and it set the copy
-pub record StandsIn (k : KernelView) (mark : Option ℕ) (name : Bytes) (version : ℕ) (bytes : Bytes) : Type 0 where
+-- what a step with Good does by its request: a store sets the copy, a check writes no copy at all, and no fetch gets Good
+abbrev pub DoesAsked : Ask → List (Entity × Option EntityState) → Type 0
+DoesAsked (asks.Store name version bytes) ws = Contains ws (CopyOf name, Some (copy_of (record { version = version + 1; bytes = bytes })))
+DoesAsked (asks.Check name version) ws = (any : Bytes) → Contains (map (λ w. w.0) ws) (CopyOf any) → ⊥
+DoesAsked (asks.Get name) ws = ⊥
+
+-- a step at this place of the record is that of a guess, or of none, it was taken with Good, and it does what was asked
+pub record IsStepAt (k : KernelView) (place : ℕ) (mark : Option ℕ) (ask : Ask) : Type 0 where
   pub entry : EntryView
   pub effect : MarkedEffect Entity EntityState Saying
-  pub there : Contains (steps_at k) (entry, effect)
+  pub there : slice_get (steps_at k) place ≡ Some (entry, effect)
   pub guess : entry.guess ≡ mark
   pub input : entry.input ≡ inputs.Good
-  pub sets : Contains effect.written (CopyOf name, Some (copy_of (record { version = version + 1; bytes = bytes })))
+  pub does : DoesAsked ask effect.written
+
+-- the step of a store that was made with this guess, or asked, stands in the kernel's record
+abbrev pub StandsIn : KernelView → Option ℕ → Bytes → ℕ → Bytes → Type 0
+StandsIn k mark name version bytes = (place : ℕ) × IsStepAt k place mark (asks.Store name version bytes)
+
+-- no request of this number is pending
+abbrev pub IsGiven : WorldView → Sent → Type 0
+IsGiven v q = (p : PendingRequest) → Contains (pending v.desk) p → p.number ≡ q.number → ⊥
 
 -- a request was made with a guess, or its reply was given
 abbrev pub IsDue : WorldView → Sent → Type 0
-IsDue v q = ((g : ℕ) × (q.guess ≡ Some g)) ⊎ ((p : PendingRequest) → Contains (pending v.desk) p → p.number ≡ q.number → ⊥)
+IsDue v q = ((g : ℕ) × (q.guess ≡ Some g)) ⊎ IsGiven v q
 
 -- the step of each store that was accepted and is due stands in the record of a later world
 abbrev pub StoresStand : Exchanges → WorldView → WorldView → Type 0
@@ -56,15 +70,6 @@ abbrev pub StoresStood : Exchanges → WorldView → Type 0
 StoresStood served v =
     (q : Sent) (r : Reply) (name : Bytes) (version : ℕ) (bytes : Bytes) (g : ℕ) → Contains served (q, r) → r.answer ≡ answers.Yes → q.ask ≡ asks.Store name version bytes
     → q.guess ≡ Some g → q.number < v.desk.next → StandsIn v.desk.kernel (Some g) name version bytes
-
--- it stands at this place of the record
-pub record StandsAt (k : KernelView) (place : ℕ) (mark : Option ℕ) (name : Bytes) (version : ℕ) (bytes : Bytes) : Type 0 where
-  pub entry : EntryView
-  pub effect : MarkedEffect Entity EntityState Saying
-  pub there : slice_get (steps_at k) place ≡ Some (entry, effect)
-  pub guess : entry.guess ≡ mark
-  pub input : entry.input ≡ inputs.Good
-  pub sets : Contains effect.written (CopyOf name, Some (copy_of (record { version = version + 1; bytes = bytes })))
 
 -- one of the exchanges is a store that was accepted and is due
 pub record DueStore (served : Exchanges) (v : WorldView) : Type 0 where
@@ -83,5 +88,5 @@ pub record DueStore (served : Exchanges) (v : WorldView) : Type 0 where
 -- of them have one place
 pub record StandApart (served : Exchanges) (v later : WorldView) : Type 0 where
   pub place_of : ℕ → ℕ
-  pub stands : (s : DueStore served v) → StandsAt later.desk.kernel (place_of s.request.number) s.request.guess s.name s.version s.bytes
+  pub stands : (s : DueStore served v) → IsStepAt later.desk.kernel (place_of s.request.number) s.request.guess (asks.Store s.name s.version s.bytes)
   pub apart : (s t : DueStore served v) → place_of s.request.number ≡ place_of t.request.number → s.at ≡ t.at

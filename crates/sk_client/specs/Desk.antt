@@ -18,7 +18,6 @@ use Rattle.sk_plain.specs.declared.next.Next.TheVariants as nexts
 use Rattle.sk_plain.specs.declared.refusal.Refusal.{Refusal}
 use Rattle.sk_plain.specs.declared.refusal.Refusal.TheVariants.{Blocked, TooMany, TraceFull}
 use Rattle.sk_kernel.specs.Kernel.{KernelView, kernel_code, state_at, tags_at, undecided_at, next_guess, settled, room, effect_at, next_at, or_else, guess_misfits, too_many, step_misfit, step_refused, with_event}
-use Rattle.sk_holder.specs.Tokens.{commits}
 use Rattle.sk_server.specs.declared.request.Ask.{Ask}
 use Rattle.sk_server.specs.declared.request.Ask.TheVariants.{Get, Check, Store}
 use Rattle.sk_server.specs.declared.request.Request.{Request}
@@ -246,6 +245,11 @@ reply_refused d r [] = Some (out_of_turn d)
 reply_refused d r (q ∷ qs) = refused_by d q r
 
 -- ---- what a reply does
+
+-- whether an event commits a guess
+abbrev pub commits : ℕ → Event → Bool
+commits id (events.Commit g) = g == id
+commits id event = false
 
 abbrev pub is_lost : KernelView → ℕ → Bool
 is_lost k g = not (has g (undecided_at k)) && not (list_any (commits g) k.trace)

@@ -5,21 +5,17 @@ use Rattle.std.specs.List.{Contains}
 use Rattle.sk_record.specs.Effects.{MarkedEffect}
 use Rattle.sk_record.specs.Trace.{Commit}
 use Rattle.sk_ids.specs.declared.entity.Entity.{Entity}
-use Rattle.sk_ids.specs.declared.entity.Entity.TheVariants.{Copy as CopyOf}
 use Rattle.sk_script.specs.declared.instruction.Input.TheVariants as inputs
 use Rattle.sk_store.specs.declared.entity_state.EntityState.{EntityState}
 use Rattle.sk_trace.specs.Entry.{EntryView}
 use Rattle.sk_plain.specs.Act.{Saying}
 use Rattle.sk_kernel.specs.Kernel.{KernelView, events_of, record_at, undecided_at}
 use Rattle.sk_server.specs.declared.request.Request.{Request as Sent}
-use Rattle.sk_server.specs.declared.request.Ask.{Ask}
-use Rattle.sk_server.specs.declared.request.Ask.TheVariants as asks
 use Rattle.sk_server.specs.declared.reply.Answer.TheVariants as answers
 use Rattle.sk_server.specs.declared.reply.Reply.{Reply}
-use Rattle.sk_client.specs.Table.{Bytes, copy_of}
 use Rattle.sk_client.specs.Desk.{pending, asked_count, input_of}
 use Rattle.sk_client.specs.Exchanges.{Exchanges}
-use Rattle.sk_client.specs.AcceptedStores.{steps_at}
+use Rattle.sk_client.specs.AcceptedStores.{steps_at, IsStepAt, IsGiven}
 use Rattle.sk_client.specs.WorldView.{WorldView}
 use Rattle.sk_client.specs.Pending.{PendingRequest}
 
@@ -30,16 +26,6 @@ PlacesAreKept v = length v.desk.kernel.trace + length (undecided_at v.desk.kerne
 -- a step counts that was asked, or whose guess committed
 abbrev pub Counts : KernelView → EntryView → Type 0
 Counts k n = (n.guess ≡ None) ⊎ ((g : ℕ) × (n.guess ≡ Some g) × Contains (events_of k) (Commit g))
-
--- what a step with Good does by its request: a store sets the copy, a check writes no copy at all, and no fetch gets Good
-abbrev pub DoesAsked : Ask → List (Entity × Option EntityState) → Type 0
-DoesAsked (asks.Store name version bytes) ws = Contains ws (CopyOf name, Some (copy_of (record { version = version + 1; bytes = bytes })))
-DoesAsked (asks.Check name version) ws = (any : Bytes) → Contains (map (λ w. w.0) ws) (CopyOf any) → ⊥
-DoesAsked (asks.Get name) ws = ⊥
-
--- no request of this number is pending
-abbrev pub IsGiven : WorldView → Sent → Type 0
-IsGiven v q = (p : PendingRequest) → Contains (pending v.desk) p → p.number ≡ q.number → ⊥
 
 -- one of the exchanges is a request that was accepted, and its reply was given
 pub record Replied (served : Exchanges) (v : WorldView) : Type 0 where
@@ -52,14 +38,8 @@ pub record Replied (served : Exchanges) (v : WorldView) : Type 0 where
 
 -- a step at this place of the record counts, and is this request's: of its guess, or of none, with Good, and it does what
 -- was asked
-pub record IsStepOf (k : KernelView) (place : ℕ) (q : Sent) : Type 0 where
-  pub entry : EntryView
-  pub effect : MarkedEffect Entity EntityState Saying
-  pub there : slice_get (steps_at k) place ≡ Some (entry, effect)
-  pub guess : entry.guess ≡ q.guess
-  pub input : entry.input ≡ inputs.Good
-  pub counts : Counts k entry
-  pub does : DoesAsked q.ask effect.written
+abbrev pub IsStepOf : KernelView → ℕ → Sent → Type 0
+IsStepOf k place q = (s : IsStepAt k place q.guess q.ask) × Counts k s.entry
 
 -- the steps of a record and the requests that they were taken for
 pub record StepsAreReplied (before : ℕ) (served : Exchanges) (earlier v : WorldView) : Type 0 where

@@ -22,7 +22,7 @@ ghost use Rattle.sk_client.specs.Table.{Bytes, IsNumbered};
 ghost use Rattle.sk_client.specs.Desk.{DeskView, opened, entry};
 ghost use Rattle.sk_client.specs.DeskCalls.{DeskEpochPost};
 ghost use Rattle.sk_client.specs.Exchanges.{Exchanges, Leads};
-ghost use Rattle.sk_client.specs.Ready.{WasBooted, IsReady, Begins};
+ghost use Rattle.sk_client.specs.Ready.{WasBooted, IsReady, Begins, Always, AlwaysLater};
 ghost use Rattle.sk_client.specs.AcceptedStores.{StoresStand, StoresStood, StandApart};
 ghost use Rattle.sk_client.specs.AskedSteps.{StepsAreTaken, ForgottenAreDropped};
 ghost use Rattle.sk_client.specs.Replied.{StepsAreReplied, AreRepliedOnce, PlacesAreKept};
@@ -64,10 +64,8 @@ pub fn ready()
 pub fn begins()
     ensures first { (k : KernelView) (server : ServerView) → IsReady k → server.next ≡ 1
         → Begins (joined (opened k) server) }
-    ensures epoch { (w : WorldView) → Begins w
-        → (es : List WorldEvent) (served : Exchanges) (v : WorldView) → Leads w es served v
-        → (left : TraceView × TerminalMap) (new : DeskView) → DeskEpochPost (Ok left) v.desk new
-        → Begins (joined new v.server) }
+    ensures epoch { Always (λ w served v. (left : TraceView × TerminalMap) (new : DeskView)
+        → DeskEpochPost (Ok left) v.desk new → Begins (joined new v.server)) }
 {}
 
 /// Accepted stores stand: after any list of a world's events, and any list behind it, the step of each store that the
@@ -76,22 +74,13 @@ pub fn begins()
 /// that was made with a guess by then, if the server accepts it in that list or in the one behind (`stood`). What is made by
 /// then has a number below that of the desk's next request.
 pub fn accepted()
-    ensures stand { (w : WorldView) → Begins w
-        → (es : List WorldEvent) (served : Exchanges) (v : WorldView) → Leads w es served v
-        → (later : List WorldEvent) (more : Exchanges) (last : WorldView)
-        → Leads v later more last → StoresStand served v last }
-    ensures stood { (w : WorldView) → Begins w
-        → (es : List WorldEvent) (served : Exchanges) (v : WorldView) → Leads w es served v
-        → (later : List WorldEvent) (more : Exchanges) (last : WorldView)
-        → Leads v later more last → StoresStood (served ++ more) v }
+    ensures stand { AlwaysLater (λ w served v more last. StoresStand served v last) }
+    ensures stood { AlwaysLater (λ w served v more last. StoresStood (served ++ more) v) }
 {}
 
 /// No two accepted stores have one step: each has a place of the record where its step stands, and no two have one place.
 pub fn apart()
-    ensures { (w : WorldView) → Begins w
-        → (es : List WorldEvent) (served : Exchanges) (v : WorldView) → Leads w es served v
-        → (later : List WorldEvent) (more : Exchanges) (last : WorldView)
-        → Leads v later more last → StandApart served v last }
+    ensures { AlwaysLater (λ w served v more last. StandApart served v last) }
 {}
 
 /// The steps that a record has since the world began, that were given Good and that were asked or whose guess committed, and
@@ -102,32 +91,22 @@ pub fn apart()
 /// that the server dropped. A step is by its request's process: said of the requests that were pending after the first list. No
 /// request has two replies (`replies`), whatever they answer.
 pub fn replied()
-    ensures steps { (w : WorldView) → Begins w
-        → (es : List WorldEvent) (served : Exchanges) (v : WorldView) → Leads w es served v
-        → (later : List WorldEvent) (more : Exchanges) (last : WorldView) → Leads v later more last
-        → StepsAreReplied (length (record_at w.desk.kernel)) (served ++ more) v last }
-    ensures replies { (w : WorldView) → Begins w
-        → (es : List WorldEvent) (served : Exchanges) (v : WorldView) → Leads w es served v
-        → AreRepliedOnce served v }
+    ensures steps { AlwaysLater (λ w served v more last.
+        StepsAreReplied (length (record_at w.desk.kernel)) (served ++ more) v last) }
+    ensures replies { Always (λ w served v. AreRepliedOnce served v) }
 {}
 
 /// The trace keeps its limit, with a place for the decision of each undecided guess and for the step of each asked request.
 pub fn places()
-    ensures { (w : WorldView) → Begins w
-        → (es : List WorldEvent) (served : Exchanges) (v : WorldView) → Leads w es served v
-        → PlacesAreKept v }
+    ensures { Always (λ w served v. PlacesAreKept v) }
 {}
 
 /// No asked step is left out: after any list of a world's events, a reply that is answered by `Taken` has its step
 /// accepted by the kernel and in the trace, and one that is answered by `Forgotten` says that the server dropped the
 /// request.
 pub fn taken()
-    ensures steps { (w : WorldView) → Begins w
-        → (es : List WorldEvent) (served : Exchanges) (v : WorldView) → Leads w es served v
-        → StepsAreTaken v }
-    ensures forgotten { (w : WorldView) → Begins w
-        → (es : List WorldEvent) (served : Exchanges) (v : WorldView) → Leads w es served v
-        → ForgottenAreDropped v }
+    ensures steps { Always (λ w served v. StepsAreTaken v) }
+    ensures forgotten { Always (λ w served v. ForgottenAreDropped v) }
 {}
 
 /// The server's files after any list of a world's events are the first ones after each write in order: the foreign edits

@@ -1,26 +1,11 @@
 -- The record along a trace, one event further.
-use Rattle.sk_counts.proofs.Names.{◌≡◌, ℕ, zero, suc, ◌+◌, ◌<◌, ◌≤◌, List, [], ◌∷◌, ◌++◌, length, map, take, drop}
-use Rattle.sk_counts.proofs.Names.{get_or, Some, refl, sym, ◌∙◌, ap, subst, arith, max, take_more, has, Record, Fail}
-use Rattle.sk_counts.proofs.Names.{IsSound, all_recorded, no_record, recorded, entries_are, fresh_from, marked_is}
-use Rattle.sk_counts.proofs.Names.{sound_before, undecided_is, map_append, recorded_more, EntryView, Event, plain}
-use Rattle.sk_counts.proofs.Names.{image, is_made, HasSoundTrace, Standing, seen, Fits, KernelView, record_at}
-use Rattle.sk_counts.proofs.Names.{most_up_to}
+use Rattle.sk_counts.proofs.Names.{Some, subst, ◌∷◌, ◌≡◌, ◌+◌, arith, List, get_or, ap, ◌++◌, length, ℕ, drop, sym}
+use Rattle.sk_counts.proofs.Names.{suc, ◌≤◌, take, ◌<◌, refl, [], ◌∙◌, map, take_more, take_all, take-append-drop}
+use Rattle.sk_counts.proofs.Names.{map-append, max, most_up_to, record_at, KernelView, HasSoundTrace, plain, image}
+use Rattle.sk_counts.proofs.Names.{is_made, seen, Fits, Standing, marked_is, undecided_is, entries_are, fresh_from}
+use Rattle.sk_counts.proofs.Names.{sound_before, recorded_more, has, Record, all_recorded, recorded, no_record, Fail}
+use Rattle.sk_counts.proofs.Names.{IsSound, EntryView, Event}
 use Rattle.sk_trace.specs.declared.event.Event.TheVariants as events
-
-pushed : {A B : Type 0} (f : A → B) (xs : List A) (x : A) → map f (xs ++ x ∷ []) ≡ map f xs ++ f x ∷ []
-pushed f [] x = refl
-pushed f (y ∷ xs) x = ap (λ rest. f y ∷ rest) (pushed f xs x)
-
-whole : {A : Type 0} (xs : List A) (i : ℕ) → length xs ≤ i → take i xs ≡ xs
-whole [] zero past = refl
-whole [] (suc i) past = refl
-whole (x ∷ xs) zero past = absurd (omega arith)
-whole (x ∷ xs) (suc i) past = ap (λ rest. x ∷ rest) (whole xs i (omega arith))
-
-parts_again : {A : Type 0} (n : ℕ) (xs : List A) → take n xs ++ drop n xs ≡ xs
-parts_again zero xs = refl
-parts_again (suc n) [] = refl
-parts_again (suc n) (x ∷ xs) = ap (λ rest. x ∷ rest) (parts_again n xs)
 
 module _ (k : KernelView) where
   abbrev pub after_first : ℕ → Record EntryView
@@ -29,7 +14,7 @@ module _ (k : KernelView) where
   pub one_more : (i : ℕ) (x : Event) → i < length k.trace → x ≡ get_or k.trace i x → after_first (i + 1) ≡ recorded (plain k.scripts) k.start (after_first i) (image x)
   one_more i x lt is =
       ap (λ (es : List Event). all_recorded (plain k.scripts) k.start no_record (map image es)) (take_more k.trace i x lt ∙ ap (λ (y : Event). take i k.trace ++ y ∷ []) (sym is))
-      ∙ ap (all_recorded (plain k.scripts) k.start no_record) (pushed image (take i k.trace) x)
+      ∙ ap (all_recorded (plain k.scripts) k.start no_record) (map-append image (take i k.trace) (x ∷ []))
       ∙ recorded_more (plain k.scripts) k.start no_record (map image (take i k.trace)) (image x)
 
   most_next : (i j most count new : ℕ) → j ≡ suc i → most ≡ most_up_to k i → count ≡ length (after_first j).undecided → new ≡ max most count → new ≡ most_up_to k j
@@ -44,14 +29,14 @@ module _ (k : KernelView) where
 
   pub all_entries : (i : ℕ) → length k.trace ≤ i → (after_first i).entries ≡ record_at k
   all_entries i past =
-      ap (λ (es : List Event). (all_recorded (plain k.scripts) k.start no_record (map image es)).entries) (whole k.trace i past)
+      ap (λ (es : List Event). (all_recorded (plain k.scripts) k.start no_record (map image es)).entries) (take_all i k.trace past)
       ∙ entries_are (plain k.scripts) k.start (map image k.trace)
 
   -- ---- what comes next may come
   front_sound : (n : ℕ) → HasSoundTrace k → IsSound (plain k.scripts) k.start (map image (take n k.trace))
   front_sound n whole =
       sound_before (plain k.scripts) k.start (map image (take n k.trace)) (map image (drop n k.trace))
-      (subst (λ es. IsSound (plain k.scripts) k.start es) (sym (sym (map_append image (take n k.trace) (drop n k.trace)) ∙ ap (λ (es : List Event). map image es) (parts_again n k.trace))) whole.sound)
+      (subst (λ es. IsSound (plain k.scripts) k.start es) (sym (sym (map-append image (take n k.trace) (drop n k.trace)) ∙ ap (λ (es : List Event). map image es) (take-append-drop n k.trace))) whole.sound)
 
   fits_from : (i : ℕ) (x : Event) (s : Standing) → IsSound (plain k.scripts) k.start (map image (take i k.trace) ++ image x ∷ []) → seen s ≡ after_first i → Fits s x
   fits_from i (events.Step pid input) s sound is = tt
@@ -68,5 +53,5 @@ module _ (k : KernelView) where
   pub fits_next : (i : ℕ) (x : Event) (s : Standing) → i < length k.trace → x ≡ get_or k.trace i x → HasSoundTrace k → seen s ≡ after_first i → Fits s x
   fits_next i x s lt is whole stands =
       let next : map image (take (i + 1) k.trace) ≡ map image (take i k.trace) ++ image x ∷ [] =
-      ap (λ (es : List Event). map image es) (take_more k.trace i x lt ∙ ap (λ (y : Event). take i k.trace ++ y ∷ []) (sym is)) ∙ pushed image (take i k.trace) x in
+      ap (λ (es : List Event). map image es) (take_more k.trace i x lt ∙ ap (λ (y : Event). take i k.trace ++ y ∷ []) (sym is)) ∙ map-append image (take i k.trace) (x ∷ []) in
       fits_from i x s (subst (λ es. IsSound (plain k.scripts) k.start es) next (front_sound (i + 1) whole)) stands

@@ -1,13 +1,13 @@
 -- A guess is struck where it was made, no event decides it, and the record has its entry no more: the tests say what the status says.
-use Rattle.sk_counts.proofs.Names.{◌≡◌, ℕ, ◌<◌, ◌+◌, length, subst, arith, Bool, true, false, not, ◌&&◌, ◌||◌, List, []}
-use Rattle.sk_counts.proofs.Names.{◌∷◌, map, Option, Some, None, inl, inr, refl, sym, ◌∙◌, ◌↔◌, ◌⊎◌, list_any, Contains}
-use Rattle.sk_counts.proofs.Names.{and_from, or_cases, or_from, or_left, or_parts, true≢false, eq-eqb}
-use Rattle.sk_counts.proofs.Names.{false_from_ne_true, not_from_false, Happens, Commit, Fail, HasEntry, IsDrawn}
-use Rattle.sk_counts.proofs.Names.{StatusIs, status_in, StatusOr, beyond, Status, Undecided, Committed, Failed, Struck}
-use Rattle.sk_counts.proofs.Names.{any_from, draws, is_commit, is_fail, has_commit, has_fail, has_entry, is_drawn}
-use Rattle.sk_counts.proofs.Names.{marked_is, or_no, any_at, ScriptMap, EntryView, Event, plain, image, is_made}
-use Rattle.sk_counts.proofs.Names.{KernelView, HasStatus, events_of, record_at, HasSoundTrace, makes, decides}
-use Rattle.sk_counts.proofs.Names.{is_struck, is_struck_status}
+use Rattle.sk_counts.proofs.Names.{Some, Bool, subst, inr, ◌∷◌, inl, ◌≡◌, ◌+◌, Option, arith, List, length, ◌||◌, ℕ}
+use Rattle.sk_counts.proofs.Names.{true, sym, None, false, ◌<◌, refl, [], ◌∙◌, map, and_from, not_from_false}
+use Rattle.sk_counts.proofs.Names.{true≢false, or_cases, false_from_ne_true, or_left, or_from, or_parts, eq-eqb}
+use Rattle.sk_counts.proofs.Names.{not-true, Contains, list_any, ◌↔◌, ◌⊎◌, is_struck_status, is_struck, makes}
+use Rattle.sk_counts.proofs.Names.{decides, HasStatus, record_at, events_of, KernelView, HasSoundTrace, plain, image}
+use Rattle.sk_counts.proofs.Names.{is_made, beyond, marked_is, or_no, draws, is_commit, has_fail, is_drawn, any_from}
+use Rattle.sk_counts.proofs.Names.{has_commit, is_fail, has_entry, any_at, and_both, StatusOr, status_in, HasEntry}
+use Rattle.sk_counts.proofs.Names.{Fail, StatusIs, Happens, IsDrawn, Commit, Status, Struck, ScriptMap, EntryView}
+use Rattle.sk_counts.proofs.Names.{Event}
 use Rattle.sk_trace.specs.declared.event.Event.TheVariants as events
 
 -- a test of events that is one of their images
@@ -16,28 +16,15 @@ same_test p q same [] = refl
 same_test p q same (e ∷ es) = λ i. same e i || same_test p q same es i
 
 makes_is : (scripts : ScriptMap) (g : ℕ) (e : Event) → makes g e ≡ draws (plain scripts) g (image e)
-makes_is scripts g (events.Step pid input) = refl
 makes_is scripts g (events.Guess id pid input) = refl
-makes_is scripts g (events.Commit id) = refl
-makes_is scripts g (events.Fail id) = refl
+makes_is scripts g e = refl
 
 abbrev is_decision : ℕ → Happens EntryView → Bool
 is_decision g e = is_commit g e || is_fail g e
 
 decides_is : (g : ℕ) (e : Event) → decides g e ≡ is_decision g (image e)
-decides_is g (events.Step pid input) = refl
-decides_is g (events.Guess id pid input) = refl
 decides_is g (events.Commit id) = sym (or_no _)
-decides_is g (events.Fail id) = refl
-
-and_parts : (x y : Bool) → (x && y) ≡ true → (x ≡ true) × (y ≡ true)
-and_parts true true h = (refl, refl)
-and_parts true false h = absurd (true≢false (sym h))
-and_parts false y h = absurd (true≢false (sym h))
-
-none_from : (x : Bool) → not x ≡ true → x ≡ false
-none_from true h = absurd (true≢false (sym h))
-none_from false h = refl
+decides_is g e = refl
 
 module _ (k : KernelView) (g : ℕ) where
   made_is : (list_any (makes g) k.trace ≡ true) ↔ IsDrawn (plain k.scripts) (events_of k) g
@@ -72,8 +59,8 @@ module _ (k : KernelView) (g : ℕ) where
   struck_here : (is_struck k g ≡ true) ↔ StatusIs (plain k.scripts) k.start (events_of k) g Struck
   struck_here = (
     λ h.
-        let parts = and_parts _ _ h in
-        let none = or_parts _ _ (none_from _ parts.1) in (
+        let parts = and_both _ _ h in
+        let none = or_parts _ _ (not-true _ parts.1) in (
           made_is.0 parts.0,
           λ commits. true≢false (sym (by_commit commits) ∙ none.0),
           λ fails. true≢false (sym (by_failure fails) ∙ none.0),
@@ -100,7 +87,4 @@ module _ (k : KernelView) (g : ℕ) where
 
     pub status_test : (s : Option Status) → ((t : Status) → (s ≡ Some t) ↔ HasStatus k g t) → is_struck_status s ≡ is_struck k g
     status_test (Some Struck) is = sym ((struck_is later).1 ((is Struck).0 refl))
-    status_test (Some Undecided) is = never (Some Undecided) is (λ e. absurd cc)
-    status_test (Some Committed) is = never (Some Committed) is (λ e. absurd cc)
-    status_test (Some Failed) is = never (Some Failed) is (λ e. absurd cc)
-    status_test None is = never None is (λ e. absurd cc)
+    status_test s is = never s is (λ e. absurd cc)

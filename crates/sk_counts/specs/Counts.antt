@@ -1,8 +1,8 @@
 -- What is counted of a kernel, told on its trace but for the notes that it holds.
-use Rattle.std.specs.Prelude.{◌≡◌, ℕ, zero, suc, ◌-◌, max, Bool, true, false, ◌&&◌, ◌||◌, not, ◌==◌, length, take, count_by, Option, Some, None}
+use Rattle.std.specs.Prelude.{◌≡◌, ℕ, zero, suc, ◌-◌, max, Bool, true, false, ◌&&◌, ◌||◌, not, ◌==◌, length, take, count_by, Option, Some}
 use Rattle.std.specs.List.{list_any}
 use Rattle.sk_record.specs.declared.status.Status.{Status}
-use Rattle.sk_record.specs.declared.status.Status.TheVariants.{Undecided, Committed, Failed, Struck}
+use Rattle.sk_record.specs.declared.status.Status.TheVariants.{Struck}
 use Rattle.sk_trace.specs.declared.event.Event.{Event}
 use Rattle.sk_trace.specs.declared.event.Event.TheVariants as events
 use Rattle.sk_plain.specs.Replay.{is_made}
@@ -14,43 +14,33 @@ use Rattle.sk_counts.specs.declared.counts.Counts.{Counts}
 abbrev pub is_step : Event → Bool
 is_step (events.Step pid input) = true
 is_step (events.Guess id pid input) = true
-is_step (events.Commit id) = false
-is_step (events.Fail id) = false
+is_step event = false
 
 -- whether it makes a guess
 abbrev pub is_guess : Event → Bool
-is_guess (events.Step pid input) = false
 is_guess (events.Guess id pid input) = true
-is_guess (events.Commit id) = false
-is_guess (events.Fail id) = false
+is_guess event = false
 
 -- whether it commits one
 abbrev pub is_commit : Event → Bool
-is_commit (events.Step pid input) = false
-is_commit (events.Guess id pid input) = false
 is_commit (events.Commit id) = true
-is_commit (events.Fail id) = false
+is_commit event = false
 
 -- whether it fails one
 abbrev pub is_failure : Event → Bool
-is_failure (events.Step pid input) = false
-is_failure (events.Guess id pid input) = false
-is_failure (events.Commit id) = false
 is_failure (events.Fail id) = true
+is_failure event = false
 
 -- whether it makes this guess
 abbrev pub makes : ℕ → Event → Bool
-makes g (events.Step pid input) = false
 makes g (events.Guess id pid input) = id == g
-makes g (events.Commit id) = false
-makes g (events.Fail id) = false
+makes g event = false
 
 -- whether it decides this guess
 abbrev pub decides : ℕ → Event → Bool
-decides g (events.Step pid input) = false
-decides g (events.Guess id pid input) = false
 decides g (events.Commit id) = id == g
 decides g (events.Fail id) = id == g
+decides g event = false
 
 -- whether a guess was made and not decided, and its step is not in the record any more
 abbrev pub is_struck : KernelView → ℕ → Bool
@@ -59,17 +49,12 @@ is_struck k g = list_any (makes g) k.trace && not (list_any (decides g) k.trace 
 -- whether the status of a guess is that it was struck
 abbrev pub is_struck_status : Option Status → Bool
 is_struck_status (Some Struck) = true
-is_struck_status (Some Undecided) = false
-is_struck_status (Some Committed) = false
-is_struck_status (Some Failed) = false
-is_struck_status None = false
+is_struck_status status = false
 
 -- whether an event makes a guess that was struck later
 abbrev pub makes_struck : KernelView → Event → Bool
-makes_struck k (events.Step pid input) = false
 makes_struck k (events.Guess id pid input) = is_struck k id
-makes_struck k (events.Commit id) = false
-makes_struck k (events.Fail id) = false
+makes_struck k event = false
 
 -- how many guesses were undecided after the first n events
 abbrev pub open_after : KernelView → ℕ → ℕ

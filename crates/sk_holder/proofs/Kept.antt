@@ -1,120 +1,96 @@
--- Each undecided guess has its token, also behind each of the kernel's calls.
-use Rattle.sk_holder.proofs.Names.{◌≡◌, ℕ, zero, suc, ◌<◌, true, false, not, List, [], ◌∷◌, ◌++◌, get_or, length}
-use Rattle.sk_holder.proofs.Names.{Option, Result, Ok, Err, inl, inr, refl, sym, ap, ◌∙◌, subst, arith, ◌⊎◌, ◌==◌}
-use Rattle.sk_holder.proofs.Names.{Contains, remove, eq-eqb, eqb-true, true≢false, or_cases, or_left, or_right}
-use Rattle.sk_holder.proofs.Names.{false_from_ne_true, Contains-push, list_any-append, has, effects, strike, Fail}
-use Rattle.sk_holder.proofs.Names.{Record, IsSound, all_recorded, no_record, recorded, undecided_of, still_marked}
-use Rattle.sk_holder.proofs.Names.{Undecided, status_in, in_trace, nil_right, has_filter, and_parts, recorded_more}
-use Rattle.sk_holder.proofs.Names.{sound_fail, is_undecided, entity_total, entity_exact, Token, Input, EntryView, Event}
-use Rattle.sk_holder.proofs.Names.{plain, image, Refusal, KernelView, HasStatus, events_of, next_guess, undecided_at}
-use Rattle.sk_holder.proofs.Names.{with_event, StepPost, GuessPost, DecisionPost, CommitPost, FailPost, HasSoundTrace}
-use Rattle.sk_holder.proofs.Names.{Outcome, Stranger, FailRefusal, struck_is_decided, map_more, is_held, ids}
+-- Held tokens behind each of the kernel's calls: from what the calls answer.
+use Rattle.sk_holder.proofs.Names.{Some, subst, inr, Ok, ◌∷◌, Err, inl, zero, ◌≡◌, Option, arith, List, ap, ◌++◌}
+use Rattle.sk_holder.proofs.Names.{length, append_assoc, ℕ, true, sym, None, suc, false, refl, Result, [], ◌∙◌}
+use Rattle.sk_holder.proofs.Names.{true≢false, or_right, or_left, eq-eqb, map-append, list_any-append, IfErr}
+use Rattle.sk_holder.proofs.Names.{replicate, ◌==◌, Token, ids, IsHeld, no_step, map_more, EpochPost, GuessPost}
+use Rattle.sk_holder.proofs.Names.{IsNew, StepPost, with_steps, HandInPost, alone_step, next_guess, events_of}
+use Rattle.sk_holder.proofs.Names.{with_event, undecided_at, KernelView, HasSoundTrace, HandIn, Stale, TraceFull}
+use Rattle.sk_holder.proofs.Names.{Memory, EpochRefusal, plain, Refusal, has, undecided_of, LeaseView, Input}
+use Rattle.sk_holder.proofs.Names.{TerminalMap, EntryView, TraceView, Event}
+use Rattle.sk_script.specs.declared.instruction.Input.TheVariants as inputs
 use Rattle.sk_trace.specs.declared.event.Event.TheVariants as events
-use Rattle.sk_kernel.specs.declared.kernel.Outcome.TheVariants as outcomes
-use Rattle.sk_holder.proofs.Held.{no_tokens}
-
--- ---- which guesses are undecided behind one more event
-
-module _ (k : KernelView) where
-  undecided_more : (e : Event) (g : ℕ)
-      → has g (undecided_at (with_event k e)) ≡ has g (recorded (plain k.scripts) k.start (all_recorded (plain k.scripts) k.start no_record (events_of k)) (image e)).undecided
-  undecided_more e g =
-      ap (λ es. has g (undecided_of (plain k.scripts) k.start es)) (map_more k.trace e)
-      ∙ ap (λ (r : Record EntryView). has g r.undecided) (recorded_more (plain k.scripts) k.start no_record (events_of k) (image e))
-
-  pub after_step : (pid : ℕ) (input : Input) (g : ℕ) → has g (undecided_at (with_event k (events.Step pid input))) ≡ true → has g (undecided_at k) ≡ true
-  after_step pid input g h = ap (λ gs. has g gs) (sym (nil_right (undecided_at k))) ∙ sym (undecided_more (events.Step pid input) g) ∙ h
-
-  pub after_guess : (id pid : ℕ) (input : Input) (g : ℕ) → has g (undecided_at (with_event k (events.Guess id pid input))) ≡ true → (has g (undecided_at k) ≡ true) ⊎ (id ≡ g)
-  after_guess id pid input g h =
-      elim (or_cases (has g (undecided_at k)) (has g (id ∷ [])) (sym (list_any-append (λ t. t == g) (undecided_at k) (id ∷ [])) ∙ sym (undecided_more (events.Guess id pid input) g) ∙ h)) [
-        | inl before ↦ inl before
-        | inr new ↦ elim (or_cases (id == g) false new) [ inl same ↦ inr (eqb-true id g same) | inr none ↦ absurd (true≢false (sym none)) ]
-      ]
-
-  pub after_commit : (id g : ℕ) → has g (undecided_at (with_event k (events.Commit id))) ≡ true → (has g (undecided_at k) ≡ true) × (g ≡ id → ⊥)
-  after_commit id g h =
-      let b = and_parts (not (g == id)) (has g (undecided_at k)) (sym (has_filter (λ t. not (t == id)) g (undecided_at k)) ∙ sym (undecided_more (events.Commit id) g) ∙ h) in
-      (b.1, λ same. true≢false (sym b.0 ∙ ap not (eq-eqb g id same)))
-
-  failed : HasSoundTrace k → (id : ℕ) → HasStatus k id Undecided → has id (undecided_at (with_event k (events.Fail id))) ≡ false
-  failed sound id is_open =
-      let after : IsSound (plain k.scripts) k.start (events_of (with_event k (events.Fail id))) =
-      subst (IsSound (plain k.scripts) k.start) (sym (map_more k.trace (events.Fail id))) (sound_fail (plain k.scripts) k.start entity_total entity_exact (events_of k) id sound.sound (in_trace (plain k.scripts) k.start (status_in k.earlier id) (events_of k) id (sound.decided id) is_open)) in
-      false_from_ne_true _ (λ is.
-      ((is_undecided (plain k.scripts) k.start (events_of (with_event k (events.Fail id))) after id).0 is).1
-      (subst (λ es. Contains es (Fail id)) (sym (map_more k.trace (events.Fail id))) (Contains-push (events_of k) (Fail id))))
-
-  pub after_fail : HasSoundTrace k → (id : ℕ) → HasStatus k id Undecided → (g : ℕ) → has g (undecided_at (with_event k (events.Fail id))) ≡ true → (has g (undecided_at k) ≡ true) × (g ≡ id → ⊥)
-  after_fail sound id is_open g h =
-      let r = all_recorded (plain k.scripts) k.start no_record (events_of k) in
-      let left = still_marked (effects (plain k.scripts) k.start (strike (plain k.scripts) k.start r.entries id)) in
-      let b = and_parts (left g) (has g (undecided_at k)) (sym (has_filter left g (undecided_at k)) ∙ sym (undecided_more (events.Fail id) g) ∙ h) in
-      (b.1, λ same. true≢false (sym h ∙ subst (λ x. has x (undecided_at (with_event k (events.Fail id))) ≡ false) (sym same) (failed sound id is_open)))
-
--- ---- the tokens
-
--- each undecided guess has its token
-abbrev pub EachHeld : KernelView → List Token → Type 0
-EachHeld k ts = (g : ℕ) → has g (undecided_at k) ≡ true → is_held g ts ≡ true
-
--- nothing is undecided
-pub none_undecided : (gs : List ℕ) → ((g : ℕ) → has g gs ≡ true → ⊥) → gs ≡ []
-none_undecided [] none = refl
-none_undecided (g ∷ gs) none = absurd (none g (or_left (g == g) (has g gs) (eq-eqb g g refl)))
-
--- a token that is taken out is that of its guess alone
-pub held_left : (ts : List Token) (i : ℕ) (d : Token) (g : ℕ) → i < length ts → is_held g ts ≡ true → (g ≡ (get_or ts i d).id → ⊥) → is_held g (remove ts i) ≡ true
-held_left [] i d g lt h other = absurd (omega arith)
-held_left (t ∷ ts) zero d g lt h other =
-    elim (or_cases (t.id == g) (is_held g ts) h) [ inl same ↦ absurd (other (sym (eqb-true t.id g same))) | inr rest ↦ rest ]
-held_left (t ∷ ts) (suc i) d g lt h other =
-    elim (or_cases (t.id == g) (is_held g ts) h) [
-      | inl same ↦ or_left (t.id == g) (is_held g (remove ts i)) same
-      | inr rest ↦ or_right (t.id == g) (is_held g (remove ts i)) (held_left ts i d g (omega arith) rest other)
-    ]
-
-pub held_without : (ts : List Token) (i : ℕ) (t : Token) (others : List Token) (g : ℕ) → i < length ts → t ≡ get_or ts i t → others ≡ remove ts i → is_held g ts ≡ true → (g ≡ t.id → ⊥) → is_held g others ≡ true
-held_without ts i t others g lt at rest h other =
-    subst (λ us. is_held g us ≡ true) (sym rest) (held_left ts i t g lt h (λ same. other (same ∙ sym (ap (λ u. u.id) at))))
-
-pub steps_hold : (result : Result (Unit {0}) Refusal) (refused : Option Refusal) (pid : ℕ) (input : Input) (old new : KernelView) (ts : List Token)
-    → StepPost result refused (events.Step pid input) old new → EachHeld old ts → EachHeld new ts
-steps_hold (Ok u) refused pid input old new ts h held g is = held g (after_step old pid input g (subst (λ k. has g (undecided_at k) ≡ true) h.1 is))
-steps_hold (Err why) refused pid input old new ts h held g is = held g (subst (λ k. has g (undecided_at k) ≡ true) h.1 is)
-
-pub draws_hold : (result : Result Token Refusal) (s : Token) (refused : Option Refusal) (pid : ℕ) (input : Input) (old new : KernelView) (ts : List Token)
-    → GuessPost result refused pid input old new → result ≡ Ok s → EachHeld old ts → EachHeld new (ts ++ s ∷ [])
-draws_hold (Err x) s refused pid input old new ts h e held g is = absurd cc
-draws_hold (Ok x) s refused pid input old new ts h e held g is =
-    let same : s ≡ x = cc in
-    let number : s.id ≡ next_guess old = ap (λ t. t.id) (same ∙ h.1) in
-    list_any-append (λ t. t.id == g) ts (s ∷ [])
-    ∙ elim (after_guess old (next_guess old) pid input g (subst (λ k. has g (undecided_at k) ≡ true) h.2 is)) [
-      | inl before ↦ or_left (is_held g ts) (is_held g (s ∷ [])) (held g before)
-      | inr new ↦ or_right (is_held g ts) (is_held g (s ∷ [])) (or_left (s.id == g) false (eq-eqb s.id g (number ∙ new)))
-    ]
-
--- what a decision leaves undecided is another guess, which was undecided
-decisions_leave : (o : Outcome) (t : Token) (e : Event) (old new : KernelView) → HasSoundTrace old
-    → ((g : ℕ) → HasStatus old t.id Undecided → has g (undecided_at (with_event old e)) ≡ true → (has g (undecided_at old) ≡ true) × (g ≡ t.id → ⊥))
-    → DecisionPost o t e old new → (g : ℕ) → has g (undecided_at new) ≡ true → (has g (undecided_at old) ≡ true) × (g ≡ t.id → ⊥)
-decisions_leave outcomes.Done t e old new sound after h g is = after g h.1 (subst (λ k. has g (undecided_at k) ≡ true) h.2 is)
-decisions_leave outcomes.Gone t e old new sound after h g is =
-    let was = subst (λ k. has g (undecided_at k) ≡ true) h.2 is in
-    (was, λ same. true≢false (sym was ∙ subst (λ x. has x (undecided_at old) ≡ false) (sym same) (struck_is_decided old sound t.id h.1)))
-
-pub commits_leave : (result : Result Outcome Stranger) (o : Outcome) (t : Token) (old new : KernelView) → HasSoundTrace old → CommitPost result t old new → result ≡ Ok o
-    → (g : ℕ) → has g (undecided_at new) ≡ true → (has g (undecided_at old) ≡ true) × (g ≡ t.id → ⊥)
-commits_leave (Ok x) o t old new sound h e = decisions_leave x t (events.Commit t.id) old new sound (λ g _ is. after_commit old t.id g is) h
-commits_leave (Err s) o t old new sound h e = absurd cc
-
-pub fails_leave : (result : Result Outcome FailRefusal) (o : Outcome) (t : Token) (old new : KernelView) → HasSoundTrace old → FailPost result t old new → result ≡ Ok o
-    → (g : ℕ) → has g (undecided_at new) ≡ true → (has g (undecided_at old) ≡ true) × (g ≡ t.id → ⊥)
-fails_leave (Ok x) o t old new sound h e = decisions_leave x t (events.Fail t.id) old new sound (λ g is_open is. after_fail old sound t.id is_open g is) h
-fails_leave (Err s) o t old new sound h e = absurd cc
+use Rattle.sk_kernel.specs.declared.kernel.EpochRefusal.TheVariants as epoch_refusals
+use Rattle.sk_holder.proofs.Opens.{open_taken}
+use Rattle.sk_holder.proofs.Held.{all_still, still_unspent, drawn_unspent}
 
 -- without tokens nothing is undecided
-pub none_held : (k : KernelView) (ts : List Token) → ids ts ≡ [] → EachHeld k ts → undecided_at k ≡ []
-none_held k ts none held =
-    none_undecided (undecided_at k) (λ g is. true≢false (sym (held g is) ∙ ap (is_held g) (no_tokens ts none)))
+pub none_held : (k : KernelView) (ts : List Token) → ids ts ≡ [] → IsHeld k ts → undecided_at k ≡ []
+none_held k ts none held = nothing (undecided_at k) (λ g is. true≢false (sym (held.each g is) ∙ ap (has g) none)) where
+  nothing : (gs : List ℕ) → ((g : ℕ) → has g gs ≡ true → ⊥) → gs ≡ []
+  nothing [] none = refl
+  nothing (g ∷ gs) none = absurd (none g (or_left (g == g) (has g gs) (eq-eqb g g refl)))
+
+-- ---- a step
+
+step_holds : (k : KernelView) (pid : ℕ) (input : Input) (ts : List Token) → IsHeld k ts → IsHeld (with_event k (events.Step pid input)) ts
+step_holds k pid input ts held =
+    let e : Event = events.Step pid input in
+    record {
+      unspent = all_still k (with_event k e) ts (λ t _ u. still_unspent k e t (λ is. cc) (λ is. cc) u) held.unspent;
+      each = λ g is. elim (open_taken (plain k.scripts) k.start (events_of k) (record { pid = pid; input = input; guess = None }) g
+          (ap (λ es. has g (undecided_of (plain k.scripts) k.start es)) (sym (map_more k.trace e)) ∙ is)) [
+            | inl before ↦ held.each g before
+            | inr drawn ↦ absurd (let none : None ≡ Some g = drawn in cc)
+          ];
+    }
+
+pub steps_hold : (result : Result (Unit {0}) Refusal) (refused : Option Refusal) (pid : ℕ) (input : Input) (old new : KernelView) (ts : List Token)
+    → StepPost result refused (events.Step pid input) old new → IsHeld old ts → IsHeld new ts
+steps_hold (Ok u) refused pid input old new ts h held = subst (λ k. IsHeld k ts) (sym h.1) (step_holds old pid input ts held)
+steps_hold (Err why) refused pid input old new ts h held = subst (λ k. IsHeld k ts) (sym h.1) held
+
+-- ---- a hand-in, which is so many steps
+
+handed : (ts : List Token) (pid n : ℕ) (k : KernelView) → IsHeld k ts → IsHeld (with_steps k pid n) ts
+handed ts pid zero k held = subst (λ k. IsHeld k ts) (sym (no_step k pid)) held
+handed ts pid (suc n) k held =
+    subst (λ es. IsHeld (record k { trace = es }) ts) (append_assoc k.trace (alone_step pid ∷ []) (replicate n (alone_step pid)))
+    (handed ts pid n (with_event k (alone_step pid)) (step_holds k pid inputs.None ts held))
+
+pub taken_in : (result : Result (Unit {0}) (LeaseView × HandIn)) (l : LeaseView) (old new : KernelView) (ts : List Token) → HandInPost result l old new
+    → IsHeld old ts → IsHeld new ts
+taken_in (Ok u) l old new ts h held = subst (λ k. IsHeld k ts) (sym h.2) (handed ts l.lent.pid l.count old held)
+taken_in (Err (back, Stale)) l old new ts h held = subst (λ k. IsHeld k ts) (sym h.1.1) held
+taken_in (Err (back, TraceFull)) l old new ts h held = subst (λ k. IsHeld k ts) (sym h.1.2) held
+taken_in (Err (back, Memory)) l old new ts h held = subst (λ k. IsHeld k ts) (sym h.1.3) held
+
+-- ---- a guess
+
+pub draws_hold : (result : Result Token Refusal) (s : Token) (refused : Option Refusal) (pid : ℕ) (input : Input) (old new : KernelView) (ts : List Token)
+    → HasSoundTrace old → GuessPost result refused pid input old new → result ≡ Ok s → IsHeld old ts → IsHeld new (ts ++ s ∷ [])
+draws_hold (Err x) s refused pid input old new ts sound h e held = absurd cc
+draws_hold (Ok x) s refused pid input old new ts sound h e held =
+    let id = next_guess old in
+    let event : Event = events.Guess id pid input in
+    let n : EntryView = record { pid = pid; input = input; guess = Some id } in
+    let same : x ≡ s = cc in
+    let fresh : IsNew old (with_event old event) = subst (IsNew old) h.2 h.3 in
+    subst (λ t. IsHeld new (ts ++ t ∷ [])) (sym h.1 ∙ same) (subst (λ k. IsHeld k (ts ++ record { kernel = old.number; id = id } ∷ [])) (sym h.2) (record {
+      unspent = drawn_unspent old pid input ts sound fresh held.unspent;
+      each = λ g is. ap (has g) (map-append (λ (t : Token). t.id) ts (record { kernel = old.number; id = id } ∷ [])) ∙ list_any-append (λ h. h == g) (ids ts) (id ∷ [])
+          ∙ elim (open_taken (plain old.scripts) old.start (events_of old) n g
+          (ap (λ es. has g (undecided_of (plain old.scripts) old.start es)) (sym (map_more old.trace event)) ∙ is)) [
+            | inl before ↦ or_left _ _ (held.each g before)
+            | inr drawn ↦ or_right _ _ (or_left (id == g) false (eq-eqb id g (let both : Some id ≡ Some g = drawn in cc)))
+          ];
+    }))
+
+-- ---- an epoch
+
+anew : (result : Result (TraceView × TerminalMap) EpochRefusal) (old new : KernelView) → EpochPost result old new → IsHeld old [] → IsHeld new []
+anew (Ok left) old new h held = record {
+  unspent = tt;
+  each = λ g is. absurd (true≢false (sym is ∙ ap (λ (k : KernelView). has g (undecided_at k)) h.3.view));
+}
+anew (Err (epoch_refusals.Undecided n)) old new h held = subst (λ k. IsHeld k []) (sym h.2) held
+anew (Err epoch_refusals.Memory) old new h held = subst (λ k. IsHeld k []) (sym h.1) held
+
+pub epoch_holds : (result : Result (TraceView × TerminalMap) EpochRefusal) (old new : KernelView) (ts : List Token) → ids ts ≡ [] → EpochPost result old new → IsHeld old ts → IsHeld new ts
+epoch_holds result old new [] none h held = anew result old new h held
+epoch_holds result old new (t ∷ ts) none h held = absurd cc
+
+-- where none is undecided, memory alone can want
+pub only_memory : (result : Result (TraceView × TerminalMap) EpochRefusal) (old new : KernelView) → undecided_at old ≡ [] → EpochPost result old new → IfErr result (λ why. why ≡ epoch_refusals.Memory)
+only_memory (Ok left) old new none h = tt
+only_memory (Err (epoch_refusals.Undecided n)) old new none h = let few : n ≡ 0 = h.0 ∙ ap length none in absurd (omega (arith, few, h.1))
+only_memory (Err epoch_refusals.Memory) old new none h = refl

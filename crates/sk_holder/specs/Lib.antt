@@ -1,2 +1,2 @@
-pub mod Tokens
 pub mod Holder
+pub mod Tokens

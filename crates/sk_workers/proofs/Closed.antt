@@ -1,9 +1,9 @@
 -- What the checks of a close show.
-use Rattle.sk_workers.proofs.Names.{◌≡◌, ℕ, zero, suc, ◌<◌, List, [], ◌∷◌, ◌++◌, length, refl, sym, ap, ◌∙◌, subst}
-use Rattle.sk_workers.proofs.Names.{Option, Some, None, MatchOption, slice_get, slice_get_within, DeskView, pending}
-use Rattle.sk_workers.proofs.Names.{HistoryEntry, Receipt, BookView, WorkerView, SharedView, AreOwn, AreFresh, IsLegal}
-use Rattle.sk_workers.proofs.Names.{Agrees, IsFirstBad, Stands, AllStand, AreDistinct, AreApart, IsFrom, IsClosed}
-use Rattle.sk_workers.proofs.Names.{receipts_of, numbers}
+use Rattle.sk_workers.proofs.Names.{ap, length, ℕ, subst, ◌∷◌, sym, suc, zero, ◌≡◌, ◌<◌, refl, List, [], ◌∙◌}
+use Rattle.sk_workers.proofs.Names.{slice_get_within, slice_get, Some, MatchOption, None, Option, DeskView, pending}
+use Rattle.sk_workers.proofs.Names.{receipts_of, Stands, IsFirstBad, AreDistinct, AllStand, IsClosed, IsFrom, Agrees}
+use Rattle.sk_workers.proofs.Names.{numbers, AreApart, IsLegal, AreFresh, AreOwn, SharedView, BookView, WorkerView}
+use Rattle.sk_workers.proofs.Names.{HistoryEntry, Receipt}
 
 -- what was found of a worker's receipts, or that all stand
 pub found : (h : List HistoryEntry) (w : WorkerView) (rs : List Receipt) (o : Option ℕ) → rs ≡ w.receipts → AreOwn w.number w.receipts
@@ -45,11 +45,3 @@ distinct n ws us fresh same i j v w atv atw other is =
     let a = at_number ws us i v same atv in
     let b = at_number ws us j w same atw in
     other (ap (λ (x : WorkerView). x.number) (sym (fresh.1 i a.0 a.1)) ∙ sym a.2 ∙ is ∙ b.2 ∙ ap (λ (x : WorkerView). x.number) (fresh.1 j b.0 b.1))
-
-numbers_of : (ws : List WorkerView) (x : WorkerView) → numbers (ws ++ x ∷ []) ≡ numbers ws ++ x.number ∷ []
-numbers_of [] x = refl
-numbers_of (w ∷ ws) x = ap (λ l. w.number ∷ l) (numbers_of ws x)
-
--- a worker that comes back in the place of one with its number
-pub numbers_push : (ws us : List WorkerView) (x a : WorkerView) → numbers ws ≡ numbers us → x.number ≡ a.number → numbers (ws ++ x ∷ []) ≡ numbers (us ++ a ∷ [])
-numbers_push ws us x a e n = numbers_of ws x ∙ (λ i. e i ++ n i ∷ []) ∙ sym (numbers_of us a)

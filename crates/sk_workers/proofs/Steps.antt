@@ -1,13 +1,13 @@
 -- What no call of a desk changes.
-use Rattle.sk_workers.proofs.Names.{ℕ, ◌≡◌, inl, inr, length, Bool, true, false, cond, List, [], ◌∷◌, Result, Ok, Err}
-use Rattle.sk_workers.proofs.Names.{refl, sym, ap, ◌∙◌, subst, IfErr, Refusal, Input, Reply, Answer, LeaseView}
-use Rattle.sk_workers.proofs.Names.{after_private, has, HandIn, Stale, TraceFull, Memory, undecided_at, step_refused}
-use Rattle.sk_workers.proofs.Names.{PendingRequest, Rule, Turn, Given, ReplyRefusal, DeskView, rule, turned, given}
-use Rattle.sk_workers.proofs.Names.{given_to, decided, answered, stepped, is_void, input_of, first_taken}
-use Rattle.sk_workers.proofs.Names.{requests_taken, TurnPost, ByRule, ReplyPost, DeskTakesIn, DeskHandInPost, DeskCall}
-use Rattle.sk_workers.proofs.Names.{Answered, Turned, Replied, HandedIn, BookView, WorkerView, as_opened, HandsIn}
-use Rattle.sk_workers.proofs.Names.{CallPost, TakesInAdds, HandInAdds, TurnAdds, TakesAny, TurnTold, HandInTold}
-use Rattle.sk_workers.proofs.Names.{AnyTold, with_reply, without_reply, without_lease}
+use Rattle.sk_workers.proofs.Names.{ap, length, Bool, ℕ, subst, inr, true, Ok, ◌∷◌, sym, Err, inl, ◌≡◌, false, refl}
+use Rattle.sk_workers.proofs.Names.{List, Result, [], ◌∙◌, cond, IfErr, given_to, requests_taken, stepped, given}
+use Rattle.sk_workers.proofs.Names.{decided, input_of, first_taken, DeskView, answered, turned, rule, is_void}
+use Rattle.sk_workers.proofs.Names.{ReplyPost, ByRule, TurnPost, DeskTakesIn, DeskHandInPost, Given, ReplyRefusal}
+use Rattle.sk_workers.proofs.Names.{Turn, PendingRequest, Rule, undecided_at, step_refused, HandIn, Stale, TraceFull}
+use Rattle.sk_workers.proofs.Names.{Memory, Refusal, has, LeaseView, after_private, Input, Answer, Reply, HandInAdds}
+use Rattle.sk_workers.proofs.Names.{TurnTold, without_reply, AnyTold, as_opened, HandInTold, CallPost, TakesAny}
+use Rattle.sk_workers.proofs.Names.{TakesInAdds, TurnAdds, with_reply, without_lease, HandsIn, BookView, WorkerView}
+use Rattle.sk_workers.proofs.Names.{Answered, Turned, Replied, HandedIn, DeskCall}
 use Rattle.std.proofs.Common.{Option, Some, None}
 use Rattle.sk_client.specs.Rule as rules
 use Rattle.sk_client.specs.Desk.{entry}
@@ -21,8 +21,7 @@ Keeps d e = as_opened e ≡ as_opened d
 
 turned_keeps : (d : DeskView) (pid : ℕ) (r : Rule) → Keeps d (turned d pid r)
 turned_keeps d pid (rules.Steps input) = refl
-turned_keeps d pid (rules.Guesses ask) = refl
-turned_keeps d pid (rules.Asks ask) = refl
+turned_keeps d pid r = refl
 
 by_rule_keeps : (d e : DeskView) (pid : ℕ) (answer : Result Turn Refusal) (r : Result Rule Refusal) → ByRule answer d pid e r → Keeps d e
 by_rule_keeps d e pid (Ok turn) (Ok r) post = ap as_opened post.2 ∙ turned_keeps d pid r
@@ -77,12 +76,7 @@ pub step_keeps : (d e : DeskView) (call : DeskCall) (answer : Answered) → Call
 step_keeps d e (calls.Turn pid) (Turned r) step = by_rule_keeps d e pid r (rule d pid) step.0
 step_keeps d e (calls.Reply reply) (Replied r) step = reply_keeps d e reply (with_reply reply r) step.0
 step_keeps d e (calls.HandIn pid count) (HandedIn r) step = hand_in_keeps d e pid count r step.0
-step_keeps d e (calls.Turn pid) (Replied r) step = absurd step
-step_keeps d e (calls.Turn pid) (HandedIn r) step = absurd step
-step_keeps d e (calls.Reply reply) (Turned r) step = absurd step
-step_keeps d e (calls.Reply reply) (HandedIn r) step = absurd step
-step_keeps d e (calls.HandIn pid count) (Turned r) step = absurd step
-step_keeps d e (calls.HandIn pid count) (Replied r) step = absurd step
+step_keeps d e call answer step = absurd step
 
 pub taken_keeps : (d : DeskView) (qs : List PendingRequest) → as_opened (first_taken d qs) ≡ as_opened d
 taken_keeps d [] = refl
@@ -103,11 +97,6 @@ pub with_back : (d e : DeskView) (reply : Reply) (answer : Result Given (Reply �
     → ReplyPost answer d reply e → r ≡ without_reply answer → ReplyPost (with_reply reply r) d reply e
 with_back d e reply (Ok told) r post is = subst (λ (x : Result Given ReplyRefusal). ReplyPost (with_reply reply x) d reply e) (sym is) post
 with_back d e reply (Err back) r post is = subst (λ (x : Result Given ReplyRefusal). ReplyPost (with_reply reply x) d reply e) (sym is) (refl, post.1, post.2)
-
--- a reply that comes back leaves the desk
-pub back_leaves : (d e : DeskView) (reply : Reply) (answer : Result Given (Reply × ReplyRefusal)) (why : ReplyRefusal) → ReplyPost answer d reply e → without_reply answer ≡ Err why → e ≡ d
-back_leaves d e reply (Ok told) why post is = absurd (cc)
-back_leaves d e reply (Err back) why post is = post.2
 
 -- ---- receipts
 

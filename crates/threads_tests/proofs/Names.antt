@@ -5,6 +5,6 @@ pub use Rattle.std.proofs.lemmas.Option.{slice_get_within}
 pub use Rattle.std.specs.Prelude.{option_to_list, Option}
 pub use Rattle.crossbeam_queue.specs.Passes.{view}
 pub use Rattle.sk_wire.specs.Wire.{IsReceiving, IsSending}
-pub use Rattle.sk_workers.proofs.Closed.{numbers_push, distinct}
+pub use Rattle.sk_workers.proofs.Closed.{distinct}
 pub use Rattle.sk_workers.specs.Closing.{AreDistinct, numbers}
 pub use Rattle.sk_workers.specs.Views.{WorkerView}

@@ -1,5 +1,6 @@
 use Rattle.threads_tests.proofs.Names.{List, [], ◌∷◌, ◌++◌, refl, sym, ap, ◌∙◌, Option, option_to_list, WorkerView}
-use Rattle.threads_tests.proofs.Names.{numbers, distinct, numbers_push}
+use Rattle.threads_tests.proofs.Names.{numbers, distinct}
+use Rattle.threads_tests.proofs.Numbers.{numbers_push}
 use Rattle.threads_tests.proofs.shares.two_workers.Goals as goal
 
 pub closes-requires-clause-distinct : goal.closes-requires-clause-distinct

@@ -1,12 +1,10 @@
 -- A guess opens its own number alone, whose token is pushed.
-use Rattle.sk_holder.proofs.Names.{rules, ◌≡◌, input_in}
-use Rattle.sk_holder.proofs.Settled.{draws_keep}
+use Rattle.sk_holder.proofs.Names.{rules, ◌≡◌, input_in, IsHeld}
 use Rattle.sk_holder.proofs.Kept.{draws_hold}
 use Rattle.sk_holder.proofs.holder.Holder.guess.Goals as goal
 
 pub invariant_of-self-2 : goal.invariant_of-self-2
 invariant_of-self-2 c =
     let same : c.reserve.new.self.items ≡ c.self.inside.tokens.items = search rules in
-    let unspent = draws_keep c.speculate_lent.result c.in_ok-token.token _ c.args.pid (input_in c.args.input) c.self.inside.kernel c.speculate_lent.new.self c.self.inside.tokens.items c.trace-sound.ensures.sound c.speculate_lent.ensures c.in_ok-token.was c.self.invariant.unspent in
-    let each = draws_hold c.speculate_lent.result c.in_ok-token.token _ c.args.pid (input_in c.args.input) c.self.inside.kernel c.speculate_lent.new.self c.self.inside.tokens.items c.speculate_lent.ensures c.in_ok-token.was c.self.invariant.each in
-    rw (c.push_reserved.ensures.items, same) (record { unspent = unspent; each = each })
+    rw (c.push_reserved.ensures.items, same) (draws_hold c.speculate_lent.result c.in_ok-token.token _ c.args.pid (input_in c.args.input) c.self.inside.kernel
+    c.speculate_lent.new.self c.self.inside.tokens.items c.trace-sound.ensures.sound c.speculate_lent.ensures c.in_ok-token.was c.self.invariant)

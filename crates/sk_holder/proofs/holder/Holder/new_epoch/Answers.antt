@@ -1,7 +1,6 @@
 -- No token is held, before and behind it; so no guess is undecided.
 use Rattle.sk_holder.proofs.Names.{◌∙◌, ap, HolderView}
-use Rattle.sk_holder.proofs.Kept.{none_held}
-use Rattle.sk_holder.proofs.Epochs.{epoch_holds, only_memory}
+use Rattle.sk_holder.proofs.Kept.{none_held, epoch_holds, only_memory}
 use Rattle.sk_holder.proofs.holder.Holder.new_epoch.Goals as goal
 
 pub invariant_of-self : goal.invariant_of-self
@@ -10,5 +9,5 @@ invariant_of-self c =
 
 pub returns-clause-memory : goal.returns-clause-memory
 returns-clause-memory c =
-    let none = none_held c.self.inside.kernel c.self.inside.tokens.items (ap (λ (h : HolderView). h.held) c.self.view_is ∙ c.requires) c.self.invariant.each in
+    let none = none_held c.self.inside.kernel c.self.inside.tokens.items (ap (λ (h : HolderView). h.held) c.self.view_is ∙ c.requires) c.self.invariant in
     only_memory c.new_epoch.result c.self.inside.kernel c.new_epoch.new.self none c.new_epoch.ensures

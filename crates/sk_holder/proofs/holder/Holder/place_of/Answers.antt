@@ -1,8 +1,7 @@
 -- A guess is held where its token was found, and is not where none was.
 use Rattle.sk_holder.proofs.Names.{rules, ◌≡◌, ◌<◌, ◌≤◌, true, false, Some, drop, get_or, length, sym, ap, ◌∙◌, subst}
-use Rattle.sk_holder.proofs.Names.{slice_get, has, HolderView, ids, is_held}
-use Rattle.sk_holder.proofs.Held.{held_ids, id_at_get, none_past}
-use Rattle.sk_holder.proofs.Decided.{has_at}
+use Rattle.sk_holder.proofs.Names.{slice_get, has, HolderView, ids}
+use Rattle.sk_holder.proofs.Held.{has_at, id_at_get, none_past}
 use Rattle.sk_holder.proofs.holder.Holder.place_of.Goals as goal
 
 pub returns-then-eq-clause-held : goal.returns-then-eq-clause-held
@@ -18,9 +17,8 @@ pub returns-clause-held : goal.returns-clause-held
 returns-clause-held c =
     let same : c.deref-token-items.result.now ≡ c.self.inside.tokens.items = search rules in
     let past : length c.deref-token-items.result.now ≤ c.loop-place.place = search rules in
-    let kept : is_held c.args.id c.deref-token-items.result.now ≡ is_held c.args.id (drop c.loop-place.place c.deref-token-items.result.now) = c.loop-place.invariant in
-    let none = subst (λ ts. is_held c.args.id ts ≡ false) same (kept ∙ none_past c.args.id c.deref-token-items.result.now c.loop-place.place past) in
-    sym (subst (λ (h : HolderView). has c.args.id h.held ≡ false) c.self.view_is (held_ids c.args.id c.self.inside.tokens.items ∙ none))
+    let none = c.loop-place.invariant ∙ none_past c.args.id c.deref-token-items.result.now c.loop-place.place past in
+    sym (subst (λ (h : HolderView). has c.args.id h.held ≡ false) c.self.view_is (subst (λ ts. has c.args.id (ids ts) ≡ false) same none))
 
 pub returns-in-Some-clause-held : goal.returns-in-Some-clause-held
 returns-in-Some-clause-held c = sym (has_at c.args.self.now.held c.in-Some.newest c.args.id c.in-Some.ensures)

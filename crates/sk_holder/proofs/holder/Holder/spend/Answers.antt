@@ -1,7 +1,6 @@
 -- A failure more, or a struck guess's token.
 use Rattle.std.proofs.Common.{refl}
-use Rattle.sk_holder.proofs.LetGo.{kernel_stays}
-use Rattle.sk_holder.proofs.Spent.{none_failed, spent}
+use Rattle.sk_holder.proofs.LetGo.{kernel_stays, none_failed, spent}
 use Rattle.sk_holder.proofs.holder.Holder.spend.Goals as goal
 
 pub loop-token-init : goal.loop-token-init

@@ -27,6 +27,7 @@ pub enum RoundRefusal {
 
 /// The rounds of one leadership, by rising numbers. What was carried out has a mark; it may be told once the host is known to have led
 /// at some moment after a round that was taken later. A batch that is sent is as good as a round, where one was taken just before.
+#[repr(C)]
 #[derive(Drop)]
 pub struct Rounds {
     taken: u64,
@@ -45,6 +46,13 @@ impl Model for Rounds {
       held = r.held;
       is_waiting = r.is_waiting;
       is_over = r.is_over;
+    } };
+
+    ghost inverse = { λ v. record {
+      taken = v.taken;
+      held = v.held;
+      is_waiting = v.is_waiting;
+      is_over = v.is_over;
     } };
 }
 

@@ -8,3 +8,5 @@ pub mod Led
 pub mod Order
 pub mod Waiting
 pub mod Host
+pub mod Last
+pub mod Windup

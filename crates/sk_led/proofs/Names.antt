@@ -71,3 +71,29 @@ pub use Rattle.sk_replay.specs.Works.{log_limits, Says}
 pub use Rattle.sk_served.specs.Plain.{entries_after, entry_after}
 pub use Rattle.sk_served.specs.Served.{Asked, Entry, Runs}
 pub use Rattle.sk_record.specs.Notes.{has}
+pub use Rattle.sk_batches.specs.Calls.{word_refused}
+pub use Rattle.sk_batches.specs.Places.{next_segment, PlacesView}
+pub use Rattle.sk_batches.specs.Queue.{after_take, after_word, decision_of, in_flight, is_awaited, next_records}
+pub use Rattle.sk_batches.specs.declared.queue.Decision.{Decision}
+pub use Rattle.sk_batches.specs.declared.refusal.Refusal.{Refusal}
+pub use Rattle.sk_batched.specs.Batched.{next_refused}
+pub use Rattle.sk_durable.specs.Calls.{Draws, Rests, Turns}
+pub use Rattle.sk_led.specs.Winding.{any_failed, AreLast, DoesLast, DecidesAll, FailPost, IsAgainst, IsEnded, TakePost}
+pub use Rattle.sk_led.specs.Winding.{WindUpPost, WoundUpIsLed}
+pub use Rattle.std.proofs.Common.{Ok, Err, rules}
+pub use Rattle.std.specs.Option.{option_or}
+pub use Rattle.sk_batches.specs.Calls.{cause_of as queue_cause_of}
+pub use Rattle.sk_batches.specs.Frames.{first_cause}
+pub use Rattle.sk_batches.specs.declared.frames.Sealed.{Sealed}
+pub use Rattle.sk_batched.specs.Batched.{AfterNoFrame, Stays}
+pub use Rattle.sk_channels.specs.Table.{place_at}
+pub use Rattle.sk_durable.proofs.Calls.{all_stays}
+pub use Rattle.sk_durable.proofs.Contained.{at_later}
+pub use Rattle.sk_engine.specs.Newest.{WasSent}
+pub use Rattle.sk_durable.specs.Posts.{CutPost, FramePost, TurnPost}
+pub use Rattle.std.proofs.lemmas.Result.{err_from_is_err_and}
+pub use Rattle.std.proofs.Common.{◌^◌, Result}
+pub use Rattle.std.specs.Prelude.{is_some, nat_le}
+pub use Rattle.std.proofs.lemmas.Bool.{leb-false}
+pub use Rattle.sk_batches.specs.Frames.{frame_refused}
+pub use Rattle.sk_batched.specs.Batched.{MayBegin}

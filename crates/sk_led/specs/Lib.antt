@@ -2,3 +2,4 @@ pub mod Led
 pub mod Laws
 pub mod Order
 pub mod Host
+pub mod Winding

@@ -2,6 +2,7 @@
 ghost use Rattle.sk_led.specs.Host.{RepliesAreNewest};
 ghost use Rattle.sk_led.specs.Laws.{LeadersGoOn, LoggedIsInEngine, NobodyWaits, RefusedIsNowhere, RepliesRestOnEngine};
 ghost use Rattle.sk_led.specs.Order.{OneOrder};
+ghost use Rattle.sk_led.specs.Winding.{WoundUpIsLed};
 
 /// What a batch logs that was told as logged stands in the engine for ever, and each later leadership finds it.
 pub fn logged_law()
@@ -38,4 +39,9 @@ pub fn newest_law()
 /// last begins with what a plain store has behind it.
 pub fn order_law()
     ensures { OneOrder }
+{}
+
+/// However a store is wound up that led, whose lost frames alone were told as failed, all of this is said of it still.
+pub fn wound_up_law()
+    ensures { WoundUpIsLed }
 {}

@@ -1,4 +1,5 @@
-/* What the answers of a consensus engine tell a host of leadership 3, of its batch 7, its fence at gap 5 and its round 2. */
+/* What the answers of a consensus engine tell a host of leadership 3, of its batch 7, its fence at gap 5 and its round 2; and a
+ * host's rounds. */
 #include "hidewillow.h"
 
 #include <stdio.h>
@@ -36,6 +37,48 @@ static void lead(uint32_t answer, uint64_t leadership, uint32_t held)
     tell(hidewillow_engine_lead(answer, leadership, held));
 }
 
+static void carry_out(hidewillow_rounds *rounds)
+{
+    printf("carried out: mark %llu\n", (unsigned long long)hidewillow_rounds_carried_out(rounds));
+}
+
+/* Prints what a call of rounds is told. */
+static void tell_round(const char *call, hidewillow_told told)
+{
+    if (told.answer == HIDEWILLOW_DONE) printf("%s: done, %llu\n", call, (unsigned long long)told.number);
+    else printf("%s: refused, %llu\n", call, (unsigned long long)told.number);
+}
+
+/* Prints of which marks it may be told what has them. */
+static void show(const hidewillow_rounds *rounds)
+{
+    printf("may be told:");
+    for (uint64_t mark = 0; mark < 3; mark++)
+        if (hidewillow_rounds_may_tell(rounds, mark)) printf(" %llu", (unsigned long long)mark);
+    printf("\n");
+}
+
+static void rounds_of_a_host(void)
+{
+    hidewillow_rounds rounds = {0};
+    tell_round("take", hidewillow_rounds_take(&rounds));
+    carry_out(&rounds);
+    tell_round("take", hidewillow_rounds_take(&rounds));
+    carry_out(&rounds);
+    show(&rounds);
+    tell_round("still 2", hidewillow_rounds_still(&rounds, 2));
+    tell_round("still 1", hidewillow_rounds_still(&rounds, 1));
+    show(&rounds);
+    tell_round("take", hidewillow_rounds_take(&rounds));
+    carry_out(&rounds);
+    hidewillow_rounds_lost(&rounds);
+    tell_round("take", hidewillow_rounds_take(&rounds));
+    tell_round("still 2", hidewillow_rounds_still(&rounds, 2));
+    tell_round("still 1", hidewillow_rounds_still(&rounds, 1));
+    carry_out(&rounds);
+    show(&rounds);
+}
+
 int main(void)
 {
     batch(0, 0, 0, 0);
@@ -52,5 +95,6 @@ int main(void)
     lead(0, 3, 0);
     lead(2, 0, 0);
     for (uint32_t held = 0; held < 3; held++) lead(1, 4, held);
+    rounds_of_a_host();
     return 0;
 }

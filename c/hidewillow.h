@@ -19,6 +19,7 @@
 #ifndef HIDEWILLOW_H
 #define HIDEWILLOW_H
 
+#include <stdbool.h>
 #include <stddef.h>
 #include <stdint.h>
 
@@ -647,6 +648,14 @@ hidewillow_told hidewillow_store_cut_frame(hidewillow_store *store, uint8_t *roo
  * is logged or decided any more. Told: DONE; REFUSED 5, 8 or 11. */
 hidewillow_told hidewillow_store_cut(hidewillow_store *store, uint32_t made);
 
+/* Winds up a store whose log lies in a consensus engine (below), once the leadership is over that it was sent
+ * by, each frame has its word, and those that are lost were told as failed. The first of these is cut off
+ * with all behind it, and so is what was never sent: all of that is refused and decided, and nothing is to
+ * be written. The room is as long as a frame of all that is undecided, `undecided` of the counts and 24; what
+ * it has then is nothing. Told: DONE; REFUSED 7 or 11 where a frame waits for its word, 5, 8, or 9; MEMORY.
+ * Then a part may be done, and it may be called again. */
+hidewillow_told hidewillow_store_lost(hidewillow_store *store, uint8_t *room, size_t room_bytes);
+
 /* Decides the oldest batch, if it can be: what rests on it may go out, or is taken back. To be called until
  * it tells ABSENT, after each word of the disk and each cut. It takes no memory. Told: COMMITTED with the
  * batch, where it is logged; FAILED with the batch, where it was cut off, and `bytes` is how many keys were
@@ -709,6 +718,42 @@ hidewillow_told hidewillow_engine_round(uint64_t leadership, uint64_t number, ui
 /* Of a try to lead by a word that nobody else puts: `leadership` is its own where it was put, else that of
  * the leader that was seen; `held` is 1 where that leader has this very word, else another number than 0. */
 hidewillow_told hidewillow_engine_lead(uint32_t answer, uint64_t leadership, uint32_t held);
+
+/* Rounds, by which such a host knows that it still leads before it tells what it carried out. The host has
+ * them, one for a leadership: they begin as {0}, and only these calls change them. They want no memory, and
+ * nothing is to be closed.
+ *
+ * When something that came on a channel was carried out the host keeps what _carried_out answers as the mark
+ * of that channel. Before a batch is sent for the first time, and before it is asked whether the leadership
+ * holds, the host calls _take: the batch, or the question, stands for that round; where nothing waits for
+ * one, for the last that was taken. Once the batch is SYNCED, or the question is told STILL, the host says so
+ * by _still; after OVER or LOST it calls _lost. What a channel puts out may be sent once _may_tell says so of
+ * its mark: then nothing that it tells was old when it was carried out.
+ *
+ * What is refused tells its number, and nothing has changed: of a call of rounds 1 over, 2 nothing waits,
+ * 3 no number is left, 4 unknown, as of a round that was not taken; that is all. */
+typedef struct {
+    uint64_t taken;  /* how many rounds were taken */
+    uint64_t held;   /* the last of which it is known that the host led after it */
+    bool is_waiting; /* whether something waits for the next */
+    bool is_over;    /* whether the host leads no more */
+} hidewillow_rounds;
+
+/* Something was carried out: answers its mark. */
+uint64_t hidewillow_rounds_carried_out(hidewillow_rounds *rounds);
+
+/* Takes the next round. Told: DONE, with its number; REFUSED 1, 2 or 3, the first that holds. */
+hidewillow_told hidewillow_rounds_take(hidewillow_rounds *rounds);
+
+/* The host led at some moment after this round was taken. Told: DONE, also where that is known of a later
+ * one; REFUSED 4. */
+hidewillow_told hidewillow_rounds_still(hidewillow_rounds *rounds, uint64_t round);
+
+/* The host leads no more: no round is taken, and what is carried out waits for none. */
+void hidewillow_rounds_lost(hidewillow_rounds *rounds);
+
+/* Whether what has this mark may be told. */
+bool hidewillow_rounds_may_tell(const hidewillow_rounds *rounds, uint64_t mark);
 
 #ifdef __cplusplus
 }

@@ -270,7 +270,9 @@ SAID = {
         "WorldLeases": "the same at the desk of a world",
     },
     "hidewillow_c": {
+        "desk_in": "the desk that a text declares, whose files are the server's",
         "opened": "a handle holds something now",
+        "opening": "what a text declares, at its start",
         "report_shown": "the report, which there always is",
         "tags_shown": "the guesses that the entity of this name rests on",
         "told_of_line": "what is told of a line",

@@ -1,8 +1,10 @@
 //! What the answers of a consensus engine tell a host of leadership 3, of its batch 7, its fence at gap 5 and its round 2,
-//! and of tries to lead: the C example again.
+//! and of tries to lead; and a host's rounds: the C example again.
 //!
 //!     cargo run --example engine
-use hidewillow::engine::{self, Answer, BatchSeen, FenceSeen, Held, LeadAnswer, LeadSeen};
+use hidewillow::engine::{
+    self, Answer, BatchSeen, FenceSeen, Held, LeadAnswer, LeadSeen, RoundRefusal, Rounds,
+};
 
 /// The leaderships of leaders: none, the host's own, and a later one.
 const LEADERS: [Option<u64>; 3] = [None, Some(3), Some(4)];
@@ -56,6 +58,53 @@ fn lead(answer: LeadAnswer) {
     println!("lead {count}, leadership {leadership}, held {held}: {word:?}");
 }
 
+fn carry_out(rounds: &mut Rounds) {
+    println!("carried out: mark {}", rounds.carried_out());
+}
+
+fn take(rounds: &mut Rounds) {
+    tell("take", rounds.take());
+}
+
+fn still(rounds: &mut Rounds, round: u64) {
+    tell(&format!("still {round}"), rounds.still(round).map(|()| 0));
+}
+
+/// Prints what a call of rounds is told, a refusal by its number, as C has it.
+fn tell(call: &str, told: Result<u64, RoundRefusal>) {
+    match told {
+        Ok(number) => println!("{call}: done, {number}"),
+        Err(why) => println!("{call}: refused, {}", why as u64 + 1),
+    }
+}
+
+/// Prints of which marks it may be told what has them.
+fn show(rounds: &Rounds) {
+    let told = (0..3).filter(|mark| rounds.may_tell(*mark));
+    let told: String = told.map(|mark| format!(" {mark}")).collect();
+    println!("may be told:{told}");
+}
+
+fn rounds_of_a_host() {
+    let mut rounds = Rounds::new();
+    take(&mut rounds);
+    carry_out(&mut rounds);
+    take(&mut rounds);
+    carry_out(&mut rounds);
+    show(&rounds);
+    still(&mut rounds, 2);
+    still(&mut rounds, 1);
+    show(&rounds);
+    take(&mut rounds);
+    carry_out(&mut rounds);
+    rounds.lost();
+    take(&mut rounds);
+    still(&mut rounds, 2);
+    still(&mut rounds, 1);
+    carry_out(&mut rounds);
+    show(&rounds);
+}
+
 fn main() {
     batch(Answer::Done);
     batch(Answer::Unknown);
@@ -85,4 +134,5 @@ fn main() {
             held,
         }));
     }
+    rounds_of_a_host();
 }

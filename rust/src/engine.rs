@@ -1,8 +1,9 @@
 //! What the answers of a consensus engine tell a host whose log lies in one: batches under numbers, put by leaderships. Nothing is
-//! held, and each answer is told by its numbers alone.
+//! held, and each answer is told by its numbers alone. Beside them are rounds, by which such a host knows that it still leads.
 use crate::Told;
+use std::fmt;
 
-// SAFETY: each takes numbers alone, looks at nothing else, and returns.
+// SAFETY: each takes numbers alone, or rounds, which are as here or as it left them; it looks at nothing else, and returns.
 unsafe extern "C" {
     safe fn hidewillow_engine_batch(
         leadership: u64,
@@ -22,6 +23,11 @@ unsafe extern "C" {
     safe fn hidewillow_engine_round(leadership: u64, number: u64, answer: u32, leader: u64)
         -> Told;
     safe fn hidewillow_engine_lead(answer: u32, leadership: u64, held: u32) -> Told;
+    safe fn hidewillow_rounds_carried_out(rounds: &mut Rounds) -> u64;
+    safe fn hidewillow_rounds_take(rounds: &mut Rounds) -> Told;
+    safe fn hidewillow_rounds_still(rounds: &mut Rounds, round: u64) -> Told;
+    safe fn hidewillow_rounds_lost(rounds: &mut Rounds);
+    safe fn hidewillow_rounds_may_tell(rounds: &Rounds, mark: u64) -> bool;
 }
 
 /// What is known of a try.
@@ -173,4 +179,94 @@ pub fn lead(answer: LeadAnswer) -> Word {
         LeadAnswer::Seen(seen) => hidewillow_engine_lead(1, seen.leadership, seen.held as u32),
         LeadAnswer::Unknown => hidewillow_engine_lead(2, 0, 0),
     })
+}
+
+/// The rounds of one leadership, by rising numbers. What was carried out has a mark; it may be told once the host is known to have
+/// led at some moment after a round that was taken later. A batch that is sent is as good as a round, where one was taken just before.
+#[repr(C)]
+#[derive(Debug, Default, PartialEq, Eq)]
+pub struct Rounds {
+    taken: u64,
+    held: u64,
+    is_waiting: bool,
+    is_over: bool,
+}
+
+/// Why a call of rounds was refused. Nothing has changed then.
+#[derive(Debug, Clone, Copy, PartialEq, Eq)]
+pub enum RoundRefusal {
+    /// The host leads no more.
+    Over,
+    /// Nothing waits for a round.
+    Nothing,
+    /// The last round was taken.
+    NoNumber,
+    /// This round was not taken.
+    Unknown,
+}
+
+impl RoundRefusal {
+    fn of(number: u64) -> RoundRefusal {
+        match number {
+            1 => RoundRefusal::Over,
+            2 => RoundRefusal::Nothing,
+            3 => RoundRefusal::NoNumber,
+            _ => RoundRefusal::Unknown,
+        }
+    }
+}
+
+impl fmt::Display for RoundRefusal {
+    fn fmt(&self, f: &mut fmt::Formatter<'_>) -> fmt::Result {
+        f.write_str(match self {
+            RoundRefusal::Over => "the host leads no more",
+            RoundRefusal::Nothing => "nothing waits for a round",
+            RoundRefusal::NoNumber => "the last round was taken",
+            RoundRefusal::Unknown => "no such round was taken",
+        })
+    }
+}
+
+impl std::error::Error for RoundRefusal {}
+
+impl Rounds {
+    /// No round was taken, and nothing waits.
+    pub fn new() -> Rounds {
+        Rounds::default()
+    }
+
+    /// Something was carried out, and waits for a round that is taken later. This is its mark.
+    pub fn carried_out(&mut self) -> u64 {
+        hidewillow_rounds_carried_out(self)
+    }
+
+    /// The next round, where something waits for one. It is begun later, or a batch is sent then for the first time.
+    pub fn take(&mut self) -> Result<u64, RoundRefusal> {
+        done(hidewillow_rounds_take(self))
+    }
+
+    /// The host led at some moment after this round was taken, and so after each one before it.
+    pub fn still(&mut self, round: u64) -> Result<(), RoundRefusal> {
+        done(hidewillow_rounds_still(self, round)).map(drop)
+    }
+
+    /// The host leads no more: no round is taken, and nothing begins to wait. What is known of rounds that were taken may still be
+    /// said.
+    pub fn lost(&mut self) {
+        hidewillow_rounds_lost(self);
+    }
+
+    /// Whether what has this mark may be told.
+    pub fn may_tell(&self, mark: u64) -> bool {
+        hidewillow_rounds_may_tell(self, mark)
+    }
+}
+
+/// The number that a call of rounds is told, or why it was refused.
+fn done(told: Told) -> Result<u64, RoundRefusal> {
+    const DONE: u32 = 2;
+    match told.answer {
+        DONE => Ok(told.number),
+        _ => Err(RoundRefusal::of(told.number)),
+    }
 }

@@ -245,6 +245,10 @@ unsafe extern "C" {
     /// The host says whether the cut was made; 0 says that it could not be, and the store stops.
     pub fn hidewillow_store_cut(store: *mut Durable, made: u32) -> Told;
 
+    /// Winds up a store whose log lies in a consensus engine, once its leadership is over: what was open is refused. The room is as
+    /// long as a frame of all that is undecided.
+    pub fn hidewillow_store_lost(store: *mut Durable, room: *mut u8, room_count: usize) -> Told;
+
     /// Decides the oldest batch, if it is decided. It is to be called until it tells none.
     pub fn hidewillow_store_decide(store: *mut Durable) -> Told;
 

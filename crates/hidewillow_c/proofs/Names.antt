@@ -21,19 +21,15 @@ pub use Rattle.core.proofs.option.Made.{Some-of, none_of}
 pub use Rattle.core.specs.Ptr.{points_to}
 pub use mathlib.Core.Logic.{inr, inl}
 pub use Rattle.hidewillow_c.specs.Asked.{Reads, value_text, tags_text_of, ShowsText, of_named, ShowsRead, CountsKernel}
-pub use Rattle.hidewillow_c.specs.DeskCalls.{CountsDesk, DeskTells, client_in}
-pub use Rattle.hidewillow_c.specs.DeskOwned.{desk_at}
-pub use Rattle.hidewillow_c.specs.Exports.{Counted}
+pub use Rattle.hidewillow_c.specs.DeskCalls.{CountsDesk, client_in}
+pub use Rattle.hidewillow_c.specs.Handles.{Does, Tells as TellsHeld}
+pub use Rattle.hidewillow_c.specs.PlayCalls.{CountsPlay}
 pub use Rattle.hidewillow_c.specs.Faults.{placed, IsPlaced}
-pub use Rattle.hidewillow_c.specs.Kept.{heap, kept_at}
+pub use Rattle.hidewillow_c.specs.Kept.{cell_at, heap, kept_at}
 pub use Rattle.hidewillow_c.specs.Opening.{opening}
-pub use Rattle.hidewillow_c.specs.OwnOwned.{own_at}
-pub use Rattle.hidewillow_c.specs.Owned.{held_at}
 pub use Rattle.hidewillow_c.specs.Reading.{IsGiven, NextIs, is_damaged, next_number, HoldsFrom, FindsOf, Comes, GoesTo}
-pub use Rattle.hidewillow_c.specs.ReadingOwned.{reading_at}
 pub use Rattle.hidewillow_c.specs.Reopening.{last_of, HasFound, OpensStore, StoreOpens, IsCause, AreGiven}
-pub use Rattle.hidewillow_c.specs.StoreCalls.{HangsUp, place_of, StoreDoes}
-pub use Rattle.hidewillow_c.specs.StoreOwned.{store_at}
+pub use Rattle.hidewillow_c.specs.StoreCalls.{HangsUp, place_of}
 pub use Rattle.hidewillow_c.specs.Told.{just, opened}
 pub use Rattle.hidewillow_c.specs.contracts.client.Client.{the_row, the_row as R}
 pub use Rattle.hidewillow_c.specs.declared.client.Client.{Client}
@@ -112,3 +108,14 @@ pub use types.Match.{live}
 pub use types.Part.{sub, whole, agg}
 pub use types.Run.{blocks, exec, branches, enter, lit, bin, fld, no_more, returns, and_then, stop, first, of_opd}
 pub use types.Tokens.{lft_new}
+pub use base.Fml.{fsep, Fml}
+pub use base.Logic.{emp}
+pub use denote.Laws.{Tells}
+pub use mir.Syntax.{Fn, Callee, ty_struct, local, value_local, seq, assign, place, field, copy, rv_opd, aggregate, return}
+pub use prog.Wp.{Closed}
+pub use prog.Model.{Model}
+pub use contract.Running.{Running}
+pub use denote.Triple.Clauses.{Ended, Clauses, closing}
+pub use denote.Triple.Spec.{Meets}
+pub use denote.Triple.Walked.{Goes}
+pub use denote.Exit.{Last}

@@ -1,7 +1,6 @@
 -- What the calls of a desk whose server is elsewhere do, and what they are told.
 use Rattle.std.specs.Prelude.{◌≡◌, ◌⊎◌, ◌==◌, ℕ, Bool, true, false, nat_le, List, [], ◌∷◌, length, Option, Some, None, Result, Ok, Err, IsOk, if◌then◌else◌}
 use Rattle.std.specs.List.{slice_get}
-use Rattle.sk_words.specs.declared.fault.Fault.{Fault}
 use Rattle.sk_words.specs.declared.fault.FaultKind.{FaultKind}
 use Rattle.sk_plain.specs.Refusal.{refusal_number}
 use Rattle.sk_plain.specs.declared.refusal.Refusal.{Refusal}
@@ -23,18 +22,15 @@ use Rattle.sk_client.specs.Pending.{PendingRequest}
 use Rattle.sk_play.specs.Plays.{declared_kernel}
 use Rattle.sk_report.specs.Report.{report_text, terminal_said}
 use Rattle.sk_scenario.specs.Declarations.{Declared}
-use Rattle.sk_scenario.specs.Scenario.{ScenarioView, SectionView, Steps, World, Trace, Says, scenario_of}
-use Rattle.std.specs.Str.Lines.{lines}
+use Rattle.sk_scenario.specs.Scenario.{ScenarioView, SectionView, Steps, World, Trace}
 use Rattle.sk_talk.specs.Asked.{named}
 use Rattle.sk_messages.specs.Requests.{request_bytes}
 use Rattle.sk_counts.specs.declared.counts.Counts.{Counts}
 use Rattle.hidewillow_c.specs.Asked.{of_named, tags_text_of, value_text, CountsKernel, ShowsText}
-use Rattle.hidewillow_c.specs.Told.{faulty, just, kind_number, opened as opened_told, put, texted, told_of_given, told_of_turn, unopened}
+use Rattle.hidewillow_c.specs.Told.{faulty, just, kind_number, put, texted, told_of_given, told_of_turn}
 use Rattle.hidewillow_c.specs.declared.client.Client.{Client}
-use Rattle.hidewillow_c.specs.declared.codes.TheConstants.{ABSENT, CLOSED, DONE, FAULT, HELD, IDLE, MEMORY, REFUSED, SHOWN}
+use Rattle.hidewillow_c.specs.declared.codes.TheConstants.{ABSENT, DONE, FAULT, IDLE, MEMORY, REFUSED, SHOWN}
 use Rattle.hidewillow_c.specs.declared.told.Told.{Told}
-use Rattle.hidewillow_c.specs.declared.told.Unopened.{Unopened}
-use Rattle.hidewillow_c.specs.declared.told.Unopened.TheVariants as unopens
 
 -- ---- what a text declares: a desk over its kernel, where its section is a world without a line; its files are the server's
 
@@ -44,15 +40,8 @@ client_in d (World (e ∷ es)) = None
 client_in d (Steps calls) = None
 client_in d (Trace events) = None
 
-abbrev pub ClientBy : Client → Result ScenarioView Fault → Type 0
-ClientBy c (Ok s) = client_in s.declarations s.section ≡ Some c
-ClientBy c (Err f) = ⊥
-
--- Why a text of these lines declares none: a fault that is told of it, its section, or want of memory, where it has no fault.
-abbrev pub NoClient : Unopened → Result ScenarioView Fault → List (List ℕ) → Type 0
-NoClient (unopens.Fault f) said text = Says (Err f) said text
-NoClient unopens.Section said text = (s : ScenarioView) × (said ≡ Ok s) × (client_in s.declarations s.section ≡ None)
-NoClient unopens.Memory said text = IsOk said
+abbrev pub desk_in : ScenarioView → Option Client
+desk_in s = client_in s.declarations s.section
 
 -- ---- a turn
 
@@ -180,22 +169,3 @@ CountsDesk old new told c = CountsKernel told c.desk.kernel old new
 
 abbrev pub LeavesText : ℕ → ℕ → List ℕ → List ℕ → Told → Client → Type 0
 LeavesText number place room_old room_new told c = ShowsLeft (left_text number place c.left) told room_old room_new
-
--- ---- of what a handle holds
-
--- where nothing is held, what a text declares is held then, or it is told why nothing is
-abbrev pub DeskOpens : Told → List ℕ → Option Client → Option Client → Type 0
-DeskOpens told text (Some old) new = (told ≡ just HELD 0) × (new ≡ Some old)
-DeskOpens told text None (Some c) = (told ≡ opened_told) × ClientBy c (scenario_of text)
-DeskOpens told text None None = (why : Unopened) × (told ≡ unopened why) × NoClient why (scenario_of text) (lines text)
-
--- what is held does this; where nothing is held, that is told, and this is so
-abbrev pub DeskDoes : (Told → Client → Client → Type 0) → Type 0 → Told → Option Client → Option Client → Type 0
-DeskDoes does same told (Some old) (Some new) = does told old new
-DeskDoes does same told (Some old) None = ⊥
-DeskDoes does same told None new = (told ≡ just CLOSED 0) × (new ≡ None) × same
-
--- this is told of what is held, which has not changed
-abbrev pub DeskTells : (Told → Client → Type 0) → Type 0 → Told → Option Client → Option Client → Type 0
-DeskTells tells same told (Some old) new = (new ≡ Some old) × tells told old
-DeskTells tells same told None new = (told ≡ just CLOSED 0) × (new ≡ None) × same

@@ -19,7 +19,7 @@ use Rattle.sk_bytes.specs.declared.refusal.Refusal.{Refusal}
 use Rattle.sk_bytes.specs.declared.refusal.Refusal.TheVariants.{LongKey, LongValue, TooMany, NoNumber, Memory}
 use Rattle.sk_held.specs.Held.{HeldView, no_step, CommitsBy, FailsBy, GuessPost, IsNew, LooksPost, PutsPost, SaysPost, StepPost, WritesPost}
 use Rattle.sk_held.specs.Outputs.{but_first, first_of, MayBring}
-use Rattle.hidewillow_c.specs.declared.codes.TheConstants.{ABSENT, CLOSED, DONE, GONE, GUESSED, HELD, MEMORY, NO_TOKEN, REFUSED, SHOWN, STEPPED, WRITTEN}
+use Rattle.hidewillow_c.specs.declared.codes.TheConstants.{ABSENT, DONE, GONE, GUESSED, HELD, MEMORY, NO_TOKEN, REFUSED, SHOWN, STEPPED, WRITTEN}
 use Rattle.hidewillow_c.specs.declared.own_calls.OwnCounts.{OwnCounts}
 use Rattle.hidewillow_c.specs.declared.told.Told.{Told}
 use Rattle.hidewillow_c.specs.Told.{just, opened, put, texted}
@@ -99,6 +99,10 @@ abbrev pub ShowsBytes : Told → Option (List ℕ) → List ℕ → List ℕ →
 ShowsBytes told None old new = (told ≡ just ABSENT 0) × (new ≡ old)
 ShowsBytes told (Some bytes) old new = (told ≡ texted (just SHOWN 0) bytes) × (new ≡ put bytes old)
 
+-- they are of what is held
+abbrev pub ShowsKept : {S : Type 0} → (S → Option (List ℕ)) → List ℕ → List ℕ → Told → S → Type 0
+ShowsKept bytes room_old room_new told held = ShowsBytes told (bytes held) room_old room_new
+
 abbrev pub value_of : List ℕ → HeldView → Option (List ℕ)
 value_of key h = option_map vec_items (look_at bytes_cmp h.kernel.parts.slots key)
 
@@ -119,8 +123,8 @@ Shown t told (Some bytes) h new room_old room_new =
     (told ≡ texted (just SHOWN 0) bytes) × (new ≡ handed t bytes room_old h) × (room_new ≡ put bytes room_old)
 
 -- the next output of a channel is shown, once it is taken out of it; without memory for that nothing changes
-abbrev pub Releases : ℕ → Told → HeldView → HeldView → List ℕ → List ℕ → Type 0
-Releases t told old new room_old room_new =
+abbrev pub Releases : ℕ → List ℕ → List ℕ → Told → HeldView → HeldView → Type 0
+Releases t room_old room_new told old new =
     ((h : HeldView) × MayBring old t h × Shown t told (first_of t h.out) h new room_old room_new)
     ⊎ ((told ≡ just MEMORY 0) × (new ≡ old) × (room_new ≡ room_old))
 
@@ -142,31 +146,9 @@ OwnOpens number limit told (Some old) new = (told ≡ just HELD 0) × (new ≡ S
 OwnOpens number limit told None (Some h) = (told ≡ opened) × ((limit == 0) ≡ false) × IsNew number limit h
 OwnOpens number limit told None None = told ≡ own_unopened limit
 
-abbrev pub IsOwnClosed : Told → Option HeldView → Type 0
-IsOwnClosed told new = (told ≡ just CLOSED 0) × (new ≡ None)
+-- a guess of it is told
+abbrev pub TellsTag : (HeldView → Option ℕ) → Told → HeldView → Type 0
+TellsTag tag told h = told ≡ tag_told (tag h)
 
--- what is held does this
-abbrev pub OwnDoes : (Told → HeldView → HeldView → Type 0) → Told → Option HeldView → Option HeldView → Type 0
-OwnDoes does told (Some old) (Some new) = does told old new
-OwnDoes does told (Some old) None = ⊥
-OwnDoes does told None new = IsOwnClosed told new
-
--- bytes of what is held are shown, and it has not changed
-abbrev pub OwnShows : (HeldView → Option (List ℕ)) → Told → Option HeldView → Option HeldView → List ℕ → List ℕ → Type 0
-OwnShows bytes told (Some old) new room_old room_new = (new ≡ Some old) × ShowsBytes told (bytes old) room_old room_new
-OwnShows bytes told None new room_old room_new = IsOwnClosed told new × (room_new ≡ room_old)
-
--- a guess of it is told, and it has not changed
-abbrev pub OwnTells : (HeldView → Option ℕ) → Told → Option HeldView → Option HeldView → Type 0
-OwnTells tag told (Some old) new = (new ≡ Some old) × (told ≡ tag_told (tag old))
-OwnTells tag told None new = IsOwnClosed told new
-
-abbrev pub OwnReleases : ℕ → Told → Option HeldView → Option HeldView → List ℕ → List ℕ → Type 0
-OwnReleases t told (Some old) (Some new) room_old room_new = Releases t told old new room_old room_new
-OwnReleases t told (Some old) None room_old room_new = ⊥
-OwnReleases t told None new room_old room_new = IsOwnClosed told new × (room_new ≡ room_old)
-
--- it is counted, and has not changed
-abbrev pub OwnCounted : Told → Option HeldView → Option HeldView → OwnCounts → OwnCounts → Type 0
-OwnCounted told (Some old) new counts_old counts_new = (told ≡ just SHOWN 0) × (new ≡ Some old) × AreOwnCounts old counts_new
-OwnCounted told None new counts_old counts_new = IsOwnClosed told new × (counts_new ≡ counts_old)
+abbrev pub CountsOwn : OwnCounts → Told → HeldView → Type 0
+CountsOwn counts told h = (told ≡ just SHOWN 0) × AreOwnCounts h counts

@@ -13,7 +13,7 @@ use Rattle.sk_recovered.specs.declared.heads.Head.{Head}
 use Rattle.sk_recovered.specs.declared.recovered.Found.{Found}
 use Rattle.sk_recovered.specs.declared.recovered.Recovered.{Recovered}
 use Rattle.sk_recovered.specs.declared.segment.Segment.{Segment}
-use Rattle.hidewillow_c.specs.declared.codes.TheConstants.{ABSENT, CLOSED, DONE, HELD, MEMORY, REFUSED, SHOWN}
+use Rattle.hidewillow_c.specs.declared.codes.TheConstants.{ABSENT, DONE, HELD, MEMORY, REFUSED, SHOWN}
 use Rattle.hidewillow_c.specs.declared.reading.Anew.{Anew}
 use Rattle.hidewillow_c.specs.declared.reading.Anew.TheVariants as anews
 use Rattle.hidewillow_c.specs.declared.reading.NoPiece.{NoPiece}
@@ -292,9 +292,3 @@ abbrev pub ReadingOpens : ℕ → Told → Option Reading → Option Reading →
 ReadingOpens first told (Some old) new = (told ≡ just HELD 0) × (new ≡ Some old)
 ReadingOpens first told None (Some read) = (told ≡ opened) × (read ≡ anew first)
 ReadingOpens first told None None = told ≡ just MEMORY 0
-
--- what is held does this; where nothing is held, that is told, and this is so
-abbrev pub ReadingDoes : (Told → Reading → Reading → Type 0) → Type 0 → Told → Option Reading → Option Reading → Type 0
-ReadingDoes does same told (Some old) (Some new) = does told old new
-ReadingDoes does same told (Some old) None = ⊥
-ReadingDoes does same told None new = (told ≡ just CLOSED 0) × (new ≡ None) × same

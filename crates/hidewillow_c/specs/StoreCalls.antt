@@ -19,7 +19,8 @@ use Rattle.sk_durable.specs.declared.store.End.TheVariants as ends
 use Rattle.sk_durable.specs.declared.store.Fed.{Fed}
 use Rattle.sk_durable.specs.Posts.{ConnectPost, CutFramePost, CutPost, DecidePost, FailedPost, FeedAheadPost, FeedPost, FramePost, HangUpPost, OutputPost, ReadyPost, SyncedPost, TellPost, TurnPost}
 use Rattle.sk_durable.specs.Store.{asked_at, is_closed, rests_on_at, StoreView}
-use Rattle.hidewillow_c.specs.declared.codes.TheConstants.{ABSENT, CLOSED, COMMITTED, DONE, FAILED, MEMORY, REFUSED, SHOWN}
+use Rattle.sk_led.specs.Winding.{WindUpPost}
+use Rattle.hidewillow_c.specs.declared.codes.TheConstants.{ABSENT, COMMITTED, DONE, FAILED, MEMORY, REFUSED, SHOWN}
 use Rattle.hidewillow_c.specs.declared.store_calls.CutOff.{CutOff}
 use Rattle.hidewillow_c.specs.declared.store_calls.FramePlace.{FramePlace}
 use Rattle.hidewillow_c.specs.declared.store_calls.StoreCounts.{StoreCounts}
@@ -166,6 +167,10 @@ SendsHead room filled old new told a = (did : Result Sealed Queued) × IsDone di
 abbrev pub CutsOff : ℕ → Told → StoreView → StoreView → Type 0
 CutsOff made told a b = (did : Result (Unit {0}) Queued) × (told ≡ done_told did) × CutPost (not (made == 0)) did a b
 
+-- the leadership is over by which the log lies in an engine: what was open is refused
+abbrev pub WindsUp : List ℕ → Told → StoreView → StoreView → Type 0
+WindsUp room told a b = (did : Result (Unit {0}) Queued) × (told ≡ done_told did) × WindUpPost did (length room) a b
+
 abbrev pub Decides : Told → StoreView → StoreView → Type 0
 Decides told a b = (did : Option Outcome) × (told ≡ outcome_told did) × DecidePost did a b
 
@@ -194,16 +199,3 @@ TellsRests key place told a = told ≡ tag_told (rests_on_at key place a)
 
 abbrev pub CountsStore : StoreCounts → Told → StoreView → Type 0
 CountsStore counts told a = (told ≡ just SHOWN 0) × AreStoreCounts a counts
-
--- ---- of what a handle holds
-
--- what is held does this; where nothing is held, that is told, and this is so
-abbrev pub StoreDoes : (Told → StoreView → StoreView → Type 0) → Type 0 → Told → Option StoreView → Option StoreView → Type 0
-StoreDoes does same told (Some old) (Some new) = does told old new
-StoreDoes does same told (Some old) None = ⊥
-StoreDoes does same told None new = (told ≡ just CLOSED 0) × (new ≡ None) × same
-
--- this is told of what is held, which has not changed
-abbrev pub StoreTells : (Told → StoreView → Type 0) → Type 0 → Told → Option StoreView → Option StoreView → Type 0
-StoreTells tells same told (Some old) new = (new ≡ Some old) × tells told old
-StoreTells tells same told None new = (told ≡ just CLOSED 0) × (new ≡ None) × same

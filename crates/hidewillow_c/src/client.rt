@@ -7,7 +7,8 @@ ghost use Rattle.sk_words.specs.Operands.{pid};
 ghost use Rattle.sk_messages.specs.Replies.{reply_of};
 ghost use Rattle.sk_messages.specs.Requests.{request_bytes};
 ghost use Rattle.hidewillow_c.specs.Asked.{CountsKernel, Reads, ShowsText};
-ghost use Rattle.hidewillow_c.specs.DeskCalls.{client_in, epoch_refused, given_told, is_unsent, kernel_report, kernel_tags, kernel_terminal, kernel_value, left_text, taken, turn_told, BeginsEpoch, ClientBy, Gives, GivesReply, GivesTo, NoClient, SendsRequest, ShowsLeft, ShowsRequest, TakesTurn, TellsPending, TurnsAs};
+ghost use Rattle.hidewillow_c.specs.DeskCalls.{client_in, desk_in, epoch_refused, given_told, is_unsent, kernel_report, kernel_tags, kernel_terminal, kernel_value, left_text, taken, turn_told, BeginsEpoch, Gives, GivesReply, GivesTo, SendsRequest, ShowsLeft, ShowsRequest, TakesTurn, TellsPending, TurnsAs};
+ghost use Rattle.hidewillow_c.specs.Opening.{OpenedBy, UnopenedBy};
 ghost use Rattle.hidewillow_c.specs.Leases.{ClientLeases, LeasesAs};
 
 use crate::asked::{shown, tags, terminal, value};
@@ -85,8 +86,8 @@ fn client_in(
 
 /// What a text declares, as a desk at its start.
 pub(crate) fn client_of(alloc: Global, text: &[u8]) -> Result<Box<Client>, Unopened>
-    ensures { MatchResult result (λ client. ClientBy client.value (scenario_of text.now))
-        (λ why. NoClient why (scenario_of text.now) (lines text.now)) }
+    ensures { MatchResult result (λ client. OpenedBy desk_in client.value (scenario_of text.now))
+        (λ why. UnopenedBy desk_in why (scenario_of text.now) (lines text.now)) }
 {
     let scenario = match Scenario::parse(alloc, text) {
         Ok(scenario) => scenario,

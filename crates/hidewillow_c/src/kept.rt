@@ -16,16 +16,6 @@ impl<T> Model for Kept<T> {
 }
 
 impl<T> Kept<T> {
-    /// The pointer of a box.
-    pub(crate) fn of(whole: Box<T>) -> Kept<T>
-    where
-        T: Drop,
-        ensures { result.value ≡ whole.value }
-    {
-        let at = Box::into_raw(whole);
-        Kept { at }
-    }
-
     /// The box again.
     pub(crate) fn into_box(self, alloc: Global) -> Box<T>
         ensures { result.value ≡ self.value }

@@ -4,26 +4,30 @@
 ghost use Rattle.std.specs.Prelude.{◌≡◌, None};
 ghost use Rattle.std.specs.Str.Lines.{lines};
 ghost use Rattle.sk_scenario.specs.Scenario.{scenario_of};
-ghost use Rattle.hidewillow_c.specs.Exports.{Opens, PlayDoes, Takes, Shows, ShowsKept, Counted};
+ghost use Rattle.hidewillow_c.specs.Opening.{opening, Opens};
+ghost use Rattle.hidewillow_c.specs.PlayCalls.{CountsPlay, EndsEpoch, ShowsPlay, TakesLine};
+ghost use Rattle.hidewillow_c.specs.Handles.{Does, Tells};
 ghost use Rattle.hidewillow_c.specs.Asked.{report_shown, value_shown, tags_shown, terminal_shown, released_text};
+ghost use Rattle.sk_engine.specs.Rounds.{may_tell, CarriesOut, Loses, RoundDoes};
 ghost use Rattle.sk_engine.specs.Told.{batch_told, fence_told, lead_told, round_told};
 ghost use Rattle.hidewillow_c.specs.EngineCalls.{batch_answer_of, fence_answer_of, lead_answer_of, round_answer_of, word_told};
-ghost use Rattle.hidewillow_c.specs.Epochs.{EndsEpoch};
 ghost use Rattle.hidewillow_c.specs.Faults.{TellsFault};
 ghost use Rattle.hidewillow_c.specs.Leases.{ClientLeases, LeasesAs, PlayLeases};
 ghost use Rattle.sk_messages.specs.Replies.{reply_of};
 ghost use Rattle.sk_words.specs.Operands.{pid};
-ghost use Rattle.hidewillow_c.specs.DeskCalls.{kernel_report, kernel_tags, kernel_terminal, kernel_value, BeginsEpoch, CountsDesk, DeskDoes, DeskOpens, DeskTells, Gives, LeavesText, SendsRequest, ShowsKernel, TellsPending, TurnsAs};
-ghost use Rattle.hidewillow_c.specs.Reading.{EndsWith, GivesPiece, ReadingDoes, ReadingOpens, TakesHead, TakesPiece};
+ghost use Rattle.hidewillow_c.specs.DeskCalls.{desk_in, kernel_report, kernel_tags, kernel_terminal, kernel_value, BeginsEpoch, CountsDesk, Gives, LeavesText, SendsRequest, ShowsKernel, TellsPending, TurnsAs};
+ghost use Rattle.hidewillow_c.specs.Reading.{EndsWith, GivesPiece, ReadingOpens, TakesHead, TakesPiece};
 ghost use Rattle.hidewillow_c.specs.Reopening.{StoreOpens};
 ghost use Rattle.sk_requests.specs.Replies.{error_text};
 ghost use Rattle.sk_commands.specs.Faults.{words_of};
 ghost use Rattle.sk_commands.specs.declared.fault.Fault.TheVariants.{Unknown};
+ghost use Rattle.hidewillow_c.specs.RoundCalls.{SaysStill, TakesRound};
 ghost use Rattle.hidewillow_c.specs.StoreCalls as durable;
-ghost use Rattle.hidewillow_c.specs.StoreCalls.{Connects, CountsStore, CutsOff, Decides, Feeds, FeedsAhead, HangsUp, NextReady, OutputsTo, SendsHead, ShowsAhead, ShowsAsked, ShowsValue, StoreDoes, StoreTells, Syncs, TakesFrame, TellsClosed, TellsCut, TellsReply, TellsRests, Turns};
-ghost use Rattle.hidewillow_c.specs.OwnCalls.{tag_at, undone_at, value_of, Clears, Commits, Fails, Guesses, Looks, OwnCounted, OwnDoes, OwnOpens, OwnReleases, OwnShows, OwnTells, Puts, Removes, Says, Steps};
+ghost use Rattle.hidewillow_c.specs.StoreCalls.{Connects, CountsStore, CutsOff, Decides, Feeds, FeedsAhead, HangsUp, NextReady, OutputsTo, SendsHead, ShowsAhead, ShowsAsked, ShowsValue, Syncs, TakesFrame, TellsClosed, TellsCut, TellsReply, TellsRests, Turns, WindsUp};
+ghost use Rattle.hidewillow_c.specs.OwnCalls.{tag_at, undone_at, value_of, Clears, Commits, CountsOwn, Fails, Guesses, Looks, OwnOpens, Puts, Releases, Removes, Says, ShowsKept, Steps, TellsTag};
 
 pub mod asked;
+pub mod cell;
 pub mod client;
 pub mod codes;
 pub mod desk;
@@ -31,6 +35,7 @@ pub mod durable;
 pub mod engine;
 pub mod faults;
 pub mod handle;
+pub mod holds;
 pub mod kept;
 pub mod opening;
 pub mod own;
@@ -39,6 +44,7 @@ pub mod reading;
 pub mod recovering;
 pub mod reopening;
 pub mod room;
+pub mod rounds;
 pub mod store_calls;
 pub mod told;
 
@@ -50,6 +56,7 @@ use crate::durable::Durable;
 use crate::engine::{tell_batch, tell_fence, tell_lead, tell_round};
 use crate::faults::{FaultPlace, tell_fault};
 use crate::handle::Handle;
+use crate::holds::{put_in, take_out};
 use crate::opening::{play_of, tell_epoch, tell_lease, tell_line};
 use crate::own::Own;
 use crate::own_calls::{
@@ -62,25 +69,36 @@ use crate::reopening::{StoreLimits, not_opened, opened};
 use crate::store_calls::{CutOff, FramePlace, StoreCounts};
 use crate::told::Told;
 use sk_counts::Counts;
-use sk_engine::{Batch, Fence, Round};
+use sk_engine::{Batch, Fence, Round, Rounds};
 use sk_held::Held;
 use std::alloc::Global;
-use std::mem::replace;
 use std::num::NonZeroU16;
+
+/// Does this with what a handle holds, which it holds again then. Where it holds nothing that is told.
+macro_rules! with {
+    ($handle:ident, $alloc:ident, $held:ident => $told:expr) => {{
+        let Some(mut $held) = take_out($handle, $alloc) else {
+            return Told::of(CLOSED, 0);
+        };
+        let told = $told;
+        put_in($handle, $held);
+        told
+    }};
+}
 
 /// Opens what a text declares, for a handle that holds nothing: a world where the text ends with the line `world`, else
 /// a kernel. Of a fault the line is told; then, and without memory, the handle still holds nothing.
 #[unsafe(no_mangle)]
 pub extern "C" fn hidewillow_open(alloc: Global, handle: &mut Handle, text: &[u8]) -> Told
-    ensures { Opens result text.now handle.old.held handle.new.held }
+    ensures { Opens opening result text.now handle.old.held handle.new.held }
 {
-    if let Some(play) = replace(handle, Handle::closed()).into_box(alloc) {
-        replace(handle, Handle::of(play)).let_go();
+    if let Some(play) = take_out(handle, alloc) {
+        put_in(handle, play);
         return Told::of(HELD, 0);
     }
     match play_of(alloc, text) {
         Ok(play) => {
-            replace(handle, Handle::of(play)).let_go();
+            put_in(handle, play);
             Told::opened()
         }
         Err(why) => Told::unopened(why),
@@ -95,27 +113,19 @@ pub extern "C" fn hidewillow_line(
     line: &[u8],
     room: &mut [u8],
 ) -> Told
-    ensures { Takes result line.now handle.old.held handle.new.held room.old room.new }
+    ensures { Does (TakesLine line.now room.old room.new) (room.new ≡ room.old) result handle.old.held
+        handle.new.held }
 {
-    let Some(mut play) = replace(handle, Handle::closed()).into_box(alloc) else {
-        return Told::of(CLOSED, 0);
-    };
-    let told = tell_line(&mut play, alloc, line, room);
-    replace(handle, Handle::of(play)).let_go();
-    told
+    with!(handle, alloc, play => tell_line(&mut play, alloc, line, room))
 }
 
 /// Shows the report in the room, as far as that reaches.
 #[unsafe(no_mangle)]
 pub extern "C" fn hidewillow_report(alloc: Global, handle: &mut Handle, room: &mut [u8]) -> Told
-    ensures { Shows report_shown result handle.old.held handle.new.held room.old room.new }
+    ensures { Tells (ShowsPlay report_shown room.old room.new) (room.new ≡ room.old) result handle.old.held
+        handle.new.held }
 {
-    let Some(play) = replace(handle, Handle::closed()).into_box(alloc) else {
-        return Told::of(CLOSED, 0);
-    };
-    let told = tell_report(&play, alloc, room);
-    replace(handle, Handle::of(play)).let_go();
-    told
+    with!(handle, alloc, play => tell_report(&play, alloc, room))
 }
 
 /// Shows in the room what an entity has that the report names so, as `proc 1`.
@@ -126,15 +136,10 @@ pub extern "C" fn hidewillow_value(
     name: &[u8],
     room: &mut [u8],
 ) -> Told
-    ensures { Shows (value_shown name.now) result handle.old.held handle.new.held room.old
-        room.new }
+    ensures { Tells (ShowsPlay (value_shown name.now) room.old room.new) (room.new ≡ room.old) result handle.old.held
+        handle.new.held }
 {
-    let Some(play) = replace(handle, Handle::closed()).into_box(alloc) else {
-        return Told::of(CLOSED, 0);
-    };
-    let told = tell_value(&play, alloc, name, room);
-    replace(handle, Handle::of(play)).let_go();
-    told
+    with!(handle, alloc, play => tell_value(&play, alloc, name, room))
 }
 
 /// Shows in the room the undecided guesses that an entity rests on, which the report names so.
@@ -145,14 +150,10 @@ pub extern "C" fn hidewillow_tags(
     name: &[u8],
     room: &mut [u8],
 ) -> Told
-    ensures { Shows (tags_shown name.now) result handle.old.held handle.new.held room.old room.new }
+    ensures { Tells (ShowsPlay (tags_shown name.now) room.old room.new) (room.new ≡ room.old) result handle.old.held
+        handle.new.held }
 {
-    let Some(play) = replace(handle, Handle::closed()).into_box(alloc) else {
-        return Told::of(CLOSED, 0);
-    };
-    let told = tell_tags(&play, alloc, name, room);
-    replace(handle, Handle::of(play)).let_go();
-    told
+    with!(handle, alloc, play => tell_tags(&play, alloc, name, room))
 }
 
 /// Shows in the room what a terminal has released, and how many texts wait.
@@ -163,15 +164,10 @@ pub extern "C" fn hidewillow_terminal(
     number: u16,
     room: &mut [u8],
 ) -> Told
-    ensures { Shows (terminal_shown number) result handle.old.held handle.new.held room.old
-        room.new }
+    ensures { Tells (ShowsPlay (terminal_shown number) room.old room.new) (room.new ≡ room.old) result handle.old.held
+        handle.new.held }
 {
-    let Some(play) = replace(handle, Handle::closed()).into_box(alloc) else {
-        return Told::of(CLOSED, 0);
-    };
-    let told = tell_terminal(&play, alloc, number, room);
-    replace(handle, Handle::of(play)).let_go();
-    told
+    with!(handle, alloc, play => tell_terminal(&play, alloc, number, room))
 }
 
 /// Shows in the room the text at a place among those that a terminal has released in this epoch.
@@ -183,28 +179,18 @@ pub extern "C" fn hidewillow_released(
     place: usize,
     room: &mut [u8],
 ) -> Told
-    ensures { ShowsKept (released_text number place) result handle.old.held handle.new.held
-        room.old room.new }
+    ensures { Tells (ShowsKept (released_text number place) room.old room.new) (room.new ≡ room.old) result
+        handle.old.held handle.new.held }
 {
-    let Some(play) = replace(handle, Handle::closed()).into_box(alloc) else {
-        return Told::of(CLOSED, 0);
-    };
-    let told = asked::tell_released(&play, number, place, room);
-    replace(handle, Handle::of(play)).let_go();
-    told
+    with!(handle, alloc, play => asked::tell_released(&play, number, place, room))
 }
 
 /// Begins a new epoch: the trace and the texts are let go.
 #[unsafe(no_mangle)]
 pub extern "C" fn hidewillow_epoch(alloc: Global, handle: &mut Handle) -> Told
-    ensures { PlayDoes EndsEpoch result handle.old.held handle.new.held }
+    ensures { Does EndsEpoch (Unit {0}) result handle.old.held handle.new.held }
 {
-    let Some(mut play) = replace(handle, Handle::closed()).into_box(alloc) else {
-        return Told::of(CLOSED, 0);
-    };
-    let told = tell_epoch(&mut play);
-    replace(handle, Handle::of(play)).let_go();
-    told
+    with!(handle, alloc, play => tell_epoch(&mut play))
 }
 
 /// Lends the process of this name, has it do up to so many private instructions, and hands it in: each is a step.
@@ -215,28 +201,19 @@ pub extern "C" fn hidewillow_lease(
     name: &[u8],
     count: u32,
 ) -> Told
-    ensures { PlayDoes (LeasesAs PlayLeases (pid name.now) count) result handle.old.held
+    ensures { Does (LeasesAs PlayLeases (pid name.now) count) (Unit {0}) result handle.old.held
         handle.new.held }
 {
-    let Some(mut play) = replace(handle, Handle::closed()).into_box(alloc) else {
-        return Told::of(CLOSED, 0);
-    };
-    let told = tell_lease(&mut play, name, count);
-    replace(handle, Handle::of(play)).let_go();
-    told
+    with!(handle, alloc, play => tell_lease(&mut play, name, count))
 }
 
 /// Counts the guesses and the steps so far.
 #[unsafe(no_mangle)]
 pub extern "C" fn hidewillow_counts(alloc: Global, handle: &mut Handle, counts: &mut Counts) -> Told
-    ensures { Counted result handle.old.held handle.new.held counts.old counts.new }
+    ensures { Tells (CountsPlay counts.old counts.new) (counts.new ≡ counts.old) result
+        handle.old.held handle.new.held }
 {
-    let Some(play) = replace(handle, Handle::closed()).into_box(alloc) else {
-        return Told::of(CLOSED, 0);
-    };
-    let told = tell_counts(&play, alloc, counts);
-    replace(handle, Handle::of(play)).let_go();
-    told
+    with!(handle, alloc, play => tell_counts(&play, alloc, counts))
 }
 
 /// Ends what the handle holds: the guesses that are left fail, and nothing is committed. The handle holds nothing then.
@@ -244,7 +221,7 @@ pub extern "C" fn hidewillow_counts(alloc: Global, handle: &mut Handle, counts: 
 pub extern "C" fn hidewillow_close(alloc: Global, handle: &mut Handle)
     ensures { handle.new.held ≡ None }
 {
-    let _play = replace(handle, Handle::closed()).into_box(alloc);
+    let _play = take_out(handle, alloc);
 }
 
 /// Tells the first fault of a text that is to be opened: its line, its kind and its word's place, and in the room what is wrong
@@ -274,8 +251,8 @@ pub extern "C" fn hidewillow_own_open(
 ) -> Told
     ensures { OwnOpens number limit result own.old.held own.new.held }
 {
-    if let Some(held) = replace(own, Own::closed()).into_box(alloc) {
-        replace(own, Own::of(held)).let_go();
+    if let Some(held) = take_out(own, alloc) {
+        put_in(own, held);
         return Told::of(HELD, 0);
     }
     let Some(limit) = NonZeroU16::new(limit) else {
@@ -283,7 +260,7 @@ pub extern "C" fn hidewillow_own_open(
     };
     match Box::new(alloc, Held::new(alloc, number, limit, seed)) {
         Ok(held) => {
-            replace(own, Own::of(held)).let_go();
+            put_in(own, held);
             Told::opened()
         }
         Err(_) => Told::of(MEMORY, 0),
@@ -293,53 +270,36 @@ pub extern "C" fn hidewillow_own_open(
 /// Lets go of the step that is being written.
 #[unsafe(no_mangle)]
 pub extern "C" fn hidewillow_own_clear(alloc: Global, own: &mut Own) -> Told
-    ensures { OwnDoes Clears result own.old.held own.new.held }
+    ensures { Does Clears (Unit {0}) result own.old.held own.new.held }
 {
-    let Some(mut held) = replace(own, Own::closed()).into_box(alloc) else {
-        return Told::of(CLOSED, 0);
-    };
-    held.clear();
-    replace(own, Own::of(held)).let_go();
-    Told::of(WRITTEN, 0)
+    with!(own, alloc, held => {
+        held.clear();
+        Told::of(WRITTEN, 0)
+    })
 }
 
 /// The step that is being written looked at a key.
 #[unsafe(no_mangle)]
 pub extern "C" fn hidewillow_own_look(alloc: Global, own: &mut Own, key: &[u8]) -> Told
-    ensures { OwnDoes (Looks key.now) result own.old.held own.new.held }
+    ensures { Does (Looks key.now) (Unit {0}) result own.old.held own.new.held }
 {
-    let Some(mut held) = replace(own, Own::closed()).into_box(alloc) else {
-        return Told::of(CLOSED, 0);
-    };
-    let told = look(&mut held, key);
-    replace(own, Own::of(held)).let_go();
-    told
+    with!(own, alloc, held => look(&mut held, key))
 }
 
 /// It sets what a key has.
 #[unsafe(no_mangle)]
 pub extern "C" fn hidewillow_own_put(alloc: Global, own: &mut Own, key: &[u8], value: &[u8]) -> Told
-    ensures { OwnDoes (Puts key.now value.now) result own.old.held own.new.held }
+    ensures { Does (Puts key.now value.now) (Unit {0}) result own.old.held own.new.held }
 {
-    let Some(mut held) = replace(own, Own::closed()).into_box(alloc) else {
-        return Told::of(CLOSED, 0);
-    };
-    let told = put_value(&mut held, key, value);
-    replace(own, Own::of(held)).let_go();
-    told
+    with!(own, alloc, held => put_value(&mut held, key, value))
 }
 
 /// It makes a key absent.
 #[unsafe(no_mangle)]
 pub extern "C" fn hidewillow_own_remove(alloc: Global, own: &mut Own, key: &[u8]) -> Told
-    ensures { OwnDoes (Removes key.now) result own.old.held own.new.held }
+    ensures { Does (Removes key.now) (Unit {0}) result own.old.held own.new.held }
 {
-    let Some(mut held) = replace(own, Own::closed()).into_box(alloc) else {
-        return Told::of(CLOSED, 0);
-    };
-    let told = remove(&mut held, key);
-    replace(own, Own::of(held)).let_go();
-    told
+    with!(own, alloc, held => remove(&mut held, key))
 }
 
 /// It says this to a channel, and nothing that was said in it before.
@@ -350,66 +310,41 @@ pub extern "C" fn hidewillow_own_say(
     channel: u16,
     output: &[u8],
 ) -> Told
-    ensures { OwnDoes (Says channel output.now) result own.old.held own.new.held }
+    ensures { Does (Says channel output.now) (Unit {0}) result own.old.held own.new.held }
 {
-    let Some(mut held) = replace(own, Own::closed()).into_box(alloc) else {
-        return Told::of(CLOSED, 0);
-    };
-    let told = say(&mut held, channel, output);
-    replace(own, Own::of(held)).let_go();
-    told
+    with!(own, alloc, held => say(&mut held, channel, output))
 }
 
 /// Takes the step that was written. After a refusal it is as it was.
 #[unsafe(no_mangle)]
 pub extern "C" fn hidewillow_own_take(alloc: Global, own: &mut Own) -> Told
-    ensures { OwnDoes Steps result own.old.held own.new.held }
+    ensures { Does Steps (Unit {0}) result own.old.held own.new.held }
 {
-    let Some(mut held) = replace(own, Own::closed()).into_box(alloc) else {
-        return Told::of(CLOSED, 0);
-    };
-    let told = take(&mut held);
-    replace(own, Own::of(held)).let_go();
-    told
+    with!(own, alloc, held => take(&mut held))
 }
 
 /// Draws a guess with the step that was written. After a refusal it is as it was.
 #[unsafe(no_mangle)]
 pub extern "C" fn hidewillow_own_guess(alloc: Global, own: &mut Own) -> Told
-    ensures { OwnDoes Guesses result own.old.held own.new.held }
+    ensures { Does Guesses (Unit {0}) result own.old.held own.new.held }
 {
-    let Some(mut held) = replace(own, Own::closed()).into_box(alloc) else {
-        return Told::of(CLOSED, 0);
-    };
-    let told = guess(&mut held);
-    replace(own, Own::of(held)).let_go();
-    told
+    with!(own, alloc, held => guess(&mut held))
 }
 
 /// Commits a guess.
 #[unsafe(no_mangle)]
 pub extern "C" fn hidewillow_own_commit(alloc: Global, own: &mut Own, number: u64) -> Told
-    ensures { OwnDoes (Commits number) result own.old.held own.new.held }
+    ensures { Does (Commits number) (Unit {0}) result own.old.held own.new.held }
 {
-    let Some(mut held) = replace(own, Own::closed()).into_box(alloc) else {
-        return Told::of(CLOSED, 0);
-    };
-    let told = commit(&mut held, number);
-    replace(own, Own::of(held)).let_go();
-    told
+    with!(own, alloc, held => commit(&mut held, number))
 }
 
 /// Fails a guess: tells how many keys it took back, and how many guesses it struck.
 #[unsafe(no_mangle)]
 pub extern "C" fn hidewillow_own_fail(alloc: Global, own: &mut Own, number: u64) -> Told
-    ensures { OwnDoes (Fails number) result own.old.held own.new.held }
+    ensures { Does (Fails number) (Unit {0}) result own.old.held own.new.held }
 {
-    let Some(mut held) = replace(own, Own::closed()).into_box(alloc) else {
-        return Told::of(CLOSED, 0);
-    };
-    let told = fail(&mut held, number);
-    replace(own, Own::of(held)).let_go();
-    told
+    with!(own, alloc, held => fail(&mut held, number))
 }
 
 /// Shows one of the keys that the last failure took back.
@@ -420,14 +355,10 @@ pub extern "C" fn hidewillow_own_undone(
     place: usize,
     room: &mut [u8],
 ) -> Told
-    ensures { OwnShows (undone_at place) result own.old.held own.new.held room.old room.new }
+    ensures { Tells (ShowsKept (undone_at place) room.old room.new) (room.new ≡ room.old) result own.old.held
+        own.new.held }
 {
-    let Some(held) = replace(own, Own::closed()).into_box(alloc) else {
-        return Told::of(CLOSED, 0);
-    };
-    let told = tell_undone(&held, place, room);
-    replace(own, Own::of(held)).let_go();
-    told
+    with!(own, alloc, held => tell_undone(&held, place, room))
 }
 
 /// Shows what a key has.
@@ -438,27 +369,18 @@ pub extern "C" fn hidewillow_own_value(
     key: &[u8],
     room: &mut [u8],
 ) -> Told
-    ensures { OwnShows (value_of key.now) result own.old.held own.new.held room.old room.new }
+    ensures { Tells (ShowsKept (value_of key.now) room.old room.new) (room.new ≡ room.old) result own.old.held
+        own.new.held }
 {
-    let Some(held) = replace(own, Own::closed()).into_box(alloc) else {
-        return Told::of(CLOSED, 0);
-    };
-    let told = own_calls::tell_value(&held, key, room);
-    replace(own, Own::of(held)).let_go();
-    told
+    with!(own, alloc, held => own_calls::tell_value(&held, key, room))
 }
 
 /// Tells one of the undecided guesses that a key rests on, by its place among them.
 #[unsafe(no_mangle)]
 pub extern "C" fn hidewillow_own_tag(alloc: Global, own: &mut Own, key: &[u8], place: usize) -> Told
-    ensures { OwnTells (tag_at key.now place) result own.old.held own.new.held }
+    ensures { Tells (TellsTag (tag_at key.now place)) (Unit {0}) result own.old.held own.new.held }
 {
-    let Some(held) = replace(own, Own::closed()).into_box(alloc) else {
-        return Told::of(CLOSED, 0);
-    };
-    let told = tell_tag(&held, key, place);
-    replace(own, Own::of(held)).let_go();
-    told
+    with!(own, alloc, held => tell_tag(&held, key, place))
 }
 
 /// Shows the next output of a channel that rests on nothing, which is gone then if the room has all of it.
@@ -469,14 +391,10 @@ pub extern "C" fn hidewillow_own_released(
     channel: u16,
     room: &mut [u8],
 ) -> Told
-    ensures { OwnReleases channel result own.old.held own.new.held room.old room.new }
+    ensures { Does (Releases channel room.old room.new) (room.new ≡ room.old) result
+        own.old.held own.new.held }
 {
-    let Some(mut held) = replace(own, Own::closed()).into_box(alloc) else {
-        return Told::of(CLOSED, 0);
-    };
-    let told = tell_released(&mut held, channel, room);
-    replace(own, Own::of(held)).let_go();
-    told
+    with!(own, alloc, held => tell_released(&mut held, channel, room))
 }
 
 /// Counts keys and guesses, in constant time.
@@ -486,14 +404,10 @@ pub extern "C" fn hidewillow_own_counts(
     own: &mut Own,
     counts: &mut OwnCounts,
 ) -> Told
-    ensures { OwnCounted result own.old.held own.new.held counts.old counts.new }
+    ensures { Tells (CountsOwn counts.new) (counts.new ≡ counts.old) result own.old.held
+        own.new.held }
 {
-    let Some(held) = replace(own, Own::closed()).into_box(alloc) else {
-        return Told::of(CLOSED, 0);
-    };
-    let told = count(&held, counts);
-    replace(own, Own::of(held)).let_go();
-    told
+    with!(own, alloc, held => count(&held, counts))
 }
 
 /// Ends what the handle holds: the guesses that are left fail, and nothing is committed. The handle holds nothing then.
@@ -501,7 +415,7 @@ pub extern "C" fn hidewillow_own_counts(
 pub extern "C" fn hidewillow_own_close(alloc: Global, own: &mut Own)
     ensures { own.new.held ≡ None }
 {
-    let _held = replace(own, Own::closed()).into_box(alloc);
+    let _held = take_out(own, alloc);
 }
 
 /// Begins to read a log, for a handle that holds nothing. The first frame of its segments has this number.
@@ -513,13 +427,13 @@ pub extern "C" fn hidewillow_recovery_open(
 ) -> Told
     ensures { ReadingOpens first result recovery.old.held recovery.new.held }
 {
-    if let Some(read) = replace(recovery, Recovering::closed()).into_box(alloc) {
-        replace(recovery, Recovering::of(read)).let_go();
+    if let Some(read) = take_out(recovery, alloc) {
+        put_in(recovery, read);
         return Told::of(HELD, 0);
     }
     match Box::new(alloc, Reading::new(first)) {
         Ok(read) => {
-            replace(recovery, Recovering::of(read)).let_go();
+            put_in(recovery, read);
             Told::opened()
         }
         Err(_) => Told::of(MEMORY, 0),
@@ -534,15 +448,10 @@ pub extern "C" fn hidewillow_recovery_head(
     segment: u64,
     bytes: &[u8],
 ) -> Told
-    ensures { ReadingDoes (TakesHead segment bytes.now) (Unit {0}) result recovery.old.held
+    ensures { Does (TakesHead segment bytes.now) (Unit {0}) result recovery.old.held
         recovery.new.held }
 {
-    let Some(mut read) = replace(recovery, Recovering::closed()).into_box(alloc) else {
-        return Told::of(CLOSED, 0);
-    };
-    let told = read.head(alloc, segment, bytes);
-    replace(recovery, Recovering::of(read)).let_go();
-    told
+    with!(recovery, alloc, read => read.head(alloc, segment, bytes))
 }
 
 /// A piece of a segment comes, or one of a snapshot, whose number is 0; what came whole is carried out. Without memory all
@@ -554,15 +463,10 @@ pub extern "C" fn hidewillow_recovery_feed(
     segment: u64,
     bytes: &[u8],
 ) -> Told
-    ensures { ReadingDoes (TakesPiece segment bytes.now) (Unit {0}) result recovery.old.held
+    ensures { Does (TakesPiece segment bytes.now) (Unit {0}) result recovery.old.held
         recovery.new.held }
 {
-    let Some(mut read) = replace(recovery, Recovering::closed()).into_box(alloc) else {
-        return Told::of(CLOSED, 0);
-    };
-    let told = read.feed(alloc, segment, bytes);
-    replace(recovery, Recovering::of(read)).let_go();
-    told
+    with!(recovery, alloc, read => read.feed(alloc, segment, bytes))
 }
 
 /// All came: counts what was read, where no more was dropped than may have been in flight.
@@ -573,15 +477,10 @@ pub extern "C" fn hidewillow_recovery_end(
     in_flight: u64,
     counts: &mut ReadCounts,
 ) -> Told
-    ensures { ReadingDoes (EndsWith in_flight counts.old counts.new) (counts.new ≡ counts.old)
+    ensures { Does (EndsWith in_flight counts.old counts.new) (counts.new ≡ counts.old)
         result recovery.old.held recovery.new.held }
 {
-    let Some(mut read) = replace(recovery, Recovering::closed()).into_box(alloc) else {
-        return Told::of(CLOSED, 0);
-    };
-    let told = read.end(alloc, in_flight, counts);
-    replace(recovery, Recovering::of(read)).let_go();
-    told
+    with!(recovery, alloc, read => read.end(alloc, in_flight, counts))
 }
 
 /// The next piece of a snapshot of what was found, as a frame in the room.
@@ -591,15 +490,10 @@ pub extern "C" fn hidewillow_recovery_snapshot(
     recovery: &mut Recovering,
     room: &mut [u8],
 ) -> Told
-    ensures { ReadingDoes (GivesPiece room.old room.new) (room.new ≡ room.old) result
+    ensures { Does (GivesPiece room.old room.new) (room.new ≡ room.old) result
         recovery.old.held recovery.new.held }
 {
-    let Some(mut read) = replace(recovery, Recovering::closed()).into_box(alloc) else {
-        return Told::of(CLOSED, 0);
-    };
-    let told = read.piece(alloc, room);
-    replace(recovery, Recovering::of(read)).let_go();
-    told
+    with!(recovery, alloc, read => read.piece(alloc, room))
 }
 
 /// Ends what the handle holds. It holds nothing then.
@@ -607,7 +501,7 @@ pub extern "C" fn hidewillow_recovery_snapshot(
 pub extern "C" fn hidewillow_recovery_close(alloc: Global, recovery: &mut Recovering)
     ensures { recovery.new.held ≡ None }
 {
-    let _read = replace(recovery, Recovering::closed()).into_box(alloc);
+    let _read = take_out(recovery, alloc);
 }
 
 /// Opens a store behind what was read of its log, for a handle that holds nothing. The room has the head of the segment then in
@@ -626,20 +520,20 @@ pub extern "C" fn hidewillow_store_open(
     ensures { StoreOpens limits.now result store.old.held store.new.held recovery.old.held
         recovery.new.held room.old room.new place.old place.new }
 {
-    if let Some(held) = replace(store, Durable::closed()).into_box(alloc) {
-        replace(store, Durable::of(held)).let_go();
+    if let Some(held) = take_out(store, alloc) {
+        put_in(store, held);
         return Told::of(HELD, 0);
     }
-    let Some(read) = replace(recovery, Recovering::closed()).into_box(alloc) else {
+    let Some(read) = take_out(recovery, alloc) else {
         return Told::of(CLOSED, 0);
     };
     match opened(alloc, &read, limits, seed, room, place) {
         Ok(held) => {
-            replace(store, Durable::of(held)).let_go();
+            put_in(store, held);
             Told::opened()
         }
         Err(why) => {
-            replace(recovery, Recovering::of(read)).let_go();
+            put_in(recovery, read);
             not_opened(why)
         }
     }
@@ -648,27 +542,17 @@ pub extern "C" fn hidewillow_store_open(
 /// A channel more, whose number is told.
 #[unsafe(no_mangle)]
 pub extern "C" fn hidewillow_store_connect(alloc: Global, store: &mut Durable) -> Told
-    ensures { StoreDoes Connects (Unit {0}) result store.old.held store.new.held }
+    ensures { Does Connects (Unit {0}) result store.old.held store.new.held }
 {
-    let Some(mut held) = replace(store, Durable::closed()).into_box(alloc) else {
-        return Told::of(CLOSED, 0);
-    };
-    let told = store_calls::connect(&mut held);
-    replace(store, Durable::of(held)).let_go();
-    told
+    with!(store, alloc, held => store_calls::connect(&mut held))
 }
 
 /// A channel is gone: its replies are dropped, its writes stand.
 #[unsafe(no_mangle)]
 pub extern "C" fn hidewillow_store_hang_up(alloc: Global, store: &mut Durable, channel: u16) -> Told
-    ensures { StoreDoes (HangsUp channel) (Unit {0}) result store.old.held store.new.held }
+    ensures { Does (HangsUp channel) (Unit {0}) result store.old.held store.new.held }
 {
-    let Some(mut held) = replace(store, Durable::closed()).into_box(alloc) else {
-        return Told::of(CLOSED, 0);
-    };
-    let told = store_calls::hang_up(&mut held, channel);
-    replace(store, Durable::of(held)).let_go();
-    told
+    with!(store, alloc, held => store_calls::hang_up(&mut held, channel))
 }
 
 /// Takes bytes that came on a channel, up to the end of a request, which is carried out, or all.
@@ -679,14 +563,9 @@ pub extern "C" fn hidewillow_store_feed(
     channel: u16,
     bytes: &[u8],
 ) -> Told
-    ensures { StoreDoes (Feeds channel bytes.now) (Unit {0}) result store.old.held store.new.held }
+    ensures { Does (Feeds channel bytes.now) (Unit {0}) result store.old.held store.new.held }
 {
-    let Some(mut held) = replace(store, Durable::closed()).into_box(alloc) else {
-        return Told::of(CLOSED, 0);
-    };
-    let told = store_calls::feed(&mut held, channel, bytes);
-    replace(store, Durable::of(held)).let_go();
-    told
+    with!(store, alloc, held => store_calls::feed(&mut held, channel, bytes))
 }
 
 /// As feed; and of a request that was carried out the answer is shown by `hidewillow_store_ahead`.
@@ -697,15 +576,10 @@ pub extern "C" fn hidewillow_store_feed_ahead(
     channel: u16,
     bytes: &[u8],
 ) -> Told
-    ensures { StoreDoes (FeedsAhead channel bytes.now) (Unit {0}) result
+    ensures { Does (FeedsAhead channel bytes.now) (Unit {0}) result
         store.old.held store.new.held }
 {
-    let Some(mut held) = replace(store, Durable::closed()).into_box(alloc) else {
-        return Told::of(CLOSED, 0);
-    };
-    let told = store_calls::feed_ahead(&mut held, channel, bytes);
-    replace(store, Durable::of(held)).let_go();
-    told
+    with!(store, alloc, held => store_calls::feed_ahead(&mut held, channel, bytes))
 }
 
 /// Shows the answer to the request that the last call of `hidewillow_store_feed_ahead` carried out.
@@ -715,15 +589,10 @@ pub extern "C" fn hidewillow_store_ahead(
     store: &mut Durable,
     room: &mut [u8],
 ) -> Told
-    ensures { StoreTells (ShowsAhead room.old room.new) (room.new ≡ room.old) result
+    ensures { Tells (ShowsAhead room.old room.new) (room.new ≡ room.old) result
         store.old.held store.new.held }
 {
-    let Some(held) = replace(store, Durable::closed()).into_box(alloc) else {
-        return Told::of(CLOSED, 0);
-    };
-    let told = store_calls::tell_ahead(&held, room);
-    replace(store, Durable::of(held)).let_go();
-    told
+    with!(store, alloc, held => store_calls::tell_ahead(&held, room))
 }
 
 /// Shows a word of the request that the host is asked on a channel, by its place.
@@ -735,15 +604,10 @@ pub extern "C" fn hidewillow_store_asked(
     place: usize,
     room: &mut [u8],
 ) -> Told
-    ensures { StoreTells (ShowsAsked channel place room.old room.new) (room.new ≡ room.old) result
+    ensures { Tells (ShowsAsked channel place room.old room.new) (room.new ≡ room.old) result
         store.old.held store.new.held }
 {
-    let Some(held) = replace(store, Durable::closed()).into_box(alloc) else {
-        return Told::of(CLOSED, 0);
-    };
-    let told = store_calls::tell_asked(&held, channel, place, room);
-    replace(store, Durable::of(held)).let_go();
-    told
+    with!(store, alloc, held => store_calls::tell_asked(&held, channel, place, room))
 }
 
 /// The host tells the reply to what it is asked on a channel, which goes out in its turn.
@@ -754,15 +618,10 @@ pub extern "C" fn hidewillow_store_tell(
     channel: u16,
     reply: &[u8],
 ) -> Told
-    ensures { StoreDoes (TellsReply channel reply.now) (Unit {0}) result
+    ensures { Does (TellsReply channel reply.now) (Unit {0}) result
         store.old.held store.new.held }
 {
-    let Some(mut held) = replace(store, Durable::closed()).into_box(alloc) else {
-        return Told::of(CLOSED, 0);
-    };
-    let told = store_calls::tell(&mut held, channel, reply);
-    replace(store, Durable::of(held)).let_go();
-    told
+    with!(store, alloc, held => store_calls::tell(&mut held, channel, reply))
 }
 
 /// The host tells that it knows no such command either.
@@ -772,15 +631,10 @@ pub extern "C" fn hidewillow_store_tell_unknown(
     store: &mut Durable,
     channel: u16,
 ) -> Told
-    ensures { StoreDoes (TellsReply channel (error_text (words_of Unknown))) (Unit {0}) result
+    ensures { Does (TellsReply channel (error_text (words_of Unknown))) (Unit {0}) result
         store.old.held store.new.held }
 {
-    let Some(mut held) = replace(store, Durable::closed()).into_box(alloc) else {
-        return Told::of(CLOSED, 0);
-    };
-    let told = store_calls::tell_unknown(&mut held, channel);
-    replace(store, Durable::of(held)).let_go();
-    told
+    with!(store, alloc, held => store_calls::tell_unknown(&mut held, channel))
 }
 
 /// Tells whether a fault was told on a channel: what comes is dropped, and it is to be hung up once its output is taken.
@@ -790,14 +644,9 @@ pub extern "C" fn hidewillow_store_is_closed(
     store: &mut Durable,
     channel: u16,
 ) -> Told
-    ensures { StoreTells (TellsClosed channel) (Unit {0}) result store.old.held store.new.held }
+    ensures { Tells (TellsClosed channel) (Unit {0}) result store.old.held store.new.held }
 {
-    let Some(mut held) = replace(store, Durable::closed()).into_box(alloc) else {
-        return Told::of(CLOSED, 0);
-    };
-    let told = store_calls::tell_closed(&mut held, channel);
-    replace(store, Durable::of(held)).let_go();
-    told
+    with!(store, alloc, held => store_calls::tell_closed(&mut held, channel))
 }
 
 /// Moves bytes that may go out on a channel into the room. It is to be called until it moves none.
@@ -808,28 +657,18 @@ pub extern "C" fn hidewillow_store_output(
     channel: u16,
     room: &mut [u8],
 ) -> Told
-    ensures { StoreDoes (OutputsTo channel room.old room.new) (room.new ≡ room.old) result
+    ensures { Does (OutputsTo channel room.old room.new) (room.new ≡ room.old) result
         store.old.held store.new.held }
 {
-    let Some(mut held) = replace(store, Durable::closed()).into_box(alloc) else {
-        return Told::of(CLOSED, 0);
-    };
-    let told = store_calls::output(&mut held, channel, room);
-    replace(store, Durable::of(held)).let_go();
-    told
+    with!(store, alloc, held => store_calls::output(&mut held, channel, room))
 }
 
 /// Tells a channel that there is output for.
 #[unsafe(no_mangle)]
 pub extern "C" fn hidewillow_store_next_ready(alloc: Global, store: &mut Durable) -> Told
-    ensures { StoreDoes NextReady (Unit {0}) result store.old.held store.new.held }
+    ensures { Does NextReady (Unit {0}) result store.old.held store.new.held }
 {
-    let Some(mut held) = replace(store, Durable::closed()).into_box(alloc) else {
-        return Told::of(CLOSED, 0);
-    };
-    let told = store_calls::next_ready(&mut held);
-    replace(store, Durable::of(held)).let_go();
-    told
+    with!(store, alloc, held => store_calls::next_ready(&mut held))
 }
 
 /// Takes the next frame into the room, and tells where it is to be written.
@@ -840,54 +679,34 @@ pub extern "C" fn hidewillow_store_take_frame(
     room: &mut [u8],
     place: &mut FramePlace,
 ) -> Told
-    ensures { StoreDoes (TakesFrame room.old room.new place.old place.new) ((room.new ≡ room.old) ×
+    ensures { Does (TakesFrame room.old room.new place.old place.new) ((room.new ≡ room.old) ×
         (place.new ≡ place.old)) result store.old.held store.new.held }
 {
-    let Some(mut held) = replace(store, Durable::closed()).into_box(alloc) else {
-        return Told::of(CLOSED, 0);
-    };
-    let told = store_calls::take_frame(&mut held, room, place);
-    replace(store, Durable::of(held)).let_go();
-    told
+    with!(store, alloc, held => store_calls::take_frame(&mut held, room, place))
 }
 
 /// The log goes on at the front of the next segment.
 #[unsafe(no_mangle)]
 pub extern "C" fn hidewillow_store_turn(alloc: Global, store: &mut Durable) -> Told
-    ensures { StoreDoes Turns (Unit {0}) result store.old.held store.new.held }
+    ensures { Does Turns (Unit {0}) result store.old.held store.new.held }
 {
-    let Some(mut held) = replace(store, Durable::closed()).into_box(alloc) else {
-        return Told::of(CLOSED, 0);
-    };
-    let told = store_calls::turn(&mut held);
-    replace(store, Durable::of(held)).let_go();
-    told
+    with!(store, alloc, held => store_calls::turn(&mut held))
 }
 
 /// The host says that a frame is synced.
 #[unsafe(no_mangle)]
 pub extern "C" fn hidewillow_store_synced(alloc: Global, store: &mut Durable, frame: u64) -> Told
-    ensures { StoreDoes (Syncs frame) (Unit {0}) result store.old.held store.new.held }
+    ensures { Does (Syncs frame) (Unit {0}) result store.old.held store.new.held }
 {
-    let Some(mut held) = replace(store, Durable::closed()).into_box(alloc) else {
-        return Told::of(CLOSED, 0);
-    };
-    let told = store_calls::synced(&mut held, frame);
-    replace(store, Durable::of(held)).let_go();
-    told
+    with!(store, alloc, held => store_calls::synced(&mut held, frame))
 }
 
 /// The host says that a frame failed.
 #[unsafe(no_mangle)]
 pub extern "C" fn hidewillow_store_failed(alloc: Global, store: &mut Durable, frame: u64) -> Told
-    ensures { StoreDoes (durable.Fails frame) (Unit {0}) result store.old.held store.new.held }
+    ensures { Does (durable.Fails frame) (Unit {0}) result store.old.held store.new.held }
 {
-    let Some(mut held) = replace(store, Durable::closed()).into_box(alloc) else {
-        return Told::of(CLOSED, 0);
-    };
-    let told = store_calls::failed(&mut held, frame);
-    replace(store, Durable::of(held)).let_go();
-    told
+    with!(store, alloc, held => store_calls::failed(&mut held, frame))
 }
 
 /// Tells the cut that is to be made, once a frame failed and all that were sent were told of.
@@ -897,15 +716,10 @@ pub extern "C" fn hidewillow_store_cut_due(
     store: &mut Durable,
     cut: &mut CutOff,
 ) -> Told
-    ensures { StoreTells (TellsCut cut.old cut.new) (cut.new ≡ cut.old) result store.old.held
+    ensures { Tells (TellsCut cut.old cut.new) (cut.new ≡ cut.old) result store.old.held
         store.new.held }
 {
-    let Some(held) = replace(store, Durable::closed()).into_box(alloc) else {
-        return Told::of(CLOSED, 0);
-    };
-    let told = store_calls::tell_cut(&held, cut);
-    replace(store, Durable::of(held)).let_go();
-    told
+    with!(store, alloc, held => store_calls::tell_cut(&held, cut))
 }
 
 /// Writes the head that makes the cut into the room, and tells where it is to be written.
@@ -916,41 +730,35 @@ pub extern "C" fn hidewillow_store_cut_frame(
     room: &mut [u8],
     place: &mut FramePlace,
 ) -> Told
-    ensures { StoreTells (SendsHead room.old room.new place.old place.new) ((room.new ≡ room.old) ×
+    ensures { Tells (SendsHead room.old room.new place.old place.new) ((room.new ≡ room.old) ×
         (place.new ≡ place.old)) result store.old.held store.new.held }
 {
-    let Some(held) = replace(store, Durable::closed()).into_box(alloc) else {
-        return Told::of(CLOSED, 0);
-    };
-    let told = store_calls::cut_frame(&held, room, place);
-    replace(store, Durable::of(held)).let_go();
-    told
+    with!(store, alloc, held => store_calls::cut_frame(&held, room, place))
 }
 
 /// The host says whether the cut was made; 0 says that it could not be, and the store stops.
 #[unsafe(no_mangle)]
 pub extern "C" fn hidewillow_store_cut(alloc: Global, store: &mut Durable, made: u32) -> Told
-    ensures { StoreDoes (CutsOff made) (Unit {0}) result store.old.held store.new.held }
+    ensures { Does (CutsOff made) (Unit {0}) result store.old.held store.new.held }
 {
-    let Some(mut held) = replace(store, Durable::closed()).into_box(alloc) else {
-        return Told::of(CLOSED, 0);
-    };
-    let told = store_calls::cut(&mut held, made);
-    replace(store, Durable::of(held)).let_go();
-    told
+    with!(store, alloc, held => store_calls::cut(&mut held, made))
+}
+
+/// The host says that the leadership is over by which its log lies in an engine, once each frame that was sent has its word: what was open is
+/// refused, from the first frame on that failed. The room is as long as a frame of all that is undecided.
+#[unsafe(no_mangle)]
+pub extern "C" fn hidewillow_store_lost(alloc: Global, store: &mut Durable, room: &mut [u8]) -> Told
+    ensures { Does (WindsUp room.old) (room.new ≡ room.old) result store.old.held store.new.held }
+{
+    with!(store, alloc, held => store_calls::lost(&mut held, room))
 }
 
 /// Decides the oldest batch, if it is decided. It is to be called until it tells none.
 #[unsafe(no_mangle)]
 pub extern "C" fn hidewillow_store_decide(alloc: Global, store: &mut Durable) -> Told
-    ensures { StoreDoes Decides (Unit {0}) result store.old.held store.new.held }
+    ensures { Does Decides (Unit {0}) result store.old.held store.new.held }
 {
-    let Some(mut held) = replace(store, Durable::closed()).into_box(alloc) else {
-        return Told::of(CLOSED, 0);
-    };
-    let told = store_calls::decide(&mut held);
-    replace(store, Durable::of(held)).let_go();
-    told
+    with!(store, alloc, held => store_calls::decide(&mut held))
 }
 
 /// Shows what a key has, whatever it rests on.
@@ -961,15 +769,10 @@ pub extern "C" fn hidewillow_store_value(
     key: &[u8],
     room: &mut [u8],
 ) -> Told
-    ensures { StoreTells (ShowsValue key.now room.old room.new) (room.new ≡ room.old) result
+    ensures { Tells (ShowsValue key.now room.old room.new) (room.new ≡ room.old) result
         store.old.held store.new.held }
 {
-    let Some(held) = replace(store, Durable::closed()).into_box(alloc) else {
-        return Told::of(CLOSED, 0);
-    };
-    let told = store_calls::tell_value(&held, key, room);
-    replace(store, Durable::of(held)).let_go();
-    told
+    with!(store, alloc, held => store_calls::tell_value(&held, key, room))
 }
 
 /// Tells one of the undecided batches that a key rests on, by its place among them.
@@ -980,14 +783,9 @@ pub extern "C" fn hidewillow_store_rests_on(
     key: &[u8],
     place: usize,
 ) -> Told
-    ensures { StoreTells (TellsRests key.now place) (Unit {0}) result store.old.held store.new.held }
+    ensures { Tells (TellsRests key.now place) (Unit {0}) result store.old.held store.new.held }
 {
-    let Some(held) = replace(store, Durable::closed()).into_box(alloc) else {
-        return Told::of(CLOSED, 0);
-    };
-    let told = store_calls::tell_rests_on(&held, key, place);
-    replace(store, Durable::of(held)).let_go();
-    told
+    with!(store, alloc, held => store_calls::tell_rests_on(&held, key, place))
 }
 
 /// Counts what is undecided, in constant time.
@@ -997,15 +795,10 @@ pub extern "C" fn hidewillow_store_counts(
     store: &mut Durable,
     counts: &mut StoreCounts,
 ) -> Told
-    ensures { StoreTells (CountsStore counts.new) (counts.new ≡ counts.old) result store.old.held
+    ensures { Tells (CountsStore counts.new) (counts.new ≡ counts.old) result store.old.held
         store.new.held }
 {
-    let Some(held) = replace(store, Durable::closed()).into_box(alloc) else {
-        return Told::of(CLOSED, 0);
-    };
-    let told = store_calls::count(&held, counts);
-    replace(store, Durable::of(held)).let_go();
-    told
+    with!(store, alloc, held => store_calls::count(&held, counts))
 }
 
 /// Ends what the handle holds: what is undecided is dropped, and nothing goes out. It holds nothing then.
@@ -1013,7 +806,7 @@ pub extern "C" fn hidewillow_store_counts(
 pub extern "C" fn hidewillow_store_close(alloc: Global, store: &mut Durable)
     ensures { store.new.held ≡ None }
 {
-    let _held = replace(store, Durable::closed()).into_box(alloc);
+    let _held = take_out(store, alloc);
 }
 
 /// Opens a desk over the kernel that a text declares, for a handle that holds nothing: the text ends with the line `world`, and
@@ -1021,15 +814,15 @@ pub extern "C" fn hidewillow_store_close(alloc: Global, store: &mut Durable)
 /// nothing.
 #[unsafe(no_mangle)]
 pub extern "C" fn hidewillow_desk_open(alloc: Global, desk: &mut DeskHandle, text: &[u8]) -> Told
-    ensures { DeskOpens result text.now desk.old.held desk.new.held }
+    ensures { Opens desk_in result text.now desk.old.held desk.new.held }
 {
-    if let Some(client) = replace(desk, DeskHandle::closed()).into_box(alloc) {
-        replace(desk, DeskHandle::of(client)).let_go();
+    if let Some(client) = take_out(desk, alloc) {
+        put_in(desk, client);
         return Told::of(HELD, 0);
     }
     match client_of(alloc, text) {
         Ok(client) => {
-            replace(desk, DeskHandle::of(client)).let_go();
+            put_in(desk, client);
             Told::opened()
         }
         Err(why) => Told::unopened(why),
@@ -1039,14 +832,9 @@ pub extern "C" fn hidewillow_desk_open(alloc: Global, desk: &mut DeskHandle, tex
 /// Takes a turn of the process of this name.
 #[unsafe(no_mangle)]
 pub extern "C" fn hidewillow_desk_turn(alloc: Global, desk: &mut DeskHandle, name: &[u8]) -> Told
-    ensures { DeskDoes (TurnsAs (pid name.now)) (Unit {0}) result desk.old.held desk.new.held }
+    ensures { Does (TurnsAs (pid name.now)) (Unit {0}) result desk.old.held desk.new.held }
 {
-    let Some(mut client) = replace(desk, DeskHandle::closed()).into_box(alloc) else {
-        return Told::of(CLOSED, 0);
-    };
-    let told = client.turn(name);
-    replace(desk, DeskHandle::of(client)).let_go();
-    told
+    with!(desk, alloc, client => client.turn(name))
 }
 
 /// Lends the process of this name, has it do up to so many private instructions, and hands it in: each is a step.
@@ -1057,15 +845,10 @@ pub extern "C" fn hidewillow_desk_lease(
     name: &[u8],
     count: u32,
 ) -> Told
-    ensures { DeskDoes (LeasesAs ClientLeases (pid name.now) count) (Unit {0}) result
+    ensures { Does (LeasesAs ClientLeases (pid name.now) count) (Unit {0}) result
         desk.old.held desk.new.held }
 {
-    let Some(mut client) = replace(desk, DeskHandle::closed()).into_box(alloc) else {
-        return Told::of(CLOSED, 0);
-    };
-    let told = client.lease(name, count);
-    replace(desk, DeskHandle::of(client)).let_go();
-    told
+    with!(desk, alloc, client => client.lease(name, count))
 }
 
 /// Shows the oldest request that waits, as bytes. It is taken where the room has all of it; else the next call shows it again.
@@ -1075,54 +858,34 @@ pub extern "C" fn hidewillow_desk_request(
     desk: &mut DeskHandle,
     room: &mut [u8],
 ) -> Told
-    ensures { DeskDoes (SendsRequest room.old room.new) (room.new ≡ room.old) result desk.old.held desk.new.held }
+    ensures { Does (SendsRequest room.old room.new) (room.new ≡ room.old) result desk.old.held desk.new.held }
 {
-    let Some(mut client) = replace(desk, DeskHandle::closed()).into_box(alloc) else {
-        return Told::of(CLOSED, 0);
-    };
-    let told = client.request(alloc, room);
-    replace(desk, DeskHandle::of(client)).let_go();
-    told
+    with!(desk, alloc, client => client.request(alloc, room))
 }
 
 /// Gives the reply that these bytes are. After a refusal everything is as it was.
 #[unsafe(no_mangle)]
 pub extern "C" fn hidewillow_desk_reply(alloc: Global, desk: &mut DeskHandle, bytes: &[u8]) -> Told
-    ensures { DeskDoes (Gives (reply_of bytes.now)) (Unit {0}) result desk.old.held desk.new.held }
+    ensures { Does (Gives (reply_of bytes.now)) (Unit {0}) result desk.old.held desk.new.held }
 {
-    let Some(mut client) = replace(desk, DeskHandle::closed()).into_box(alloc) else {
-        return Told::of(CLOSED, 0);
-    };
-    let told = client.reply(bytes);
-    replace(desk, DeskHandle::of(client)).let_go();
-    told
+    with!(desk, alloc, client => client.reply(bytes))
 }
 
 /// Tells the number of the request whose reply is next, and how many have none.
 #[unsafe(no_mangle)]
 pub extern "C" fn hidewillow_desk_pending(alloc: Global, desk: &mut DeskHandle) -> Told
-    ensures { DeskTells TellsPending (Unit {0}) result desk.old.held desk.new.held }
+    ensures { Tells TellsPending (Unit {0}) result desk.old.held desk.new.held }
 {
-    let Some(client) = replace(desk, DeskHandle::closed()).into_box(alloc) else {
-        return Told::of(CLOSED, 0);
-    };
-    let told = client.tell_pending();
-    replace(desk, DeskHandle::of(client)).let_go();
-    told
+    with!(desk, alloc, client => client.tell_pending())
 }
 
 /// Begins a new epoch, where each request has its reply: the trace is let go of, and what terminals have released is kept until
 /// the next one.
 #[unsafe(no_mangle)]
 pub extern "C" fn hidewillow_desk_epoch(alloc: Global, desk: &mut DeskHandle) -> Told
-    ensures { DeskDoes BeginsEpoch (Unit {0}) result desk.old.held desk.new.held }
+    ensures { Does BeginsEpoch (Unit {0}) result desk.old.held desk.new.held }
 {
-    let Some(mut client) = replace(desk, DeskHandle::closed()).into_box(alloc) else {
-        return Told::of(CLOSED, 0);
-    };
-    let told = client.begin_epoch();
-    replace(desk, DeskHandle::of(client)).let_go();
-    told
+    with!(desk, alloc, client => client.begin_epoch())
 }
 
 /// Shows the text at a place among those that a terminal had released when the last epoch ended.
@@ -1134,14 +897,9 @@ pub extern "C" fn hidewillow_desk_left(
     place: usize,
     room: &mut [u8],
 ) -> Told
-    ensures { DeskTells (LeavesText number place room.old room.new) (room.new ≡ room.old) result desk.old.held desk.new.held }
+    ensures { Tells (LeavesText number place room.old room.new) (room.new ≡ room.old) result desk.old.held desk.new.held }
 {
-    let Some(client) = replace(desk, DeskHandle::closed()).into_box(alloc) else {
-        return Told::of(CLOSED, 0);
-    };
-    let told = client.tell_left(number, place, room);
-    replace(desk, DeskHandle::of(client)).let_go();
-    told
+    with!(desk, alloc, client => client.tell_left(number, place, room))
 }
 
 /// Shows the report of the kernel in the room.
@@ -1151,14 +909,9 @@ pub extern "C" fn hidewillow_desk_report(
     desk: &mut DeskHandle,
     room: &mut [u8],
 ) -> Told
-    ensures { DeskTells (ShowsKernel kernel_report room.old room.new) (room.new ≡ room.old) result desk.old.held desk.new.held }
+    ensures { Tells (ShowsKernel kernel_report room.old room.new) (room.new ≡ room.old) result desk.old.held desk.new.held }
 {
-    let Some(client) = replace(desk, DeskHandle::closed()).into_box(alloc) else {
-        return Told::of(CLOSED, 0);
-    };
-    let told = client.tell_report(alloc, room);
-    replace(desk, DeskHandle::of(client)).let_go();
-    told
+    with!(desk, alloc, client => client.tell_report(alloc, room))
 }
 
 /// Shows what an entity has that the report names so.
@@ -1169,14 +922,9 @@ pub extern "C" fn hidewillow_desk_value(
     name: &[u8],
     room: &mut [u8],
 ) -> Told
-    ensures { DeskTells (ShowsKernel (kernel_value name.now) room.old room.new) (room.new ≡ room.old) result desk.old.held desk.new.held }
+    ensures { Tells (ShowsKernel (kernel_value name.now) room.old room.new) (room.new ≡ room.old) result desk.old.held desk.new.held }
 {
-    let Some(client) = replace(desk, DeskHandle::closed()).into_box(alloc) else {
-        return Told::of(CLOSED, 0);
-    };
-    let told = client.tell_value(alloc, name, room);
-    replace(desk, DeskHandle::of(client)).let_go();
-    told
+    with!(desk, alloc, client => client.tell_value(alloc, name, room))
 }
 
 /// Shows the undecided guesses that an entity rests on, which the report names so.
@@ -1187,14 +935,9 @@ pub extern "C" fn hidewillow_desk_tags(
     name: &[u8],
     room: &mut [u8],
 ) -> Told
-    ensures { DeskTells (ShowsKernel (kernel_tags name.now) room.old room.new) (room.new ≡ room.old) result desk.old.held desk.new.held }
+    ensures { Tells (ShowsKernel (kernel_tags name.now) room.old room.new) (room.new ≡ room.old) result desk.old.held desk.new.held }
 {
-    let Some(client) = replace(desk, DeskHandle::closed()).into_box(alloc) else {
-        return Told::of(CLOSED, 0);
-    };
-    let told = client.tell_tags(alloc, name, room);
-    replace(desk, DeskHandle::of(client)).let_go();
-    told
+    with!(desk, alloc, client => client.tell_tags(alloc, name, room))
 }
 
 /// Shows what a terminal has released in this epoch, and how many texts wait.
@@ -1205,14 +948,9 @@ pub extern "C" fn hidewillow_desk_terminal(
     number: u16,
     room: &mut [u8],
 ) -> Told
-    ensures { DeskTells (ShowsKernel (kernel_terminal number) room.old room.new) (room.new ≡ room.old) result desk.old.held desk.new.held }
+    ensures { Tells (ShowsKernel (kernel_terminal number) room.old room.new) (room.new ≡ room.old) result desk.old.held desk.new.held }
 {
-    let Some(client) = replace(desk, DeskHandle::closed()).into_box(alloc) else {
-        return Told::of(CLOSED, 0);
-    };
-    let told = client.tell_terminal(alloc, number, room);
-    replace(desk, DeskHandle::of(client)).let_go();
-    told
+    with!(desk, alloc, client => client.tell_terminal(alloc, number, room))
 }
 
 /// Counts the guesses and the steps of this epoch.
@@ -1222,14 +960,9 @@ pub extern "C" fn hidewillow_desk_counts(
     desk: &mut DeskHandle,
     counts: &mut Counts,
 ) -> Told
-    ensures { DeskTells (CountsDesk counts.old counts.new) (counts.new ≡ counts.old) result desk.old.held desk.new.held }
+    ensures { Tells (CountsDesk counts.old counts.new) (counts.new ≡ counts.old) result desk.old.held desk.new.held }
 {
-    let Some(client) = replace(desk, DeskHandle::closed()).into_box(alloc) else {
-        return Told::of(CLOSED, 0);
-    };
-    let told = client.tell_counts(alloc, counts);
-    replace(desk, DeskHandle::of(client)).let_go();
-    told
+    with!(desk, alloc, client => client.tell_counts(alloc, counts))
 }
 
 /// Ends what the handle holds: the guesses of requests without a reply fail. The handle holds nothing then.
@@ -1237,7 +970,7 @@ pub extern "C" fn hidewillow_desk_counts(
 pub extern "C" fn hidewillow_desk_close(alloc: Global, desk: &mut DeskHandle)
     ensures { desk.new.held ≡ None }
 {
-    let _client = replace(desk, DeskHandle::closed()).into_box(alloc);
+    let _client = take_out(desk, alloc);
 }
 
 /// Tells a host whose log lies in a consensus engine what an answer to a try of a batch means, which was to be put under its number.
@@ -1292,4 +1025,44 @@ pub extern "C" fn hidewillow_engine_lead(answer: u32, leadership: u64, held: u32
     ensures { result ≡ word_told (lead_told (lead_answer_of answer leadership held)) }
 {
     tell_lead(answer, leadership, held)
+}
+
+/// Something was carried out for a host whose log lies in a consensus engine, and waits for a round that is taken later. This is its mark.
+#[unsafe(no_mangle)]
+pub extern "C" fn hidewillow_rounds_carried_out(rounds: &mut Rounds) -> u64
+    ensures { RoundDoes rounds.old (CarriesOut result) rounds.new }
+{
+    rounds.carried_out()
+}
+
+/// Takes the next round, where something waits for one. It is begun later, or a batch is sent then for the first time.
+#[unsafe(no_mangle)]
+pub extern "C" fn hidewillow_rounds_take(rounds: &mut Rounds) -> Told
+    ensures { TakesRound result rounds.old rounds.new }
+{
+    rounds::take(rounds)
+}
+
+/// The host says that it led at some moment after this round was taken.
+#[unsafe(no_mangle)]
+pub extern "C" fn hidewillow_rounds_still(rounds: &mut Rounds, round: u64) -> Told
+    ensures { SaysStill round result rounds.old rounds.new }
+{
+    rounds::still(rounds, round)
+}
+
+/// The host says that it leads no more.
+#[unsafe(no_mangle)]
+pub extern "C" fn hidewillow_rounds_lost(rounds: &mut Rounds)
+    ensures { RoundDoes rounds.old Loses rounds.new }
+{
+    rounds.lost();
+}
+
+/// Whether what has this mark may be told.
+#[unsafe(no_mangle)]
+pub extern "C" fn hidewillow_rounds_may_tell(rounds: &Rounds, mark: u64) -> bool
+    ensures { result ≡ may_tell mark rounds.now }
+{
+    rounds.may_tell(mark)
 }

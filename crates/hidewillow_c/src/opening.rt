@@ -2,9 +2,8 @@
 ghost use Rattle.std.specs.Prelude.{MatchResult};
 ghost use Rattle.std.specs.Str.Lines.{lines};
 ghost use Rattle.sk_scenario.specs.Scenario.{scenario_of};
-ghost use Rattle.hidewillow_c.specs.Opening.{OpenedBy, UnopenedBy};
-ghost use Rattle.hidewillow_c.specs.Lines.{TakesLine, TellsLine};
-ghost use Rattle.hidewillow_c.specs.Epochs.{EndsEpoch};
+ghost use Rattle.hidewillow_c.specs.Opening.{opening, OpenedBy, UnopenedBy};
+ghost use Rattle.hidewillow_c.specs.PlayCalls.{EndsEpoch, TakesLine, TellsLine};
 ghost use Rattle.hidewillow_c.specs.Leases.{LeasesAs, PlayLeases};
 ghost use Rattle.sk_words.specs.Operands.{pid};
 
@@ -20,8 +19,8 @@ use std::io::Write;
 
 /// What a text declares, at its start.
 pub fn play_of(alloc: Global, text: &[u8]) -> Result<Box<Play>, Unopened>
-    ensures { MatchResult result (λ play. OpenedBy play.value (scenario_of text.now))
-        (λ why. UnopenedBy why (scenario_of text.now) (lines text.now)) }
+    ensures { MatchResult result (λ play. OpenedBy opening play.value (scenario_of text.now))
+        (λ why. UnopenedBy opening why (scenario_of text.now) (lines text.now)) }
 {
     let scenario = match Scenario::parse(alloc, text) {
         Ok(scenario) => scenario,
@@ -40,7 +39,7 @@ pub fn play_of(alloc: Global, text: &[u8]) -> Result<Box<Play>, Unopened>
 
 /// Makes the call that a line says, and shows its text in the room.
 pub fn tell_line(play: &mut Play, alloc: Global, line: &[u8], room: &mut [u8]) -> Told
-    ensures { TakesLine result line.now play.old play.new room.old room.new }
+    ensures { TakesLine line.now room.old room.new result play.old play.new }
 {
     let told = play.line(alloc, line);
     tell(alloc, told, room)

@@ -165,7 +165,7 @@ pub(crate) fn tell_tag(held: &Held, key: &[u8], place: usize) -> Told
 
 /// Shows the next output that can be handed over. It is handed over where the room has all of it.
 pub(crate) fn tell_released(held: &mut Held, channel: u16, room: &mut [u8]) -> Told
-    ensures { Releases channel result held.old held.new room.old room.new }
+    ensures { Releases channel room.old room.new result held.old held.new }
 {
     if held.bring(channel).is_err() {
         return Told::of(MEMORY, 0);

@@ -3,7 +3,7 @@ ghost use Rattle.std.specs.Prelude.{◌≡◌};
 ghost use Rattle.sk_requests.specs.Replies.{error_text};
 ghost use Rattle.sk_commands.specs.Faults.{words_of};
 ghost use Rattle.sk_commands.specs.declared.fault.Fault.TheVariants.{Unknown};
-ghost use Rattle.hidewillow_c.specs.StoreCalls.{channel_told, closed_told, done_told, end_number, fed_told, output_told, outcome_told, place_of, queue_refused, ready_told, reply_told, store_refused, AreStoreCounts, Connects, CutsOff, Decides, Feeds, FeedsAhead, HangsUp, Fails, IsDone, NextReady, OutputsTo, SendsHead, ShowsAhead, ShowsAsked, ShowsValue, Syncs, TakesFrame, TellsClosed, TellsCut, TellsReply, TellsRests, Turns};
+ghost use Rattle.hidewillow_c.specs.StoreCalls.{channel_told, closed_told, done_told, end_number, fed_told, output_told, outcome_told, place_of, queue_refused, ready_told, reply_told, store_refused, AreStoreCounts, Connects, CutsOff, Decides, Feeds, FeedsAhead, HangsUp, Fails, IsDone, NextReady, OutputsTo, SendsHead, ShowsAhead, ShowsAsked, ShowsValue, Syncs, TakesFrame, TellsClosed, TellsCut, TellsReply, TellsRests, Turns, WindsUp};
 ghost use Rattle.hidewillow_c.specs.Told.{just};
 
 use crate::codes::{ABSENT, COMMITTED, DONE, FAILED, MEMORY, REFUSED, SHOWN};
@@ -12,6 +12,7 @@ use crate::told::Told;
 use sk_batched::Outcome;
 use sk_batches::{Refusal as Queued, Sealed};
 use sk_durable::{End, Fed, NotDone, Refusal, Store};
+use sk_led::wind_up;
 
 /// Where a frame is to be written: its number, its segment, the place of its first byte there, and how many bytes it has.
 #[repr(C)]
@@ -319,6 +320,13 @@ pub(crate) fn cut(store: &mut Store, made: u32) -> Told
     ensures { CutsOff made result store.old store.new }
 {
     of_done(store.cut(made != 0))
+}
+
+/// Winds a store up whose leadership is over.
+pub(crate) fn lost(store: &mut Store, room: &mut [u8]) -> Told
+    ensures { WindsUp room.old result store.old store.new }
+{
+    of_done(wind_up(store, room))
 }
 
 pub(crate) fn decide(store: &mut Store) -> Told

@@ -1,6 +1,6 @@
 //! What calls are told.
 ghost use Rattle.std.specs.Prelude.{◌≡◌, Some};
-ghost use Rattle.hidewillow_c.specs.Epochs.{epoch_told};
+ghost use Rattle.hidewillow_c.specs.PlayCalls.{epoch_told};
 ghost use Rattle.hidewillow_c.specs.Leases.{lease_told};
 ghost use Rattle.hidewillow_c.specs.Told.{just, kind_number, faulty, told_of_answer, told_of_turn, told_of_reply, told_of_given, told_of_world, told_of_event, told_of_line, opened, unopened};
 

@@ -6,15 +6,15 @@ use Rattle.hidewillow_c.proofs.hidewillow_store_open.Goals as goal
 pub returns-in-Ok : goal.returns-in-Ok
 returns-in-Ok c =
     let given = c.args.limits.now in
-    let read = c.in-Some-into_box.read.value in
+    let read = c.in-Some-take_out.read.value in
     let held = c.in-Ok.held.value in
     let told = c.opened-in-Ok.result in
     let room = c.args.room.now in
     let filled = c.opened.new.room in
     let old = c.args.place.now in
     let new = c.opened.new.place in
-    let after = c.replace-in-Ok.new.dest.held in
-    let left = c.replace-2.new.dest.held in
+    let after = c.put_in-in-Ok.new.handle.held in
+    let left = c.take_out-2.new.handle.held in
     let was : c.args.store.now.held ≡ None = search rules in
     let had : c.args.recovery.now.held ≡ Some read = search rules in
     let is : after ≡ Some held = search rules in

@@ -36,6 +36,7 @@ mod ahead;
 mod asked;
 mod door;
 mod etcd;
+mod gather;
 mod house;
 mod info;
 mod keeper;

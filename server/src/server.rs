@@ -1,5 +1,6 @@
 //! The loop: whom it hears, in which order, and when a connection ends. What it moves `trusted::channels` moves.
 use crate::door::Guest;
+use crate::gather::Gathering;
 use crate::house::House;
 use crate::trusted::channels::{Channels, Fed};
 use crate::trusted::library::{Store, COMMITTED, FAILED};
@@ -44,8 +45,9 @@ pub struct Server {
     later: Vec<u16>,
     touched: Vec<u16>,
     ending: Vec<u16>,
-    /// Whether the store took nothing, as much is undecided as may be; and since when what comes waits for more to go with it.
+    /// Whether the store took nothing, as much is undecided as may be; and until when what came waits for more to go with it.
     is_full: bool,
+    gathering: Gathering,
     gathers: Option<Instant>,
 }
 
@@ -64,29 +66,29 @@ impl Server {
         poll.ask(true, &listener, LISTENER, (true, false))?;
         poll.ask(true, &wake, WAKE, (true, false))?;
         let (later, touched, ending) = (Vec::new(), Vec::new(), Vec::new());
+        let gathering = Gathering::new(channels.log().gathers());
         let (listener, is_full, gathers) = (Some(listener), false, None);
-        Ok(Server { house, channels, poll, listener, wake, later, touched, ending, is_full, gathers })
+        Ok(Server { house, channels, poll, listener, wake, later, touched, ending, is_full, gathering, gathers })
     }
 
     /// Serves until it is told to stop, or the log is over: then it is told so.
     pub fn run(mut self) -> io::Result<bool> {
         while !self.is_over()? && !self.channels.log().is_over() {
-            let came = self.poll()?;
-            let begun = self.gathers.unwrap_or_else(Instant::now);
+            self.poll()?;
             self.channels.hear()?;
             self.decide();
             self.is_full = false;
             for channel in mem::take(&mut self.later) {
                 self.feed(channel);
             }
-            let waits = came && !self.is_full && begun.elapsed() < self.channels.log().gathers();
-            self.gathers = waits.then_some(begun);
-            if !waits {
+            self.gathers = self.gathering.until().filter(|_| !self.is_full);
+            if self.gathers.is_none() {
                 self.channels.send()?;
+                self.gathering.is_given();
             }
             self.take_output();
             self.attend()?;
-            self.touched.extend(self.channels.prove());
+            self.touched.extend(self.channels.prove(self.gathers.is_none())?);
             self.touched.extend(&self.ending);
             self.touched.sort_unstable();
             self.touched.dedup();
@@ -97,15 +99,14 @@ impl Server {
         Ok(self.channels.log().is_over())
     }
 
-    /// Waits until something is to be done, and reads what came; whether that is anything of a client.
-    fn poll(&mut self) -> io::Result<bool> {
-        let patience = match (self.later.is_empty() && self.gathers.is_none(), self.is_full || self.listener.is_none())
-        {
-            (_, true) => 100,
-            (true, _) => -1,
-            _ => 0,
+    /// Waits until something is to be done, and reads what came.
+    fn poll(&mut self) -> io::Result<()> {
+        let gathers = self.gathers.map(|until| until.saturating_duration_since(Instant::now()));
+        let patience = match (self.later.is_empty(), self.is_full || self.listener.is_none()) {
+            (_, true) => gathers.or(Some(Duration::from_millis(100))),
+            (true, _) => gathers,
+            _ => Some(Duration::ZERO),
         };
-        let mut came = false;
         for (of, is_read) in self.poll.wait(patience)? {
             match of {
                 LISTENER => self.accept().unwrap_or_else(|error| {
@@ -117,14 +118,11 @@ impl Server {
                     let count = self.wake.read(&mut woken).unwrap_or(0);
                     woken[..count].iter().filter(|byte| **byte > 0).for_each(|signal| self.signalled(*signal));
                 }
-                channel if is_read => {
-                    came = true;
-                    self.read(channel as u16);
-                }
+                channel if is_read => self.read(channel as u16),
                 channel => self.touched.push(channel as u16),
             }
         }
-        Ok(came)
+        Ok(())
     }
 
     /// Takes a connection that waits.
@@ -150,6 +148,7 @@ impl Server {
             Err(error) if error.kind() == ErrorKind::WouldBlock => return,
             Ok(0) | Err(_) => guest.state = State::Gone,
         }
+        self.gathering.asks(channel);
         self.later.push(channel);
     }
 
@@ -164,6 +163,7 @@ impl Server {
             self.is_full |= self.channels.counts().undecided > self.house.options.limits.undecided as usize / 2;
             self.is_full |= !self.channels.log().takes();
             let fed = if self.is_full { Fed::Full } else { self.channels.feed(channel, &self.house) };
+            self.gathering.waits();
             self.house.commands += u64::from(matches!(fed, Fed::Done | Fed::Asked));
             let Some(guest) = self.guest(channel) else { return };
             match fed {
@@ -231,8 +231,12 @@ impl Server {
     /// Writes what waits for a client, and ends the connection where nothing more will.
     fn write(&mut self, channel: u16) {
         let Some(client) = self.channels.client(channel) else { return };
+        let free = client.waits().1;
         if client.guest.state != State::Gone && client.write().is_err() {
             client.guest.state = State::Gone;
+        }
+        if client.waits().1 < free {
+            self.gathering.is_answered(channel);
         }
         client.tidy();
         let ((waits, free), state) = (client.waits(), client.guest.state);

@@ -105,8 +105,8 @@ def home():
 class Link:
     """A connection: commands out, replies in, in order."""
 
-    def __init__(self, port):
-        self.socket = socket.create_connection((home(), port), timeout=20)
+    def __init__(self, port, at=None):
+        self.socket = socket.create_connection((at or home(), port), timeout=20)
         self.socket.setsockopt(socket.IPPROTO_TCP, socket.TCP_NODELAY, 1)
         self.file = self.socket.makefile("rb")
 

@@ -2,6 +2,7 @@
 """Faults of hosts over an engine of three members, and what must hold at any time.
 
     tests/failovers.py [--server PROGRAM] [--faults 20] [--kinds NAME,..] [--seed N] [--batches 4] [--hosts 2] [--clock trusted]
+    tests/failovers.py --gates             cuts off by gates alone, though there may be namespaces
     tests/failovers.py --back              kills the host that leads, and looks how soon another does
     tests/failovers.py --wrong [NAME ..]   builds hosts that are wrong on purpose, and says whether they are found
 
@@ -40,24 +41,28 @@ import crashes
 from crashes import ROOMS, Link, Wrong, need
 
 CLIENTS, LISTS, COUNTERS, PAIRS = 8, 3, 3, 4
-BACK, BACK_OF_WRONG = 120, 30
+BACK, BACK_OF_WRONG = 120, 60
 # How soon somebody is to lead again where a host was killed, in the median, by how much longer for each second that a thread sleeps longer than it wished.
 SOON, SOON_BY_LATE = 3.0, 100
 # What hosts say.
 CUT, COPIED, LEADS, OVER = "is cut off up to", "is copied from", "listening on", "leads no more"
+REFUSES = "the log is damaged|something else writes the keys"
+# That a wrong host is slow doesn't count.
+NOBODY = "nobody leads in time"
 # Where values lie that fill the engine, beside what hosts put.
 FILLER, FILLER_END = "filler/", "filler0"
 PUT_GUARDS = "[is_made(&leader, self.revision), has_value(&leader, &self.token), is_made(&key, 0)]"
 SLEEPS = ["host sleeps", "host sleeps beside an idle one", "member stopped, host sleeps"]
 # Hosts that are wrong on purpose: the faults that are tried, and the file, what stands there, and what is put in its place.
 WRONG = {
-    "no round": (SLEEPS, [("etcd/leader.rs", "        self.led\n", "        u64::MAX\n")]),
-    "what was sent before a read proves it": (SLEEPS, [("etcd/leader.rs", "bytes), turn);", "bytes), turn + 1000);")]),
+    "no round": (SLEEPS, [("etcd/leader.rs", "self.rounds.may_tell(mark)\n", "mark < u64::MAX\n")]),
+    "what was sent before a read proves it": (SLEEPS, [("etcd/leader.rs", "self.rounds.carried_out()\n",
+                                                        "self.rounds.carried_out().saturating_sub(1000)\n")]),
     "no guard of the leader": (["host sleeps beside an idle one", "host cut off", "member stopped, host sleeps"],
                                [("etcd/engine.rs", PUT_GUARDS, "[is_made(&key, 0)]")]),
     "a time out is a failure": (["member stopped", "host cut off", "host stopped a while", "two killed"],
                                 [("etcd/engine.rs", "leadership.settled(&asked)",
-                                  "Heard { word: asked.batch.as_ref().map_or(Word::Over, |it| Word::Lost(it.number)), turn: 0, micros: 0 }")]),
+                                  "Heard { word: asked.batch.as_ref().map_or(Word::Over, |it| Word::Lost(it.number)), round: 0, micros: 0 }")]),
     "absent is never, behind a cut": (["answers lost, host sleeps long"],
                                       [("etcd/engine.rs", "let snap = did.found(2).map_or(0, |entry| up_to(&entry.value));", "let snap = 0;")]),
     "nothing is deleted behind the gap": (["batches lost, host killed", "member stopped, host sleeps"],
@@ -202,7 +207,7 @@ class Client(threading.Thread):
         while not self.trial.over.is_set():
             for host in self.random.sample(self.trial.hosts, len(self.trial.hosts)):
                 try:
-                    return Link(host.port)
+                    return host.link()
                 except OSError:
                     time.sleep(0.02)
         return None
@@ -282,11 +287,11 @@ class Trial:
     def __init__(self, options, room):
         self.options, self.room, self.book, self.over, self.calm = options, room, Book(), threading.Event(), threading.Event()
         self.dice, self.wrong, self.back, self.late, self.probes, self.moved = random.Random(f"{options.seed}"), None, [], [], {}, 0
-        # What is cut off, and numbers of what fills the engine.
-        self.cut, self.fillers = set(), itertools.count()
-        self.members = cluster.engine(room, self.cut, cluster.SMALL if any("full" in kind for kind in options.kinds) else cluster.LARGE)
+        # The network, and numbers of what fills the engine.
+        (self.ways, self.network), self.fillers = cluster.network(options.gates), itertools.count()
+        self.members = cluster.engine(room, self.ways, cluster.SMALL if any("full" in kind for kind in options.kinds) else cluster.LARGE)
         around = [self.members[place:] + self.members[:place] for place in range(options.hosts)]
-        self.hosts = [cluster.Host(options, name, members, room, self.cut) for name, members in zip("abc", around)]
+        self.hosts = [cluster.Host(options, name, members, room, self.ways) for name, members in zip("abc", around)]
 
     def lags(self):
         """How much longer a thread sleeps than it wished, which tells what the machine has for others."""
@@ -314,12 +319,12 @@ class Trial:
                 if not host.sleeps and host is not not_this and self.reads(host):
                     return host
             time.sleep(0.05)
-        raise Wrong("nobody leads")
+        raise Wrong("nobody leads on this log" if self.said(REFUSES) else NOBODY)
 
     def reads(self, host, patience=1.0):
         """Whether a host answers a read that rests on nothing."""
         try:
-            with contextlib.closing(Link(host.port)) as link:
+            with contextlib.closing(host.link()) as link:
                 link.socket.settimeout(patience)
                 return link.ask("GET", "nothing") is None
         except OSError:
@@ -327,7 +332,7 @@ class Trial:
 
     def check(self, host, most=40):
         """What must hold at the host that leads: what is known when it is asked counts."""
-        book, link = self.book, Link(host.port)
+        book, link = self.book, host.link()
         link.socket.settimeout(20)
 
         def reply():
@@ -399,7 +404,7 @@ class Trial:
         self.probes = {host: []}
         for _ in range(5):
             try:
-                link = Link(host.port)
+                link = host.link()
                 link.socket.settimeout(2)
                 if link.ask("PING") == "PONG":
                     self.probes[host].append(link)
@@ -411,7 +416,7 @@ class Trial:
         before = [gate.moved for gate in host.gates]
         time.sleep(0.1)
         gate, _ = max(zip(host.gates, before), key=lambda it: it[0].moved - it[1])
-        return next(member for member in self.members if member.port == gate.target)
+        return next(member for member in self.members if (member.at, member.port) == gate.target)
 
     def sleeps(self, host, is_idle, member=None):
         """Stops the leading host until another leads, asks it in its sleep, and wakes it; a member that has batches of it is woken before."""
@@ -472,10 +477,10 @@ class Trial:
         arrives late."""
         if process in self.hosts:
             self.probe(process)
-        self.cut.add(process.end)
+        self.ways.cut(process)
         time.sleep(self.dice.uniform(0.2, 5))
         waiting = self.questions(process)
-        self.cut.discard(process.end)
+        self.ways.heal(process)
         for thread in waiting:
             thread.join(31)
 
@@ -492,11 +497,11 @@ class Trial:
 
     def tears(self, host):
         """Connections break, of the batches that are asked for again some get in, whichever, and the host is killed: so some may be behind a gap."""
-        self.cut.add(host.end)
+        self.ways.cut(host)
         time.sleep(self.dice.uniform(0.1, 0.5))
         for gate in host.gates:
             gate.broken, gate.loses = time.monotonic(), 0.6
-        self.cut.discard(host.end)
+        self.ways.heal(host)
         time.sleep(self.dice.uniform(0.4, 0.8))
         host.kill()
         for gate in host.gates:
@@ -545,7 +550,7 @@ class Trial:
         led, host, told = (self.said(LEADS), self.said(OVER)), self.leader(), None
         leads = lambda: (self.said(LEADS), self.said(OVER)) == led
         self.fills()
-        with contextlib.suppress(OSError), contextlib.closing(Link(host.port)) as link:
+        with contextlib.suppress(OSError), contextlib.closing(host.link()) as link:
             link.send(("SET", "room", "1"))
             early, _, _ = select.select([link.socket], [], [], self.dice.uniform(0.5, 3))
             need(not early or not leads(), "a write was answered while the engine was full")
@@ -597,7 +602,7 @@ class Trial:
         back, late = statistics.median(self.back), statistics.median(self.late)
         if self.options.back:
             need(back < SOON + SOON_BY_LATE * late, f"another led again after {back:.1f} s (p50), where threads sleep {late:.4f} s too long")
-        return f"{self.options.faults} faults, {self.counts()}, back after {back:.1f} s (p50): nothing wrong"
+        return f"{self.options.faults} faults over {self.network}, {self.counts()}, back after {back:.1f} s (p50): nothing wrong"
 
     def counts(self):
         counts = [("snapshots", "a snapshot up to .* bytes"), ("cuts", CUT), ("copies", COPIED), ("starts behind a gap", "and [1-9][0-9]* behind a gap")]
@@ -606,13 +611,13 @@ class Trial:
     def stops_cleanly(self):
         """A clean stop gives the leadership up at once, and what was acknowledged stays."""
         host = self.leader()
-        link = Link(host.port)
+        link = host.link()
         need(link.ask("SET", "last", "1") == "OK", "SET")
         link.close()
         host.process.send_signal(signal.SIGTERM)
         need(host.process.wait(20) == 0, "a clean stop exits 0")
         host.start()
-        link = Link(self.leader().port)
+        link = self.leader().link()
         need(link.ask("GET", "last") == "1", "a clean stop keeps the last write")
         link.close()
 
@@ -621,6 +626,7 @@ class Trial:
         self.calm.set()
         for process in self.hosts + self.members:
             process.kill()
+        self.ways.end()
 
 
 # What happens, of each kind, at a moment at which this host leads.
@@ -672,7 +678,8 @@ def find(options, name):
     with tempfile.TemporaryDirectory() as room:
         options.server = crashes.built(pathlib.Path(room), edits)
         line, well = tried(options)
-    return f"{name}: {line if not well else 'NOT FOUND'}", not well
+    found = not well and NOBODY not in line
+    return f"{name}: {'' if found else 'NOT FOUND: '}{line}", found
 
 
 def main():
@@ -687,6 +694,7 @@ def main():
     words.add_argument("--hosts", type=int, default=2)
     words.add_argument("--clock", default="untrusted")
     words.add_argument("--snapshot", default="128k", help="bytes of the log after which a snapshot is made")
+    words.add_argument("--gates", action="store_true", help="gates alone cut off, though there may be namespaces")
     words.add_argument("--back", action="store_true", help="the host that leads is killed each time, and another is to lead soon")
     words.add_argument("--tell", action="store_true", help="a line for each fault on stderr")
     words.add_argument("--wrong", nargs="*", metavar="NAME", help="those that have one of these names, or all")

@@ -1,21 +1,26 @@
 #!/usr/bin/env python3
 """The store with its log in etcd beside etcd itself, one run of one after one of the other, as tables.
 
-    tests/measure_engine.py [--server PROGRAM] [--rounds 1] [--seconds 2] [--ways 0,1,10] [--connections 1,50,200] [--reads 0,50,90]
+    tests/measure_engine.py [--server PROGRAM] [--rounds 1] [--seconds 2] [--ways 0,1,10] [--connections 1,50,200] [--reads 0,50,90] [--awake]
 
 Three members and two hosts, one of which trusts clocks, on this machine; members' data in memory where there is some. Members reach each other,
 and hosts and clients of the engine reach members, by a program that hands on each byte later, so that the way there and back takes so many
 milliseconds longer. Values have 100 bytes, there are 10,000 keys, and each connection has one command under way. The engine's own clients
 put and read by gRPC, on streams of a connection to each member. The clients of the store are beside its host. Where `etcd` is not
 installed the last line is 'not there'.
+
+With `--awake` a program of the lowest priority keeps each processor busy while nothing else wants it. On virtual machines one that sleeps
+can take as long to wake as the ways take, and not twice the same; all that is measured goes by a dozen such wakes.
 """
 import argparse
+import contextlib
 import os
 import pathlib
 import shutil
 import socket
 import statistics
 import subprocess
+import sys
 import tempfile
 import time
 
@@ -25,6 +30,21 @@ ROOMS = "/dev/shm" if os.access("/dev/shm", os.W_OK) else None
 NAMES = ("engine", "store", "trusts clocks")
 # What is to be had at least: the way, connections, reads, whose, by what of the engine.
 AIMS = [("1", 50, 0, "store", 1.5), ("1", 200, 0, "store", 2.5), ("1", 50, 90, "store", 2.0), ("10", 50, 90, "trusts clocks", 8.0), ("1", 1, 0, "store", 0.9)]
+
+
+IDLE = "import os; os.sched_setscheduler(0, os.SCHED_IDLE, os.sched_param(0)); os.sched_setaffinity(0, {{{}}})\nwhile True: pass"
+
+
+@contextlib.contextmanager
+def awake(wanted):
+    """Keeps processors awake."""
+    busy = [subprocess.Popen([sys.executable, "-c", IDLE.format(place)]) for place in sorted(os.sched_getaffinity(0)) if wanted]
+    try:
+        yield
+    finally:
+        for process in busy:
+            process.kill()
+            process.wait()
 
 
 def free_port():
@@ -99,12 +119,13 @@ def main():
     words.add_argument("--connections", default="1,50,200")
     words.add_argument("--reads", default="0,50,90")
     words.add_argument("--batches", default="4")
+    words.add_argument("--awake", action="store_true")
     options = words.parse_args()
     if shutil.which("etcd") is None:
         print("not there")
         return
     before, ratios = os.getloadavg()[0], {}
-    with tempfile.TemporaryDirectory() as folder:
+    with tempfile.TemporaryDirectory() as folder, awake(options.awake):
         room = pathlib.Path(folder)
         subprocess.run(["cc", "-O2", "-o", room / "load", HERE / "load.c"], check=True)
         target = pathlib.Path(os.environ.get("CARGO_TARGET_DIR", TOP / "target"))

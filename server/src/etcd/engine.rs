@@ -85,18 +85,18 @@ pub fn have(members: &Members, keys: &Keys) -> io::Result<Vec<Have>> {
     Ok(have)
 }
 
-/// What the loop asked: to put a batch, or whether this host leads, in a turn of it.
+/// What the loop asked: to put a batch, or whether this host leads; which stands for a round.
 pub struct Question {
     batch: Option<Batch>,
-    turn: u64,
+    round: u64,
     begun: Instant,
     request: Request,
 }
 
-/// What it is told: a word on what it asked in a turn, so many microseconds ago.
+/// What it is told: a word on what it asked for a round, so many microseconds ago.
 pub struct Heard {
     pub word: Word,
-    pub turn: u64,
+    pub round: u64,
     pub micros: u64,
 }
 
@@ -249,26 +249,26 @@ impl Leadership {
     }
 
     /// Asks to put a batch into the log.
-    pub fn to_put(&self, batch: Batch, turn: u64) -> Question {
+    pub fn to_put(&self, batch: Batch, round: u64) -> Question {
         let (leader, key, mine) = (self.keys.of("leader"), self.keys.log(batch.number), batch.bytes());
         let request = transaction(
             [is_made(&leader, self.revision), has_value(&leader, &self.token), is_made(&key, 0)],
             [put(&key, &mine, 0)],
             [read(&leader), read(&key), read(&self.keys.of("snap"))],
         );
-        Question { batch: Some(batch), turn, begun: Instant::now(), request }
+        Question { batch: Some(batch), round, begun: Instant::now(), request }
     }
 
     /// Asks whether this host leads.
-    fn round(&self, turn: u64) -> Question {
-        Question { batch: None, turn, begun: Instant::now(), request: range(&self.keys.of("leader"), &[], 1, 0) }
+    fn round(&self, round: u64) -> Question {
+        Question { batch: None, round, begun: Instant::now(), request: range(&self.keys.of("leader"), &[], 1, 0) }
     }
 
     /// The word that an answer has. An error tells nothing.
     fn word(&self, question: &Question, answer: &[u8]) -> io::Result<Heard> {
-        let Question { turn, ref batch, begun, .. } = *question;
+        let Question { round, ref batch, begun, .. } = *question;
         let word = match batch {
-            None => engine::round(self.revision, turn, Answer::Seen(self.of(found(answer)?.entries.first()))),
+            None => engine::round(self.revision, round, Answer::Seen(self.of(found(answer)?.entries.first()))),
             Some(batch) => {
                 let did = did(answer, 3)?;
                 let is_mine = |entry: &Entry| entry.value == batch.bytes();
@@ -280,7 +280,7 @@ impl Leadership {
         };
         match word {
             Word::Again => Err(io::Error::other("nothing is known")),
-            word => Ok(Heard { word, turn, micros: begun.elapsed().as_micros() as u64 }),
+            word => Ok(Heard { word, round, micros: begun.elapsed().as_micros() as u64 }),
         }
     }
 
@@ -309,7 +309,9 @@ impl Leadership {
             let begun = self.begun.elapsed();
             let kept = self.members.keep(self.lease, pause);
             match kept {
-                Ok(0) if !mem::replace(&mut is_told, true) => tell.tell(Heard { word: Word::Over, turn: 0, micros: 0 }),
+                Ok(0) if !mem::replace(&mut is_told, true) => {
+                    tell.tell(Heard { word: Word::Over, round: 0, micros: 0 })
+                }
                 Ok(0) | Err(_) => (),
                 Ok(seconds) => {
                     let until = begun + Duration::from_secs(seconds) * 4 / 5;
@@ -358,14 +360,14 @@ impl Engine {
         thread::spawn(move || prefers.prefer());
     }
 
-    /// Has a batch put, which is of this turn of the loop.
-    pub fn send(&self, batch: Batch, turn: u64) {
-        self.ask(self.leadership.to_put(batch, turn));
+    /// Has a batch put, which stands for a round.
+    pub fn send(&self, batch: Batch, round: u64) {
+        self.ask(self.leadership.to_put(batch, round));
     }
 
-    /// Has it asked whether this host leads behind this turn.
-    pub fn round(&self, turn: u64) {
-        self.ask(self.leadership.round(turn));
+    /// Has it asked whether this host leads behind a round.
+    pub fn round(&self, round: u64) {
+        self.ask(self.leadership.round(round));
     }
 
     /// Asks at once; where nothing is told that is told, and the same is asked by a thread of its own until something is.
@@ -375,7 +377,7 @@ impl Engine {
         let hears = move |answer: io::Result<Vec<u8>>| match answer.and_then(|it| leadership.word(&asked, &it)) {
             Ok(heard) => tell.tell(heard),
             Err(_) => {
-                tell.tell(Heard { word: Word::Again, turn: asked.turn, micros: 0 });
+                tell.tell(Heard { word: Word::Again, round: asked.round, micros: 0 });
                 thread::spawn(move || tell.tell(leadership.settled(&asked)));
             }
         };

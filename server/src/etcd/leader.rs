@@ -8,10 +8,10 @@ use crate::keeper::Keeper;
 use crate::options::Options;
 use crate::server::Server;
 use crate::trusted::folder::Folder;
-use crate::trusted::library::{done, well, Next, Recovery, Store, ABSENT, DONE, HEAD};
+use crate::trusted::library::{done, well, Next, Recovery, Store, ABSENT, DONE, HEAD, MEMORY};
 use crate::trusted::log::Log;
 use crate::trusted::system::SIGUSR1;
-use hidewillow::engine::Word;
+use hidewillow::engine::{Rounds, Word};
 use hidewillow::store::{FramePlace, ReadCounts, StoreLimits};
 use std::io::{self, ErrorKind, Read};
 use std::net::TcpListener;
@@ -31,11 +31,10 @@ pub struct EtcdLog {
     trusts_clock: bool,
     /// The batches under way.
     under_way: Vec<u64>,
-    /// The turn of the loop behind which this host led, by batches and rounds, the last turn behind which one of them was sent, and how many
-    /// rounds are under way.
-    led: u64,
-    asked: u64,
-    rounds: usize,
+    /// By which it is known that this host led behind what it tells; the last of them that was taken, and how many are under way.
+    rounds: Rounds,
+    last: u64,
+    asked: usize,
     /// Whether nothing was told of the last batch of which something could be.
     is_silent: bool,
     /// Batches that will never be in the log, once this host leads no more, and whether all is wound up.
@@ -102,30 +101,35 @@ impl EtcdLog {
         let (trusts_clock, under_way, lost) = (options.trusts_clock, Vec::new(), Vec::new());
         #[rustfmt::skip]
         let log = EtcdLog {
-            engine, limits: options.limits, trusts_clock, under_way, led: 0, asked: 0, rounds: 0,
+            engine, limits: options.limits, trusts_clock, under_way, rounds: Rounds::new(), last: 0, asked: 0,
             is_silent: false, is_losing: false, lost, is_over: false, found: keys, counts: LogCounts::default(),
         };
         Ok(Some((store, log)))
     }
 
     /// What came of a batch, or of a round.
-    fn came(&mut self, store: &mut Store, Heard { word, turn, micros }: Heard) -> io::Result<()> {
+    fn came(&mut self, store: &mut Store, Heard { word, round, micros }: Heard) -> io::Result<()> {
         match word {
             Word::Synced(number) => {
-                (self.led, self.is_silent) = (self.led.max(turn), false);
+                self.still(round)?;
+                self.is_silent = false;
                 self.under_way.retain(|it| *it != number);
                 self.counts.synced(0, micros);
                 done(store.synced(number), "synced")?;
             }
             Word::Again => self.is_silent = true,
-            Word::Still(turn) => (self.led, self.rounds) = (self.led.max(turn), self.rounds - 1),
+            Word::Still(round) => {
+                self.still(round)?;
+                self.asked -= 1;
+            }
             Word::Lost(number) => {
                 self.under_way.retain(|it| *it != number);
-                (self.is_losing, self.counts.failures) = (true, self.counts.failures + 1);
+                self.counts.failures += 1;
                 self.lost.push(number);
+                self.lose();
             }
             Word::Over => {
-                if !std::mem::replace(&mut self.is_losing, true) {
+                if !self.lose() {
                     say!("leads no more");
                 }
             }
@@ -139,25 +143,31 @@ impl EtcdLog {
         Ok(())
     }
 
+    /// The next round, or the last one where nothing waits for another: what is sent or asked for the first time now stands for it.
+    fn take(&mut self) -> u64 {
+        self.last = self.rounds.take().unwrap_or(self.last);
+        self.last
+    }
+
+    /// This host led behind a round.
+    fn still(&mut self, round: u64) -> io::Result<()> {
+        self.rounds.still(round).map_err(io::Error::other)
+    }
+
+    /// It leads no more; whether it knew.
+    fn lose(&mut self) -> bool {
+        self.rounds.lost();
+        std::mem::replace(&mut self.is_losing, true)
+    }
+
     /// Once each batch has its word, the first that is lost and all behind are refused, and so is what was never sent: no later leader
-    /// has anything of them.
+    /// has anything of them. Without memory for that it is tried again.
     fn wind_up(&mut self, store: &mut Store) -> io::Result<()> {
         for number in std::mem::take(&mut self.lost) {
             done(store.failed(number), "failed")?;
         }
-        let mut bytes = Vec::new();
-        loop {
-            if let Next::Frame(_) = store.next_frame(true, &mut bytes)? {
-                done(store.cut(1), "cut")?;
-            }
-            while store.decide().answer != ABSENT {}
-            match store.next_frame(false, &mut bytes)? {
-                Next::Frame(at) => done(store.failed(at.frame), "failed")?,
-                Next::Full => done(store.turn(), "turn")?,
-                Next::None => break,
-            }
-        }
-        self.is_over = true;
+        let mut room = vec![0; store.counts().undecided + HEAD];
+        self.is_over = well(store.lost(&mut room), &[DONE, MEMORY], "lost")?.answer == DONE;
         Ok(())
     }
 }
@@ -177,14 +187,23 @@ impl Log for EtcdLog {
         Ok(())
     }
 
-    fn send(&mut self, store: &mut Store, turn: u64) -> io::Result<()> {
+    fn carried_out(&mut self) -> u64 {
+        self.rounds.carried_out()
+    }
+
+    fn may_tell(&self, mark: u64) -> bool {
+        self.rounds.may_tell(mark)
+    }
+
+    fn send(&mut self, store: &mut Store) -> io::Result<()> {
         while !self.is_losing && self.under_way.len() < self.limits.in_flight.into() {
             let mut bytes = Vec::new();
             match store.next_frame(false, &mut bytes)? {
                 Next::Frame(at) => {
-                    (self.asked, self.counts.bytes) = (turn, self.counts.bytes + at.len as u64);
+                    self.counts.bytes += at.len as u64;
                     self.under_way.push(at.frame);
-                    self.engine.send(batch(self.engine.leadership.revision, &at, &bytes), turn);
+                    let round = self.take();
+                    self.engine.send(batch(self.engine.leadership.revision, &at, &bytes), round);
                 }
                 Next::Full => done(store.turn(), "turn")?,
                 Next::None => break,
@@ -194,19 +213,21 @@ impl Log for EtcdLog {
     }
 
     /// What is read rides on the next batch; a round goes where there is none, or where nothing is told of batches, as by an engine without room.
-    fn prove(&mut self, store: &mut Store, read: u64, turn: u64) {
-        if self.trusts_clock && !self.is_losing && self.engine.leadership.runs() {
-            self.led = turn;
+    fn prove(&mut self, store: &mut Store, mark: u64, may_ask: bool) -> io::Result<()> {
+        if self.is_losing || self.rounds.may_tell(mark) {
+            return Ok(());
         }
-        let rides = !self.is_silent && (self.asked >= read || store.counts().next_frame > HEAD);
-        if read > self.led && !rides && !self.is_losing && self.rounds < ROUNDS {
-            (self.asked, self.rounds, self.counts.rounds) = (turn, self.rounds + 1, self.counts.rounds + 1);
-            self.engine.round(turn);
+        let is_trusted = self.trusts_clock && self.engine.leadership.runs();
+        let rides = !self.is_silent && (self.last > mark || store.counts().next_frame > HEAD);
+        if is_trusted || may_ask && !rides && self.asked < ROUNDS {
+            let round = self.take();
+            if is_trusted && self.engine.leadership.runs() {
+                return self.still(round);
+            }
+            (self.asked, self.counts.rounds) = (self.asked + 1, self.counts.rounds + 1);
+            self.engine.round(round);
         }
-    }
-
-    fn proved(&self) -> u64 {
-        self.led
+        Ok(())
     }
 
     /// A batch costs the engine as much as a single write.

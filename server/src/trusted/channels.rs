@@ -40,14 +40,14 @@ pub struct Client {
     pub guest: Guest,
     socket: TcpStream,
     had: Had,
-    /// What came, and how much of it is fed; and the turn in which the store was fed last, up to which all that it puts out may tell.
+    /// What came, and how much of it is fed; and the mark of what was carried out last.
     came: Vec<u8>,
     taken: usize,
-    fed: u64,
+    mark: u64,
     replies: Replies,
 }
 
-/// What a socket is to have: so many bytes that may be sent, and those behind, so many each until a turn is proved.
+/// What a socket is to have: so many bytes that may be sent, and those behind, so many each until what has a mark may be told.
 #[derive(Default)]
 struct Replies {
     bytes: Vec<u8>,
@@ -56,21 +56,21 @@ struct Replies {
 }
 
 impl Replies {
-    /// Takes bytes that may be sent once all before may, and all up to a turn is proved.
-    fn put(&mut self, bytes: &[u8], turn: u64, proved: u64) {
+    /// Takes bytes that may be sent once all before may, and what has this mark may be told, as it may now or not.
+    fn put(&mut self, bytes: &[u8], mark: u64, may_tell: bool) {
         self.bytes.extend_from_slice(bytes); // [7]
         match self.held.back_mut() {
-            None if turn <= proved => self.free += bytes.len(),
-            Some((last, count)) if turn <= *last => *count += bytes.len(),
+            None if may_tell => self.free += bytes.len(),
+            Some((last, count)) if mark <= *last => *count += bytes.len(),
             _ if bytes.is_empty() => (),
-            _ => self.held.push_back((turn, bytes.len())),
+            _ => self.held.push_back((mark, bytes.len())),
         }
     }
 
-    /// Lets go of what is proved. Whether that is any.
-    fn let_go(&mut self, proved: u64) -> bool {
+    /// Lets go of what may be told. Whether that is any.
+    fn let_go(&mut self, log: &dyn Log) -> bool {
         let free = self.free;
-        while let Some((_, count)) = self.held.pop_front_if(|(turn, _)| *turn <= proved) {
+        while let Some((_, count)) = self.held.pop_front_if(|(mark, _)| log.may_tell(*mark)) {
             self.free += count;
         }
         self.free > free
@@ -104,7 +104,7 @@ impl Client {
             Admit::Feed(count) => Ok((&rest[..count], None)),
             Admit::Instead(bytes, count) => Ok((bytes, Some(count))),
             Admit::Tell(text, count) if self.had == Had::Nothing => {
-                self.replies.put(&text, 0, 0); // [7]
+                self.replies.put(&text, 0, true); // [7]
                 self.taken += count;
                 Err(Fed::Part)
             }
@@ -115,7 +115,7 @@ impl Client {
     /// An answer that stands ahead of what goes out, where the client wishes so.
     fn send_ahead(&mut self, text: &[u8]) {
         if let Some(ahead) = &mut self.guest.ahead {
-            self.replies.put(&ahead.sent(text), 0, 0); // [7]
+            self.replies.put(&ahead.sent(text), 0, true); // [7]
         }
     }
 
@@ -147,22 +147,20 @@ pub struct Channels {
     store: Store,
     log: Box<dyn Log>,
     clients: BTreeMap<u16, Client>,
-    /// How often the log was given something: what it is asked in a turn proves all that was fed up to this one.
-    turn: u64,
     /// A room for what sockets read and channels put out.
     room: Vec<u8>,
 }
 
 impl Channels {
     pub fn new(store: Store, log: Box<dyn Log>) -> Channels {
-        Channels { store, log, clients: BTreeMap::new(), turn: 1, room: vec![0; 1 << 18] }
+        Channels { store, log, clients: BTreeMap::new(), room: vec![0; 1 << 18] }
     }
 
     /// Gives a connection a channel.
     pub fn connect(&mut self, socket: TcpStream, guest: Guest) -> io::Result<u16> {
         let channel = well(self.store.connect(), &[DONE], "connect")?.number as u16;
         let (had, came, replies) = (Had::Nothing, Vec::new(), Replies::default());
-        self.clients.insert(channel, Client { guest, socket, had, came, taken: 0, fed: 0, replies });
+        self.clients.insert(channel, Client { guest, socket, had, came, taken: 0, mark: 0, replies });
         Ok(channel)
     }
 
@@ -204,7 +202,7 @@ impl Channels {
             let is_full = told.answer == MEMORY || matches!(told.number, FULL | DECISION_DUE);
             return if is_full { Fed::Full } else { Fed::Over };
         };
-        client.fed = self.turn;
+        client.mark = self.log.carried_out();
         client.taken += whole.unwrap_or(bytes); // [6]
         client.had = if number == 0 && !client.has_come() { Had::Part } else { Had::Whole };
         match number {
@@ -225,7 +223,7 @@ impl Channels {
     /// Takes what may go out of a channel; whether there was memory for it.
     pub fn take(&mut self, channel: u16) -> bool {
         let Some(client) = self.clients.get_mut(&channel) else { return false };
-        let proved = self.log.proved();
+        let may_tell = self.log.may_tell(client.mark);
         loop {
             let mut bytes = match self.store.output(channel, &mut self.room) {
                 Told { answer: DONE, bytes: 0, .. } => return true,
@@ -239,11 +237,11 @@ impl Channels {
             } else if self.log.is_over() {
                 // Nothing will be proved any more, and refusals tell of nothing that could be old.
                 while let Some(behind) = bytes.strip_prefix(REFUSAL) {
-                    client.replies.put(REFUSAL, 0, proved);
+                    client.replies.put(REFUSAL, 0, true);
                     bytes = behind;
                 }
             }
-            client.replies.put(bytes, client.fed, proved); // [7]
+            client.replies.put(bytes, client.mark, may_tell); // [7]
         }
     }
 
@@ -254,23 +252,20 @@ impl Channels {
 
     /// Gives the log what the store has for it.
     pub fn send(&mut self) -> io::Result<()> {
-        self.log.send(&mut self.store, self.turn)?;
-        self.turn += 1;
-        Ok(())
+        self.log.send(&mut self.store)
     }
 
-    /// Has what was fed proved where replies wait for that, and lets go of those that needn't any more: of these channels.
-    pub fn prove(&mut self) -> Vec<u16> {
-        if self.log.proved() == u64::MAX {
-            return Vec::new();
+    /// Has proved what replies wait for, by asking if it may, and lets go of those that needn't any more: of these channels.
+    pub fn prove(&mut self, may_ask: bool) -> io::Result<Vec<u16>> {
+        if self.log.may_tell(u64::MAX) {
+            return Ok(Vec::new());
         }
         let held = self.clients.values().filter_map(|client| client.replies.held.back());
-        let Some(fed) = held.map(|(turn, _)| *turn).max() else { return Vec::new() };
-        self.log.prove(&mut self.store, fed, self.turn);
-        self.turn += 1;
-        let proved = self.log.proved();
-        let free = self.clients.iter_mut().filter_map(|(channel, it)| it.replies.let_go(proved).then_some(*channel));
-        free.collect()
+        let Some(mark) = held.map(|(mark, _)| *mark).max() else { return Ok(Vec::new()) };
+        self.log.prove(&mut self.store, mark, may_ask)?;
+        let log = &*self.log;
+        let free = self.clients.iter_mut().filter_map(|(channel, it)| it.replies.let_go(log).then_some(*channel));
+        Ok(free.collect())
     }
 
     /// What became of the oldest batch, if it is decided.

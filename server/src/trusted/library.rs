@@ -124,6 +124,7 @@ impl Store {
         fn failed(frame: u64) = hidewillow_store_failed(frame);
         fn cut_frame(room: &mut [u8], at: &mut FramePlace) = hidewillow_store_cut_frame(room.as_mut_ptr(), room.len(), at);
         fn cut(made: u32) = hidewillow_store_cut(made);
+        fn lost(room: &mut [u8]) = hidewillow_store_lost(room.as_mut_ptr(), room.len());
         fn decide() = hidewillow_store_decide();
         fn count(counts: &mut StoreCounts) = hidewillow_store_counts(counts);
     }

@@ -16,8 +16,8 @@ const TRIES: u32 = 3;
 pub trait Log {
     /// Tells the store what came of frames since. An error ends the program, and nothing more is answered.
     fn hear(&mut self, store: &mut Store) -> io::Result<()>;
-    /// Gives on the frames that the store has, in a turn of the loop.
-    fn send(&mut self, store: &mut Store, turn: u64) -> io::Result<()>;
+    /// Gives on the frames that the store has.
+    fn send(&mut self, store: &mut Store) -> io::Result<()>;
     /// How long at most what came may wait while more comes, which goes with it.
     fn gathers(&self) -> Duration {
         Duration::ZERO
@@ -29,12 +29,19 @@ pub trait Log {
     fn is_over(&self) -> bool {
         false
     }
-    /// What the store puts out may go where all that was fed up to this turn is proved to be the newest.
-    fn proved(&self) -> u64 {
-        u64::MAX
+    /// Something was carried out on a channel: the mark that the channel has now.
+    fn carried_out(&mut self) -> u64 {
+        0
     }
-    /// Has what was fed up to a turn proved, in a turn behind it.
-    fn prove(&mut self, _store: &mut Store, _fed: u64, _turn: u64) {}
+    /// Whether what the store puts out on a channel with this mark may go, as it is proved to be the newest. Of no mark is it so where it
+    /// isn't of the highest.
+    fn may_tell(&self, _mark: u64) -> bool {
+        true
+    }
+    /// Has what has a mark proved: by what is known here, or by asking if it may.
+    fn prove(&mut self, _store: &mut Store, _mark: u64, _may_ask: bool) -> io::Result<()> {
+        Ok(())
+    }
     /// Whether there is room for writes; else they are refused by name.
     fn has_room(&self) -> bool {
         true
@@ -171,7 +178,7 @@ impl Log for DiskLog {
     }
 
     /// Gives idle threads the next frames, or the head of the cut that is due.
-    fn send(&mut self, store: &mut Store, _turn: u64) -> io::Result<()> {
+    fn send(&mut self, store: &mut Store) -> io::Result<()> {
         while self.cutting.is_none() || self.under_way.is_empty() {
             let Some(room) = self.disk.room() else { break };
             let may_turn = self.at.written < self.at.made;

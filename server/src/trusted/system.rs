@@ -1,5 +1,5 @@
 //! What the system has ready, by `epoll`, the signals that it sends, and the memory that is in use.
-use std::ffi::c_int;
+use std::ffi::{c_int, c_long, c_short, c_ulong, c_void};
 use std::io::{self, ErrorKind, Write};
 use std::os::fd::{AsRawFd, FromRawFd, OwnedFd};
 use std::os::unix::net::UnixStream;
@@ -15,6 +15,20 @@ struct Event {
     of: u64,
 }
 
+/// A handle that is waited for, and for how long.
+#[repr(C)]
+struct Waited {
+    fd: c_int,
+    events: c_short,
+    came: c_short,
+}
+
+#[repr(C)]
+struct Span {
+    seconds: c_long,
+    nanos: c_long,
+}
+
 /// What memory allocated by the C library is: the bytes mapped are the fifth, those in use beside these the eighth.
 #[repr(C)]
 struct Allocated([usize; 10]);
@@ -23,6 +37,7 @@ extern "C" {
     fn epoll_create1(flags: c_int) -> c_int;
     fn epoll_ctl(epoll: c_int, op: c_int, fd: c_int, event: *mut Event) -> c_int;
     fn epoll_wait(epoll: c_int, events: *mut Event, most: c_int, timeout: c_int) -> c_int;
+    fn ppoll(handles: *mut Waited, count: c_ulong, timeout: *const Span, mask: *const c_void) -> c_int;
     fn pthread_sigmask(how: c_int, set: *const [u64; 16], old: *mut [u64; 16]) -> c_int;
     fn mallinfo2() -> Allocated;
     fn sigwait(set: *const [u64; 16], signal: *mut c_int) -> c_int;
@@ -83,9 +98,17 @@ impl Poll {
             .map(drop)
     }
 
-    /// Waits for so many milliseconds, or -1 for ever, and tells whose handles are ready, and whether to be read.
-    pub fn wait(&self, timeout: c_int) -> io::Result<Vec<(u64, bool)>> {
+    /// Waits for so long, or for ever, and tells whose handles are ready, and whether to be read.
+    pub fn wait(&self, patience: Option<Duration>) -> io::Result<Vec<(u64, bool)>> {
         let mut events = [Event { events: 0, of: 0 }; 256];
+        let timeout = patience.map_or(-1, |it| it.as_millis() as c_int);
+        if let Some(short) = patience.filter(|it| timeout == 0 && !it.is_zero()) {
+            // That waits for whole milliseconds alone.
+            let mut waited = Waited { fd: self.0.as_raw_fd(), events: IN as c_short, came: 0 };
+            let span = Span { seconds: 0, nanos: short.subsec_nanos().into() };
+            // Safety: there is one handle, and both live for the call; signals are as they were.
+            unsafe { ppoll(&mut waited, 1, &span, std::ptr::null()) };
+        }
         // Safety: there is room for so many events.
         let count = match checked(unsafe { epoll_wait(self.0.as_raw_fd(), events.as_mut_ptr(), 256, timeout) }) {
             Err(error) if error.kind() == ErrorKind::Interrupted => 0,

@@ -3,8 +3,8 @@
 
     bench/epochs.py PROGRAM
 
-PROGRAM is `crates/many_epochs/out/many_epochs`. An epoch of the first table has 100,000 events, with a guess
-and its decision every thousand. The second table has epochs in which nothing is done, over so many files:
+PROGRAM is `crates/kernels_tests/out/kernels_tests_tests`, whose test `growths::epochs::epochs_of_rounds` runs. An
+epoch of the first table has 100,000 events, with a guess and its decision every thousand. The second table has epochs in which nothing is done, over so many files:
 two runs with a different number of them, and the difference for each, the best of three.
 """
 
@@ -28,7 +28,9 @@ def high_water(pid):
 
 def ran(program, epochs, rounds, files):
     """The processor's seconds that a run takes, so that other work counts little, and its peak memory in KB."""
-    child = subprocess.Popen([program, str(epochs), str(rounds), str(files)], stdout=subprocess.DEVNULL)
+    asked = {"EPOCHS": str(epochs), "ROUNDS": str(rounds), "FILES": str(files)}
+    words = [program, "growths::epochs::epochs_of_rounds"]
+    child = subprocess.Popen(words, stdout=subprocess.DEVNULL, env={**os.environ, **asked})
     peak = 0
     while True:
         peak = max(peak, high_water(child.pid))

@@ -3,7 +3,7 @@
 
     bench/own.py PROGRAM [COSTS [LIBRARY]]
 
-PROGRAM is `crates/many_steps/out/many_steps`, COSTS the test program of `costs_tests`, for what stands beside open guesses of others
+PROGRAM is `crates/many_steps/out/many_steps`, COSTS the test program of `speculators_tests`, for what stands beside open guesses of others
 and for byte keys, and LIBRARY is `build/libhidewillow_c.a`, which `bench/own_steps.c` is linked with. Keys are of 64 bits and values of 16
 bytes, 100 keys are present, and each step looks at one key, whose value it reads, and writes it, in buffers that are used again; what
 is said is taken out. What a row says is the difference of two runs; beside it stands its limit, and OVER where it is passed. The last
@@ -83,13 +83,13 @@ def beside(costs, others, present, guesses=False):
     """What a step, or a guess with its decision, costs beside so many open guesses of others."""
     def run(count):
         asked = {"GUESSES": count, "STEPS": 0} if guesses else {"GUESSES": 0, "STEPS": count}
-        return counted([costs, "beside::beside_others"], OTHERS=others, PRESENT=present, **asked)
+        return counted([costs, "costs::beside::beside_others"], OTHERS=others, PRESENT=present, **asked)
     return (run(3_000) - run(1_000)) / 2_000
 
 
 def byte_keys(costs):
     """What a step costs over keys of 16 bytes with values of 100."""
-    few, many = (counted([costs, "byte_keys::byte_steps"], STEPS=steps) for steps in (1_000, 3_000))
+    few, many = (counted([costs, "costs::byte_keys::byte_steps"], STEPS=steps) for steps in (1_000, 3_000))
     return (many - few) / 2_000
 
 

@@ -1,6 +1,9 @@
-//! The tests of a store, over its public calls: what waits, what goes out, what is cut off, and how it goes on behind its log.
+//! The tests of a store, over its public calls: what waits, what goes out, what is cut off, and how it goes on behind its log; and
+//! those of the kernel below it, whose guesses are batches.
 #![tactic(auto)]
 
+#[cfg(test)]
+mod batched;
 #[cfg(test)]
 mod bench;
 #[cfg(test)]

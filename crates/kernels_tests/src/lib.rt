@@ -1,4 +1,5 @@
-//! The tests of records, kernels, servers and a client's desks over their public calls.
+//! The tests of records, kernels, servers and a client's desks over their public calls; and whatever can grow in them is grown past
+//! 70,000.
 #![tactic(auto)]
 
 #[cfg(test)]
@@ -19,6 +20,8 @@ mod desk_leases;
 mod desk_plays;
 #[cfg(test)]
 mod epochs;
+#[cfg(test)]
+mod growths;
 #[cfg(test)]
 mod kernels;
 #[cfg(test)]

@@ -4,6 +4,7 @@ use crate::kernel::{commit, fail};
 use crate::step::{OwnStep, add_write};
 use crate::wrong::{Wrong, holds};
 use sk_bytes::{Bytes, KEY_LIMIT, Refusal};
+use sk_guesses::Guess;
 use sk_speculator::Step;
 use std::alloc::{AllocError, Global};
 use std::num::NonZeroU16;
@@ -59,6 +60,15 @@ fn take(
     holds(bytes.len() == count, Wrong::Keys)
 }
 
+/// Decides a guess: it was right for each second key.
+fn decide(rt: &impl Abort, bytes: &mut Bytes<u64, u64>, guess: Guess, number: u32) {
+    if number % 2 == 0 {
+        fail(rt, bytes, guess);
+    } else {
+        commit(rt, bytes, guess);
+    }
+}
+
 /// A key comes under a guess and goes, and the guess is decided.
 fn passes(
     rt: &impl Abort,
@@ -67,16 +77,14 @@ fn passes(
     key: (Global, u32),
 ) -> Result<(), Wrong> {
     add_write(step, key.0, key.1, Written::Set(Some(1)))?;
-    let Ok(guess) = bytes.guess(step) else {
-        return Err(Wrong::Refused);
-    };
-    let gone = take(bytes, step, key, None, 1);
-    if key.1 % 2 == 0 {
-        fail(rt, bytes, guess);
-    } else {
-        commit(rt, bytes, guess);
+    match bytes.guess(step) {
+        Ok(guess) => {
+            let gone = take(bytes, step, key, None, 1);
+            decide(rt, bytes, guess, key.1);
+            gone
+        }
+        Err(_) => Err(Wrong::Refused),
     }
-    gone
 }
 
 /// Each key comes and goes, by itself and under a guess.

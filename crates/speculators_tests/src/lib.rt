@@ -1,12 +1,14 @@
 //! Tests of the kernels over their user's own keys, numbers and byte strings: keys that are too long, keys that come and go,
 //! numbers that are added to, random runs, each held after each call against a plain record of the steps that depend on no failed
-//! guess, which does them again from nothing, and what grows past 70,000 in them, in requests and in commands, with ample memory.
+//! guess, which does them again from nothing, what grows past 70,000 in them, in requests and in commands, with ample memory, and what steps cost beside open guesses of others.
 #![tactic(auto)]
 
 #[cfg(test)]
 mod byte_runs;
 #[cfg(test)]
 mod byte_strings;
+#[cfg(test)]
+mod costs;
 #[cfg(test)]
 mod edges;
 #[cfg(test)]

@@ -111,9 +111,14 @@ fn keys_of(alloc: Global, count: u32) -> Result<Keys, AllocError> {
 
 /// How many keys a command asks for that shows so many.
 fn asked(alloc: Global, count: u32) -> Result<usize, AllocError> {
+    let command = Command::MGet(keys_of(alloc, count)?);
     let mut looked = Vec::new(alloc);
-    Command::MGet(keys_of(alloc, count)?).asks(alloc, &[], &mut looked)?;
-    Ok(looked.len())
+    let told = command.asks(alloc, &[], &mut looked);
+    let asked = looked.len();
+    drop(command);
+    drop(looked);
+    told?;
+    Ok(asked)
 }
 
 /// How many values a reply has.
@@ -127,16 +132,26 @@ fn shown(reply: &Reply) -> usize {
 /// How many values a command replies that shows so many keys.
 fn shows(alloc: Global, store: &Same, count: u32) -> Result<usize, AllocError> {
     let command = Command::MGet(keys_of(alloc, count)?);
-    let reply = command.run(alloc, store, &[], &mut Vec::new(alloc))?;
-    Ok(shown(&reply))
+    let mut written: Writes = Vec::new(alloc);
+    let told = command.run(alloc, store, &[], &mut written);
+    drop(written);
+    match told {
+        Ok(reply) => Ok(shown(&reply)),
+        Err(why) => Err(why),
+    }
 }
 
 /// How many writes a command has that makes so many keys absent.
 fn deletes(alloc: Global, store: &Same, count: u32) -> Result<usize, AllocError> {
     let mut written: Writes = Vec::new(alloc);
     let command = Command::Del(keys_of(alloc, count)?);
-    command.run(alloc, store, &[], &mut written)?;
-    Ok(written.len())
+    let told = command.run(alloc, store, &[], &mut written);
+    let count = written.len();
+    drop(written);
+    match told {
+        Ok(_reply) => Ok(count),
+        Err(why) => Err(why),
+    }
 }
 
 /// A command asks for many keys, shows them, and makes them absent.

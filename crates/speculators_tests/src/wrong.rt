@@ -1,13 +1,13 @@
 //! What a test finds wrong.
 use sk_speculator::Refusal;
-use std::alloc::AllocError;
+use std::alloc::{AllocError, AllocFailed};
 
 /// Why a test does not pass.
 #[derive(Clone, Copy, Debug, PartialEq, Eq)]
 pub enum Wrong {
     /// The test itself has no memory.
     Memory,
-    /// Other keys are there.
+    /// Other keys are there, or another number of guesses is undecided.
     Keys,
     /// A key has another value.
     Value,
@@ -31,6 +31,12 @@ pub enum Wrong {
 
 impl From<AllocError> for Wrong {
     fn from(_: AllocError) -> Wrong {
+        Wrong::Memory
+    }
+}
+
+impl<T: Drop> From<AllocFailed<T>> for Wrong {
+    fn from(_: AllocFailed<T>) -> Wrong {
         Wrong::Memory
     }
 }

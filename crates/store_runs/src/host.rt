@@ -12,7 +12,7 @@ use crate::script::Script;
 use crate::snapshot::{Base, write};
 use crate::wrong::{Wrong, holds};
 use sk_batched::Outcome;
-use sk_batches::Sealed;
+use sk_batches::{Cut, Sealed};
 use sk_channels::{Ask, Asked, Channel};
 use sk_commands::{ByteString, Reply, Work};
 use sk_durable::{End, Fed, Limits, Next, Refusal};
@@ -77,6 +77,28 @@ fn work_of(asked: Asked) -> Result<(u64, Work), Wrong> {
     match ask {
         Ask::Do(work) => Ok((ticket, work)),
         Ask::Reject(_) => Err(Wrong::Asked),
+    }
+}
+
+/// What a channel alone reads of bytes, so many of which were taken.
+fn read(link: &mut Link, taken: &[u8], count: usize) -> Result<Option<Asked>, Wrong> {
+    let Ok(read) = link.reader.feed(taken) else {
+        return Err(Wrong::Asked);
+    };
+    link.given = link.reader.next_given().saturating_sub(1);
+    if read.count == count {
+        Ok(read.asked)
+    } else {
+        Err(Wrong::Asked)
+    }
+}
+
+/// Nothing is asked for, or only the host is.
+fn judge_unasked(is_posed: bool, end: End) -> Result<(), Wrong> {
+    match end {
+        End::Part => holds(!is_posed, Wrong::Asked),
+        End::Asked => holds(is_posed, Wrong::Asked),
+        _ => Err(Wrong::Asked),
     }
 }
 
@@ -264,35 +286,35 @@ impl Host {
         let Some(link) = self.links.get_mut(place) else {
             return Err(Wrong::Asked);
         };
-        let Ok(read) = link.reader.feed(taken) else {
-            return Err(Wrong::Asked);
-        };
-        link.given = link.reader.next_given().saturating_sub(1);
+        let asked = read(link, taken, fed.count)?;
         let (order, is_posed) = (link.order, link.reader.is_posed());
-        let sk_channels::Fed { count, asked } = read;
-        holds(count == fed.count, Wrong::Asked)?;
-        self.was_asked(order, is_posed, fed.end, asked)
+        match asked {
+            Some(asked) => self.was_asked(order, is_posed, fed.end, asked),
+            None => judge_unasked(is_posed, fed.end),
+        }
     }
 
-    /// What a channel alone reads of the bytes became this.
+    /// What a channel alone reads of the bytes asks for this, which became that.
     fn was_asked(
         &mut self,
         order: usize,
         is_posed: bool,
         end: End,
-        asked: Option<Asked>,
+        asked: Asked,
     ) -> Result<(), Wrong> {
-        match (end, asked) {
-            (End::Part, None) | (End::NotDone(_), Some(_)) => holds(!is_posed, Wrong::Asked),
-            (End::Asked, None) => holds(is_posed, Wrong::Asked),
-            (End::Done, Some(asked)) => {
-                let (ticket, work) = work_of(asked)?;
-                self.model.carry(order, ticket, work)?;
-                let ahead = self.store.store().ahead();
-                holds(ahead == self.model.last_answer(), Wrong::Answer)
-            }
+        match end {
+            End::NotDone(_) => holds(!is_posed, Wrong::Asked),
+            End::Done => self.was_done(order, asked),
             _ => Err(Wrong::Asked),
         }
+    }
+
+    /// This was carried out, and is answered as in the model.
+    fn was_done(&mut self, order: usize, asked: Asked) -> Result<(), Wrong> {
+        let (ticket, work) = work_of(asked)?;
+        self.model.carry(order, ticket, work)?;
+        let ahead = self.store.store().ahead();
+        holds(ahead == self.model.last_answer(), Wrong::Answer)
     }
 
     /// The host tells what it is asked on the channel at a place, or that it knows no such command; or it lets the channel wait.
@@ -430,37 +452,59 @@ impl Host {
         }
     }
 
+    /// The cut that is due, unless the host has given up.
+    fn due(&mut self) -> Result<Option<Cut>, Wrong> {
+        let due = self.store.cut_due()?;
+        Ok(if self.stopped { None } else { due })
+    }
+
+    /// The write of the head of a cut begins; it may not be taken yet.
+    fn write_head(&mut self) -> Result<bool, Wrong> {
+        match self.store.cut_frame(self.room.as_mut_slice())? {
+            Ok(sealed) => {
+                self.write(sealed)?;
+                Ok(true)
+            }
+            Err(_) => Ok(false),
+        }
+    }
+
     /// The cut that is due is made, or its head is not written, or the host gives up.
     fn cut(&mut self) -> Result<(), Wrong> {
-        let Some(cut) = self.store.cut_due()? else {
+        let Some(cut) = self.due()? else {
             return Ok(());
         };
-        if self.stopped {
+        if !self.write_head()? {
             return Ok(());
         }
-        let Ok(sealed) = self.store.cut_frame(self.room.as_mut_slice())? else {
-            return Ok(());
-        };
-        self.write(sealed)?;
         match self.chance.below(8) {
             0 => self.crash(),
-            1 => {
-                self.disk.fail(0)?;
-                self.stopped = true;
-                self.store.cut(false)
-            }
-            2 => {
-                self.disk.fail(0)?;
-                self.store.turn()
-            }
-            _ => {
-                self.disk.sync(&mut self.chance, 0)?;
-                self.store.cut(true)?;
-                self.frames.cut(cut.frame, cut.first, cut.last)?;
-                self.model.cut(cut.first, cut.last);
-                Ok(())
-            }
+            1 => self.give_up(),
+            2 => self.turn_over(),
+            _ => self.is_cut(cut),
         }
+    }
+
+    /// The head is not written, and the host gives up.
+    fn give_up(&mut self) -> Result<(), Wrong> {
+        self.disk.fail(0)?;
+        self.stopped = true;
+        self.store.cut(false)
+    }
+
+    /// The head is not written, and the next segment's turn comes.
+    fn turn_over(&mut self) -> Result<(), Wrong> {
+        self.disk.fail(0)?;
+        self.store.turn()
+    }
+
+    /// The cut is made.
+    fn is_cut(&mut self, cut: Cut) -> Result<(), Wrong> {
+        self.disk.sync(&mut self.chance, 0)?;
+        self.store.cut(true)?;
+        self.frames.cut(cut.frame, cut.first, cut.last)?;
+        self.model.cut(cut.first, cut.last);
+        Ok(())
     }
 
     // ---- crashes
@@ -572,10 +616,15 @@ impl Host {
             return Ok(false);
         }
         self.disk.sync(&mut self.chance, 0)?;
-        self.frames = Frames::new(self.alloc, head.frame.saturating_add(1));
+        self.forget(head.frame);
+        Ok(true)
+    }
+
+    /// Nothing is known any more of what was before the head with this number.
+    fn forget(&mut self, head: u64) {
+        self.frames = Frames::new(self.alloc, head.saturating_add(1));
         self.links.clear();
         self.connected = 0;
         self.stopped = false;
-        Ok(true)
     }
 }

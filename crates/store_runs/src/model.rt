@@ -189,13 +189,25 @@ impl Model {
 
     /// Work of a ticket of a channel is carried out.
     pub(crate) fn carry(&mut self, link: usize, ticket: u64, work: Work) -> Result<(), Wrong> {
-        let known = self.plain.keys()?;
         let mut command = Command::new(self.alloc, link, ticket);
-        let looked = self.note(&work, known.as_slice(), &mut command);
-        let ran = self.run(work, known.as_slice(), &mut command);
-        self.rest(looked, ran, &mut command)?;
+        match self.carry_out(work, &mut command) {
+            Ok(()) => self.keep(command),
+            Err(wrong) => Err(wrong),
+        }
+    }
+
+    fn keep(&mut self, command: Command) -> Result<(), Wrong> {
         self.commands.push(command)?;
         Ok(())
+    }
+
+    /// Carries work out, and notes all of it.
+    fn carry_out(&mut self, work: Work, command: &mut Command) -> Result<(), Wrong> {
+        let known = self.plain.keys()?;
+        let looked = self.note(&work, known.as_slice(), command);
+        let ran = self.run(work, known.as_slice(), command);
+        drop(known);
+        self.rest(looked, ran, command)
     }
 
     /// Notes what a log has of work; the keys that it looks at.

@@ -1,6 +1,6 @@
 -- Held tokens behind each of the kernel's calls: from what the calls answer.
 use Rattle.sk_holder.proofs.Names.{Some, subst, inr, Ok, ◌∷◌, Err, inl, zero, ◌≡◌, Option, arith, List, ap, ◌++◌}
-use Rattle.sk_holder.proofs.Names.{length, append_assoc, ℕ, true, sym, None, suc, false, refl, Result, [], ◌∙◌}
+use Rattle.sk_holder.proofs.Names.{length, length-map, append_assoc, ℕ, true, sym, None, suc, false, refl, Result, [], ◌∙◌}
 use Rattle.sk_holder.proofs.Names.{true≢false, or_right, or_left, eq-eqb, map-append, list_any-append, IfErr}
 use Rattle.sk_holder.proofs.Names.{replicate, ◌==◌, Token, ids, IsHeld, no_step, map_more, EpochPost, GuessPost}
 use Rattle.sk_holder.proofs.Names.{IsNew, StepPost, with_steps, HandInPost, alone_step, next_guess, events_of}
@@ -19,6 +19,10 @@ none_held k ts none held = nothing (undecided_at k) (λ g is. true≢false (sym 
   nothing : (gs : List ℕ) → ((g : ℕ) → has g gs ≡ true → ⊥) → gs ≡ []
   nothing [] none = refl
   nothing (g ∷ gs) none = absurd (none g (or_left (g == g) (has g gs) (eq-eqb g g refl)))
+
+-- nor is there a token where no number is held
+pub no_token : (ts : List Token) → ids ts ≡ [] → length ts ≡ 0
+no_token ts none = sym (length-map ts (λ t. t.id)) ∙ ap length none
 
 -- ---- a step
 

@@ -4,7 +4,7 @@ pub use Rattle.std.proofs.Common.{List, get_or, ap, ◌++◌, length, append_ass
 pub use Rattle.std.proofs.Common.{◌≤◌, false, ◌<◌, refl, Result, [], ◌∙◌, not, map}
 pub use Rattle.std.proofs.lemmas.Bool.{true≢false, or_right, or_cases, false_from_ne_true, or_left, eqb-true, eq-eqb}
 pub use Rattle.std.proofs.lemmas.Bool.{ne_eqb}
-pub use Rattle.std.proofs.lemmas.List.{append-nil, map-append, nil_from_length}
+pub use Rattle.std.proofs.lemmas.List.{append-nil, length-map, map-append, nil_from_length}
 pub use Rattle.std.proofs.lemmas.List.Elements.{Contains-push, Contains-push_cases, Contains-append_left}
 pub use Rattle.std.proofs.lemmas.List.Folds.{list_any-append}
 pub use Rattle.std.specs.FinMap.{FinMap}

@@ -365,16 +365,17 @@ impl Kernel {
             (record { pid = pid; input = (input_in input.entry); guess = None }))
             (events.Step pid (input_in input.entry)) self.old self.new }
     {
+        let room = self.room();
         let mut plan = Plan::Private;
-        match plan_into(&self.machine, self.opening.scripts(), pid, input, &mut plan) {
-            Ok(()) => {}
+        let found = match plan_into(&self.machine, self.opening.scripts(), pid, input, &mut plan) {
+            Ok(found) => found,
             Err(why) => return Err(why),
-        }
+        };
         if is_crowded(&self.machine, &plan) {
             return Err(Refusal::NoRoom);
         }
         let _limit = self.opening.limit();
-        if self.room() < 1 {
+        if room < 1 {
             return Err(Refusal::TraceFull);
         }
         if self.trace.reserve(self.machine.open_count() + 1).is_err() {
@@ -386,7 +387,7 @@ impl Kernel {
         };
         if self
             .machine
-            .take_step(self.opening.scripts(), pid, input, &plan)
+            .take_found(self.opening.scripts(), pid, input, &plan, found)
             .is_err()
         {
             return Err(Refusal::Memory);

@@ -10,6 +10,7 @@ use sk_plain::Plan;
 pub const DIRECTORY_LIMIT: usize = 64;
 
 /// Whether a planned step adds a name to a directory that has no room for it. This takes no memory.
+#[inline(always)]
 pub(crate) fn is_crowded(machine: &Machine, plan: &Plan) -> bool
     ensures { TellsRoom machine.now.slots (adds_of plan.now) result }
 {

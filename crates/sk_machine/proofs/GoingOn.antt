@@ -3,12 +3,20 @@ use Rattle.sk_machine.proofs.Names.{◌≡◌, ℕ, List, [], ◌∷◌, Some, N
 use Rattle.sk_machine.proofs.Names.{IsStrictlySortedBy, append-nil, perform, IsTidy, numbers, MergedTakes, Entity, Proc}
 use Rattle.sk_machine.proofs.Names.{Sig, status_since, OpenGuess, Input, became, SlotMap, look_at, slots_wrote, Scripts}
 use Rattle.sk_machine.proofs.Names.{act, next_in, plain, PlanView, effect_of, read_by, writes_of, done_by, looked}
-use Rattle.sk_machine.proofs.Names.{looks_of, seen_with, written_in, Private, AllExact, Covers, RestAlike, tags_in}
+use Rattle.sk_machine.proofs.Names.{Instruction, done, process_in, looks_of, seen_with, written_in, Private, AllExact, Covers, RestAlike, tags_in}
 use Rattle.sk_machine.proofs.Names.{Parts, machine_of, undo_state_of, IsClean, Performed, entities_of}
+use Rattle.sk_store.specs.declared.entity_state.EntityState.TheVariants as stored
 use Rattle.sk_machine.proofs.AsProcess.{alike_exact, alike_one, planned_alike, planned_clean, planned_tags, reads_on}
 use Rattle.sk_machine.proofs.Becomes.{takes_of}
 use Rattle.sk_machine.proofs.Listed.{performed_exact}
 use Rattle.sk_machine.proofs.Writes.{performed}
+
+-- what it does is the instruction that was found
+pub by_next : (p : Parts) (scripts : Scripts) (pid : ℕ) (i : Instruction) → next_in scripts (process_in (look_at p.slots (Proc pid))) ≡ Some i
+    → (new : SlotMap) → new ≡ slots_wrote (tags_in p.slots (Proc pid)) p.slots (Proc pid) (Some (became (done i) (look_at p.slots (Proc pid))))
+    → new ≡ slots_wrote (tags_in p.slots (Proc pid)) p.slots (Proc pid) (Some (became (λ q. done_by q (next_in scripts q)) (look_at p.slots (Proc pid))))
+by_next p scripts pid i next new is =
+    is ∙ ap (λ o. slots_wrote (tags_in p.slots (Proc pid)) p.slots (Proc pid) (Some (stored.Process (done_by (process_in (look_at p.slots (Proc pid))) o)))) (sym next)
 
 module _ (p : Parts) (scripts : Scripts) (pid : ℕ) (input : Input) (tidy : IsTidy (undo_state_of p)) (opens_rise : IsStrictlySortedBy nat_cmp (numbers p.opens))
     (rises : IsStrictlySortedBy nat_cmp (tags_in p.slots (Proc pid))) (signals : Covers (tags_in p.slots (Proc pid)) (Sig pid ∷ []) (tags_in p.slots))

@@ -57,8 +57,9 @@ pub use Rattle.sk_record.specs.Trace.{marks}
 pub use Rattle.sk_record.specs.UndoState.{opened, step_tags, still_open, IsTidy, not_struck, tags_at, numbers, Open}
 pub use Rattle.sk_record.specs.declared.status.Status.TheVariants.{Failed, Committed, Struck, Undecided}
 pub use Rattle.sk_script.specs.declared.instruction.Input.{Input}
+pub use Rattle.sk_script.specs.declared.instruction.Instruction.{Instruction}
 pub use Rattle.sk_script.specs.declared.process.Process.{Process}
-pub use Rattle.sk_store.specs.Processes.{IsProcess, became}
+pub use Rattle.sk_store.specs.Processes.{IsProcess, became, done, process_in}
 pub use Rattle.sk_store.specs.declared.entity_state.EntityState.{EntityState}
 pub use Rattle.sk_terminal.proofs.SaidTo.{texts_said}
 pub use Rattle.sk_terminal.specs.Terminal.{TaggedText}

@@ -7,15 +7,17 @@ ghost use Rattle.sk_record.specs.Merged.{MergedTakes};
 ghost use Rattle.sk_record.specs.UndoState.{IsTidy, numbers};
 ghost use Rattle.sk_trace.specs.Kept.{input_in};
 ghost use Rattle.sk_plain.specs.Act.{plain};
+ghost use Rattle.sk_plain.specs.Seen.{DoesNext};
 ghost use Rattle.sk_machine.specs.Dependents.{IsEnough};
 ghost use Rattle.sk_machine.specs.Parts.{IsPlanned, machine_of, undo_state_of};
+ghost use Rattle.sk_undo.specs.Logs.{look_at};
 
 use crate::Machine;
 use crate::lists::tags_of;
 use crate::machine::is_none;
 use sk_ids::{Entity, Pid};
-use sk_plain::{Doing, InputRef, Plan};
-use sk_script::Scripts;
+use sk_plain::{InputRef, Plan};
+use sk_script::{Instruction, Scripts};
 
 impl Machine {
     /// So many guesses a process has to rest on at least, for its signals to rest on no others: all that are undecided, or none
@@ -38,16 +40,18 @@ impl Machine {
         None
     }
 
-    /// Takes a planned private step where its process goes on with the guesses that it rests on. Answers whether; else nothing
-    /// has changed. This takes no memory.
+    /// Does a planned private instruction where its process goes on with the guesses that it rests on. Answers whether; else
+    /// nothing has changed. This takes no memory.
     pub(crate) fn go_on(
         &mut self,
         scripts: &Scripts,
         pid: Pid,
         input: InputRef<'_>,
         plan: &Plan,
+        instruction: &Instruction,
     ) -> bool
         requires planned { IsPlanned self.old scripts.now pid (input_in input) plan.now }
+        requires next { DoesNext (look_at self.old.slots) scripts.now pid plan.now instruction.now }
         requires tidy { IsTidy (undo_state_of self.old) }
         requires rising { IsStrictlySortedBy nat_cmp (numbers self.old.opens) }
         ensures takes { result ≡ true
@@ -57,12 +61,9 @@ impl Machine {
         ensures guesses { self.new.guesses ≡ self.old.guesses }
         ensures same { result ≡ false → self.new ≡ self.old }
     {
-        let Plan::Private = plan else {
-            return false;
-        };
         let Some(least) = self.least_tags(pid) else {
             return false;
         };
-        self.logs.go_on(pid, least, &Doing { scripts })
+        self.logs.go_on(pid, least, instruction)
     }
 }

@@ -1,5 +1,5 @@
 //! Values in place with their undo logs, the open guesses, statuses and texts.
-ghost use Rattle.std.specs.Prelude.{◌≡◌, [], ◌++◌, ◌||◌, ◌&&◌, ◌==◌, if◌then◌else◌, ℕ, length, get_or, true, false, is_some, IfOk, OnOk, OnErr, Ok, Some, None};
+ghost use Rattle.std.specs.Prelude.{◌≡◌, [], ◌++◌, ◌||◌, ◌&&◌, ◌==◌, if◌then◌else◌, ℕ, length, get_or, true, false, is_some, IfOk, IfSome, OnOk, OnErr, Ok, Some, None};
 ghost use Rattle.std.specs.List.Sorted.{IsStrictlySortedBy};
 ghost use Rattle.std.specs.Ordering.{nat_cmp};
 ghost use Rattle.sk_record.specs.Notes.{has};
@@ -24,7 +24,7 @@ ghost use Rattle.sk_undo.specs.Logs.{look_at};
 ghost use Rattle.sk_trace.specs.Kept.{input_in};
 ghost use Rattle.sk_plain.specs.Act.{plain};
 ghost use Rattle.sk_plain.specs.Planned.{said_by, texts_after, writes_of};
-ghost use Rattle.sk_plain.specs.Seen.{CanPerform, seen_with, written_in};
+ghost use Rattle.sk_plain.specs.Seen.{CanPerform, DoesNext, seen_with, written_in};
 ghost use Rattle.sk_machine.specs.Parts.{IsPlanned, any_rests, machine_of, planned_effect, undo_state_of};
 ghost use Rattle.sk_guesses.specs.Room.{HasRoom};
 ghost use Rattle.sk_machine.specs.Dependents.{Covers, tags_in};
@@ -35,7 +35,7 @@ use crate::lists::{depend_all, is_alone, relieve_all, relieve_freed, tags_of};
 use sk_guesses::{Guess, Guesses, Redeemed, Status};
 use sk_ids::{Entity, GuessId, ObjId, Pid, TagSet};
 use sk_plain::{InputRef, Plan, perform_plan};
-use sk_script::{Boot, Scripts};
+use sk_script::{Boot, Instruction, Scripts};
 use sk_store::{EntityState, Look, Store};
 use sk_terminal::{Terminal, Terminals, Texts};
 use sk_undo::Logs;
@@ -289,15 +289,18 @@ impl Machine {
         self.add_tags(read, written)
     }
 
-    /// Takes a planned step that is no guess. Without memory nothing has changed.
-    pub fn take_step(
+    /// Takes a planned step that is no guess, whose private instruction was found, or none. Without memory nothing has changed.
+    pub fn take_found(
         &mut self,
         scripts: &Scripts,
         pid: Pid,
         input: InputRef<'_>,
         plan: &Plan,
+        found: Option<&Instruction>,
     ) -> Result<(), AllocError>
         requires planned { IsPlanned self.old scripts.now pid (input_in input) plan.now }
+        requires next { IfSome found
+            (λ i. DoesNext (look_at self.old.slots) scripts.now pid plan.now i.now) }
         requires tidy { IsTidy (undo_state_of self.old) }
         requires rising { IsStrictlySortedBy nat_cmp (numbers self.old.opens) }
         ensures ok { OnOk result
@@ -307,14 +310,16 @@ impl Machine {
         ensures guesses { self.new.guesses ≡ self.old.guesses }
         ensures err { OnErr result (self.new ≡ self.old) }
     {
-        if self.go_on(scripts, pid, input, plan) {
-            return Ok(());
+        if let Some(instruction) = found {
+            if self.go_on(scripts, pid, input, plan, instruction) {
+                return Ok(());
+            }
         }
-        self.take_tagged(scripts, pid, input, plan)
+        self.take_step(scripts, pid, input, plan)
     }
 
-    /// The same, of any kind. Without memory nothing has changed.
-    fn take_tagged(
+    /// Takes a planned step that is no guess. Without memory nothing has changed.
+    pub fn take_step(
         &mut self,
         scripts: &Scripts,
         pid: Pid,

@@ -99,6 +99,13 @@ impl Eq for Block {
     ghost laws = { decided same_bytes exact_bytes };
 }
 
+impl Default for Block {
+    /// The block in which none was written.
+    fn default() -> Block {
+        Block::new()
+    }
+}
+
 impl Block {
     /// The block in which none was written.
     #[tactic(auto, unfolding(crate::specs::Blocks::blank))]

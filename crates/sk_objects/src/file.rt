@@ -13,6 +13,7 @@ use crate::slots::{
 };
 use crate::{Block, Blocks};
 use sk_ids::Text;
+use smallvec::SmallVec;
 use std::alloc::{AllocError, Global};
 use std::marker::Model;
 
@@ -239,7 +240,7 @@ impl File {
         if len >= self.size {
             return Ok(Blocks {
                 slot: 0,
-                blocks: Vec::new(alloc),
+                blocks: SmallVec::new(alloc),
                 size: len,
             });
         }

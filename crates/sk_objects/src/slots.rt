@@ -1,5 +1,5 @@
 //! Blocks in slots.
-ghost use Rattle.std.specs.Prelude.{◌≡◌, ◌≤◌, ◌<◌, ◌+◌, ◌-◌, ◌*◌, ◌/◌, ◌%◌, ◌++◌, List, ℕ, [], true, length, take, drop, replicate, slice_set, get_or, IfOk, vec_len, ◌↔◌, IsTrue, if◌then◌else◌};
+ghost use Rattle.std.specs.Prelude.{◌≡◌, ◌≤◌, ◌<◌, ◌+◌, ◌-◌, ◌*◌, ◌/◌, ◌%◌, ◌++◌, ◌∷◌, List, ℕ, [], true, length, take, drop, replicate, slice_set, get_or, IfOk, vec_len, ◌↔◌, IsTrue, if◌then◌else◌};
 ghost use Rattle.sk_objects.specs.File.{overwritten, part, held, blocks_of};
 ghost use Rattle.sk_objects.specs.Blocks.{joined, AreBlocks, blank};
 ghost use Rattle.sk_objects.specs.Slots.{blocks_under};
@@ -7,6 +7,7 @@ ghost use Rattle.sk_objects.specs.Slots.{blocks_under};
 use crate::Block;
 use crate::block::BLOCK;
 use sk_ids::Text;
+use smallvec::SmallVec;
 use std::alloc::{AllocError, Global};
 use std::marker::Model;
 
@@ -14,11 +15,11 @@ use std::marker::Model;
 pub const SLOTS: usize = 64;
 
 /// Blocks that go into a file from a slot on, or stood there, and the length that the file has with
-/// them.
+/// them. A write lies on one or two, which stand here in place.
 #[derive(Drop)]
 pub struct Blocks {
     pub(crate) slot: usize,
-    pub(crate) blocks: Vec<Block>,
+    pub(crate) blocks: SmallVec<Block, 2>,
     pub(crate) size: usize,
 }
 
@@ -57,13 +58,13 @@ pub(crate) fn swap_blocks(slots: &mut [Block], slot: usize, blocks: &mut [Block]
     slots[slot..slot + blocks.len()].swap_with_slice(blocks);
 }
 
-/// The same of vectors.
-pub(crate) fn exchange_blocks(slots: &mut Vec<Block>, slot: usize, blocks: &mut Vec<Block>)
+/// The same of those of a file.
+pub(crate) fn exchange_blocks(slots: &mut Vec<Block>, slot: usize, blocks: &mut SmallVec<Block, 2>)
     requires { slot + length blocks.old.items ≤ length slots.old.items }
     ensures slots { slots.new.items ≡ overwritten slots.old.items slot blocks.old.items }
     ensures blocks { blocks.new.items ≡ part slots.old.items slot (length blocks.old.items) }
 {
-    swap_blocks(slots, slot, blocks);
+    swap_blocks(slots, slot, blocks.as_mut_slice());
 }
 
 /// How many blocks so many bytes take.
@@ -75,13 +76,32 @@ pub(crate) fn blocks_of(size: usize) -> usize
     (size + (BLOCK - 1)) / BLOCK
 }
 
+/// One block, in place.
+fn one_block(alloc: Global, block: Block) -> SmallVec<Block, 2>
+    ensures { result.items ≡ block ∷ [] }
+{
+    let mut blocks = SmallVec::new(alloc);
+    blocks.push_reserved(block);
+    blocks
+}
+
+/// Two blocks, in place.
+fn two_blocks(alloc: Global, first: Block, second: Block) -> SmallVec<Block, 2>
+    ensures { result.items ≡ first ∷ second ∷ [] }
+{
+    let mut blocks = SmallVec::new(alloc);
+    blocks.push_reserved(first);
+    blocks.push_reserved(second);
+    blocks
+}
+
 /// The blocks under a write as it leaves them. It takes memory for them alone.
 pub(crate) fn written_blocks(
     alloc: Global,
     slots: &[Block],
     at: usize,
     bytes: &[u8],
-) -> Result<Vec<Block>, AllocError>
+) -> Result<SmallVec<Block, 2>, AllocError>
     requires slots { length slots.now ≡ 64 }
     requires blocks { AreBlocks slots.now }
     requires some { 1 ≤ length bytes.now }
@@ -98,12 +118,12 @@ pub(crate) fn written_blocks(
     let room = BLOCK - within;
     if bytes.len() <= room {
         let block = slots[slot].overwritten(alloc, within, bytes)?;
-        return Ok(Vec::from_array(alloc, [block])?);
+        return Ok(one_block(alloc, block));
     }
     let (front, back) = bytes.split_at(room);
     let first = slots[slot].overwritten(alloc, within, front)?;
     let second = slots[slot + 1].overwritten(alloc, 0, back)?;
-    Ok(Vec::from_array(alloc, [first, second])?)
+    Ok(two_blocks(alloc, first, second))
 }
 
 /// Writes bytes over a part of one block where that is there, and answers whether it is so.
@@ -136,13 +156,23 @@ pub(crate) fn overwrite(slots: &mut Vec<Block>, at: usize, bytes: &[u8]) -> bool
     overwrite_block(slots, at, bytes)
 }
 
+/// Room for so many blocks.
+fn room_for(alloc: Global, count: usize) -> Result<SmallVec<Block, 2>, AllocError>
+    ensures items { IfOk result (λ blocks. blocks.items ≡ []) }
+    ensures room { IfOk result (λ blocks. count ≤ blocks.capacity) }
+{
+    let mut blocks = SmallVec::new(alloc);
+    blocks.reserve(count)?;
+    Ok(blocks)
+}
+
 /// The blocks from the one at a cut on, as the cut leaves them. It takes memory for them alone.
 pub(crate) fn cut_blocks(
     alloc: Global,
     slots: &[Block],
     at: usize,
     count: usize,
-) -> Result<Vec<Block>, AllocError>
+) -> Result<SmallVec<Block, 2>, AllocError>
     requires slots { length slots.now ≡ 64 }
     requires blocks { AreBlocks slots.now }
     requires some { 1 ≤ count }
@@ -153,7 +183,7 @@ pub(crate) fn cut_blocks(
         ≡ held (take at (joined slots.now)) (512 * (at / 512)) (512 * count)) }
 {
     let slot = at / BLOCK;
-    let mut blocks = Vec::with_capacity(alloc, count)?;
+    let mut blocks = room_for(alloc, count)?;
     blocks.push_reserved(slots[slot].start(alloc, at % BLOCK)?);
     for _ in 0..count - 1 {
         blocks.push_reserved(Block::new());

@@ -220,7 +220,7 @@ plan_of (Ok r) = Ok (Acts r)
 plan_of (Err why) = Err why
 
 -- a plan that was put into a place, or a refusal
-abbrev pub told : Result (Unit {0}) Refusal → Plan → Result Plan Refusal
+abbrev pub told : {X : Type 0} → Result X Refusal → Plan → Result Plan Refusal
 told (Ok done) plan = Ok plan
 told (Err why) plan = Err why
 
@@ -231,6 +231,11 @@ pub record PlansRow (look : Entity → Option EntityState) (p : Process) (pid : 
   pub apart : IfOk result (λ r. IsBeside pid (beside_of p r.beside))
   pub fits : IfOk result (λ r. CanChange p r.change × IsWritable r.beside)
   pub named : IfErr result IsPlainRefusal
+
+-- the plan is to do the next instruction of the process that is there, which is this private one
+pub record DoesNext (look : Entity → Option EntityState) (scripts : Scripts) (pid : ℕ) (plan : Plan) (i : Instruction) : Type 0 where
+  pub private : plan ≡ Private
+  pub next : next_in scripts (process_in (look (Proc pid))) ≡ Some i
 
 module _ (look : Entity → Option EntityState) (scripts : Scripts) (pid : ℕ) (input : Input) where
   -- the plan of the process that is there

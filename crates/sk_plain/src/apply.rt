@@ -17,7 +17,7 @@ ghost use Rattle.sk_plain.specs.Forked.{CanFork, forked};
 use crate::becomes::{Doing, Filling, Forking};
 use crate::{Becomes, Beside, Errno, InputRef, Looks, Plan, ProcessChange, Row, Writes};
 use sk_changes::Change;
-use sk_ids::{Entity, Name, Pid, Text};
+use sk_ids::{Entity, Name, ObjId, Pid, Text};
 use sk_objects::{Content, Kind, Value};
 use sk_script::{Process, Register, Scripts, Val};
 use sk_store::{Becoming, EntityState, Keeper, Look};
@@ -93,9 +93,26 @@ fn write_first<K: Keeper>(keeper: &mut K, pid: Pid, entity: Entity) -> Result<K:
     keeper.write(entity, EntityState::Value(Value::Copy(content)))
 }
 
-/// An entity becomes this. Without memory nothing has changed.
+/// A name of an object.
 #[inline(never)]
-fn write_one<K: Keeper>(
+fn write_link<K: Keeper>(
+    keeper: &mut K,
+    entity: Entity,
+    object: &ObjId,
+) -> Result<K::Back, AllocError>
+    ensures ok { OnOk result
+        (keeper.new
+        ≡ K.wrote keeper.old entity (Some (stored.Value (values.Link object.now)))) }
+    ensures can { IfOk result (λ back. K.can_take_back keeper.new back) }
+    ensures back { IfOk result (λ back. K.taken_back keeper.new back ≡ keeper.old) }
+    ensures err { OnErr result (keeper.new ≡ keeper.old) }
+{
+    keeper.write(entity, EntityState::Value(Value::link(*object)))
+}
+
+/// An entity becomes this, whatever it is. Without memory nothing has changed.
+#[inline(never)]
+fn write_any<K: Keeper>(
     keeper: &mut K,
     pid: Pid,
     entity: Entity,
@@ -119,9 +136,7 @@ fn write_one<K: Keeper>(
         Writes::Exited(status) => {
             return keeper.write(entity, EntityState::Value(Value::Exit(Some(*status))));
         }
-        Writes::Linked(object) => {
-            return keeper.write(entity, EntityState::Value(Value::link(*object)));
-        }
+        Writes::Linked(object) => return write_link(keeper, entity, object),
         Writes::First => return write_first(keeper, pid, entity),
         Writes::Over(version) => Change::SetCopy(version_of(keeper, pid, *version)),
         Writes::At(offset) => Change::WriteAt {
@@ -136,6 +151,34 @@ fn write_one<K: Keeper>(
         Writes::TakeSignal => Change::TakeSignal,
     };
     keeper.change(entity, change)
+}
+
+/// An entity becomes this. Without memory nothing has changed. What is frequent stands by itself, so that it has no
+/// place of a whole change in its frame.
+fn write_one<K: Keeper>(
+    keeper: &mut K,
+    pid: Pid,
+    entity: Entity,
+    writes: &Writes,
+) -> Result<K::Back, AllocError>
+    requires there { IsProcess (K.look keeper.old (Proc pid)) }
+    requires can { CanBecome (K.look keeper.old entity)
+        (written (process_in (K.look keeper.old (Proc pid))) writes.now) }
+    requires version { IsWritable (Beside.One entity writes.now) }
+    ensures ok { OnOk result
+        (keeper.new
+        ≡ K.wrote keeper.old entity
+        (Some (value_of (K.look keeper.old entity)
+        (written (process_in (K.look keeper.old (Proc pid))) writes.now)))) }
+    ensures can { IfOk result (λ back. K.can_take_back keeper.new back) }
+    ensures back { IfOk result (λ back. K.taken_back keeper.new back ≡ keeper.old) }
+    ensures err { OnErr result (keeper.new ≡ keeper.old) }
+{
+    match writes {
+        Writes::Empty(kind) => write_empty(keeper, entity, *kind),
+        Writes::Linked(object) => write_link(keeper, entity, object),
+        _ => write_any(keeper, pid, entity, writes),
+    }
 }
 
 /// Goes on from a write with the last one, that of the process. Where that wants memory the first is
@@ -171,9 +214,10 @@ fn changed<C: Becoming>(process: &Process, by: &C) -> Process
     process
 }
 
-/// The process, and then an entity is made absent. Where that wants memory the process is taken back.
+/// The process, of which something is noted, and then an entity is made absent. Where that wants memory the
+/// process is taken back.
 #[inline(never)]
-fn write_gone<K: Keeper, C: Becoming>(
+fn write_noted_gone<K: Keeper, C: Becoming>(
     keeper: &mut K,
     pid: Pid,
     entity: Entity,
@@ -193,6 +237,28 @@ fn write_gone<K: Keeper, C: Becoming>(
         return Err(AllocError);
     }
     Ok(())
+}
+
+/// The process, and then an entity is made absent. Without memory nothing has changed.
+#[tactic(auto, using(crate::proofs::Others::apart_from))]
+fn write_gone<K: Keeper, C: Becoming>(
+    keeper: &mut K,
+    pid: Pid,
+    entity: &Entity,
+    by: &C,
+) -> Result<(), AllocError>
+    requires process { CanBecomeThere (C.can by.now) (K.look keeper.old (Proc pid)) }
+    requires apart { IsNoProcess entity.now }
+    ensures ok { OnOk result
+        (keeper.new
+        ≡ K.wrote (K.wrote keeper.old (Proc pid)
+        (Some (became (C.after by.now) (K.look keeper.old (Proc pid))))) entity.now None) }
+    ensures err { OnErr result (keeper.new ≡ keeper.old) }
+{
+    if keeper.goes_unnoted(pid) {
+        return keeper.remove_beside(entity, pid, by);
+    }
+    write_noted_gone(keeper, pid, *entity, by)
 }
 
 /// The buffer of a process is written at a place of a file, and then the process changes, of which nothing is
@@ -339,7 +405,7 @@ fn write_beside<K: Keeper, C: Becoming>(
     match beside {
         Beside::Nothing => keeper.change_process(pid, by),
         Beside::One(entity, writes) => write_both(keeper, pid, entity, writes, by),
-        Beside::Gone(entity) => write_gone(keeper, pid, *entity, by),
+        Beside::Gone(entity) => write_gone(keeper, pid, entity, by),
     }
 }
 

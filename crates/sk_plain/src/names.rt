@@ -37,11 +37,10 @@ pub(crate) fn look<S: Look>(
     if let Some(error) = no_directory(store, at) {
         return looked(failed(error), Entity::Obj(*at));
     }
-    let change = match target_at(store, at, name) {
-        Some(object) => given(register, Val::Obj(object)),
-        None => failed(Errno::NotLinked),
-    };
-    looked_up(change, at, name)
+    match target_at(store, at, name) {
+        Some(object) => looked_up(given(register, Val::Obj(object)), at, name),
+        None => looked_up(failed(Errno::NotLinked), at, name),
+    }
 }
 
 /// The same, put into a plan. A frequent row stands by itself, so that no other one has a place in its frame.

@@ -1,5 +1,5 @@
 //! What a step will do, before it does it. A plan takes no memory.
-ghost use Rattle.std.specs.Prelude.{◌≡◌, ◌+◌, ◌<◌, ◌^◌, [], true, false, is_some, IsSome, IfOk, Some, None, Ok};
+ghost use Rattle.std.specs.Prelude.{◌≡◌, ◌+◌, ◌<◌, ◌^◌, [], true, false, is_some, IsSome, IfOk, IfSome, Some, None, Ok};
 ghost use Rattle.std.specs.Option.{option_copied};
 ghost use Rattle.sk_ids.specs.declared.entity.Entity.TheVariants.{Sig};
 ghost use Rattle.sk_objects.specs.declared.value.Value.TheVariants as values;
@@ -12,7 +12,7 @@ ghost use Rattle.sk_plain.specs.Next.{IsAlone};
 ghost use Rattle.sk_plain.specs.Planned.{signals_read, IsReply, said_by};
 ghost use Rattle.sk_plain.specs.declared.plan.Beside.TheVariants as Beside;
 ghost use Rattle.sk_plain.specs.declared.plan.Looks.TheVariants as Looks;
-ghost use Rattle.sk_plain.specs.Seen.{PlansAfter, PlansRow, PlansStep, plan_of, seen, seen_with, told};
+ghost use Rattle.sk_plain.specs.Seen.{DoesNext, PlansAfter, PlansRow, PlansStep, plan_of, seen, seen_with, told};
 
 use crate::next::is_due;
 use crate::processes::{ends, fork, is_killed, kill, status_of, wait};
@@ -210,6 +210,7 @@ fn acted<S: Look>(
 }
 
 /// A step without input.
+#[inline(always)]
 fn does<S: Look>(
     store: &S,
     pid: Pid,
@@ -345,6 +346,7 @@ fn replied<S: Look>(
 }
 
 /// The next step of a process that goes on.
+#[inline(never)]
 fn with_input<S: Look>(
     store: &S,
     pid: Pid,
@@ -402,8 +404,44 @@ pub(crate) fn instruction_at<'a>(scripts: &'a Scripts, process: &Process) -> Opt
 }
 
 /// Puts what the next step of a process will do with an input into a plan, which is `Private` before; or answers the
-/// first refusal that applies. This takes no memory.
-pub fn plan_into<S: Look>(
+/// first refusal that applies. A private step that takes no signal is answered with its instruction. This takes no
+/// memory.
+#[inline(always)]
+pub fn plan_into<'a, S: Look>(
+    store: &S,
+    scripts: &'a Scripts,
+    pid: Pid,
+    input: InputRef<'_>,
+    plan: &mut Plan,
+) -> Result<Option<&'a Instruction>, Refusal>
+    requires { plan.old ≡ Plan.Private }
+    ensures step { PlansStep (S.look store.now) scripts.now pid (input_in input.entry)
+        (told result plan.new) }
+    ensures quiet { IsReply (input_in input.entry)
+        → IfOk (told result plan.new)
+        (λ plan. said_by
+        (seen_with (S.look store.now) scripts.now pid (input_in input.entry) plan) ≡ None) }
+    ensures next { IfOk result (λ found. IfSome found
+        (λ i. DoesNext (S.look store.now) scripts.now pid plan.new i.now)) }
+{
+    let process = match store.value(Entity::Proc(pid)) {
+        Some(EntityState::Process(process)) => process,
+        _ => return Err(Refusal::NoProcess),
+    };
+    if process.ended {
+        return Err(Refusal::Ended);
+    }
+    let instruction = instruction_at(scripts, process);
+    if goes_alone(store, pid, process, instruction, input) {
+        return Ok(instruction);
+    }
+    with_input(store, pid, process, instruction, input, plan)?;
+    Ok(None)
+}
+
+/// The same by a call of its own, for what takes no step at once.
+#[inline(never)]
+fn plan_apart<S: Look>(
     store: &S,
     scripts: &Scripts,
     pid: Pid,
@@ -418,18 +456,8 @@ pub fn plan_into<S: Look>(
         (λ plan. said_by
         (seen_with (S.look store.now) scripts.now pid (input_in input.entry) plan) ≡ None) }
 {
-    let process = match store.value(Entity::Proc(pid)) {
-        Some(EntityState::Process(process)) => process,
-        _ => return Err(Refusal::NoProcess),
-    };
-    if process.ended {
-        return Err(Refusal::Ended);
-    }
-    let instruction = instruction_at(scripts, process);
-    if goes_alone(store, pid, process, instruction, input) {
-        return Ok(());
-    }
-    with_input(store, pid, process, instruction, input, plan)
+    plan_into(store, scripts, pid, input, plan)?;
+    Ok(())
 }
 
 /// What the next step of a process will do with an input, or the first refusal that applies. This
@@ -447,7 +475,7 @@ pub fn plan_step<S: Look>(
         (seen_with (S.look store.now) scripts.now pid (input_in input.entry) plan) ≡ None) }
 {
     let mut plan = Plan::Private;
-    match plan_into(store, scripts, pid, input, &mut plan) {
+    match plan_apart(store, scripts, pid, input, &mut plan) {
         Ok(()) => Ok(plan),
         Err(why) => Err(why),
     }

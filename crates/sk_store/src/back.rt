@@ -51,11 +51,11 @@ fn change_back(store: &mut Store, entity: &Entity, undo: Undo)
 }
 
 /// Changes a value where it stands. Without memory nothing has changed.
-fn change_in(store: &mut Store, entity: &Entity, change: Change) -> Result<Undo, AllocError>
-    requires { FitsAt (map.get store.old entity.now) change }
+fn change_in(store: &mut Store, entity: &Entity, change: &Change) -> Result<Undo, AllocError>
+    requires { FitsAt (map.get store.old entity.now) change.now }
     ensures ok { OnOk result
         (store.new ≡ map.insert store.old entity.now
-        (changed (map.get store.old entity.now) change)) }
+        (changed (map.get store.old entity.now) change.now)) }
     ensures can { IfOk result (λ undo. CanPutBack store.new entity.now (PutBack.Changed undo)) }
     ensures back { IfOk result
         (λ undo. put_back_at store.new entity.now (PutBack.Changed undo) ≡ store.old) }
@@ -122,6 +122,17 @@ fn change_both<C: Becoming>(
     change_alone_in(store, entity, change)?;
     become_in(store, pid, by);
     Ok(())
+}
+
+/// Changes a process where it stands, and makes an entity beside it absent.
+fn remove_beside<C: Becoming>(store: &mut Store, entity: &Entity, pid: Pid, by: &C)
+    requires { CanBecome (C.can by.now) (map.get store.old (Proc pid)) }
+    ensures { store.new ≡ map.remove
+        (map.insert store.old (Proc pid)
+        (became (C.after by.now) (map.get store.old (Proc pid)))) entity.now }
+{
+    become_in(store, pid, by);
+    store.remove(*entity);
 }
 
 /// Puts a write back, which takes no memory.
@@ -192,7 +203,7 @@ impl Keeper for Store {
     }
 
     fn change(&mut self, entity: Entity, change: Change) -> Result<Back, AllocError> {
-        let undo = change_in(self, &entity, change)?;
+        let undo = change_in(self, &entity, &change)?;
         Ok(Back {
             entity,
             undo: PutBack::Changed(undo),
@@ -221,6 +232,16 @@ impl Keeper for Store {
         by: &C,
     ) -> Result<(), AllocError> {
         change_both(self, entity, change, pid, by)
+    }
+
+    fn remove_beside<C: Becoming>(
+        &mut self,
+        entity: &Entity,
+        pid: Pid,
+        by: &C,
+    ) -> Result<(), AllocError> {
+        remove_beside(self, entity, pid, by);
+        Ok(())
     }
 
     fn remove(&mut self, entity: Entity) -> Result<(), AllocError> {

@@ -2,7 +2,7 @@
 ghost use Rattle.std.specs.Prelude.{◌≡◌, IfOk, OnOk, OnErr, Some};
 
 use crate::Becoming;
-use sk_changes::{Change, Invertible, Undo, change_alone};
+use sk_changes::{Change, Invertible, Undo, change_alone, change_noted};
 use sk_objects::Value;
 use sk_script::Process;
 use std::alloc::{AllocError, Global};
@@ -30,18 +30,18 @@ impl EntityState {
 
     /// Changes the value that it is, where it stands, with memory for the undo from `alloc`. Without
     /// memory nothing has changed.
-    pub fn change(&mut self, alloc: Global, change: Change) -> Result<Undo, AllocError>
-        requires { FitsAt (Some self.old) change }
-        ensures ok { OnOk result (self.new ≡ changed (Some self.old) change) }
+    pub fn change(&mut self, alloc: Global, change: &Change) -> Result<Undo, AllocError>
+        requires { FitsAt (Some self.old) change.now }
+        ensures ok { OnOk result (self.new ≡ changed (Some self.old) change.now) }
         ensures can { IfOk result (λ undo. StateFits self.new undo) }
         ensures back { IfOk result (λ undo. state_undone self.new undo ≡ self.old) }
         ensures err { OnErr result (self.new ≡ self.old) }
     {
         match self {
-            EntityState::Value(value) => match value.apply(alloc, change) {
-                Ok(undo) => Ok(undo),
-                Err(_) => Err(AllocError),
-            },
+            EntityState::Value(value) => {
+                let undo = change_noted(value, alloc, change)?;
+                Ok(undo)
+            }
             EntityState::Process(_) => unreachable!(),
         }
     }

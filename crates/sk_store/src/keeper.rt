@@ -98,6 +98,23 @@ pub trait Keeper: Look {
             (Some (became (C.after by.now) (Self.look self.old (Proc pid))))) }
         ensures err { OnErr result (self.new ≡ self.old) };
 
+    /// Changes a process, of which nothing is noted, and makes an entity beside it absent, as the last writes of
+    /// a step. Without memory nothing has changed.
+    fn remove_beside<C: Becoming>(
+        &mut self,
+        entity: &Entity,
+        pid: Pid,
+        by: &C,
+    ) -> Result<(), AllocError>
+        requires unnoted { goes_unnoted self.old pid ≡ true }
+        requires can { CanBecome (C.can by.now) (Self.look self.old (Proc pid)) }
+        requires apart { eq_by_cmp entity_cmp (Proc pid) entity.now ≡ false }
+        ensures ok { OnOk result
+            (self.new ≡ wrote
+            (wrote self.old (Proc pid)
+            (Some (became (C.after by.now) (Self.look self.old (Proc pid))))) entity.now None) }
+        ensures err { OnErr result (self.new ≡ self.old) };
+
     /// Makes an entity absent, as the last write of a step. Without memory nothing has changed.
     fn remove(&mut self, entity: Entity) -> Result<(), AllocError>
         ensures ok { OnOk result (self.new ≡ wrote self.old entity None) }

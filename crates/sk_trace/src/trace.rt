@@ -109,6 +109,7 @@ impl Trace {
     }
 
     /// Adds an event, for which there is room. This takes no memory.
+    #[inline(always)]
     pub fn push(&mut self, event: Event)
         requires { 0 < self.old.room }
         ensures events { self.new.events ≡ self.old.events ++ event ∷ [] }

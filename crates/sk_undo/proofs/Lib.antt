@@ -16,3 +16,6 @@ mod GivenBack
 pub mod Counted
 mod Copying
 mod NameCounts
+mod Swaps
+mod ByKind
+mod FewNames

@@ -13,12 +13,9 @@ use Rattle.sk_undo.proofs.Cites.{look_at, placed, slots_wrote, slots_back, CanTa
 use Rattle.sk_undo.proofs.Cites.{SlotUnwound, IsWithin, NameMap, IsCounted, count_in, count_for, with_count, with_place}
 use Rattle.sk_undo.proofs.Cites.{made_for, recounted, recounted_at, link_there}
 use Rattle.std.specs.FinMap as map
-use Rattle.std.specs.FinSet.{remove}
 use Rattle.std.proofs.lemmas.Map.Lookups.{exact_bytes}
+use Rattle.sk_undo.specs.Kinds.{HasAtMost}
 use Rattle.sk_undo.proofs.Passes.{placed_at, placed_get, same_elsewhere}
-
-names_total : IsTotalOrder name_order
-names_total = nat_list_cmp_total
 
 -- ---- directories in their order
 object_itself : (d : ObjId) → object_cmp d d ≡ Equal
@@ -42,44 +39,6 @@ named_apart d o q n apart =
 named_alike : (d : ObjId) (q n : List ℕ) → eq_by_cmp entity_cmp (Link d q) (Link d n) ≡ eq_by_cmp name_order q n
 named_alike d q n = ap (λ r. is_eq (ordering_then r (name_order q n))) (object_itself d)
 
--- ---- no more names than slots
-split : (a b : Bool) → (not a && b) ≡ true → (a ≡ false) × (b ≡ true)
-split true b h = absurd (true≢false (sym h))
-split false b h = (refl, h)
-
-some_name : (s : FinSet name_order) (n : ℕ) → len s ≡ suc n → (k : List ℕ) × (contains s k ≡ true)
-some_name s n is =
-    elim (items s) as (λ (ks : List (List ℕ)). items s ≡ ks → (k : List ℕ) × (contains s k ≡ true)) [
-      | [] ↦ λ none.
-          let all : s ≡ empty = same_set names_total exact_bytes s empty (λ q. contains-items s q ∙ ap (list_any (eq_by_cmp name_order q)) none ∙ sym (contains-empty name_order q)) in
-          let zero_long : len s ≡ 0 = ap len all ∙ len-empty name_order in
-          absurd (omega (arith, is, zero_long))
-      | k ∷ ks ↦ λ some. (k, contains-items s k ∙ ap (list_any (eq_by_cmp name_order k)) some ∙ ap (λ b. b || list_any (eq_by_cmp name_order k) ks) ((eq_by_cmp_equiv names_total).refl k))
-    ] refl
-
-has_one : (m : SlotMap) (e : Entity) → map.contains_key m e ≡ true → 1 ≤ map.len m
-has_one m e there =
-    elim (map.len m) as (λ n. map.len m ≡ n → 1 ≤ n) [
-      | zero ↦ λ none. absurd (true≢false (sym there ∙ ap (λ (k : SlotMap). map.contains_key k e) (map.empty_of_len m none) ∙ ap is_some (map.get-empty entity_cmp e)))
-      | suc n ↦ λ _. omega arith
-    ] refl
-
-within : (d : ObjId) (n : ℕ) (s : FinSet name_order) (m : SlotMap) → len s ≡ n → ((q : List ℕ) → contains s q ≡ true → map.contains_key m (Link d q) ≡ true) → n ≤ map.len m
-within d zero s m is each = omega arith
-within d (suc n) s m is each =
-    let k = (some_name s n is).0 in
-    let inside = (some_name s n is).1 in
-    let here = each k inside in
-    let less : len (remove s k) ≡ n = len-remove names_total s k ∙ ap (λ b. cond b (len s - 1) (len s)) inside ∙ (let e : len s - 1 ≡ n = omega (arith, is) in e) in
-    let rest : n ≤ map.len (map.remove m (Link d k)) = within d n (remove s k) (map.remove m (Link d k)) less (λ q in_rest.
-    let both = split (eq_by_cmp name_order q k) (contains s q) (sym (contains-remove names_total s k q) ∙ in_rest) in
-    ap is_some (map.get-remove entity_total m (Link d k) (Link d q))
-    ∙ ap (λ b. is_some (cond b None (map.get m (Link d q)))) (named_alike d q k ∙ both.0)
-    ∙ each q both.1) in
-    let fewer : map.len (map.remove m (Link d k)) ≡ map.len m - 1 = map.len-remove entity_total m (Link d k) ∙ ap (λ b. cond b (map.len m - 1) (map.len m)) here in
-    let some : 1 ≤ map.len m = has_one m (Link d k) here in
-    omega (arith, rest, fewer, some)
-
 seen_there : (o : Option SlotView) → is_some (slot_in o).now ≡ true → is_some o ≡ true
 seen_there None h = h
 seen_there (Some s) h = refl
@@ -88,15 +47,15 @@ seen_there (Some s) h = refl
 pub has_slot : (m : SlotMap) (e : Entity) → is_some (look_at m e) ≡ true → map.contains_key m e ≡ true
 has_slot m e h = seen_there (map.get m e) h
 
-pub few_names : (m : SlotMap) (d : ObjId) (n : ℕ) → IsCount (name_there (look_at m)) d n → n ≤ map.len m
-few_names m d n a = within d n a.names m a.count (λ q inside. has_slot m (Link d q) (sym (a.all q) ∙ inside))
-
-pub few_for : (m : SlotMap) (names : NameMap) (e : Entity) (most : ℕ) → IsCounted m names → most ≡ map.len m → count_for names e ≤ most
+pub few_for : (m : SlotMap) (names : NameMap) (e : Entity) (most : ℕ) → IsCounted m names → HasAtMost m most → count_for names e ≤ most
 few_for m names (Proc p) most so is = omega arith
 few_for m names (Sig p) most so is = omega arith
 few_for m names (Exit p) most so is = omega arith
 few_for m names (Obj o) most so is = omega arith
-few_for m names (Link d n) most so is = let few : count_in names d ≤ map.len m = few_names m d (count_in names d) (so.count d) in omega (arith, few, is)
+few_for m names (Link d n) most so few =
+    let a = so.count d in
+    let under : len a.names ≤ most = few d a.names (λ q inside. has_slot m (Link d q) (sym (a.all q) ∙ inside)) in
+    omega (arith, a.count, under)
 few_for m names (Copy n) most so is = omega arith
 
 -- ---- numbers made and set
@@ -299,13 +258,32 @@ same_count names d false = refl
 
 module _ (m n : SlotMap) (e : Entity) (names : NameMap) (so : IsCounted m names) where
   -- a write
-  pub set_counted : (tags : List ℕ) (v : Option EntityState) (made after : NameMap) (had : Bool) → made ≡ made_for names e → had ≡ link_there m e → n ≡ slots_wrote tags m e v
+  set_counted : (tags : List ℕ) (v : Option EntityState) (made after : NameMap) (had : Bool) → made ≡ made_for names e → had ≡ link_there m e → n ≡ slots_wrote tags m e v
       → after ≡ recounted made e had (link_there n e) → IsCounted n after
   set_counted tags v made after had is_made is_had is_new is_after =
       subst (IsCounted n) (sym (is_after ∙ (λ i. recounted (is_made i) e (is_had i) (link_there n e))))
       (counted_on m n (made_for names e) e
       (λ q apart. ap (λ (x : SlotMap). map.get x q) is_new ∙ placed_get m e (slot_wrote tags (slot_in (map.get m e)) v) q apart)
       (λ _. number_made names e) (counted_made m names e so))
+
+  -- what is told of the write is what the slots tell
+  told : (made : NameMap) (q : Entity) (a b : Bool) → a ≡ is_some (look_at m q) → b ≡ is_some (look_at n q) → recounted made q a b ≡ recounted made q (link_there m q) (link_there n q)
+  told made (Proc p) a b had has = refl
+  told made (Sig p) a b had has = refl
+  told made (Exit p) a b had has = refl
+  told made (Obj o) a b had has = refl
+  told made (Link d name) a b had has = (λ i. recounted_at made d (had i) (has i))
+  told made (Copy c) a b had has = refl
+
+  -- a write that tells whether there was something
+  pub wrote_counted : (tags : List ℕ) (v : Option EntityState) (made after : NameMap) (had : Bool) → made ≡ made_for names e → had ≡ is_some (look_at m e) → n ≡ slots_wrote tags m e v
+      → after ≡ recounted made e had (is_some v) → IsCounted n after
+  wrote_counted tags v made after had is_made is_had is_new is_after =
+      let s = slot_wrote tags (slot_in (map.get m e)) v in
+      let now : look_at n e ≡ v =
+      ap (λ (x : SlotMap). look_at x e) is_new ∙ ap (λ (t : SlotView). t.now) (placed_at m e s e)
+      ∙ ap (λ b. (cond b s (slot_in (map.get m e))).now) ((eq_by_cmp_equiv entity_total).refl e) in
+      set_counted tags v made after (link_there m e) is_made refl is_new (is_after ∙ told made e had (is_some v) is_had (sym (ap is_some now)))
 
   -- what had a slot where it has one then
   kept_counted : (after : NameMap) (had : Bool) → ((q : Entity) → eq_by_cmp entity_cmp q e ≡ false → map.get n q ≡ map.get m q) → (map.contains_key n e ≡ true → map.contains_key m e ≡ true) → had ≡ link_there m e

@@ -17,7 +17,7 @@ ghost use Rattle.sk_undo.specs.Logs.{look_at, log_at, goes_on_at, is_unnoted, mo
 ghost use Rattle.sk_undo.specs.Names.{IsCounted, count_for, link_there, recounted};
 ghost use Rattle.sk_undo.specs.Decisions.{ChangedAt, SlotUnwound, Unwound, Lightened, AreListed, AllRest, AllGrow, NoneBare};
 
-use crate::{BoxedState, Names, Slots, TakeBack};
+use crate::{BoxedState, Names, Slots, TakeBack, Written};
 use sk_changes::Change;
 use sk_ids::{Entity, GuessId, ObjId, Pid, TagSet};
 use sk_store::{Becoming, EntityState, Store};
@@ -78,9 +78,9 @@ fn move_over(
 }
 
 /// Counts an entity anew after it was written, where it is a name that was there or not.
-fn recount(slots: &Slots, names: &mut Names, entity: &Entity, was: bool, len: usize)
-    requires most { count_for names.old entity.now ≤ len }
-    requires len { len < 2 ^ 63 }
+fn recount(slots: &Slots, names: &mut Names, entity: &Entity, was: bool, most: usize)
+    requires most { count_for names.old entity.now ≤ most }
+    requires small { most < 2 ^ 63 }
     ensures { names.new ≡ recounted names.old entity.now was (link_there slots.now entity.now) }
 {
     names.recount(entity, was, link_there(slots, entity));
@@ -172,10 +172,9 @@ impl CountedSlots {
         ensures err { OnErr result (self.new ≡ self.old) }
     {
         self.names.make_for(entity)?;
-        let was = link_there(&self.slots, entity);
-        let len = self.slots.len();
-        let back = self.slots.set(entity, tags, value)?;
-        recount(&self.slots, &mut self.names, entity, was, len);
+        let _most = self.slots.most_names();
+        let Written { was, back } = self.slots.set(entity, tags, value)?;
+        self.names.recount(entity, was, true);
         Ok(back)
     }
 
@@ -201,10 +200,9 @@ impl CountedSlots {
         ensures err { OnErr result (self.new ≡ self.old) }
     {
         self.names.make_for(entity)?;
-        let was = link_there(&self.slots, entity);
-        let len = self.slots.len();
-        self.slots.clear(entity, tags)?;
-        recount(&self.slots, &mut self.names, entity, was, len);
+        let _most = self.slots.most_names();
+        let was = self.slots.clear(entity, tags)?;
+        self.names.recount(entity, was, false);
         Ok(())
     }
 
@@ -267,6 +265,29 @@ impl CountedSlots {
         self.slots.change_both(entity, tags, change, pid, by)
     }
 
+    /// Changes a process, of which nothing is noted, and makes an entity beside it absent: that first, since it
+    /// alone can want memory. Then nothing has changed.
+    pub fn clear_beside<C: Becoming>(
+        &mut self,
+        entity: &Entity,
+        tags: &TagSet,
+        pid: Pid,
+        by: &C,
+    ) -> Result<(), AllocError>
+        requires unnoted { is_unnoted tags.now self.old (Proc pid) ≡ true }
+        requires can { CanBecome (C.can by.now) (look_at self.old (Proc pid)) }
+        requires apart { eq_by_cmp entity_cmp (Proc pid) entity.now ≡ false }
+        ensures ok { OnOk result
+            (self.new ≡ slots_wrote tags.now
+            (slots_wrote tags.now self.old (Proc pid)
+            (Some (became (C.after by.now) (look_at self.old (Proc pid))))) entity.now None) }
+        ensures err { OnErr result (self.new ≡ self.old) }
+    {
+        self.clear(entity, tags)?;
+        self.become_unnoted(pid, tags, by);
+        Ok(())
+    }
+
     /// Changes a process where it stands, if it rests on at least so many guesses and nothing need be noted of a write that
     /// rests on just these. Answers whether; else nothing has changed. This takes no memory.
     pub fn go_on<C: Becoming>(&mut self, pid: Pid, least: usize, by: &C) -> bool
@@ -287,9 +308,9 @@ impl CountedSlots {
         ensures { self.new ≡ slots_back self.old entity.now how }
     {
         let was = link_there(&self.slots, entity);
-        let len = self.slots.len();
+        let most = self.slots.most_names();
         self.slots.take_back(entity, how);
-        recount(&self.slots, &mut self.names, entity, was, len);
+        recount(&self.slots, &mut self.names, entity, was, most);
     }
 
     /// Takes back what rests on a guess at one entity, in place and without memory.
@@ -297,9 +318,9 @@ impl CountedSlots {
         ensures { ChangedAt (SlotUnwound guess) self.old entity.now self.new }
     {
         let was = link_there(&self.slots, entity);
-        let len = self.slots.len();
+        let most = self.slots.most_names();
         self.slots.unwind_at(entity, guess);
-        recount(&self.slots, &mut self.names, entity, was, len);
+        recount(&self.slots, &mut self.names, entity, was, most);
     }
 
     /// Takes back what rests on a guess, at the entities of which a note does, in place and without

@@ -84,7 +84,7 @@ impl BoxedState {
         ensures err { OnErr result (self.new ≡ self.old) }
     {
         let alloc = *Box::allocator(&self.state);
-        let undo = self.state.change(alloc, *change)?;
+        let undo = self.state.change(alloc, change)?;
         Ok(undo)
     }
 

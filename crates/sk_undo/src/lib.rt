@@ -4,7 +4,9 @@
 
 pub mod counted_slots;
 pub mod entity_logs;
+mod entity_map;
 pub mod held;
+mod keys;
 pub mod laws;
 pub mod log;
 pub mod logs;
@@ -19,4 +21,4 @@ pub use log::{Log, Logged, Note, put_back};
 pub use logs::{EntityUndo, Logs};
 pub use names::Names;
 pub use slot::Slot;
-pub use slots::{Slots, TakeBack};
+pub use slots::{Slots, TakeBack, Written};

@@ -275,6 +275,15 @@ impl Keeper for Logs {
         self.slots.change_both(entity, &self.tags, change, pid, by)
     }
 
+    fn remove_beside<C: Becoming>(
+        &mut self,
+        entity: &Entity,
+        pid: Pid,
+        by: &C,
+    ) -> Result<(), AllocError> {
+        self.slots.clear_beside(entity, &self.tags, pid, by)
+    }
+
     fn remove(&mut self, entity: Entity) -> Result<(), AllocError> {
         self.slots.clear(&entity, &self.tags)
     }

@@ -1,5 +1,5 @@
 //! How many names of each directory are there.
-ghost use Rattle.std.specs.Prelude.{◌≡◌, ◌+◌, ◌<◌, ◌^◌, OnOk, OnErr};
+ghost use Rattle.std.specs.Prelude.{◌≡◌, ◌+◌, ◌-◌, ◌<◌, ◌^◌, OnOk, OnErr};
 ghost use Rattle.std.specs.FinMap as map;
 ghost use Rattle.sk_undo.specs.Names.{count_in, count_for, with_count, with_place, made_for, recounted_at, recounted};
 
@@ -42,12 +42,24 @@ impl Names {
         self.counts.get(directory).copied().unwrap_or(0)
     }
 
-    /// Sets the number of a directory that has one, which takes no memory.
-    fn set(&mut self, directory: &ObjId, count: usize)
-        ensures { self.new ≡ with_count self.old directory.now count }
+    /// A directory that has a number has one name more, which takes no memory.
+    fn add_one(&mut self, directory: &ObjId)
+        requires { count_in self.old directory.now < 2 ^ 63 }
+        ensures { self.new
+            ≡ with_count self.old directory.now (count_in self.old directory.now + 1) }
     {
-        if let Some(place) = self.counts.get_mut(directory) {
-            *place = count;
+        if let Some(count) = self.counts.get_mut(directory) {
+            *count += 1;
+        }
+    }
+
+    /// It has one name less.
+    fn take_one(&mut self, directory: &ObjId)
+        ensures { self.new
+            ≡ with_count self.old directory.now (count_in self.old directory.now - 1) }
+    {
+        if let Some(count) = self.counts.get_mut(directory) {
+            *count = count.saturating_sub(1);
         }
     }
 
@@ -79,10 +91,9 @@ impl Names {
         requires { count_in self.old directory.now < 2 ^ 63 }
         ensures { self.new ≡ recounted_at self.old directory.now was is }
     {
-        let count = self.count(directory);
         match (was, is) {
-            (false, true) => self.set(directory, count + 1),
-            (true, false) => self.set(directory, count.saturating_sub(1)),
+            (false, true) => self.add_one(directory),
+            (true, false) => self.take_one(directory),
             (true, true) | (false, false) => {}
         }
     }

@@ -60,6 +60,14 @@ fn goes_unnoted(tags: &TagSet, value: &Option<BoxedState>, log: &Log<BoxedState>
     log.goes_unnoted(tags)
 }
 
+/// Where a write is not noted, the log is the same whatever stands there now; for proofs.
+fn stands(tags: &TagSet, value: &Option<BoxedState>, log: &Log<BoxedState>)
+    requires can { CanGoBack Fits undone value.now (reverse log.now.notes.items) }
+    requires unnoted { goes_unnoted tags.now
+        (seen undone value.now (reverse log.now.notes.items)) ≡ true }
+    ensures { is_stable_raw (reverse log.now.notes.items) ≡ true }
+{}
+
 /// Whether a write with the tags of the newest note is not noted, which are at least so many.
 fn goes_on(least: usize, value: &Option<BoxedState>, log: &Log<BoxedState>) -> bool
     requires { CanGoBack Fits undone value.now (reverse log.now.notes.items) }
@@ -282,9 +290,7 @@ impl Slot {
         ensures { self.new ≡ slot_wrote tags.now self.old
             (Some (became (C.after by.now) self.old.now)) }
     {
-        if !goes_unnoted(tags, &self.value, &self.log) {
-            unreachable!();
-        }
+        stands(tags, &self.value, &self.log);
         become_in(&mut self.value, by);
     }
 

@@ -1,5 +1,5 @@
 //! All entities with their undo logs, in one map.
-ghost use Rattle.std.specs.Prelude.{◌≡◌, ◌<◌, [], min, ◌-◌, ◌^◌, true, false, OnOk, OnErr, IfOk, OnSome, Some, None, is_some};
+ghost use Rattle.std.specs.Prelude.{◌≡◌, ◌<◌, ◌+◌, [], min, ◌-◌, ◌^◌, true, false, OnOk, OnErr, IfOk, OnSome, Some, None, is_some};
 ghost use Rattle.std.specs.Option.{option_copied, option_copied_mut, unwrap_or};
 ghost use Rattle.std.specs.FinMap as map;
 ghost use Rattle.std.specs.List.Sorted.{IsStrictlySortedBy};
@@ -13,7 +13,9 @@ ghost use Rattle.sk_record.specs.Run.{put};
 ghost use Rattle.sk_record.specs.Notes.{last_tags};
 ghost use Rattle.sk_store.specs.Changed.{FitsAt, changed};
 ghost use Rattle.sk_store.specs.Processes.{CanBecome, became};
-ghost use Rattle.sk_undo.specs.Count.{notes_in};
+ghost use Rattle.std.specs.List.{sum_by};
+ghost use Rattle.sk_undo.specs.Count.{note_count, notes_in};
+ghost use Rattle.sk_undo.specs.Kinds.{HasAtMost};
 ghost use Rattle.sk_undo.specs.Log.{is_empty};
 ghost use Rattle.sk_undo.specs.Slot.{slot_of, slot_wrote};
 ghost use Rattle.sk_undo.specs.Logs.{look_at, log_at, slot_in, goes_on_at, is_unnoted, slots_wrote, slots_back, CanTakeBack};
@@ -21,12 +23,13 @@ ghost use Rattle.sk_undo.specs.Decisions.{ChangedAt, SlotUnwound, SlotCommitted,
 ghost use Rattle.sk_undo.specs.contracts.slots.Slots.{the_row as slots_row};
 ghost use Rattle.sk_undo.specs.contracts.slot.Slot.{the_row as slot_row};
 
+use crate::entity_map::EntityMap;
 use crate::{BoxedState, Slot};
 use sk_changes::Change;
 use sk_ids::{Entity, GuessId, Pid, TagSet};
-use sk_map::Map;
 use sk_store::{Becoming, EntityState, PutBack, Store};
 use std::alloc::{AllocError, Global};
+use std::collections::btree_map::Values;
 use std::marker::Model;
 
 /// What takes a write back, at its entity.
@@ -37,22 +40,27 @@ pub enum TakeBack {
     UndoLast(Option<PutBack<BoxedState>>),
 }
 
+/// What takes a write back, and whether there was something before it.
+#[derive(Drop)]
+pub struct Written {
+    pub was: bool,
+    pub back: TakeBack,
+}
+
 /// The slots of entities. One without a slot is absent, and nothing is noted of it.
 #[derive(Drop)]
 pub struct Slots {
-    slots: Map<Entity, Slot>,
+    slots: EntityMap<Slot>,
 }
 
 impl Model for Slots {
-    ghost use Rattle.sk_ids.specs.Entity.{entity_cmp};
-    ghost use Rattle.sk_map.specs.Seen.{seen};
     ghost use Rattle.sk_undo.specs.Logs.{SlotMap, slot_map_code};
 
     ghost Value = { SlotMap };
 
     ghost coded = { slot_map_code };
 
-    ghost view = { λ a. seen entity_cmp a.slots };
+    ghost view = { λ a. a.slots };
 }
 
 /// The slot of an entity that had none.
@@ -62,6 +70,17 @@ fn born(alloc: Global, tags: &TagSet, value: Option<BoxedState>) -> Result<Slot,
     let mut slot = Slot::new(alloc, None);
     slot.set(tags, value)?;
     Ok(slot)
+}
+
+/// So many notes and those of slots, or the largest number where there are more.
+fn notes_among<K: Ord>(counted: usize, slots: Values<'_, K, Slot>) -> usize
+    ensures { result ≡ min (counted + sum_by note_count slots.entry) (2 ^ 64 - 1) }
+{
+    let mut total = counted;
+    for slot in slots {
+        total = total.saturating_add(slot.notes());
+    }
+    total
 }
 
 /// Copies what an entity has now into a store.
@@ -82,7 +101,7 @@ impl Slots {
         ensures { result ≡ map.empty }
     {
         Slots {
-            slots: Map::new(alloc),
+            slots: EntityMap::new(alloc),
         }
     }
 
@@ -102,12 +121,12 @@ impl Slots {
         Ok(store)
     }
 
-    /// How many slots there are.
-    pub fn len(&self) -> usize
-        ensures len { result ≡ map.len self.now }
+    /// A number that no directory has more names with a slot than.
+    pub fn most_names(&self) -> usize
+        ensures most { HasAtMost self.now result }
         ensures small { result < 2 ^ 63 }
     {
-        self.slots.len()
+        self.slots.most_names()
     }
 
     pub fn value(&self, entity: Entity) -> Option<&EntityState>
@@ -135,7 +154,7 @@ impl Slots {
         ensures present { IfOk result
             (λ all. (e : Entity) → is_in entity_cmp all.items e ≡ is_some (look_at self.now e)) }
     {
-        let mut all: Vec<Entity> = self.slots.keys().copied().collect(self.alloc())?;
+        let mut all = self.slots.entities()?;
         all.retain(|entity: &Entity| self.value(*entity).is_some());
         Ok(all)
     }
@@ -144,11 +163,13 @@ impl Slots {
     pub fn notes(&self) -> usize
         ensures { result ≡ min (notes_in self.now) (2 ^ 64 - 1) }
     {
-        let mut total = 0usize;
-        for slot in self.slots.values() {
-            total = total.saturating_add(slot.notes());
-        }
-        total
+        let values = self.slots.values();
+        let own = notes_among(0, values.processes);
+        let queued = notes_among(own, values.signals);
+        let left = notes_among(queued, values.exits);
+        let objects = notes_among(left, values.objects);
+        let links = notes_among(objects, values.links);
+        notes_among(links, values.copies)
     }
 
     fn slot_mut(&mut self, entity: &Entity) -> Option<&mut Slot>
@@ -163,7 +184,7 @@ impl Slots {
         ensures ok { OnOk result (self.new ≡ map.insert self.old entity slot) }
         ensures err { OnErr result (self.new ≡ self.old) }
     {
-        self.slots.put(entity, slot)
+        self.slots.put(&entity, slot)
     }
 
     fn remove(&mut self, entity: &Entity)
@@ -178,20 +199,28 @@ impl Slots {
         entity: &Entity,
         tags: &TagSet,
         value: BoxedState,
-    ) -> Result<TakeBack, AllocError>
+    ) -> Result<Written, AllocError>
         ensures ok { OnOk result
             (self.new ≡ slots_wrote tags.now self.old entity.now (Some value)) }
-        ensures can { IfOk result (λ how. CanTakeBack self.new entity.now how) }
-        ensures back { IfOk result (λ how. slots_back self.new entity.now how ≡ self.old) }
+        ensures can { IfOk result (λ w. CanTakeBack self.new entity.now w.back) }
+        ensures back { IfOk result (λ w. slots_back self.new entity.now w.back ≡ self.old) }
+        ensures was { IfOk result (λ w. w.was ≡ is_some (look_at self.old entity.now)) }
         ensures err { OnErr result (self.new ≡ self.old) }
     {
         if let Some(slot) = self.slot_mut(entity) {
+            let was = slot.value().is_some();
             let back = slot.set(tags, Some(value))?;
-            return Ok(TakeBack::UndoLast(back));
+            return Ok(Written {
+                was,
+                back: TakeBack::UndoLast(back),
+            });
         }
         let slot = born(self.alloc(), tags, Some(value))?;
         self.put(*entity, slot)?;
-        Ok(TakeBack::DropSlot)
+        Ok(Written {
+            was: false,
+            back: TakeBack::DropSlot,
+        })
     }
 
     /// Changes a process where it stands. Without memory nothing has changed.
@@ -217,23 +246,26 @@ impl Slots {
         }
     }
 
-    /// Makes an entity absent. Without memory nothing has changed.
-    pub fn clear(&mut self, entity: &Entity, tags: &TagSet) -> Result<(), AllocError>
+    /// Makes an entity absent, and answers whether it was there. Without memory nothing has changed.
+    pub fn clear(&mut self, entity: &Entity, tags: &TagSet) -> Result<bool, AllocError>
         ensures ok { OnOk result (self.new ≡ slots_wrote tags.now self.old entity.now None) }
+        ensures was { IfOk result (λ was. was ≡ is_some (look_at self.old entity.now)) }
         ensures err { OnErr result (self.new ≡ self.old) }
     {
         if let Some(slot) = self.slot_mut(entity) {
+            let was = slot.value().is_some();
             slot.clear(tags)?;
             if slot.is_bare() {
                 self.remove(entity);
             }
-            return Ok(());
+            return Ok(was);
         }
         if tags.ids().is_empty() {
-            return Ok(());
+            return Ok(false);
         }
         let slot = born(self.alloc(), tags, None)?;
-        self.put(*entity, slot)
+        self.put(*entity, slot)?;
+        Ok(false)
     }
 
     /// Changes the value of an entity. Without memory nothing has changed.

@@ -11,7 +11,7 @@ returns-then-bytes-room-clause-bytes c =
     let b = c.args.bytes.now in
     let there : 512 * (at / 512) + at % 512 ≡ at = omega arith in
     let one : 512 ≡ 512 * 1 = refl in
-    ap joined c.in_ok-from_array.ensures.items
+    ap joined c.one_block.ensures
     ∙ append-nil c.in_ok-block.block
     ∙ c.in_ok-block.ensures.value
     ∙ first_block ss c.requires.slots c.requires.blocks b (at / 512) (at % 512) (omega (arith, c.requires.end)) c.index-slots-slot.result b c.index-slots-slot.is (omega (arith, c.requires.end, c.requires.some)) (omega (arith, c.if-bytes-room.true)) (λ j h. refl) (omega arith) (inr refl)
@@ -39,7 +39,7 @@ returns-clause-bytes c =
     c.in_ok-second.ensures.value
     ∙ ap (overwritten c.index-slots-slot-3.result 0) c.split_at.ensures.back
     ∙ second_block ss c.requires.slots c.requires.blocks b k w end c.index-slots-slot-3.result c.index-slots-slot-3.is (omega (arith, c.requires.end, c.if-bytes-room.false)) (omega arith) more c.requires.short in
-    ap joined c.in_ok-from_array-2.ensures.items
+    ap joined c.two_blocks.ensures
     ∙ two_blocks x c.in_ok-first.first c.in_ok-second.second (512 * k) first second
     ∙ ap (λ (n : ℕ). part (overwritten (joined ss) n b) (512 * k) 1024) there
     ∙ ap (λ (n : ℕ). part (overwritten (joined ss) at b) (512 * k) (512 * n)) (sym (under_two at (length b) (omega (arith, c.if-bytes-room.false))))

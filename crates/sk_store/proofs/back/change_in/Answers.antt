@@ -12,7 +12,7 @@ returns-in_err-undo-in-Some-clause-err c =
 pub returns-clause-ok : goal.returns-clause-ok
 returns-clause-ok c =
     (rw c.in-Some.is at (c.get_mut.follows.holds c.change.new.self))
-    ∙ put_changed c.args.store.now c.args.entity.now _ c.change.new.self c.args.change c.in-Some.ensures.value c.in_ok-undo-in-Some.ensures.ok
+    ∙ put_changed c.args.store.now c.args.entity.now _ c.change.new.self c.args.change.now c.in-Some.ensures.value c.in_ok-undo-in-Some.ensures.ok
 
 pub returns-clause-can : goal.returns-clause-can
 returns-clause-can c =

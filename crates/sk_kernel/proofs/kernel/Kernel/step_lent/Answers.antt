@@ -37,7 +37,7 @@ returns-then-room-lt1 c =
     let n : EntryView = record { pid = c.args.pid; input = (input_in c.args.input); guess = None } in
     let free = roomy (the_view c.self.inside) c.self.inside.machine c.self.inside.trace.room c.self.invariant.0 n c.plan_into.new.plan c.is_crowded.result c.is_crowded.ensures c.if-is_crowded.false in (
       subst (λ (k : KernelView). step_refused k n ≡ Some TraceFull) c.self.view_is
-          (step_without_room (the_view c.self.inside) c.self.inside.machine c.self.inside.trace.room c.self.invariant.0 n _ c.room.result (by_scripts c.self.inside.machine.slots c.args.pid (input_in c.args.input) (Ok c.plan_into.new.plan) c.scripts.result.now c.self.inside.opening.start.scripts c.scripts.ensures c.in-Ok.ensures.step).plans free (c.room.ensures ∙ ap room (sym c.self.view_is)) c.if-room-lt1.true),
+          (step_without_room (the_view c.self.inside) c.self.inside.machine c.self.inside.trace.room c.self.invariant.0 n _ c.room-room.result (by_scripts c.self.inside.machine.slots c.args.pid (input_in c.args.input) (Ok c.plan_into.new.plan) c.scripts.result.now c.self.inside.opening.start.scripts c.scripts.ensures c.in-Ok.ensures.step).plans free (c.room-room.ensures ∙ ap room (sym c.self.view_is)) c.if-room-lt1.true),
       refl,
     )
 
@@ -46,7 +46,7 @@ returns-then-is_err c =
     let n : EntryView = record { pid = c.args.pid; input = (input_in c.args.input); guess = None } in
     let free = roomy (the_view c.self.inside) c.self.inside.machine c.self.inside.trace.room c.self.invariant.0 n c.plan_into.new.plan c.is_crowded.result c.is_crowded.ensures c.if-is_crowded.false in (
       subst (λ (k : KernelView). step_refused k n ≡ None) c.self.view_is
-          (step_free (the_view c.self.inside) c.self.inside.machine c.self.inside.trace.room c.self.invariant.0 n _ c.room.result (by_scripts c.self.inside.machine.slots c.args.pid (input_in c.args.input) (Ok c.plan_into.new.plan) c.scripts.result.now c.self.inside.opening.start.scripts c.scripts.ensures c.in-Ok.ensures.step).plans free (c.room.ensures ∙ ap room (sym c.self.view_is)) c.if-room-lt1.false),
+          (step_free (the_view c.self.inside) c.self.inside.machine c.self.inside.trace.room c.self.invariant.0 n _ c.room-room.result (by_scripts c.self.inside.machine.slots c.args.pid (input_in c.args.input) (Ok c.plan_into.new.plan) c.scripts.result.now c.self.inside.opening.start.scripts c.scripts.ensures c.in-Ok.ensures.step).plans free (c.room-room.ensures ∙ ap room (sym c.self.view_is)) c.if-room-lt1.false),
       (λ i. record { number = c.self.inside.machine.guesses.kernel; scripts = c.self.inside.opening.start.scripts; start = c.self.inside.opening.start.state; limit = c.self.inside.opening.limit; earlier = c.self.inside.machine.guesses.earlier; trace = c.reserve.ensures.events i })
           ∙ c.self.view_is,
     )
@@ -56,24 +56,24 @@ returns-in-Err-keep c =
     let n : EntryView = record { pid = c.args.pid; input = (input_in c.args.input); guess = None } in
     let free = roomy (the_view c.self.inside) c.self.inside.machine c.self.inside.trace.room c.self.invariant.0 n c.plan_into.new.plan c.is_crowded.result c.is_crowded.ensures c.if-is_crowded.false in (
       subst (λ (k : KernelView). step_refused k n ≡ None) c.self.view_is
-          (step_free (the_view c.self.inside) c.self.inside.machine c.self.inside.trace.room c.self.invariant.0 n _ c.room.result (by_scripts c.self.inside.machine.slots c.args.pid (input_in c.args.input) (Ok c.plan_into.new.plan) c.scripts.result.now c.self.inside.opening.start.scripts c.scripts.ensures c.in-Ok.ensures.step).plans free (c.room.ensures ∙ ap room (sym c.self.view_is)) c.if-room-lt1.false),
+          (step_free (the_view c.self.inside) c.self.inside.machine c.self.inside.trace.room c.self.invariant.0 n _ c.room-room.result (by_scripts c.self.inside.machine.slots c.args.pid (input_in c.args.input) (Ok c.plan_into.new.plan) c.scripts.result.now c.self.inside.opening.start.scripts c.scripts.ensures c.in-Ok.ensures.step).plans free (c.room-room.ensures ∙ ap room (sym c.self.view_is)) c.if-room-lt1.false),
       (λ i. record { number = c.self.inside.machine.guesses.kernel; scripts = c.self.inside.opening.start.scripts; start = c.self.inside.opening.start.state; limit = c.self.inside.opening.limit; earlier = c.self.inside.machine.guesses.earlier; trace = c.reserve.ensures.events i })
           ∙ c.self.view_is,
     )
 
-pub take_step-requires-clause-tidy : goal.take_step-requires-clause-tidy
-take_step-requires-clause-tidy c = tidy (the_view c.self.inside) c.self.inside.machine c.self.invariant.0.stands
+pub take_found-requires-clause-tidy : goal.take_found-requires-clause-tidy
+take_found-requires-clause-tidy c = tidy (the_view c.self.inside) c.self.inside.machine c.self.invariant.0.stands
 
-pub take_step-requires-clause-rising : goal.take_step-requires-clause-rising
-take_step-requires-clause-rising c = opens_rise (the_view c.self.inside) c.self.inside.machine c.self.invariant.0.stands
+pub take_found-requires-clause-rising : goal.take_found-requires-clause-rising
+take_found-requires-clause-rising c = opens_rise (the_view c.self.inside) c.self.inside.machine c.self.invariant.0.stands
 
 pub returns-then-is_err-2 : goal.returns-then-is_err-2
 returns-then-is_err-2 c =
     let n : EntryView = record { pid = c.args.pid; input = (input_in c.args.input); guess = None } in
     let free = roomy (the_view c.self.inside) c.self.inside.machine c.self.inside.trace.room c.self.invariant.0 n c.plan_into.new.plan c.is_crowded.result c.is_crowded.ensures c.if-is_crowded.false in
-    let same = from_err c.take_step.result c.if-is_err-2.ensures.value c.take_step.ensures.err in (
+    let same = from_err c.take_found.result c.if-is_err-2.ensures.value c.take_found.ensures.err in (
       subst (λ (k : KernelView). step_refused k n ≡ None) c.self.view_is
-          (step_free (the_view c.self.inside) c.self.inside.machine c.self.inside.trace.room c.self.invariant.0 n _ c.room.result (by_scripts c.self.inside.machine.slots c.args.pid (input_in c.args.input) (Ok c.plan_into.new.plan) c.scripts.result.now c.self.inside.opening.start.scripts c.scripts.ensures c.in-Ok.ensures.step).plans free (c.room.ensures ∙ ap room (sym c.self.view_is)) c.if-room-lt1.false),
+          (step_free (the_view c.self.inside) c.self.inside.machine c.self.inside.trace.room c.self.invariant.0 n _ c.room-room.result (by_scripts c.self.inside.machine.slots c.args.pid (input_in c.args.input) (Ok c.plan_into.new.plan) c.scripts.result.now c.self.inside.opening.start.scripts c.scripts.ensures c.in-Ok.ensures.step).plans free (c.room-room.ensures ∙ ap room (sym c.self.view_is)) c.if-room-lt1.false),
       (λ i. record { number = (same i).guesses.kernel; scripts = c.self.inside.opening.start.scripts; start = c.self.inside.opening.start.state; limit = c.self.inside.opening.limit; earlier = (same i).guesses.earlier; trace = c.reserve.ensures.events i })
           ∙ c.self.view_is,
     )
@@ -81,16 +81,16 @@ returns-then-is_err-2 c =
 pub invariant_of-self-2 : goal.invariant_of-self-2
 invariant_of-self-2 c =
     let n : EntryView = record { pid = c.args.pid; input = (input_in c.args.input); guess = None } in
-    let takes = subst (λ s. MergedTakes (plain s) (machine_of c.self.inside.machine) n (machine_of c.take_step.new.self)) c.scripts-2.ensures (from_ok c.take_step.result c.if-is_err-2.ensures.value c.take_step.ensures.ok) in
-    let opens = no_more_opens c.self.inside.opening.start.scripts c.self.inside.machine c.take_step.new.self c.args.pid (input_in c.args.input) takes in
+    let takes = subst (λ s. MergedTakes (plain s) (machine_of c.self.inside.machine) n (machine_of c.take_found.new.self)) c.scripts-2.ensures (from_ok c.take_found.result c.if-is_err-2.ensures.value c.take_found.ensures.ok) in
+    let opens = no_more_opens c.self.inside.opening.start.scripts c.self.inside.machine c.take_found.new.self c.args.pid (input_in c.args.input) takes in
     let reserved = from_ok c.reserve.result c.if-is_err.ensures.value c.reserve.ensures.room in
     let pushed = c.push.ensures.room in
     let counted = c.open_count.ensures in (
-      stepped_whole (the_view c.self.inside) c.self.inside.machine c.take_step.new.self c.self.inside.trace.room c.push.new.self.room c.args.pid (input_in c.args.input) c.push.new.self.events c.self.invariant.0
-          takes c.take_step.ensures.guesses
+      stepped_whole (the_view c.self.inside) c.self.inside.machine c.take_found.new.self c.self.inside.trace.room c.push.new.self.room c.args.pid (input_in c.args.input) c.push.new.self.events c.self.invariant.0
+          takes c.take_found.ensures.guesses
           (c.push.ensures.events ∙ (λ i. c.reserve.ensures.events i ++ events.Step c.args.pid (c.in-Ok-keep.ensures.ok i) ∷ []))
           (omega (arith, opens, reserved, pushed, counted)),
-      still_opened (the_view c.self.inside) _ _ c.push.new.self.events _ c.self.invariant.1 (ap (λ v. v.kernel) c.take_step.ensures.guesses) (ap (λ v. v.earlier) c.take_step.ensures.guesses),
+      still_opened (the_view c.self.inside) _ _ c.push.new.self.events _ c.self.invariant.1 (ap (λ v. v.kernel) c.take_found.ensures.guesses) (ap (λ v. v.earlier) c.take_found.ensures.guesses),
     )
 
 pub returns : goal.returns
@@ -99,13 +99,13 @@ returns c =
     let free = roomy (the_view c.self.inside) c.self.inside.machine c.self.inside.trace.room c.self.invariant.0 n c.plan_into.new.plan c.is_crowded.result c.is_crowded.ensures c.if-is_crowded.false in
     let more = c.push.ensures.events ∙ (λ i. c.reserve.ensures.events i ++ events.Step c.args.pid (c.in-Ok-keep.ensures.ok i) ∷ []) in (
       subst (λ (k : KernelView). step_refused k n ≡ None) c.self.view_is
-          (step_free (the_view c.self.inside) c.self.inside.machine c.self.inside.trace.room c.self.invariant.0 n _ c.room.result (by_scripts c.self.inside.machine.slots c.args.pid (input_in c.args.input) (Ok c.plan_into.new.plan) c.scripts.result.now c.self.inside.opening.start.scripts c.scripts.ensures c.in-Ok.ensures.step).plans free (c.room.ensures ∙ ap room (sym c.self.view_is)) c.if-room-lt1.false),
-      (λ i. record { number = (c.take_step.ensures.guesses i).kernel; scripts = c.self.inside.opening.start.scripts; start = c.self.inside.opening.start.state; limit = c.self.inside.opening.limit; earlier = (c.take_step.ensures.guesses i).earlier; trace = more i })
+          (step_free (the_view c.self.inside) c.self.inside.machine c.self.inside.trace.room c.self.invariant.0 n _ c.room-room.result (by_scripts c.self.inside.machine.slots c.args.pid (input_in c.args.input) (Ok c.plan_into.new.plan) c.scripts.result.now c.self.inside.opening.start.scripts c.scripts.ensures c.in-Ok.ensures.step).plans free (c.room-room.ensures ∙ ap room (sym c.self.view_is)) c.if-room-lt1.false),
+      (λ i. record { number = (c.take_found.ensures.guesses i).kernel; scripts = c.self.inside.opening.start.scripts; start = c.self.inside.opening.start.state; limit = c.self.inside.opening.limit; earlier = (c.take_found.ensures.guesses i).earlier; trace = more i })
           ∙ ap (λ (k : KernelView). with_event k (events.Step c.args.pid (input_in c.args.input))) c.self.view_is,
     )
 
 pub overflow_add-open_count : goal.overflow_add-open_count
 overflow_add-open_count c =
-    let few = few_open (the_view c.self.inside) c.self.inside.machine c.self.invariant.0.stands c.room.result (c.room.ensures ∙ ap room (sym c.self.view_is)) c.if-room-lt1.false in
+    let few = few_open (the_view c.self.inside) c.self.inside.machine c.self.invariant.0.stands c.room-room.result (c.room-room.ensures ∙ ap room (sym c.self.view_is)) c.if-room-lt1.false in
     let below : c.open_count.result + 1 < 2 ^ 33 = omega (arith, few, c.open_count.ensures, c.limit-limit.ensures, c.limit-limit.type_inv) in
     search (rules, below)

@@ -1,21 +1,23 @@
 -- The number of the directory is made before the write, and counts the name after it.
-use Rattle.sk_undo.proofs.Cites.{None, sym, subst, SlotMap, IsCounted}
-use Rattle.sk_undo.proofs.NameCounts.{counted_made, few_for, set_counted}
+use Rattle.sk_undo.proofs.Cites.{◌≤◌, None, sym, subst, arith, SlotMap, IsCounted, count_for}
+use Rattle.sk_undo.proofs.NameCounts.{counted_made, few_for, wrote_counted}
 use Rattle.sk_undo.proofs.counted_slots.CountedSlots.clear.Goals as goal
 
-pub recount-requires-clause-most : goal.recount-requires-clause-most
-recount-requires-clause-most c =
+pub recount-requires : goal.recount-requires
+recount-requires c =
     let counted : IsCounted c.self.inside.slots c.make_for.new.self =
     subst (IsCounted c.self.inside.slots) (sym c.in_ok-make_for.ensures.ok) (counted_made c.self.inside.slots c.self.inside.names c.args.entity.now c.self.invariant) in
-    few_for c.self.inside.slots c.make_for.new.self c.args.entity.now c.len-len.result counted c.len-len.ensures.len
+    let few : count_for c.make_for.new.self c.args.entity.now ≤ c.most_names-most.result =
+    few_for c.self.inside.slots c.make_for.new.self c.args.entity.now c.most_names-most.result counted c.most_names-most.ensures.most in
+    omega (arith, few, c.most_names-most.ensures.small)
 
-pub invariant_of-self-in_err-clear : goal.invariant_of-self-in_err-clear
-invariant_of-self-in_err-clear c =
+pub invariant_of-self-in_err-was : goal.invariant_of-self-in_err-was
+invariant_of-self-in_err-was c =
     let counted : IsCounted c.self.inside.slots c.make_for.new.self =
     subst (IsCounted c.self.inside.slots) (sym c.in_ok-make_for.ensures.ok) (counted_made c.self.inside.slots c.self.inside.names c.args.entity.now c.self.invariant) in
-    subst (λ (m : SlotMap). IsCounted m c.make_for.new.self) (sym c.in_err-clear.ensures.err) counted
+    subst (λ (m : SlotMap). IsCounted m c.make_for.new.self) (sym c.in_err-was.ensures.err) counted
 
 pub invariant_of-self-2 : goal.invariant_of-self-2
 invariant_of-self-2 c =
-    set_counted c.self.inside.slots c.clear.new.self c.args.entity.now c.self.inside.names c.self.invariant c.args.tags.now None c.make_for.new.self c.recount.new.names c.link_there-was.result
-    c.in_ok-make_for.ensures.ok c.link_there-was.ensures c.in_ok-clear.ensures.ok c.recount.ensures
+    wrote_counted c.self.inside.slots c.clear.new.self c.args.entity.now c.self.inside.names c.self.invariant c.args.tags.now None c.make_for.new.self c.recount.new.self c.in_ok-was.was'
+    c.in_ok-make_for.ensures.ok c.in_ok-was.ensures.was c.in_ok-was.ensures.ok c.recount.ensures

@@ -3,7 +3,7 @@ use Rattle.sk_undo.proofs.NameCounts.{few_for, unwound_counted}
 use Rattle.sk_undo.proofs.counted_slots.CountedSlots.unwind_at.Goals as goal
 
 pub recount-requires-clause-most : goal.recount-requires-clause-most
-recount-requires-clause-most c = few_for c.self.inside.slots c.self.inside.names c.args.entity.now c.len-len.result c.self.invariant c.len-len.ensures.len
+recount-requires-clause-most c = few_for c.self.inside.slots c.self.inside.names c.args.entity.now c.most_names-most.result c.self.invariant c.most_names-most.ensures.most
 
 pub invariant_of-self : goal.invariant_of-self
 invariant_of-self c =

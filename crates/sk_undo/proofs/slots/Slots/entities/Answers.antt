@@ -5,17 +5,15 @@ use Rattle.std.specs.FinMap as fin
 use Rattle.sk_undo.proofs.Present.{has_value, present_are}
 use Rattle.sk_undo.proofs.slots.Slots.entities.Goals as goal
 
-kept : (c : goal.After-retain) → c.retain.new.self.items ≡ filter (has_value c.args.self.now) c.keys.result
-kept c =
-    let listed : c.in_ok-all.all.items ≡ c.keys.result = search rules in
-    filter_same _ (has_value c.args.self.now) _ (λ x b g h. search rules) _ _ c.retain.ensures.filtered ∙ ap (filter (has_value c.args.self.now)) listed
+kept : (c : goal.After-retain) → c.retain.new.self.items ≡ filter (has_value c.args.self.now) c.in_ok-all.all.items
+kept c = filter_same _ (has_value c.args.self.now) _ (λ x b g h. search rules) _ _ c.retain.ensures.filtered
 
 pub returns-clause-rising : goal.returns-clause-rising
 returns-clause-rising c =
     subst (λ (es : List Entity). IsStrictlySortedBy entity_cmp es) (sym (kept c))
-    (IsStrictlySortedBy-filter entity_cmp (has_value c.args.self.now) c.keys.result c.keys.ensures.rising)
+    (IsStrictlySortedBy-filter entity_cmp (has_value c.args.self.now) c.in_ok-all.all.items c.in_ok-all.ensures.rising)
 
 pub returns-clause-present : goal.returns-clause-present
 returns-clause-present c = λ e.
-    ap (λ (es : List Entity). is_in entity_cmp es e) (kept c ∙ ap (filter (has_value c.args.self.now)) (c.keys.ensures.rest ∙ ap fin.keys c.self.view_is))
+    ap (λ (es : List Entity). is_in entity_cmp es e) (kept c ∙ ap (filter (has_value c.args.self.now)) (c.in_ok-all.ensures.rest ∙ ap fin.keys c.self.view_is))
     ∙ present_are c.args.self.now e

@@ -1,7 +1,6 @@
--- What is left behind the loan of `Map::get_mut` is the slot of the entity.
-use Rattle.sk_undo.proofs.Cites.{◌≡◌, refl, ap, subst, ◌∙◌, OnSome, entity_cmp}
+-- What is left behind the loan of `EntityMap::get_mut` is the slot of the entity.
+use Rattle.sk_undo.proofs.Cites.{◌≡◌, refl, ap, subst, ◌∙◌, OnSome}
 use Rattle.std.specs.FinMap as map
-use Rattle.sk_map.specs.Seen.{seen}
 use Rattle.sk_undo.proofs.slots.Slots.slot_mut.Goals as goal
 
 pub returns : goal.returns
@@ -9,8 +8,8 @@ returns c =
     let e = c.args.entity.now in (
       (
         refl,
-        (λ w. subst (λ m. OnSome c.get_mut.result (seen entity_cmp (c.get_mut.follows.lender w) ≡ map.insert m e w)) c.self.view_is (c.get_mut.follows.holds w)),
-        ap (seen entity_cmp) c.get_mut.follows.holds-at-none ∙ c.self.view_is,
+        (λ w. subst (λ m. OnSome c.get_mut.result (c.get_mut.follows.lender w ≡ map.insert m e w)) c.self.view_is (c.get_mut.follows.holds w)),
+        c.get_mut.follows.holds-at-none ∙ c.self.view_is,
       ),
       record { writes_back = tt; value = c.get_mut.ensures.value ∙ ap (λ m. map.get m e) c.self.view_is },
     )

@@ -7,7 +7,7 @@ use Rattle.sk_machine.proofs.Given.{on_ok}
 use Rattle.sk_machine.proofs.AsProcess.{alike_performed, planned_alike, planned_clean, planned_tags}
 use Rattle.sk_machine.proofs.Becomes.{same_parts, takes_of}
 use Rattle.sk_machine.proofs.Joins.{apart_of}
-use Rattle.sk_machine.proofs.machine.Machine.take_tagged.Goals as goal
+use Rattle.sk_machine.proofs.machine.Machine.take_step.Goals as goal
 
 pub perform_next-requires-clause-can : goal.perform_next-requires-clause-can
 perform_next-requires-clause-can c =

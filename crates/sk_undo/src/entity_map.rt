@@ -1,0 +1,284 @@
+//! A finite map by entities.
+ghost use Rattle.std.specs.Prelude.{◌≡◌, ◌<◌, ◌^◌, ◌++◌, OnOk, OnErr, OnSome, IfOk, map as each};
+ghost use Rattle.std.specs.Option.{option_copied, option_copied_mut};
+ghost use Rattle.std.specs.Borrow.{LendsSo, sem};
+ghost use Rattle.std.specs.List.Sorted.{IsStrictlySortedBy};
+ghost use Rattle.std.specs.FinMap as map;
+ghost use Rattle.sk_ids.specs.Entity.{entity_cmp};
+ghost use Rattle.sk_ids.specs.declared.entity.Entity.TheVariants.{Proc, Sig, Exit, Obj, Copy};
+ghost use Rattle.sk_map.specs.Seen.{seen};
+ghost use Rattle.sk_undo.specs.Kinds.{link_of, HasAtMost};
+ghost use Rattle.sk_undo.specs.contracts.entity_map.EntityMap.{the_row};
+
+use crate::keys::{LinkKey, ObjectKey, ProcessKey};
+use sk_ids::{Entity, Name, ObjId, Pid};
+use sk_map::{Key, Map};
+use std::alloc::{AllocError, Global};
+use std::collections::btree_map::{Keys, Values};
+use std::marker::Model;
+
+/// Values by entities: a map for each kind. Contracts see one finite map.
+#[derive(Drop)]
+pub(crate) struct EntityMap<V> {
+    processes: Map<ProcessKey, V>,
+    signals: Map<ProcessKey, V>,
+    exits: Map<ProcessKey, V>,
+    objects: Map<ObjectKey, V>,
+    links: Map<LinkKey, V>,
+    copies: Map<Name, V>,
+}
+
+impl<V> Model for EntityMap<V> {
+    ghost use Rattle.std.specs.Ordering.{nat_cmp};
+    ghost use Rattle.std.specs.FinMap as map;
+    ghost use Rattle.sk_ids.specs.Entity.{entity_cmp, object_cmp};
+    ghost use Rattle.sk_ids.specs.Name.{name_order};
+    ghost use Rattle.sk_ids.specs.contracts.entity.Entity as shown;
+    ghost use Rattle.sk_map.specs.Seen.{seen};
+    ghost use Rattle.sk_undo.specs.Kinds.{joined, link_cmp};
+
+    ghost Value = { map.FinMap entity_cmp V };
+
+    ghost coded = { map.code shown.the_row.coded V.code };
+
+    ghost view = { λ a. joined (seen nat_cmp a.processes) (seen nat_cmp a.signals)
+        (seen nat_cmp a.exits) (seen object_cmp a.objects) (seen link_cmp a.links)
+        (seen name_order a.copies) };
+}
+
+/// The values of a map, kind by kind.
+#[derive(Drop)]
+pub(crate) struct ValuesByKind<'a, V> {
+    pub(crate) processes: Values<'a, ProcessKey, V>,
+    pub(crate) signals: Values<'a, ProcessKey, V>,
+    pub(crate) exits: Values<'a, ProcessKey, V>,
+    pub(crate) objects: Values<'a, ObjectKey, V>,
+    pub(crate) links: Values<'a, LinkKey, V>,
+    pub(crate) copies: Values<'a, Name, V>,
+}
+
+#[inline(always)]
+fn process(pid: Pid) -> ProcessKey
+    ensures { result ≡ pid }
+{
+    ProcessKey { pid }
+}
+
+#[inline(always)]
+fn object(id: &ObjId) -> ObjectKey
+    ensures { result ≡ id.now }
+{
+    ObjectKey { id: *id }
+}
+
+#[inline(always)]
+fn link(directory: &ObjId, name: &Name) -> LinkKey
+    ensures { result ≡ record { directory = directory.now; name = name.now } }
+{
+    LinkKey {
+        directory: object(directory),
+        name: *name,
+    }
+}
+
+/// The value of a key in the map of a kind. It stands by itself, so that where the kind is known just this is called.
+#[inline(never)]
+fn found<'a, K: Key, V>(values: &'a Map<K, V>, key: &K) -> Option<&'a V>
+    ensures { option_copied result ≡ map.get (seen K.order values.now) key.now }
+{
+    values.get(key)
+}
+
+/// Adds processes to entities.
+fn add_processes<V>(all: &mut Vec<Entity>, keys: Keys<'_, ProcessKey, V>) -> Result<(), AllocError>
+    ensures { OnOk result (all.new.items ≡ all.old.items ++ each Proc keys.entry) }
+{
+    for key in keys {
+        all.push(Entity::Proc(key.pid))?;
+    }
+    Ok(())
+}
+
+/// Adds signal queues to entities.
+fn add_signals<V>(all: &mut Vec<Entity>, keys: Keys<'_, ProcessKey, V>) -> Result<(), AllocError>
+    ensures { OnOk result (all.new.items ≡ all.old.items ++ each Sig keys.entry) }
+{
+    for key in keys {
+        all.push(Entity::Sig(key.pid))?;
+    }
+    Ok(())
+}
+
+/// Adds exit slots to entities.
+fn add_exits<V>(all: &mut Vec<Entity>, keys: Keys<'_, ProcessKey, V>) -> Result<(), AllocError>
+    ensures { OnOk result (all.new.items ≡ all.old.items ++ each Exit keys.entry) }
+{
+    for key in keys {
+        all.push(Entity::Exit(key.pid))?;
+    }
+    Ok(())
+}
+
+/// Adds objects to entities.
+fn add_objects<V>(all: &mut Vec<Entity>, keys: Keys<'_, ObjectKey, V>) -> Result<(), AllocError>
+    ensures { OnOk result (all.new.items ≡ all.old.items ++ each Obj keys.entry) }
+{
+    for key in keys {
+        all.push(Entity::Obj(key.id))?;
+    }
+    Ok(())
+}
+
+/// Adds names of directories to entities.
+fn add_links<V>(all: &mut Vec<Entity>, keys: Keys<'_, LinkKey, V>) -> Result<(), AllocError>
+    ensures { OnOk result (all.new.items ≡ all.old.items ++ each link_of keys.entry) }
+{
+    for key in keys {
+        all.push(Entity::Link(key.directory.id, key.name))?;
+    }
+    Ok(())
+}
+
+/// Adds copies to entities.
+fn add_copies<V>(all: &mut Vec<Entity>, keys: Keys<'_, Name, V>) -> Result<(), AllocError>
+    ensures { OnOk result (all.new.items ≡ all.old.items ++ each Copy keys.entry) }
+{
+    for key in keys {
+        all.push(Entity::Copy(*key))?;
+    }
+    Ok(())
+}
+
+impl<V> EntityMap<V> {
+    /// The map in which every entity is absent.
+    pub(crate) fn new(alloc: Global) -> EntityMap<V>
+        ensures { result ≡ map.empty }
+    {
+        EntityMap {
+            processes: Map::new(alloc),
+            signals: Map::new(alloc),
+            exits: Map::new(alloc),
+            objects: Map::new(alloc),
+            links: Map::new(alloc),
+            copies: Map::new(alloc),
+        }
+    }
+
+    /// What it takes its memory from.
+    pub(crate) fn alloc(&self) -> Global {
+        self.processes.alloc()
+    }
+
+    /// The value of an entity, `None` where it is absent.
+    #[inline(always)]
+    pub(crate) fn get(&self, entity: &Entity) -> Option<&V>
+        ensures { option_copied result ≡ map.get self.now entity.now }
+    {
+        match entity {
+            Entity::Proc(pid) => found(&self.processes, &process(*pid)),
+            Entity::Sig(pid) => found(&self.signals, &process(*pid)),
+            Entity::Exit(pid) => found(&self.exits, &process(*pid)),
+            Entity::Obj(id) => found(&self.objects, &object(id)),
+            Entity::Link(directory, name) => found(&self.links, &link(directory, name)),
+            Entity::Copy(name) => found(&self.copies, name),
+        }
+    }
+
+    /// The values of a process and of its signal queue.
+    #[inline(always)]
+    pub(crate) fn own(&self, pid: Pid) -> (Option<&V>, Option<&V>)
+        ensures process { option_copied result.0 ≡ map.get self.now (Proc pid) }
+        ensures signals { option_copied result.1 ≡ map.get self.now (Sig pid) }
+    {
+        let key = process(pid);
+        (found(&self.processes, &key), found(&self.signals, &key))
+    }
+
+    /// Lends the value of an entity; what it then becomes is the value of the entity.
+    #[inline]
+    pub(crate) fn get_mut(&mut self, entity: &Entity) -> Option<&mut V>
+        ensures* writes_back { sem 𝓛 (LendsSo (the_row V.row) V.row self.entry result
+            (λ n w. OnSome result (n ≡ map.insert self.old entity.now w)) (λ n. n ≡ self.old)) }
+        ensures value { option_copied_mut result ≡ map.get self.old entity.now }
+    {
+        match entity {
+            Entity::Proc(pid) => self.processes.get_mut(&process(*pid)),
+            Entity::Sig(pid) => self.signals.get_mut(&process(*pid)),
+            Entity::Exit(pid) => self.exits.get_mut(&process(*pid)),
+            Entity::Obj(id) => self.objects.get_mut(&object(id)),
+            Entity::Link(directory, name) => self.links.get_mut(&link(directory, name)),
+            Entity::Copy(name) => self.copies.get_mut(name),
+        }
+    }
+
+    /// Sets the value of an entity. Without memory nothing has changed.
+    pub(crate) fn put(&mut self, entity: &Entity, value: V) -> Result<(), AllocError>
+    where
+        V: Drop,
+        ensures ok { OnOk result (self.new ≡ map.insert self.old entity.now value) }
+        ensures err { OnErr result (self.new ≡ self.old) }
+    {
+        match entity {
+            Entity::Proc(pid) => self.processes.put(process(*pid), value),
+            Entity::Sig(pid) => self.signals.put(process(*pid), value),
+            Entity::Exit(pid) => self.exits.put(process(*pid), value),
+            Entity::Obj(id) => self.objects.put(object(id), value),
+            Entity::Link(directory, name) => self.links.put(link(directory, name), value),
+            Entity::Copy(name) => self.copies.put(*name, value),
+        }
+    }
+
+    /// Makes an entity absent, which takes no memory, and answers the value that it had.
+    pub(crate) fn remove(&mut self, entity: &Entity) -> Option<V>
+        ensures old { result ≡ map.get self.old entity.now }
+        ensures new { self.new ≡ map.remove self.old entity.now }
+    {
+        match entity {
+            Entity::Proc(pid) => self.processes.remove(&process(*pid)),
+            Entity::Sig(pid) => self.signals.remove(&process(*pid)),
+            Entity::Exit(pid) => self.exits.remove(&process(*pid)),
+            Entity::Obj(id) => self.objects.remove(&object(id)),
+            Entity::Link(directory, name) => self.links.remove(&link(directory, name)),
+            Entity::Copy(name) => self.copies.remove(name),
+        }
+    }
+
+    /// A number that no directory has more names with a value than.
+    #[inline]
+    pub(crate) fn most_names(&self) -> usize
+        ensures most { HasAtMost self.now result }
+        ensures small { result < 2 ^ 63 }
+    {
+        self.links.len()
+    }
+
+    /// The entities that have a value, by their order, each once.
+    pub(crate) fn entities(&self) -> Result<Vec<Entity>, AllocError>
+        ensures rest { IfOk result (λ all. all.items ≡ map.keys self.now) }
+        ensures rising { IfOk result (λ all. IsStrictlySortedBy entity_cmp all.items) }
+    {
+        let mut all = Vec::new(self.alloc());
+        add_processes(&mut all, self.processes.keys())?;
+        add_signals(&mut all, self.signals.keys())?;
+        add_exits(&mut all, self.exits.keys())?;
+        add_objects(&mut all, self.objects.keys())?;
+        add_links(&mut all, self.links.keys())?;
+        add_copies(&mut all, self.copies.keys())?;
+        Ok(all)
+    }
+
+    /// The values, by the order of their entities.
+    pub(crate) fn values(&self) -> ValuesByKind<'_, V>
+        ensures { result.processes ++ (result.signals ++ (result.exits ++ (result.objects
+            ++ (result.links ++ result.copies)))) ≡ map.values self.now }
+    {
+        ValuesByKind {
+            processes: self.processes.values(),
+            signals: self.signals.values(),
+            exits: self.exits.values(),
+            objects: self.objects.values(),
+            links: self.links.values(),
+            copies: self.copies.values(),
+        }
+    }
+}

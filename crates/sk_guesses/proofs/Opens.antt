@@ -460,16 +460,6 @@ set_same [] i l new lt at same = absurd (omega arith)
 set_same (x ∷ ls) zero l new lt at same = ap (λ o. o ∷ map guess_of ls) (same ∙ ap guess_of at)
 set_same (x ∷ ls) (suc i) l new lt at same = ap (λ os. x.guess ∷ os) (set_same ls i l new (omega arith) at same)
 
-pub ready_more : {E : Type 0} → (tags : List ℕ) (ls : List (Listing E)) (i j : ℕ) (l new : (Listing E)) → j ≡ suc i → i < length ls → l ≡ slice_index_or ls i l → new.guess ≡ l.guess → (has l.guess.id tags ≡ true → 0 < new.room)
-    → ((k : ℕ) (d : (Listing E)) → k < i → has (slice_index_or ls k d).guess.id tags ≡ true → 0 < (slice_index_or ls k d).room)
-    → (k : ℕ) (d : (Listing E)) → k < j → has (slice_index_or (slice_set ls i new) k d).guess.id tags ≡ true → 0 < (slice_index_or (slice_set ls i new) k d).room
-ready_more tags [] i j l new next lt at same room h k d below here = absurd (omega arith)
-ready_more tags (x ∷ ls) zero j l new next lt at same room h zero d below here = room (ap (λ (o : (OpenGuess _)). has o.id tags) (sym same) ∙ here)
-ready_more tags (x ∷ ls) zero j l new next lt at same room h (suc k) d below here = absurd (omega (arith, next, below))
-ready_more tags (x ∷ ls) (suc i) j l new next lt at same room h zero d below here = h zero d (omega arith) here
-ready_more tags (x ∷ ls) (suc i) j l new next lt at same room h (suc k) d below here =
-    ready_more tags ls i (suc i) l new refl (omega arith) at same room (λ k d lt. h (suc k) d (omega arith)) k d (omega (arith, next, below)) here
-
 pub set_after : {E : Type 0} → (ls : List (Listing E)) (i k : ℕ) (d new : (Listing E)) → suc i ≤ k → slice_index_or (slice_set ls i new) k d ≡ slice_index_or ls k d
 set_after [] i k d new le = refl
 set_after (x ∷ ls) i zero d new le = absurd (omega arith)

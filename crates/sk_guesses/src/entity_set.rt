@@ -1,5 +1,5 @@
 //! Sets of keys.
-ghost use Rattle.std.specs.Prelude.{◌≡◌, ◌<◌, ◌≤◌, ◌+◌, [], length, OnOk, OnErr, IsOk};
+ghost use Rattle.std.specs.Prelude.{◌≡◌, ◌<◌, ◌≤◌, ◌+◌, [], true, length, OnOk, OnErr, IsOk};
 ghost use Rattle.std.specs.List.Sorted.{IsStrictlySortedBy, IsSearchInRange, IsBinarySearchResult};
 ghost use Rattle.sk_guesses.specs.EntitySet.{with_entity, with_entities, without_entity};
 
@@ -40,6 +40,21 @@ fn find<E: Key>(entities: &[E], entity: &E) -> Result<usize, usize>
     entities.binary_search(entity)
 }
 
+/// Whether two lists have the same entities.
+fn are_same<E: Key>(entities: &[E], others: &[E]) -> bool
+    ensures { result ≡ true → entities.now ≡ others.now }
+{
+    if entities.len() != others.len() {
+        return false;
+    }
+    for place in 0..entities.len() {
+        if entities[place].cmp(&others[place]) != Ordering::Equal {
+            return false;
+        }
+    }
+    true
+}
+
 impl<E: Key> EntitySet<E> {
     /// No entity.
     pub fn new(alloc: Global) -> EntitySet<E>
@@ -56,6 +71,51 @@ impl<E: Key> EntitySet<E> {
         ensures rising { IsStrictlySortedBy E.order result.now }
     {
         self.entities.as_slice()
+    }
+
+    /// Whether there are just these.
+    pub(crate) fn is_just(&self, entities: &[E]) -> bool
+        ensures { result ≡ true → self.now.entities ≡ entities.now }
+    {
+        are_same(self.entities.as_slice(), entities)
+    }
+
+    /// For how many there is memory.
+    pub(crate) fn places(&self) -> usize
+        ensures { result ≡ length self.now.entities + self.now.room }
+    {
+        self.entities.capacity()
+    }
+
+    /// Makes room for so many, where there is none; what the room has is not moved.
+    pub(crate) fn replace_room(&mut self, places: usize) -> Result<(), AllocError>
+        requires { self.old.entities ≡ [] }
+        ensures entities { self.new.entities ≡ [] }
+        ensures ok { OnOk result (places ≤ self.new.room) }
+        ensures err { OnErr result (self.new.room ≡ self.old.room) }
+    {
+        self.entities = Vec::with_capacity(*self.entities.allocator(), places)?;
+        Ok(())
+    }
+
+    /// Lets all go; their room stays.
+    pub(crate) fn clear(&mut self)
+        ensures entities { self.new.entities ≡ [] }
+        ensures room { self.new.room ≡ length self.old.entities + self.old.room }
+    {
+        self.entities.clear();
+    }
+
+    /// Takes these in, where there is none, into room that is there.
+    pub(crate) fn fill(&mut self, entities: &[E])
+        requires empty { self.old.entities ≡ [] }
+        requires rising { IsStrictlySortedBy E.order entities.now }
+        requires room { length entities.now ≤ self.old.room }
+        ensures { self.new.entities ≡ entities.now }
+    {
+        let Ok(()) = self.entities.extend_from_slice(entities) else {
+            unreachable!();
+        };
     }
 
     /// Makes room for so many more.

@@ -17,13 +17,12 @@ ghost use Rattle.sk_guesses.specs.Opens.{opens_of, dependents_of, depending, rel
 ghost use Rattle.sk_guesses.specs.Room.{HasRoom, Listing, DecidedSo};
 ghost use Rattle.sk_guesses.specs.Calls.{Draws, redeemed};
 
-use crate::open_guess::OpenGuess;
 use crate::open_guesses::stays_below;
 use crate::open_list::{
-    are_earlier, close, close_committed, close_resting, depend_on, first_resting, is_rested_on,
-    leave_to, make_room, oldest, place_of, relieve, take_list,
+    are_earlier, close, close_committed, close_resting, first_resting, is_rested_on, leave_to,
+    oldest, place_of, relieve, take_list,
 };
-use crate::row::Row;
+use crate::open_row::{Opens, Seen};
 use crate::settled::{Settled, status_at};
 use crate::{EntitySet, Guess, Redeemed, Status};
 use sk_ids::{GuessId, TagSet};
@@ -54,7 +53,7 @@ pub struct Guesses<E: Key> {
     earlier: Settled,
     statuses: Vec<Status>,
     /// The undecided guesses, by rising number.
-    opens: Row<OpenGuess<E>>,
+    opens: Opens<E>,
     /// Whether no guess is among the tags of an earlier one, so that a decision begins at its own place.
     below: bool,
     /// The list with which the next guess begins: room, and no entity yet.
@@ -97,7 +96,7 @@ fn place_after(before: usize, id: GuessId) -> usize
 }
 
 /// Strikes an undecided guess, if its own step rests on a guess. So many were drawn before these.
-fn strike_one<E: Key>(statuses: &mut Vec<Status>, before: usize, open: &OpenGuess<E>, id: GuessId)
+fn strike_one<E: Key>(statuses: &mut Vec<Status>, before: usize, open: &Seen<'_, E>, id: GuessId)
     requires { open.now.guess.id - before - 1 < length statuses.old.items }
     ensures statuses { statuses.new.items
         ≡ (if has id open.now.guess.tags then slice_set statuses.old.items
@@ -110,19 +109,14 @@ fn strike_one<E: Key>(statuses: &mut Vec<Status>, before: usize, open: &OpenGues
 }
 
 /// The undecided guesses whose own steps rest on a guess are struck.
-fn strike_all<E: Key>(
-    statuses: &mut Vec<Status>,
-    before: usize,
-    opens: &Row<OpenGuess<E>>,
-    id: GuessId,
-)
+fn strike_all<E: Key>(statuses: &mut Vec<Status>, before: usize, opens: &Opens<E>, id: GuessId)
     requires { (k : ℕ) (d : Listing E) → k < length opens.now.items
         → (slice_index_or opens.now.items k d).guess.id - before - 1 < length statuses.old.items }
     ensures { statuses.new.items
         ≡ struck_by before id (map (λ l. l.guess) opens.now.items) statuses.old.items }
 {
     for place in 0..opens.len() {
-        strike_one(statuses, before, opens.at(place), id);
+        strike_one(statuses, before, &opens.at(place), id);
     }
 }
 
@@ -137,7 +131,7 @@ impl<E: Key> Guesses<E> {
             kernel,
             earlier: Settled::new(alloc),
             statuses: Vec::new(alloc),
-            opens: Row::new(alloc),
+            opens: Opens::new(alloc),
             below: true,
             next: EntitySet::new(alloc),
         }
@@ -257,6 +251,7 @@ impl<E: Key> Guesses<E> {
     {
         self.statuses.reserve(1)?;
         self.opens.reserve(1)?;
+        self.opens.reserve_shared(count);
         self.next.reserve(count)
     }
 
@@ -286,8 +281,7 @@ impl<E: Key> Guesses<E> {
         self.below = stays_below(self.below, &tags, id);
         let mut dependents = std::mem::replace(&mut self.next, EntitySet::new(self.alloc));
         dependents.add_all(entities);
-        self.opens
-            .push_reserved(OpenGuess::new(id, tags, dependents));
+        self.opens.push_reserved(id, tags, dependents);
         self.statuses.push_reserved(Status::Undecided);
         Ok(Guess::new(self.kernel, id))
     }
@@ -303,8 +297,7 @@ impl<E: Key> Guesses<E> {
         if are_earlier(&self.opens, tags) {
             return Ok(());
         }
-        make_room(&mut self.opens, tags)?;
-        depend_on(&mut self.opens, tags, entity);
+        self.opens.depend(tags, entity)?;
         Ok(())
     }
 

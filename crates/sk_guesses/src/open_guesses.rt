@@ -14,12 +14,11 @@ ghost use Rattle.sk_guesses.specs.Kept.{known, none_drawn, one_drawn, keys_of, f
 ghost use Rattle.sk_guesses.specs.Room.{Listing};
 ghost use Rattle.sk_guesses.specs.Opens.{after_commit, depending, dependents_of, left_to, not_resting, opens_of, without_list};
 
-use crate::open_guess::OpenGuess;
 use crate::open_list::{
-    are_earlier, close_committed, close_resting, depend_on, first_resting, leave_to, make_room,
-    oldest, place_of, take_list,
+    are_earlier, close_committed, close_resting, first_resting, leave_to, oldest, place_of,
+    take_list,
 };
-use crate::row::Row;
+use crate::open_row::{Opens, Seen};
 use crate::{EntitySet, Guess, Redeemed, Status};
 use sk_ids::{GuessId, TagSet};
 use sk_map::Key;
@@ -36,7 +35,7 @@ pub struct OpenGuesses<E: Key> {
     limit: u16,
     drawn: u64,
     /// The undecided guesses, by rising number.
-    opens: Row<OpenGuess<E>>,
+    opens: Opens<E>,
     /// Whether no guess is among the tags of an earlier one, so that a decision begins at its own place.
     below: bool,
     /// The list with which the next guess begins: room, and no entity yet.
@@ -75,14 +74,14 @@ impl<E: Key> Model for OpenGuesses<E> {
 }
 
 /// Whether the failure of a guess strikes another.
-fn is_struck<E: Key>(open: &OpenGuess<E>, id: GuessId) -> bool
+fn is_struck<E: Key>(open: &Seen<'_, E>, id: GuessId) -> bool
     ensures { result ≡ (has id open.now.guess.tags && not (open.now.guess.id == id)) }
 {
     open.rests_on(id) && open.id() != id
 }
 
 /// Notes a guess, if the failure of another strikes it. There is room for it.
-fn note_struck<E: Key>(struck: &mut Vec<GuessId>, open: &OpenGuess<E>, id: GuessId)
+fn note_struck<E: Key>(struck: &mut Vec<GuessId>, open: &Seen<'_, E>, id: GuessId)
     requires { length struck.old.items < vec_capacity struck.old }
     ensures struck { struck.new.items
         ≡ (if has id open.now.guess.tags && not (open.now.guess.id == id) then struck.old.items
@@ -96,12 +95,7 @@ fn note_struck<E: Key>(struck: &mut Vec<GuessId>, open: &OpenGuess<E>, id: Guess
 }
 
 /// Notes the guesses that the failure of one strikes, for which there is room. None of them stands before a place.
-fn strike_all<E: Key>(
-    struck: &mut Vec<GuessId>,
-    opens: &Row<OpenGuess<E>>,
-    from: usize,
-    id: GuessId,
-)
+fn strike_all<E: Key>(struck: &mut Vec<GuessId>, opens: &Opens<E>, from: usize, id: GuessId)
     requires room { length struck.old.items + length opens.now.items ≤ vec_capacity struck.old }
     requires none_before { (k : ℕ) (d : Listing E) → k < from
         → has id (slice_index_or opens.now.items k d).guess.tags ≡ false }
@@ -111,7 +105,7 @@ fn strike_all<E: Key>(
     ensures room { vec_capacity struck.new ≡ vec_capacity struck.old }
 {
     for place in from..opens.len() {
-        note_struck(struck, opens.at(place), id);
+        note_struck(struck, &opens.at(place), id);
     }
 }
 
@@ -160,7 +154,7 @@ impl<E: Key> OpenGuesses<E> {
             kernel,
             limit,
             drawn: 0,
-            opens: Row::new(alloc),
+            opens: Opens::new(alloc),
             below: true,
             next: EntitySet::new(alloc),
             struck: Vec::new(alloc),
@@ -277,6 +271,7 @@ impl<E: Key> OpenGuesses<E> {
         ensures ok { OnOk result (HasKeptRoom self.new count) }
     {
         self.opens.reserve(1)?;
+        self.opens.reserve_shared(count);
         self.struck.reserve(self.opens.len() + 1)?;
         self.next.reserve(count)
     }
@@ -304,8 +299,7 @@ impl<E: Key> OpenGuesses<E> {
         self.below = stays_below(self.below, &tags, id);
         let mut dependents = std::mem::replace(&mut self.next, EntitySet::new(self.alloc));
         add_written(&mut dependents, written);
-        self.opens
-            .push_reserved(OpenGuess::new(id, tags, dependents));
+        self.opens.push_reserved(id, tags, dependents);
         self.drawn = id.number();
         Guess::new(self.kernel, id)
     }
@@ -321,8 +315,7 @@ impl<E: Key> OpenGuesses<E> {
         if are_earlier(&self.opens, tags) {
             return Ok(());
         }
-        make_room(&mut self.opens, tags)?;
-        depend_on(&mut self.opens, tags, entity);
+        self.opens.depend(tags, entity)?;
         Ok(())
     }
 

@@ -11,44 +11,13 @@ ghost use Rattle.sk_guesses.specs.Room.{Listing};
 ghost use Rattle.sk_guesses.specs.Kept.{AreBelow};
 
 use crate::EntitySet;
-use crate::open_guess::OpenGuess;
-use crate::row::Row;
+use crate::open_row::Opens;
 use sk_ids::{GuessId, TagSet};
 use sk_map::Key;
-use std::alloc::{AllocError, Global};
-
-/// Makes room for one entity more in the lists of these guesses.
-pub(crate) fn make_room<E: Key>(
-    opens: &mut Row<OpenGuess<E>>,
-    tags: &TagSet,
-) -> Result<(), AllocError>
-    ensures same { map (λ l. l.guess) opens.new.items ≡ map (λ l. l.guess) opens.old.items }
-    ensures room { OnOk result
-        ((k : ℕ) (d : Listing E) → k < length opens.new.items
-        → has (slice_index_or opens.new.items k d).guess.id tags.now ≡ true
-        → 0 < (slice_index_or opens.new.items k d).room) }
-{
-    for place in 0..opens.len() {
-        opens.at_mut(place).reserve(tags)?;
-    }
-    Ok(())
-}
-
-/// Adds an entity to the lists of these guesses, where there is room for it.
-pub(crate) fn depend_on<E: Key>(opens: &mut Row<OpenGuess<E>>, tags: &TagSet, entity: &E)
-    requires { (k : ℕ) (d : Listing E) → k < length opens.old.items
-        → has (slice_index_or opens.old.items k d).guess.id tags.now ≡ true
-        → 0 < (slice_index_or opens.old.items k d).room }
-    ensures { map (λ l. l.guess) opens.new.items
-        ≡ map (depending E.order tags.now entity.now) (map (λ l. l.guess) opens.old.items) }
-{
-    for place in 0..opens.len() {
-        opens.at_mut(place).depend(tags, entity);
-    }
-}
+use std::alloc::Global;
 
 /// Whether none of these guesses is in a set, as where each in it was drawn later.
-pub(crate) fn are_earlier<E: Key>(opens: &Row<OpenGuess<E>>, tags: &TagSet) -> bool
+pub(crate) fn are_earlier<E: Key>(opens: &Opens<E>, tags: &TagSet) -> bool
     requires { IsStrictlySortedBy nat_cmp (numbers (opens_of (map (λ l. l.guess) opens.now.items))) }
     ensures { result ≡ true → (e : E)
         → map (depending E.order tags.now e) (map (λ l. l.guess) opens.now.items) ≡ map (λ l. l.guess) opens.now.items }
@@ -65,7 +34,7 @@ pub(crate) fn are_earlier<E: Key>(opens: &Row<OpenGuess<E>>, tags: &TagSet) -> b
 }
 
 /// How many undecided guesses stand before one; all of them, where it is none of them.
-pub(crate) fn place_of<E: Key>(opens: &Row<OpenGuess<E>>, id: GuessId) -> usize
+pub(crate) fn place_of<E: Key>(opens: &Opens<E>, id: GuessId) -> usize
     requires { IsStrictlySortedBy nat_cmp
         (numbers (opens_of (map (λ l. l.guess) opens.now.items))) }
     ensures { result ≡ prefix_len (λ l. not (l.guess.id == id)) opens.now.items }
@@ -88,7 +57,7 @@ pub(crate) fn place_of<E: Key>(opens: &Row<OpenGuess<E>>, id: GuessId) -> usize
 }
 
 /// Where the guesses begin whose own steps may rest on one, if no tag of theirs is above their own number.
-pub(crate) fn first_resting<E: Key>(opens: &Row<OpenGuess<E>>, below: bool, id: GuessId) -> usize
+pub(crate) fn first_resting<E: Key>(opens: &Opens<E>, below: bool, id: GuessId) -> usize
     requires rising { IsStrictlySortedBy nat_cmp
         (numbers (opens_of (map (λ l. l.guess) opens.now.items))) }
     requires below { below ≡ true → AreBelow (opens_of (map (λ l. l.guess) opens.now.items)) }
@@ -104,11 +73,7 @@ pub(crate) fn first_resting<E: Key>(opens: &Row<OpenGuess<E>>, below: bool, id: 
 }
 
 /// Moves out the list of a guess.
-pub(crate) fn take_list<E: Key>(
-    opens: &mut Row<OpenGuess<E>>,
-    alloc: Global,
-    id: GuessId,
-) -> EntitySet<E>
+pub(crate) fn take_list<E: Key>(opens: &mut Opens<E>, alloc: Global, id: GuessId) -> EntitySet<E>
     requires { IsStrictlySortedBy nat_cmp
         (numbers (opens_of (map (λ l. l.guess) opens.old.items))) }
     ensures list { result.entities ≡ dependents_of id (map (λ l. l.guess) opens.old.items) }
@@ -120,11 +85,11 @@ pub(crate) fn take_list<E: Key>(
     if place >= opens.len() {
         return EntitySet::new(alloc);
     }
-    opens.at_mut(place).take_dependents(alloc)
+    opens.take_dependents(place, alloc)
 }
 
 /// Takes a guess out of the undecided ones.
-pub(crate) fn close<E: Key>(opens: &mut Row<OpenGuess<E>>, id: GuessId)
+pub(crate) fn close<E: Key>(opens: &mut Opens<E>, id: GuessId)
     requires { IsStrictlySortedBy nat_cmp
         (numbers (opens_of (map (λ l. l.guess) opens.old.items))) }
     ensures opens { map (λ l. l.guess) opens.new.items
@@ -138,7 +103,7 @@ pub(crate) fn close<E: Key>(opens: &mut Row<OpenGuess<E>>, id: GuessId)
 }
 
 /// Takes a guess out of what the own steps of these rest on.
-fn withdraw<E: Key>(opens: &mut Row<OpenGuess<E>>, from: usize, id: GuessId)
+fn withdraw<E: Key>(opens: &mut Opens<E>, from: usize, id: GuessId)
     requires none_before { (k : ℕ) (d : Listing E) → k < from
         → has id (slice_index_or opens.old.items k d).guess.tags ≡ false }
     requires bound { from ≤ length opens.old.items }
@@ -147,12 +112,12 @@ fn withdraw<E: Key>(opens: &mut Row<OpenGuess<E>>, from: usize, id: GuessId)
     ensures as_many { length opens.new.items ≡ length opens.old.items }
 {
     for place in from..opens.len() {
-        opens.at_mut(place).without(id);
+        opens.without(place, id);
     }
 }
 
 /// Takes a guess out of the undecided ones, and out of what the steps of the others rest on.
-pub(crate) fn close_committed<E: Key>(opens: &mut Row<OpenGuess<E>>, from: usize, id: GuessId)
+pub(crate) fn close_committed<E: Key>(opens: &mut Opens<E>, from: usize, id: GuessId)
     requires rising { IsStrictlySortedBy nat_cmp
         (numbers (opens_of (map (λ l. l.guess) opens.old.items))) }
     requires none_before { (k : ℕ) (d : Listing E) → k < from
@@ -167,7 +132,7 @@ pub(crate) fn close_committed<E: Key>(opens: &mut Row<OpenGuess<E>>, from: usize
 }
 
 /// Takes the guesses out of the undecided ones whose own steps rest on a guess.
-pub(crate) fn close_resting<E: Key>(opens: &mut Row<OpenGuess<E>>, from: usize, id: GuessId)
+pub(crate) fn close_resting<E: Key>(opens: &mut Opens<E>, from: usize, id: GuessId)
     requires none_before { (k : ℕ) (d : Listing E) → k < from
         → has id (slice_index_or opens.old.items k d).guess.tags ≡ false }
     requires bound { from ≤ length opens.old.items }
@@ -183,7 +148,7 @@ pub(crate) fn close_resting<E: Key>(opens: &mut Row<OpenGuess<E>>, from: usize, 
 }
 
 /// Whether all of these guesses were drawn before one and, if no tag of theirs is above their own number, none rests on it.
-fn are_older<E: Key>(opens: &Row<OpenGuess<E>>, below: bool, id: GuessId) -> bool
+fn are_older<E: Key>(opens: &Opens<E>, below: bool, id: GuessId) -> bool
     requires rising { IsStrictlySortedBy nat_cmp
         (numbers (opens_of (map (λ l. l.guess) opens.now.items))) }
     requires below { below ≡ true → AreBelow (opens_of (map (λ l. l.guess) opens.now.items)) }
@@ -199,7 +164,7 @@ fn are_older<E: Key>(opens: &Row<OpenGuess<E>>, below: bool, id: GuessId) -> boo
 }
 
 /// Whether the own step of one of these guesses rests on a guess.
-fn any_rests_on<E: Key>(opens: &Row<OpenGuess<E>>, id: GuessId) -> bool
+fn any_rests_on<E: Key>(opens: &Opens<E>, id: GuessId) -> bool
     ensures { result ≡ list_any (λ l. has id l.guess.tags) opens.now.items }
 {
     for place in 0..opens.len() {
@@ -211,7 +176,7 @@ fn any_rests_on<E: Key>(opens: &Row<OpenGuess<E>>, id: GuessId) -> bool
 }
 
 /// The same, if no tag of theirs is above their own number. Mostly all were drawn before that guess.
-pub(crate) fn is_rested_on<E: Key>(opens: &Row<OpenGuess<E>>, below: bool, id: GuessId) -> bool
+pub(crate) fn is_rested_on<E: Key>(opens: &Opens<E>, below: bool, id: GuessId) -> bool
     requires rising { IsStrictlySortedBy nat_cmp
         (numbers (opens_of (map (λ l. l.guess) opens.now.items))) }
     requires below { below ≡ true → AreBelow (opens_of (map (λ l. l.guess) opens.now.items)) }
@@ -224,7 +189,7 @@ pub(crate) fn is_rested_on<E: Key>(opens: &Row<OpenGuess<E>>, below: bool, id: G
 }
 
 /// The oldest of these guesses.
-pub(crate) fn oldest<E: Key>(opens: &Row<OpenGuess<E>>) -> Option<GuessId>
+pub(crate) fn oldest<E: Key>(opens: &Opens<E>) -> Option<GuessId>
     ensures { (g : ℕ) → unwrap_or result g
         ≡ get_or (numbers (opens_of (map (λ l. l.guess) opens.now.items))) 0 g }
 {
@@ -235,23 +200,19 @@ pub(crate) fn oldest<E: Key>(opens: &Row<OpenGuess<E>>) -> Option<GuessId>
 }
 
 /// Takes an entity out of the lists of the guesses in a set.
-pub(crate) fn relieve<E: Key>(opens: &mut Row<OpenGuess<E>>, tags: &TagSet, entity: &E)
+pub(crate) fn relieve<E: Key>(opens: &mut Opens<E>, tags: &TagSet, entity: &E)
     ensures opens { map (λ l. l.guess) opens.new.items
         ≡ map (relieved E.order tags.now entity.now) (map (λ l. l.guess) opens.old.items) }
     ensures as_many { length opens.new.items ≡ length opens.old.items }
 {
-    for place in 0..opens.len() {
-        opens.at_mut(place).relieve(tags, entity);
-    }
+    opens.leave(tags, true, entity);
 }
 
 /// Leaves an entity to the lists of the guesses in a set alone.
-pub(crate) fn leave_to<E: Key>(opens: &mut Row<OpenGuess<E>>, tags: &TagSet, entity: &E)
+pub(crate) fn leave_to<E: Key>(opens: &mut Opens<E>, tags: &TagSet, entity: &E)
     ensures opens { map (λ l. l.guess) opens.new.items
         ≡ map (left_to E.order tags.now entity.now) (map (λ l. l.guess) opens.old.items) }
     ensures as_many { length opens.new.items ≡ length opens.old.items }
 {
-    for place in 0..opens.len() {
-        opens.at_mut(place).leave_to(tags, entity);
-    }
+    opens.leave(tags, false, entity);
 }

@@ -11,7 +11,7 @@ loop-place-preserved g c =
     let ls = c.args.opens.now.items in
     let i = c.loop-place.place in
     let lt : i < length ls = omega (arith, c.loop-place-test.true, c.len-place-end.ensures) in
-    let x = c.at.result.now in
+    let x = c.at.result in
     let next : drop i ls ≡ x ∷ drop (i + 1) ls = next_of_all ls i x lt c.at.ensures in (
       ap (λ ys. ys ++ struck_with c.args.id (opens_of (map guess_of (drop (i + 1) ls)))) c.note_struck.ensures.struck
           ∙ strike_next c.args.id c.loop-place.struck.items x.guess (map guess_of (drop (i + 1) ls))

@@ -11,7 +11,7 @@ pub returns : goal.returns
 returns g c = λ is e.
     let same = c.ids-ids.ensures.members in
     let ls = c.args.opens.now.items in
-    let newest = c.at-newest.result.now in
+    let newest = c.at-newest.result in
     all_earlier g.E.Key.order ls c.args.tags.now newest c.oldest-item.result e c.requires
     (subst (IsStrictlySortedBy nat_cmp) same c.ids-ids.ensures.rising)
     (omega (arith, c.if-len-eq0.false, c.len.ensures))

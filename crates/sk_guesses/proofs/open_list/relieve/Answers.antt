@@ -1,15 +1,14 @@
--- A change is made of one after the other.
-use Rattle.sk_guesses.proofs.Names.{arith, relieved}
-use Rattle.sk_guesses.proofs.Passes.{none_done, one_done, all_done}
+-- The lists are changed, and there are as many.
+use Rattle.sk_guesses.proofs.Names.{◌≡◌, ◌∙◌, ap, length, map, sym, length-map, true, without_entity}
+use Rattle.sk_guesses.specs.Shared.{changing, is_named}
+use Rattle.sk_guesses.proofs.Opens.{guess_of}
+use Rattle.sk_guesses.proofs.Shared.{left_all}
 use Rattle.sk_guesses.proofs.open_list.relieve.Goals as goal
 
-pub loop-place-init : goal.loop-place-init
-loop-place-init g c = none_done (relieved g.E.Key.order c.args.tags.now c.args.entity.now) c.args.opens.now.items
-
-pub loop-place-preserved : goal.loop-place-preserved
-loop-place-preserved g c =
-    one_done (relieved g.E.Key.order c.args.tags.now c.args.entity.now) c.args.opens.now.items c.loop-place.opens.items c.loop-place.place c.at_mut.result.now c.relieve.new.self c.loop-place.invariant
-    (omega (arith, c.loop-place-test.true, c.len-place-end.ensures)) c.at_mut.ensures.value c.relieve.ensures
-
 pub returns-clause-opens : goal.returns-clause-opens
-returns-clause-opens g c = all_done (relieved g.E.Key.order c.args.tags.now c.args.entity.now) c.args.opens.now.items c.loop-place.opens.items c.loop-place.place c.loop-place.invariant (omega (arith, c.loop-place-test.false, c.len-place-end.ensures))
+returns-clause-opens g c = c.leave.ensures
+
+pub returns-clause-as_many : goal.returns-clause-as_many
+returns-clause-as_many g c =
+    let os = map guess_of c.args.opens.now.items in
+    sym (length-map c.leave.new.self.items guess_of) ∙ ap length c.leave.ensures ∙ length-map os (changing (λ es. without_entity g.E.Key.order es c.args.entity.now) (is_named true c.args.tags.now)) ∙ length-map c.args.opens.now.items guess_of

@@ -1,6 +1,8 @@
 -- The list at the place is the guess's, or there is none.
-use Rattle.std.proofs.Common.{◌<◌, ◌≤◌, length, ◌∙◌, arith}
-use Rattle.sk_guesses.proofs.Opens.{found, missing, none_taken, taken}
+use Rattle.std.proofs.Common.{◌<◌, ◌≤◌, [], length, map, refl, ap, ◌∙◌, arith}
+use Rattle.sk_guesses.proofs.Names.{slice_index_or, length-set}
+use Rattle.sk_guesses.proofs.Opens.{guess_of, found, missing, none_taken, taken}
+use Rattle.sk_guesses.proofs.Shared.{nothing, any_default}
 use Rattle.sk_guesses.proofs.open_list.take_list.Goals as goal
 
 pub returns-then-place-len-clause-list : goal.returns-then-place-len-clause-list
@@ -16,10 +18,19 @@ returns-then-place-len-clause-opens g c =
 pub returns-clause-list : goal.returns-clause-list
 returns-clause-list g c =
     let near : c.place_of-place.result < length c.args.opens.now.items = omega (arith, c.if-place-len.false, c.len.ensures) in
-    c.take_dependents.ensures.list
-    ∙ found c.args.id c.place_of-place.result c.args.opens.now.items c.at_mut.result.now c.place_of-place.ensures near c.at_mut.ensures.value
+    let ls = c.args.opens.now.items in
+    let k = c.place_of-place.result in
+    let l = slice_index_or ls k nothing in
+    c.take_dependents.ensures.list nothing ∙ found c.args.id k ls l c.place_of-place.ensures near (any_default ls k nothing l near)
 
 pub returns-clause-opens : goal.returns-clause-opens
 returns-clause-opens g c =
     let near : c.place_of-place.result < length c.args.opens.now.items = omega (arith, c.if-place-len.false, c.len.ensures) in
-    taken c.args.id c.place_of-place.result c.args.opens.now.items c.at_mut.result.now c.take_dependents.new.self c.place_of-place.ensures near c.at_mut.ensures.value c.take_dependents.ensures.left
+    let ls = c.args.opens.now.items in
+    let k = c.place_of-place.result in
+    let l = slice_index_or ls k nothing in
+    ap (map guess_of) (c.take_dependents.ensures.items nothing)
+    ∙ taken c.args.id k ls l (record { guess = record l.guess { dependents = [] } }) c.place_of-place.ensures near (any_default ls k nothing l near) refl
+
+pub returns-clause-as_many : goal.returns-clause-as_many
+returns-clause-as_many g c = ap length (c.take_dependents.ensures.items nothing) ∙ rw length-set refl

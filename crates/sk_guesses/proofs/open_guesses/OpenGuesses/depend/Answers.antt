@@ -14,24 +14,15 @@ returns-then-are_earlier-clause-ok g c =
     let same = c.are_earlier.ensures c.if-are_earlier.true c.args.entity.now in
     ap (λ (r : Kept _). r.opens) (sym c.self.view_is) ∙ sym same ∙ ap (λ (r : Kept _). map f r.opens) c.self.view_is
 
-pub invariant_of-self : goal.invariant_of-self
-invariant_of-self g c =
-    let v : KeptView = record { kernel = c.self.inside.kernel; limit = c.self.inside.limit; drawn = c.self.inside.drawn; struck = c.self.inside.struck.items } in
-    let as_many : length c.make_room.new.opens.items ≤ length c.self.inside.opens.items =
-    omega (arith, sym (length-map c.make_room.new.opens.items guess_of) ∙ ap length c.make_room.ensures.same ∙ length-map c.self.inside.opens.items guess_of) in (
-      kept_same v c.self.inside.opens.items c.make_room.new.opens.items c.self.inside.next.entities (vec_capacity c.self.inside.struck) (ap opens_of c.make_room.ensures.same) as_many c.self.invariant.0,
-      λ below. subst AreBelow (sym (ap opens_of c.make_room.ensures.same)) (c.self.invariant.1 below),
-    )
-
 pub invariant_of-self-2 : goal.invariant_of-self-2
 invariant_of-self-2 g c =
     let v : KeptView = record { kernel = c.self.inside.kernel; limit = c.self.inside.limit; drawn = c.self.inside.drawn; struck = c.self.inside.struck.items } in
     let os = map guess_of c.self.inside.opens.items in
     let f = depending g.E.Key.order c.args.tags.now c.args.entity.now in
-    let is : map guess_of c.depend_on.new.opens.items ≡ map f os = c.depend_on.ensures ∙ ap (map f) c.make_room.ensures.same in
-    let as_many : length c.depend_on.new.opens.items ≡ length c.self.inside.opens.items =
-    sym (length-map c.depend_on.new.opens.items guess_of) ∙ ap length is ∙ length-map os f ∙ length-map c.self.inside.opens.items guess_of in (
-      kept_same v c.self.inside.opens.items c.depend_on.new.opens.items c.self.inside.next.entities (vec_capacity c.self.inside.struck)
+    let is : map guess_of c.depend.new.self.items ≡ map f os = c.in_ok-depend.ensures.ok in
+    let as_many : length c.depend.new.self.items ≡ length c.self.inside.opens.items =
+    sym (length-map c.depend.new.self.items guess_of) ∙ ap length is ∙ length-map os f ∙ length-map c.self.inside.opens.items guess_of in (
+      kept_same v c.self.inside.opens.items c.depend.new.self.items c.self.inside.next.entities (vec_capacity c.self.inside.struck)
           (ap opens_of is ∙ same_opens f (depending_keeps g.E.Key.order c.args.tags.now c.args.entity.now) os) (omega (arith, as_many)) c.self.invariant.0,
       λ below. subst AreBelow (sym (ap opens_of is ∙ same_opens f (depending_keeps g.E.Key.order c.args.tags.now c.args.entity.now) os)) (c.self.invariant.1 below),
     )

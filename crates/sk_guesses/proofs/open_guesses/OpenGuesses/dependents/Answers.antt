@@ -20,7 +20,7 @@ pub returns-clause-value : goal.returns-clause-value
 returns-clause-value g c =
     let near : c.place_of-place.result < length c.self.inside.opens.items = omega (arith, c.if-place-len.false, c.len.ensures) in
     c.dependents.ensures.value
-    ∙ found c.args.id c.place_of-place.result c.self.inside.opens.items c.at.result.now c.place_of-place.ensures near c.at.ensures
+    ∙ found c.args.id c.place_of-place.result c.self.inside.opens.items c.at.result c.place_of-place.ensures near c.at.ensures
     ∙ ap (λ (g : Kept _). dependents_of c.args.id g.opens) c.self.view_is
 
 pub returns-clause-none : goal.returns-clause-none
@@ -29,7 +29,7 @@ returns-clause-none g c = λ other.
     let os = map guess_of c.self.inside.opens.items in
     let near : c.place_of-place.result < length c.self.inside.opens.items = omega (arith, c.if-place-len.false, c.len.ensures) in
     c.dependents.ensures.value
-    ∙ found c.args.id c.place_of-place.result c.self.inside.opens.items c.at.result.now c.place_of-place.ensures near c.at.ensures
+    ∙ found c.args.id c.place_of-place.result c.self.inside.opens.items c.at.result c.place_of-place.ensures near c.at.ensures
     ∙ none_there c.args.id os
     (not_known v (opens_of os) c.args.id (λ is. other (ap (λ (g : Kept _). known g.view (opens_of g.opens) c.args.id) (sym c.self.view_is) ∙ is)))
 

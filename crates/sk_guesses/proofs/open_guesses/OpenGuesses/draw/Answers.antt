@@ -11,11 +11,11 @@ pub invariant_of-self : goal.invariant_of-self
 invariant_of-self g c =
     let v : KeptView = record { kernel = c.self.inside.kernel; limit = c.self.inside.limit; drawn = c.self.inside.drawn; struck = c.self.inside.struck.items } in
     let ls = c.self.inside.opens.items in
-    let l : Listing _ = c.new-2.result in
+    let l : Listing _ = record { guess = record { id = c.args.id; tags = c.args.tags; dependents = c.add_written.new.list.entities } } in
     let was : v.drawn ≡ c.args.self.now.view.drawn = ap (λ (r : Kept _). r.view.drawn) c.self.view_is in
     let next : c.args.id ≡ v.drawn + 1 = c.requires.number ∙ ap (λ n. n + 1) (sym was) in
-    let number : l.guess.id ≡ v.drawn + 1 = ap (λ (x : Listing _). x.guess.id) c.new-2.ensures ∙ next in
-    let own : has l.guess.id l.guess.tags ≡ true = ap (λ (x : Listing _). has x.guess.id x.guess.tags) c.new-2.ensures ∙ c.requires.own in
+    let number : l.guess.id ≡ v.drawn + 1 = next in
+    let own : has l.guess.id l.guess.tags ≡ true = c.requires.own in
     let drawn : c.number-self-inside.result ≡ v.drawn + 1 = c.number-self-inside.ensures.value ∙ next in
     let as_many : length c.args.self.now.opens ≡ length ls = ap (λ (r : Kept _). length r.opens) (sym c.self.view_is) ∙ length-map ls guess_of in
     let few : length ls < v.limit = omega (arith, c.requires.few, as_many, ap (λ (r : Kept _). r.view.limit) c.self.view_is) in
@@ -27,18 +27,18 @@ invariant_of-self g c =
       λ below.
           subst (λ xs. AreBelow (opens_of xs)) (sym (ap (map guess_of) c.push_reserved.ensures.items ∙ rw map-append refl))
           (below_more (map guess_of ls) l.guess (c.self.invariant.1 (c.stays_below-self-inside.ensures.before below))
-          (subst (λ (x : Listing _). (h : ℕ) → has h x.guess.tags ≡ true → h ≤ x.guess.id) (sym c.new-2.ensures) (c.stays_below-self-inside.ensures.drawn below))),
+          (c.stays_below-self-inside.ensures.drawn below)),
     )
 
 pub returns-clause-statuses : goal.returns-clause-statuses
 returns-clause-statuses g c = λ status are.
     let v : KeptView = record { kernel = c.self.inside.kernel; limit = c.self.inside.limit; drawn = c.self.inside.drawn; struck = c.self.inside.struck.items } in
     let os = map guess_of c.self.inside.opens.items in
-    let l : Listing _ = c.new-2.result in
+    let l : Listing _ = record { guess = record { id = c.args.id; tags = c.args.tags; dependents = c.add_written.new.list.entities } } in
     let new = map guess_of c.push_reserved.new.self.items in
     let was : v.drawn ≡ c.args.self.now.view.drawn = ap (λ (r : Kept _). r.view.drawn) c.self.view_is in
     let next : c.args.id ≡ v.drawn + 1 = c.requires.number ∙ ap (λ n. n + 1) (sym was) in
-    let id : l.guess.id ≡ c.args.id = ap (λ (x : Listing _). x.guess.id) c.new-2.ensures in
+    let id : l.guess.id ≡ c.args.id = refl in
     let drawn : c.number-self-inside.result ≡ v.drawn + 1 = c.number-self-inside.ensures.value ∙ next in
     let is : new ≡ os ++ l.guess ∷ [] = ap (map guess_of) c.push_reserved.ensures.items ∙ rw map-append refl in
     let before = subst (λ (r : Kept _). AreStatuses r.view (opens_of r.opens) status) (sym c.self.view_is) are in

@@ -1,0 +1,19 @@
+-- What is seen of it is what it begins with.
+use Rattle.sk_guesses.proofs.Names.{◌≡◌, ◌∙◌, ◌∷◌, ◌++◌, [], true, length, map, ap, sym, subst, InOrder}
+use Rattle.sk_guesses.specs.Shared.{seen, AreReady}
+use Rattle.sk_guesses.proofs.Shared.{ready_more, seen_more}
+use Rattle.sk_guesses.proofs.open_row.Opens.push_reserved.Goals as goal
+
+pub invariant_of-self : goal.invariant_of-self
+invariant_of-self g c =
+    let es = c.self.inside.shared.entities in
+    let just : c.is_shared-shares.result ≡ true → es ≡ c.args.dependents.entities = λ is. c.is_shared-shares.ensures is ∙ c.as_slice-2.ensures.entities in
+    subst (AreReady (length es)) (sym c.push_reserved.ensures.items) (ready_more (length es) c.self.inside.row.items c.begun.result c.self.invariant (c.begun.ensures.ready es just))
+
+pub returns-clause-items : goal.returns-clause-items
+returns-clause-items g c =
+    let es = c.self.inside.shared.entities in
+    let just : c.is_shared-shares.result ≡ true → es ≡ c.args.dependents.entities = λ is. c.is_shared-shares.ensures is ∙ c.as_slice-2.ensures.entities in
+    let before = ap (λ (r : InOrder _). r.items) (c.self.view_is ∙ c.found.ensures) in
+    let last = c.begun.ensures.seen es just in
+    ap (map (seen es)) c.push_reserved.ensures.items ∙ seen_more es c.self.inside.row.items c.begun.result ∙ (λ j. before j ++ last j ∷ [])

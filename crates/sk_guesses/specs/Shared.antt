@@ -1,0 +1,71 @@
+-- Undecided guesses, many of which share one list of what rests on them.
+use Rattle.std.specs.Prelude.{◌≡◌, ◌≤◌, ◌<◌, ℕ, Bool, true, false, not, List, [], ◌∷◌, length, map, if◌then◌else◌, ◌⊎◌, ⊤}
+use Rattle.std.specs.List.{AllByRecursion}
+use Rattle.sk_record.specs.Notes.{has}
+use Rattle.sk_guesses.specs.Opens.{OpenGuess}
+use Rattle.sk_guesses.specs.Room.{Listing}
+
+-- an undecided guess with its own list, the room in that, and whether it has the shared list in its place
+pub record Sharing (E : Type 0) : Type 0 where
+  pub guess : OpenGuess E
+  pub room : ℕ
+  pub shares : Bool
+
+-- what is seen of one, where the shared list is this
+abbrev pub seen : {E : Type 0} → List E → Sharing E → Listing E
+seen es o = record { guess = if o.shares then record o.guess { dependents = es } else o.guess }
+
+-- one that shares has room for so many entities, and none of its own
+abbrev pub IsReady : {E : Type 0} → ℕ → Sharing E → Type 0
+IsReady n o = o.shares ≡ true → (o.guess.dependents ≡ []) × (n ≤ o.room)
+
+abbrev pub AreReady : {E : Type 0} → ℕ → List (Sharing E) → Type 0
+AreReady n os = AllByRecursion (IsReady n) os
+
+-- two lists are as long, and what stands in one place is related
+abbrev pub Pairs : {A : Type 0} → (A → A → Type 0) → List A → List A → Type 0
+Pairs P [] [] = ⊤
+Pairs P [] (y ∷ ys) = ⊥
+Pairs P (x ∷ xs) [] = ⊥
+Pairs P (x ∷ xs) (y ∷ ys) = P x y × Pairs P xs ys
+
+-- a guess is among some, or it is not
+abbrev pub is_named : Bool → List ℕ → ℕ → Bool
+is_named within tags g = if within then has g tags else not (has g tags)
+
+-- a change of the list of a guess that is among some
+abbrev pub changing : {E : Type 0} → (List E → List E) → (ℕ → Bool) → OpenGuess E → OpenGuess E
+changing f c o = if c o.id then record o { dependents = f o.dependents } else o
+
+-- ---- what one guess becomes
+
+-- room for one entity more, where so many are shared: the own list has it, or that which the shared one takes the place of
+abbrev pub HasPlace : {E : Type 0} → (ℕ → Bool) → ℕ → Sharing E → Type 0
+HasPlace c n o = c o.guess.id ≡ true → (o.shares ≡ true → n < o.room) × (o.shares ≡ false → 0 < o.room)
+
+-- nothing is seen of new room
+pub record IsRoomier {E : Type 0} (n : ℕ) (o new : Sharing E) : Type 0 where
+  pub guess : new.guess ≡ o.guess
+  pub shares : new.shares ≡ o.shares
+  pub ready : IsReady n o → IsReady n new
+
+-- and there is a place
+pub record IsPlaced {E : Type 0} (c : ℕ → Bool) (n : ℕ) (o new : Sharing E) : Type 0 where
+  pub same : IsRoomier n o new
+  pub place : HasPlace c n new
+
+-- one that shared has the shared list as its own
+pub record IsParted {E : Type 0} (es : List E) (o new : Sharing E) : Type 0 where
+  pub shared : o.shares ≡ true
+  pub guess : new.guess ≡ record o.guess { dependents = es }
+  pub shares : new.shares ≡ false
+
+-- those that share change, or do not, with the shared list
+abbrev pub Agrees : {E : Type 0} → List E → (ℕ → Bool) → Bool → Sharing E → Sharing E → Type 0
+Agrees es c b o new = ((new ≡ o) × (o.shares ≡ true → c o.guess.id ≡ b)) ⊎ (IsParted es o new × (c o.guess.id ≡ false))
+
+-- its own list is changed, where it shares none
+pub record IsChanged {E : Type 0} (f : List E → List E) (c : ℕ → Bool) (o new : Sharing E) : Type 0 where
+  pub sharing : o.shares ≡ true → new ≡ o
+  pub alone : o.shares ≡ false → new.guess ≡ changing f c o.guess
+  pub shares : new.shares ≡ o.shares

@@ -1,0 +1,400 @@
+//! The undecided guesses, many of which share one list of what rests on them.
+ghost use Rattle.std.specs.Prelude.{◌≡◌, ◌<◌, ◌≤◌, ◌+◌, ◌∷◌, ◌++◌, ℕ, List, [], true, false, length, map, slice_index_or, slice_set, OnOk, OnErr, IsOk, if◌then◌else◌};
+ghost use Rattle.std.specs.List.{remove, AllByRecursion};
+ghost use Rattle.std.specs.List.Sorted.{IsStrictlySortedBy};
+ghost use Rattle.sk_record.specs.Notes.{has};
+ghost use Rattle.sk_guesses.specs.EntitySet.{with_entity, without_entity};
+ghost use Rattle.sk_guesses.specs.Opens.{depending, without_tag};
+ghost use Rattle.sk_guesses.specs.Room.{Listing};
+ghost use Rattle.sk_guesses.specs.Shared.{seen, is_named, changing, IsReady, AreReady, Pairs, HasPlace, IsRoomier, IsPlaced, Agrees, IsChanged};
+
+use crate::EntitySet;
+use crate::open_guess::OpenGuess;
+use crate::row::Row;
+use sk_ids::{GuessId, TagSet};
+use sk_map::Key;
+use std::alloc::{AllocError, Global};
+use std::marker::Model;
+
+/// What is seen of an undecided guess.
+#[derive(Drop)]
+pub(crate) struct Seen<'a, E: Key> {
+    id: GuessId,
+    tags: &'a TagSet,
+    dependents: &'a [E],
+}
+
+impl<'a, E: Key> Model for Seen<'a, E> {
+    ghost use Rattle.std.specs.List.Sorted.{IsStrictlySortedBy};
+    ghost use Rattle.sk_guesses.specs.Room.{Listing};
+
+    ghost Value = { Listing E };
+
+    ghost view = { λ s. record
+        { guess = record { id = s.id; tags = s.tags.now; dependents = s.dependents.now } } };
+
+    ghost invariant = { λ s. IsStrictlySortedBy E.order s.dependents.now };
+}
+
+impl<'a, E: Key> Seen<'a, E> {
+    pub(crate) fn id(&self) -> GuessId
+        ensures { result ≡ self.now.guess.id }
+    {
+        self.id
+    }
+
+    /// Whether its own step rests on a guess.
+    pub(crate) fn rests_on(&self, id: GuessId) -> bool
+        ensures { result ≡ has id self.now.guess.tags }
+    {
+        self.tags.contains(id)
+    }
+
+    /// The entities that rest on it, by rising order.
+    pub(crate) fn dependents(&self) -> &'a [E]
+        ensures value { result.now ≡ self.now.guess.dependents }
+        ensures rising { IsStrictlySortedBy E.order result.now }
+    {
+        self.dependents
+    }
+}
+
+/// Undecided guesses in their order. Guesses of which the same entities rest share one list.
+#[derive(Drop)]
+pub(crate) struct Opens<E: Key> {
+    row: Row<OpenGuess<E>>,
+    shared: EntitySet<E>,
+}
+
+impl<E: Key> Model for Opens<E> {
+    ghost use Rattle.std.specs.Prelude.{map, length};
+    ghost use Rattle.sk_guesses.specs.Room.{Listing};
+    ghost use Rattle.sk_guesses.specs.Row.{InOrder};
+    ghost use Rattle.sk_guesses.specs.Shared.{seen, AreReady};
+
+    ghost Value = { InOrder (Listing E) };
+
+    ghost view = { λ a. record
+        { items = map (seen a.shared.entities) a.row.items; places = a.row.places } };
+
+    ghost invariant = { λ a. AreReady (length a.shared.entities) a.row.items };
+}
+
+/// Whether one of these guesses shares the list.
+fn any_shares<E: Key>(row: &Row<OpenGuess<E>>) -> bool
+    ensures { result ≡ false → AllByRecursion (λ o. o.shares ≡ false) row.now.items }
+{
+    for place in 0..row.len() {
+        if row.at(place).shares() {
+            return true;
+        }
+    }
+    false
+}
+
+/// Whether one that shares the list is among these guesses, or is not.
+fn any_named<E: Key>(row: &Row<OpenGuess<E>>, tags: &TagSet, within: bool) -> bool
+    ensures { result ≡ false → AllByRecursion
+        (λ o. o.shares ≡ true → is_named within tags.now o.guess.id ≡ false) row.now.items }
+{
+    for place in 0..row.len() {
+        if row.at(place).shares_named(tags, within) {
+            return true;
+        }
+    }
+    false
+}
+
+/// Of those that share the list, all that are not named have a list of their own from then on.
+fn part_others<E: Key>(row: &mut Row<OpenGuess<E>>, shared: &[E], tags: &TagSet, within: bool)
+    requires rising { IsStrictlySortedBy E.order shared.now }
+    requires ready { AreReady (length shared.now) row.old.items }
+    ensures { Pairs (Agrees shared.now (is_named within tags.now) true) row.old.items
+        row.new.items }
+{
+    for place in 0..row.len() {
+        part_other(row.at_mut(place), shared, tags, within);
+    }
+}
+
+/// One that shares the list and is not named has a list of its own from then on.
+fn part_other<E: Key>(open: &mut OpenGuess<E>, shared: &[E], tags: &TagSet, within: bool)
+    requires rising { IsStrictlySortedBy E.order shared.now }
+    requires ready { IsReady (length shared.now) open.old }
+    ensures { Agrees shared.now (is_named within tags.now) true open.old open.new }
+{
+    if !open.shares() {
+        return;
+    }
+    if open.is_named(tags, within) {
+        return;
+    }
+    open.part(shared);
+}
+
+/// Makes those that share the list change with it, or not change at all, and answers whether they change.
+fn agree<E: Key>(row: &mut Row<OpenGuess<E>>, shared: &[E], tags: &TagSet, within: bool) -> bool
+    requires rising { IsStrictlySortedBy E.order shared.now }
+    requires ready { AreReady (length shared.now) row.old.items }
+    ensures { Pairs (Agrees shared.now (is_named within tags.now) result) row.old.items
+        row.new.items }
+{
+    if any_named(row, tags, within) {
+        part_others(row, shared, tags, within);
+        return true;
+    }
+    false
+}
+
+/// Adds an entity to the own lists of these guesses, where there is room for it.
+fn depend_own<E: Key>(row: &mut Row<OpenGuess<E>>, tags: &TagSet, entity: &E)
+    requires { AllByRecursion (λ o. o.shares ≡ false → has o.guess.id tags.now ≡ true
+        → 0 < o.room) row.old.items }
+    ensures { Pairs (IsChanged (λ es. with_entity E.order es entity.now) (λ g. has g tags.now))
+        row.old.items row.new.items }
+{
+    for place in 0..row.len() {
+        row.at_mut(place).depend(tags, entity);
+    }
+}
+
+/// Takes an entity out of the own lists of these guesses, or of all others.
+fn leave_own<E: Key>(row: &mut Row<OpenGuess<E>>, tags: &TagSet, within: bool, entity: &E)
+    ensures { Pairs (IsChanged (λ es. without_entity E.order es entity.now)
+        (is_named within tags.now)) row.old.items row.new.items }
+{
+    for place in 0..row.len() {
+        row.at_mut(place).leave(tags, within, entity);
+    }
+}
+
+/// Makes room for one entity more in the lists of these guesses. The shared list has so many, and room for more.
+fn reserve_own<E: Key>(
+    row: &mut Row<OpenGuess<E>>,
+    tags: &TagSet,
+    shared: usize,
+    places: usize,
+) -> Result<(), AllocError>
+    requires places { shared < places }
+    requires ready { AreReady shared row.old.items }
+    ensures same { Pairs (IsRoomier shared) row.old.items row.new.items }
+    ensures ok { OnOk result
+        (Pairs (IsPlaced (λ g. has g tags.now) shared) row.old.items row.new.items) }
+{
+    for place in 0..row.len() {
+        row.at_mut(place).reserve(tags, shared, places)?;
+    }
+    Ok(())
+}
+
+/// Whether the last shares the list, and that has just these entities.
+fn is_shared<E: Key>(row: &Row<OpenGuess<E>>, shared: &EntitySet<E>, entities: &[E]) -> bool
+    ensures { result ≡ true → shared.now.entities ≡ entities.now }
+{
+    if row.len() == 0 {
+        return false;
+    }
+    if !row.at(row.len() - 1).shares() {
+        return false;
+    }
+    shared.is_just(entities)
+}
+
+/// A guess that begins with these entities, which are the shared list's where it shares that.
+fn begun<E: Key>(id: GuessId, tags: TagSet, dependents: EntitySet<E>, shares: bool) -> OpenGuess<E>
+    ensures seen { (es : List E) → (shares ≡ true → es ≡ dependents.entities)
+        → seen es result
+        ≡ record { guess = record { id = id; tags = tags; dependents = dependents.entities } } }
+    ensures ready { (es : List E) → (shares ≡ true → es ≡ dependents.entities)
+        → IsReady (length es) result }
+{
+    let mut open = OpenGuess::new(id, tags, dependents);
+    if !shares {
+        return open;
+    }
+    open.share();
+    open
+}
+
+/// Moves out the list of a guess, which is this where it shares one.
+fn take_seen<E: Key>(open: &mut OpenGuess<E>, shared: &[E], alloc: Global) -> EntitySet<E>
+    requires rising { IsStrictlySortedBy E.order shared.now }
+    requires ready { IsReady (length shared.now) open.old }
+    ensures list { result.entities ≡ (seen shared.now open.old).guess.dependents }
+    ensures guess { open.new.guess ≡ record open.old.guess { dependents = [] } }
+    ensures shares { open.new.shares ≡ false }
+{
+    if open.shares() {
+        open.part(shared);
+        return open.take_own(alloc);
+    }
+    open.take_own(alloc)
+}
+
+/// Adds an entity to the shared list, for which there is room, where that changes.
+fn add_if<E: Key>(shared: &mut EntitySet<E>, changes: bool, entity: &E)
+    requires { 0 < shared.old.room }
+    ensures { shared.new.entities ≡ (if changes then with_entity E.order shared.old.entities
+        entity.now else shared.old.entities) }
+{
+    if changes {
+        shared.add(entity);
+    }
+}
+
+/// Takes an entity out of the shared list, where that changes.
+fn remove_if<E: Key>(shared: &mut EntitySet<E>, changes: bool, entity: &E)
+    ensures { shared.new.entities ≡ (if changes then without_entity E.order shared.old.entities
+        entity.now else shared.old.entities) }
+{
+    if changes {
+        shared.remove(entity);
+    }
+}
+
+impl<E: Key> Opens<E> {
+    pub(crate) fn new(alloc: Global) -> Opens<E>
+        ensures { result.items ≡ [] }
+    {
+        Opens {
+            row: Row::new(alloc),
+            shared: EntitySet::new(alloc),
+        }
+    }
+
+    pub(crate) fn len(&self) -> usize
+        ensures { result ≡ length self.now.items }
+    {
+        self.row.len()
+    }
+
+    pub(crate) fn at(&self, place: usize) -> Seen<'_, E>
+        requires { place < length self.now.items }
+        ensures { result ≡ slice_index_or self.now.items place result }
+    {
+        let open = self.row.at(place);
+        let dependents = if open.shares() {
+            self.shared.as_slice()
+        } else {
+            open.own()
+        };
+        Seen {
+            id: open.id(),
+            tags: open.tags(),
+            dependents,
+        }
+    }
+
+    /// Makes room for so many more.
+    pub(crate) fn reserve(&mut self, more: usize) -> Result<(), AllocError>
+        ensures items { self.new.items ≡ self.old.items }
+        ensures ok { OnOk result (length self.new.items + more ≤ self.new.places) }
+        ensures room { length self.old.items + more ≤ self.old.places → IsOk result }
+    {
+        self.row.reserve(more)
+    }
+
+    /// Makes room for a shared list of so many entities, as far as there is memory.
+    pub(crate) fn reserve_shared(&mut self, count: usize)
+        ensures { self.new ≡ self.old }
+    {
+        if self.shared.places() < count {
+            let _ = self.shared.reserve(count);
+        }
+    }
+
+    /// The last shares its list from then on, if it has just these entities and no other shares one.
+    fn found(&mut self, entities: &[E])
+        requires { IsStrictlySortedBy E.order entities.now }
+        ensures { self.new ≡ self.old }
+    {
+        if self.row.len() == 0 {
+            return;
+        }
+        let last = self.row.len() - 1;
+        if self.shared.places() < entities.len() {
+            return;
+        }
+        if !self.row.at(last).has_just(entities) {
+            return;
+        }
+        if any_shares(&self.row) {
+            return;
+        }
+        self.shared.clear();
+        self.shared.fill(entities);
+        self.row.at_mut(last).share();
+    }
+
+    /// Puts a guess behind the others, for which there is room. It shares the list of the last, where that is the same.
+    pub(crate) fn push_reserved(&mut self, id: GuessId, tags: TagSet, dependents: EntitySet<E>)
+        requires { length self.old.items < self.old.places }
+        ensures items { self.new.items
+            ≡ self.old.items
+            ++ record { guess = record { id = id; tags = tags; dependents = dependents.entities } }
+            ∷ [] }
+        ensures places { self.new.places ≡ self.old.places }
+    {
+        self.found(dependents.as_slice());
+        let shares = is_shared(&self.row, &self.shared, dependents.as_slice());
+        self.row.push_reserved(begun(id, tags, dependents, shares));
+    }
+
+    /// Takes the guess at a place out; those behind it move up.
+    pub(crate) fn remove(&mut self, place: usize)
+        requires { place < length self.old.items }
+        ensures items { self.new.items ≡ remove self.old.items place }
+        ensures places { self.new.places ≡ self.old.places }
+    {
+        self.row.remove(place);
+    }
+
+    /// Moves out the list of the guess at a place.
+    pub(crate) fn take_dependents(&mut self, place: usize, alloc: Global) -> EntitySet<E>
+        requires { place < length self.old.items }
+        ensures list { (d : Listing E)
+            → result.entities ≡ (slice_index_or self.old.items place d).guess.dependents }
+        ensures items { (d : Listing E) → self.new.items ≡ slice_set self.old.items place
+            (record {
+              guess = record (slice_index_or self.old.items place d).guess
+                  { dependents = [] };
+            }) }
+    {
+        take_seen(self.row.at_mut(place), self.shared.as_slice(), alloc)
+    }
+
+    /// Takes a guess out of what the own step of the one at a place rests on.
+    pub(crate) fn without(&mut self, place: usize, id: GuessId)
+        requires { place < length self.old.items }
+        ensures { (d : Listing E) → self.new.items ≡ slice_set self.old.items place
+            (record { guess = without_tag id (slice_index_or self.old.items place d).guess }) }
+    {
+        self.row.at_mut(place).without(id);
+    }
+
+    /// Adds an entity to the lists of these guesses. Without memory everything is as it was.
+    pub(crate) fn depend(&mut self, tags: &TagSet, entity: &E) -> Result<(), AllocError>
+        ensures ok { OnOk result (map (λ l. l.guess) self.new.items
+            ≡ map (depending E.order tags.now entity.now) (map (λ l. l.guess) self.old.items)) }
+        ensures err { OnErr result (self.new.items ≡ self.old.items) }
+    {
+        self.shared.reserve(1)?;
+        let count = self.shared.as_slice().len();
+        reserve_own(&mut self.row, tags, count, self.shared.places())?;
+        let changes = agree(&mut self.row, self.shared.as_slice(), tags, true);
+        add_if(&mut self.shared, changes, entity);
+        depend_own(&mut self.row, tags, entity);
+        Ok(())
+    }
+
+    /// Takes an entity out of the lists of these guesses, or of all others.
+    pub(crate) fn leave(&mut self, tags: &TagSet, within: bool, entity: &E)
+        ensures { map (λ l. l.guess) self.new.items
+            ≡ map (changing (λ es. without_entity E.order es entity.now)
+            (is_named within tags.now)) (map (λ l. l.guess) self.old.items) }
+    {
+        let changes = agree(&mut self.row, self.shared.as_slice(), tags, within);
+        remove_if(&mut self.shared, changes, entity);
+        leave_own(&mut self.row, tags, within, entity);
+    }
+}

@@ -2,10 +2,11 @@
 pub use Rattle.std.proofs.Common.{ap, Some, ◌++◌, length, Bool, ℕ, subst, true, Ok, drop, ◌∷◌, sym, decimal, None, suc}
 pub use Rattle.std.proofs.Common.{zero, ◌≤◌, ◌≡◌, rules, take, ◌+◌, false, Option, ◌<◌, arith, refl, List, Result, []}
 pub use Rattle.std.proofs.Common.{◌∙◌, ◌==◌, get_or, map}
-pub use Rattle.std.proofs.lemmas.Fmt.{length-decimal-le}
+pub use Rattle.std.proofs.lemmas.Fmt.{length-decimal-le, decimal_digit}
+pub use Rattle.std.proofs.Math.Seq.{drop-length}
 pub use Rattle.std.proofs.lemmas.List.{take_all, append_assoc, take_more, append-nil}
 pub use Rattle.std.specs.Io.KnownBytes.{Appends}
-pub use Rattle.std.specs.Prelude.{OnOk}
+pub use Rattle.std.specs.Prelude.{OnOk, codes}
 pub use Rattle.sk_client.proofs.Upcoming.{event_foreseen}
 pub use Rattle.sk_client.proofs.WorldFacts.{newest_is}
 pub use Rattle.sk_client.specs.Upcoming.{upcoming as upcoming_in}
@@ -19,7 +20,10 @@ pub use Rattle.sk_kernel.proofs.Appended.{appended_foreseen, unchanged_foreseen}
 pub use Rattle.sk_kernel.specs.Footprint.{appended, IsForeseen}
 pub use Rattle.sk_kernel.specs.Kernel.{next_guess, with_event, KernelView}
 pub use Rattle.sk_kernel.specs.declared.kernel.Outcome.{Outcome}
+pub use Rattle.sk_plain.specs.Refusal.{refusal_number}
+pub use Rattle.sk_plain.specs.RefusalText.{refusal_name}
 pub use Rattle.sk_plain.specs.declared.refusal.Refusal.{Refusal}
+pub use Rattle.sk_play.specs.Played.{answer_text}
 pub use Rattle.sk_play.specs.Plays.{Plays}
 pub use Rattle.sk_play.specs.Replays.{replayed, told_by, call_of, Replays, StopsAt}
 pub use Rattle.sk_play.specs.Session.{DecisionTold, AnswerMatches, held_after, StepTold, GuessTold}

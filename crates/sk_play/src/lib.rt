@@ -13,10 +13,11 @@ pub mod told;
 pub mod worlds;
 
 pub use ahead::upcoming;
-pub use answer::{CallAnswer, write_answer};
+pub use answer::{CallAnswer, put_answer, write_answer};
 pub use epoch::EpochTold;
 pub use leasing::{LeaseTold, lease_at_desk, lease_in_world};
+pub use line::Line;
 pub use replaying::{Unreplayed, replay};
 pub use session::Session;
 pub use told::{WorldTold, write_told};
-pub use worlds::{desk_of, happen, happen_told, world_of};
+pub use worlds::{desk_of, happen, happen_line, world_of};

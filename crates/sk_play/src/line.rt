@@ -1,11 +1,9 @@
 //! Lines that begin with the number of an event, written without formatting machinery.
-ghost use Rattle.std.specs.Prelude.{◌≡◌, ◌≤◌, ◌<◌, ◌+◌, ◌∷◌, [], ◌++◌, take, drop, length, decimal, OnOk};
-ghost use Rattle.std.specs.Io.KnownBytes.{Appends};
+ghost use Rattle.std.specs.Prelude.{◌≡◌, ◌≤◌, ◌<◌, ◌+◌, ◌∷◌, [], ◌++◌, take, drop, length, decimal};
 ghost use Rattle.sk_play.specs.declared.line.TheConstants.{DIGITS, LINE};
 
 use itoa::write_digits;
-use std::io;
-use std::io::Write;
+use std::marker::Model;
 
 /// The places of a number's digits, which no number goes past.
 const DIGITS: usize = 20;
@@ -35,32 +33,59 @@ fn put(number: u64, words: &[u8], line: &mut [u8], end: usize) -> usize
     write_digits(number, line, behind)
 }
 
-/// Writes a number, and short words behind it.
-#[inline(always)]
-pub(crate) fn write_words<W: Write>(number: usize, words: &[u8], out: &mut W) -> io::Result<()>
-    requires { DIGITS + length words.now ≤ LINE }
-    ensures { OnOk result
-        (Appends (W.contents out.old) (W.contents out.new) (decimal number ++ words.now)) }
-{
-    let mut line = [b'\n'; LINE];
-    let start = put(number as u64, words, &mut line, LINE);
-    out.write_all(&line[start..])
+/// A line that begins with the number of an event, which is made in place from its end on. Contracts see its bytes.
+#[derive(Drop)]
+pub struct Line {
+    bytes: [u8; LINE],
+    start: usize,
 }
 
-/// Writes a number, short words behind it, and another number at the end of the line.
-pub(crate) fn write_counted<W: Write>(
-    number: usize,
-    words: &[u8],
-    other: u64,
-    out: &mut W,
-) -> io::Result<()>
-    requires { DIGITS + length words.now + DIGITS < LINE }
-    ensures { OnOk result
-        (Appends (W.contents out.old) (W.contents out.new)
-        (decimal number ++ words.now ++ decimal other ++ 10 ∷ [])) }
-{
-    let mut line = [b'\n'; LINE];
-    let end = put(other, b"", &mut line, LINE - 1);
-    let start = put(number as u64, words, &mut line, end);
-    out.write_all(&line[start..])
+impl Model for Line {
+    ghost use Rattle.std.specs.Prelude.{ℕ, List, drop, ◌≤◌};
+    ghost use Rattle.sk_play.specs.declared.line.TheConstants.{LINE};
+
+    ghost Value = { List ℕ };
+
+    ghost view = { λ l. drop l.start l.bytes };
+
+    ghost invariant = { λ l. l.start ≤ LINE };
+}
+
+impl Line {
+    /// An empty line.
+    #[inline(always)]
+    pub fn new() -> Line
+        ensures { result ≡ [] }
+    {
+        Line {
+            bytes: [b'\n'; LINE],
+            start: LINE,
+        }
+    }
+
+    /// The bytes.
+    #[inline(always)]
+    pub fn as_bytes(&self) -> &[u8]
+        ensures { result.now ≡ self.now }
+    {
+        &self.bytes[self.start..]
+    }
+
+    /// Makes it a number, and short words behind it.
+    #[inline(always)]
+    pub(crate) fn tell(&mut self, number: usize, words: &[u8])
+        requires { DIGITS + length words.now ≤ LINE }
+        ensures { self.new ≡ decimal number ++ words.now }
+    {
+        self.start = put(number as u64, words, &mut self.bytes, LINE);
+    }
+
+    /// Makes it a number, short words behind it, and another number at its end.
+    pub(crate) fn tell_counted(&mut self, number: usize, words: &[u8], other: u64)
+        requires { DIGITS + length words.now + DIGITS < LINE }
+        ensures { self.new ≡ decimal number ++ words.now ++ decimal other ++ 10 ∷ [] }
+    {
+        let end = put(other, b"\n", &mut self.bytes, LINE);
+        self.start = put(number as u64, words, &mut self.bytes, end);
+    }
 }

@@ -61,6 +61,7 @@ impl Session {
 
     /// Makes the call that a step says. Memory is wanted only where nothing else stands against the call, and then
     /// nothing changes. A commit and a failure take none.
+    #[inline(always)]
     pub fn execute(&mut self, step: &Call) -> Result<CallAnswer, AllocError>
         ensures held { IfOk result
             (λ answer. self.new.holder.held ≡ held_after answer step.now self.old.holder.held) }

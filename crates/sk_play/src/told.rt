@@ -1,11 +1,12 @@
 //! What is told of an event of a world.
-ghost use Rattle.std.specs.Prelude.{Some, OnOk};
+ghost use Rattle.std.specs.Prelude.{◌≡◌, Some, OnOk};
 ghost use Rattle.std.specs.Io.KnownBytes.{Appends};
 ghost use Rattle.sk_play.specs.Told.{turn_text, reply_text, given_text, world_answer_text, told_text, told_line};
 ghost use Rattle.sk_client.specs.declared.world.WorldAnswer.TheVariants as answers;
 ghost use Rattle.sk_play.specs.declared.told.WorldTold.TheVariants as tells;
 
-use crate::line::{write_counted, write_words};
+use crate::Line;
+use crate::answer::refused;
 use sk_client::{Given, Turn, WorldAnswer};
 use sk_plain::{PrintedRefusal, Refusal};
 use sk_server::{Answer, Reply};
@@ -126,45 +127,56 @@ impl fmt::Display for WorldTold {
     }
 }
 
-/// Writes what a turn did, in the line of its event.
-pub(crate) fn write_turn<W: Write>(number: usize, turn: &Turn, out: &mut W) -> io::Result<()>
-    ensures { OnOk result
-        (Appends (W.contents out.old) (W.contents out.new)
-        (told_line number (tells.Answered (answers.Turn turn.now)))) }
+/// Makes the line of an event that was this turn.
+pub(crate) fn put_turn(number: usize, turn: &Turn, line: &mut Line)
+    ensures { line.new ≡ told_line number (tells.Answered (answers.Turn turn.now)) }
 {
     match turn {
-        Turn::Stepped => write_words(number, b" stepped\n", out),
-        Turn::Guessed(id) => write_counted(number, b" guessed ", id.number(), out),
-        Turn::Asked(request) => write_counted(number, b" asked ", *request, out),
+        Turn::Stepped => line.tell(number, b" stepped\n"),
+        Turn::Guessed(id) => line.tell_counted(number, b" guessed ", id.number()),
+        Turn::Asked(request) => line.tell_counted(number, b" asked ", *request),
     }
 }
 
-/// Writes what the server answered, in the line of its event: of a content its version.
-pub(crate) fn write_reply<W: Write>(number: usize, reply: &Reply, out: &mut W) -> io::Result<()>
-    ensures { OnOk result
-        (Appends (W.contents out.old) (W.contents out.new)
-        (told_line number (tells.Answered (answers.Served reply.now)))) }
+/// Makes the line of what the server answered: of a content its version.
+pub(crate) fn put_reply(number: usize, reply: &Reply, line: &mut Line)
+    ensures { line.new ≡ told_line number (tells.Answered (answers.Served reply.now)) }
 {
     match &reply.answer {
-        Answer::Yes => write_words(number, b" yes\n", out),
-        Answer::No(content) => write_counted(number, b" no ", content.version(), out),
-        Answer::Copy(content) => write_counted(number, b" copy ", content.version(), out),
-        Answer::Dropped => write_words(number, b" dropped\n", out),
+        Answer::Yes => line.tell(number, b" yes\n"),
+        Answer::No(content) => line.tell_counted(number, b" no ", content.version()),
+        Answer::Copy(content) => line.tell_counted(number, b" copy ", content.version()),
+        Answer::Dropped => line.tell(number, b" dropped\n"),
     }
 }
 
-/// Writes what a reply did, in the line of its event.
-pub(crate) fn write_given<W: Write>(number: usize, given: &Given, out: &mut W) -> io::Result<()>
-    ensures { OnOk result
-        (Appends (W.contents out.old) (W.contents out.new)
-        (told_line number (tells.Answered (answers.Given given.now)))) }
+/// Makes the line of what a reply did.
+pub(crate) fn put_given(number: usize, given: &Given, line: &mut Line)
+    ensures { line.new ≡ told_line number (tells.Answered (answers.Given given.now)) }
 {
     match given {
-        Given::Committed(id) => write_counted(number, b" committed ", id.number(), out),
-        Given::Failed(id) => write_counted(number, b" failed ", id.number(), out),
-        Given::Gone(id) => write_counted(number, b" gone ", id.number(), out),
-        Given::Taken(request) => write_counted(number, b" taken ", *request, out),
-        Given::Forgotten(request) => write_counted(number, b" forgotten ", *request, out),
+        Given::Committed(id) => line.tell_counted(number, b" committed ", id.number()),
+        Given::Failed(id) => line.tell_counted(number, b" failed ", id.number()),
+        Given::Gone(id) => line.tell_counted(number, b" gone ", id.number()),
+        Given::Taken(request) => line.tell_counted(number, b" taken ", *request),
+        Given::Forgotten(request) => line.tell_counted(number, b" forgotten ", *request),
+    }
+}
+
+/// Makes the line of what is told of the event of this number.
+pub(crate) fn put_told(number: usize, told: &WorldTold, line: &mut Line)
+    ensures { line.new ≡ told_line number told.now }
+{
+    match told {
+        WorldTold::Answered(WorldAnswer::Turn(turn)) => put_turn(number, turn, line),
+        WorldTold::Answered(WorldAnswer::Served(reply)) => put_reply(number, reply, line),
+        WorldTold::Answered(WorldAnswer::Given(given)) => put_given(number, given, line),
+        WorldTold::Answered(WorldAnswer::Edited(version)) => {
+            line.tell_counted(number, b" edited ", *version)
+        }
+        WorldTold::Idle => line.tell(number, b" idle\n"),
+        WorldTold::Refused(why) => line.tell(number, refused(*why)),
+        WorldTold::OtherVersion => line.tell(number, b" refused 1 Version\n"),
     }
 }
 
@@ -173,10 +185,7 @@ pub fn write_told<W: Write>(number: usize, told: &WorldTold, out: &mut W) -> io:
     ensures { OnOk result
         (Appends (W.contents out.old) (W.contents out.new) (told_line number told.now)) }
 {
-    match told {
-        WorldTold::Answered(WorldAnswer::Turn(turn)) => write_turn(number, turn, out),
-        WorldTold::Answered(WorldAnswer::Served(reply)) => write_reply(number, reply, out),
-        WorldTold::Answered(WorldAnswer::Given(given)) => write_given(number, given, out),
-        _ => writeln!(out, "{number} {told}"),
-    }
+    let mut line = Line::new();
+    put_told(number, told, &mut line);
+    out.write_all(line.as_bytes())
 }

@@ -1,6 +1,5 @@
 //! The world that a scenario declares, and what is told of its events.
-ghost use Rattle.std.specs.Prelude.{◌≡◌, IfOk, OnOk, MatchResult, Some, None};
-ghost use Rattle.std.specs.Io.KnownBytes.{Appends};
+ghost use Rattle.std.specs.Prelude.{◌≡◌, IfOk, MatchResult, Some, None};
 ghost use Rattle.sk_server.specs.Server.{new_server};
 ghost use Rattle.sk_client.specs.Desk.{opened};
 ghost use Rattle.sk_client.specs.declared.world.WorldAnswer.TheVariants as answers;
@@ -10,15 +9,14 @@ ghost use Rattle.sk_play.specs.declared.told.WorldTold.{WorldTold};
 ghost use Rattle.sk_play.specs.declared.told.WorldTold.TheVariants as tells;
 ghost use Rattle.sk_play.specs.Worlds.{seeded, declared_world, turn_told, edit_told, cause_told, Happens};
 
+use crate::Line;
 use crate::session::declared_kernel;
-use crate::told::{WorldTold, write_given, write_reply, write_told, write_turn};
+use crate::told::{WorldTold, put_given, put_reply, put_told, put_turn};
 use sk_client::{Cause, Desk, World, WorldAnswer, WorldEvent, WorldNews};
 use sk_plain::Refusal;
 use sk_scenario::{Declarations, Remote};
 use sk_server::{EditRefusal, Server};
 use std::alloc::{AllocError, Global};
-use std::io;
-use std::io::Write;
 
 /// The world that a scenario declares, at its start: its kernel, and a server of its remote files.
 pub fn world_of(alloc: Global, declarations: &Declarations) -> Result<World, AllocError>
@@ -62,53 +60,52 @@ pub fn happen(world: &mut World, event: &WorldEvent) -> Result<WorldTold, AllocE
     }
 }
 
-/// Lets an event happen, refused or not, and writes a line of it; of want of memory none.
-pub fn happen_told<W: Write>(
+/// Lets an event happen, refused or not, and makes the line of it; of want of memory none.
+pub fn happen_line(
     world: &mut World,
     number: usize,
     event: &WorldEvent,
-    out: &mut W,
-) -> Result<io::Result<()>, AllocError>
+    line: &mut Line,
+) -> Result<(), AllocError>
     ensures { MatchResult result
-        (λ written. (t : WorldTold) × Happens (Some t) world.old event.now world.new
-        × OnOk written (Appends (W.contents out.old) (W.contents out.new) (told_line number t)))
-        (λ _. Happens None world.old event.now world.new × (out.new ≡ out.old)) }
+        (λ _. (t : WorldTold) × Happens (Some t) world.old event.now world.new
+        × (line.new ≡ told_line number t))
+        (λ _. Happens None world.old event.now world.new) }
 {
     match world.advance(event) {
-        Ok(WorldNews::Turn(turn)) => Ok(write_turn(number, &turn, out)),
+        Ok(WorldNews::Turn(turn)) => put_turn(number, &turn, line),
         Ok(WorldNews::Served) => match world.newest() {
-            Some(reply) => Ok(write_reply(number, reply, out)),
+            Some(reply) => put_reply(number, reply, line),
             None => unreachable!(),
         },
-        Ok(WorldNews::Given(given)) => Ok(write_given(number, &given, out)),
-        Ok(WorldNews::Edited(version)) => Ok(write_edited(number, version, out)),
-        Err(cause) => write_cause(number, cause, out),
+        Ok(WorldNews::Given(given)) => put_given(number, &given, line),
+        Ok(WorldNews::Edited(version)) => put_edited(number, version, line),
+        Err(cause) => return put_cause(number, cause, line),
     }
+    Ok(())
 }
 
-/// Writes that an edit made this version.
-fn write_edited<W: Write>(number: usize, version: u64, out: &mut W) -> io::Result<()>
-    ensures { OnOk result
-        (Appends (W.contents out.old) (W.contents out.new)
-        (told_line number (tells.Answered (answers.Edited version)))) }
+/// Makes the line of an edit that made this version.
+fn put_edited(number: usize, version: u64, line: &mut Line)
+    ensures { line.new ≡ told_line number (tells.Answered (answers.Edited version)) }
 {
     let told = WorldTold::Answered(WorldAnswer::Edited(version));
-    write_told(number, &told, out)
+    put_told(number, &told, line);
 }
 
-/// Writes why an event was refused; of want of memory nothing.
-fn write_cause<W: Write>(
-    number: usize,
-    cause: Cause,
-    out: &mut W,
-) -> Result<io::Result<()>, AllocError>
+/// Makes the line of why an event was refused; of want of memory none.
+fn put_cause(number: usize, cause: Cause, line: &mut Line) -> Result<(), AllocError>
     ensures { MatchResult result
-        (λ written. (t : WorldTold) × (cause_told cause ≡ Some t)
-        × OnOk written (Appends (W.contents out.old) (W.contents out.new) (told_line number t)))
-        (λ _. (cause_told cause ≡ None) × (out.new ≡ out.old)) }
+        (λ _. (t : WorldTold) × (cause_told cause ≡ Some t) × (line.new ≡ told_line number t))
+        (λ _. cause_told cause ≡ None) }
 {
-    let told = told_of_cause(cause)?;
-    Ok(write_told(number, &told, out))
+    match told_of_cause(cause) {
+        Ok(told) => {
+            put_told(number, &told, line);
+            Ok(())
+        }
+        Err(error) => Err(error),
+    }
 }
 
 /// What is told of a refused event.

@@ -10,6 +10,7 @@ pub mod printed;
 pub mod report;
 pub mod stop;
 pub mod subject;
+mod tags;
 pub mod world_report;
 
 pub use directories::write_held;

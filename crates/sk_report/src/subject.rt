@@ -7,8 +7,8 @@ ghost use Rattle.sk_report.specs.declared.subject.TheConstants.{TEXT_ROOM};
 ghost use Rattle.sk_words.specs.Spelling.{spelled};
 ghost use Rattle.sk_report.specs.Report.{counts_line, terminal_lines, terminal_said, texts_lines, entity_end, plain_terminal_said};
 
-use crate::PrintedTags;
 use crate::placed::{put_literal, put_words};
+use crate::tags::write_tags;
 use sk_ids::{Entity, Text};
 use sk_kernel::Kernel;
 use sk_plain::{Plain, View};
@@ -87,8 +87,7 @@ impl Subject for Kernel {
     }
 
     fn write_end<W: Write>(&self, entity: &Entity, out: &mut W) -> io::Result<()> {
-        let tags = PrintedTags(self.tags_of(entity));
-        write!(out, " tags {tags}")
+        write_tags(self.tags_of(entity), out)
     }
 }
 

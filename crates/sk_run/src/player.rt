@@ -6,7 +6,9 @@ ghost use Rattle.sk_run.specs.Run.{declared_session, kernel_of_session, session_
 use crate::listing::{foresee, write_foreseen};
 use sk_client::{World, WorldEvent};
 use sk_kernel::Kernel;
-use sk_play::{Session, happen, happen_told, upcoming, world_of, write_answer, write_told};
+use sk_play::{
+    Line, Session, happen, happen_line, put_answer, upcoming, world_of, write_answer, write_told,
+};
 use sk_report::{Stop, write_report, write_world_report};
 use sk_scenario::{Call, Declarations};
 use std::alloc::{AllocError, Global};
@@ -88,7 +90,9 @@ impl Player for Session {
 
     fn take<W: Write>(&mut self, number: usize, item: &Call, out: &mut W) -> Result<(), Stop> {
         let answer = self.execute(item)?;
-        write_answer(number, &answer, out)?;
+        let mut line = Line::new();
+        put_answer(number, &answer, &mut line);
+        out.write_all(line.as_bytes())?;
         Ok(())
     }
 
@@ -134,8 +138,9 @@ impl Player for World {
         item: &WorldEvent,
         out: &mut W,
     ) -> Result<(), Stop> {
-        let written = happen_told(self, number, item, out)?;
-        written?;
+        let mut line = Line::new();
+        happen_line(self, number, item, &mut line)?;
+        out.write_all(line.as_bytes())?;
         Ok(())
     }
 

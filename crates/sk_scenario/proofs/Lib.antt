@@ -1,4 +1,5 @@
 pub mod Names
+pub mod Glances
 pub mod Heading
 pub mod Scripts
 pub mod Told

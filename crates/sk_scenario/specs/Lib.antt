@@ -1,4 +1,5 @@
 pub mod Calls
 pub mod Declarations
+pub mod Glances
 pub mod Scenario
 pub mod WorldEvents

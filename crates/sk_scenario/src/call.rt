@@ -5,6 +5,8 @@ ghost use Rattle.sk_words.specs.Tables.{with_said};
 ghost use Rattle.sk_words.specs.Words.{words, first_of};
 ghost use Rattle.sk_scenario.specs.Calls.{step_call, guess_call};
 
+use crate::glance;
+use crate::glance::{behind_good, behind_none, digit_pid};
 use sk_ids::{GuessId, Pid};
 use sk_section::{Items, Listed, Rules};
 use sk_trace::KeptInput;
@@ -109,5 +111,18 @@ impl Rules for StepRules {
             Some((first, words)) => StepRules::add(calls, first, &words),
             None => Ok(()),
         }
+    }
+
+    #[inline(always)]
+    fn glance(text: &[u8]) -> Option<(Call, &[u8])> {
+        if let Some(tail) = glance::behind_step(text) {
+            let pid = digit_pid(tail)?;
+            let rest = behind_none(tail)?;
+            return Some((Call::Step(pid, KeptInput::none()), rest));
+        }
+        let tail = glance::behind_guess(text)?;
+        let pid = digit_pid(tail)?;
+        let rest = behind_good(tail)?;
+        Some((Call::Guess(pid, KeptInput::good()), rest))
     }
 }

@@ -3,6 +3,7 @@
 
 pub mod call;
 pub mod declarations;
+mod glance;
 pub mod scenario;
 pub mod world;
 

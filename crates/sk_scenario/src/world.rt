@@ -3,6 +3,7 @@ ghost use Rattle.sk_words.specs.Reading.{Leaves};
 ghost use Rattle.sk_words.specs.Tables.{with_said};
 ghost use Rattle.sk_scenario.specs.WorldEvents.{edit};
 
+use crate::glance::{behind_byte, behind_reply, behind_serve, behind_turn, digit_pid};
 use sk_client::WorldEvent;
 use sk_section::{Items, Listed, Rules};
 use sk_words::{FaultKind, Natural, Words, none, one, three};
@@ -54,5 +55,19 @@ impl Rules for WorldRules {
             [b'e', b'd', b'i', b't'] => add_edit(events, words),
             _ => Err(FaultKind::Word),
         }
+    }
+
+    #[inline(always)]
+    fn glance(text: &[u8]) -> Option<(WorldEvent, &[u8])> {
+        if let Some(tail) = behind_turn(text) {
+            let pid = digit_pid(tail)?;
+            let rest = behind_byte(tail)?;
+            return Some((WorldEvent::Turn(pid), rest));
+        }
+        if let Some(rest) = behind_serve(text) {
+            return Some((WorldEvent::Serve, rest));
+        }
+        let rest = behind_reply(text)?;
+        Some((WorldEvent::Reply, rest))
     }
 }

@@ -17,10 +17,10 @@ pub trait Listed: Sized + Drop {
 
 /// What the lines of a section say, by their first words.
 pub trait Rules: Listed {
-    ghost use Rattle.std.specs.Prelude.{ℕ, List};
+    ghost use Rattle.std.specs.Prelude.{ℕ, List, IfSome};
     ghost use Rattle.sk_words.specs.Reading.{Leaves};
     ghost use Rattle.sk_words.specs.Tables.{Rule, with_said};
-    ghost use Rattle.sk_section.specs.Items.{with_item};
+    ghost use Rattle.sk_section.specs.Items.{with_item, BeginsWith};
 
     /// What a first word says with the words behind it.
     ghost rule: { List ℕ → Rule Self.Item };
@@ -38,6 +38,14 @@ pub trait Rules: Listed {
             Some((first, words)) => Self::add(items, first, &words),
             None => Ok(()),
         }
+    }
+
+    /// What the first line of a text says where its bytes tell it at once, and what is behind that line.
+    #[inline(always)]
+    fn glance(_text: &[u8]) -> Option<(Self::Item, &[u8])>
+        ensures { IfSome result (λ x. BeginsWith rule _text.now x.0 x.1.now × Self.fits x.0) }
+    {
+        None
     }
 }
 
@@ -106,5 +114,15 @@ impl<R: Rules> Reader for Items<R> {
 
     fn line(&mut self, line: &[u8]) -> Result<(), FaultKind> {
         R::line(self, line)
+    }
+
+    #[inline(always)]
+    fn glance<'a>(&mut self, text: &'a [u8]) -> Option<&'a [u8]> {
+        if self.items.len() == self.items.capacity() {
+            return None;
+        }
+        let (said, rest) = R::glance(text)?;
+        self.items.push_reserved(said);
+        Some(rest)
     }
 }

@@ -7,12 +7,15 @@ use Rattle.sk_words.proofs.Parts.{next_line, cut_at}
 kept : (l : List ℕ) → IsLine l → strip_carriage_return l ≡ l
 kept l h = rw h.no_return refl
 
+-- a line is cut off a text that begins with it
+pub line_cut : (l rest : List ℕ) → IsLine l → lines (l ++ 10 ∷ rest) ≡ l ∷ lines rest
+line_cut l rest h = next_line (l ++ 10 ∷ rest) l rest (cut_at 10 l rest h.no_feed) ∙ ap (λ (x : List ℕ). x ∷ lines rest) (kept l h)
+
 pub lines_again : (ls : List (List ℕ)) → AllByRecursion IsLine ls → lines (lined ls) ≡ ls
 lines_again [] h = refl
 lines_again (l ∷ ls) h =
     ap lines (append_assoc l (10 ∷ []) (lined ls))
-    ∙ next_line (l ++ 10 ∷ lined ls) l (lined ls) (cut_at 10 l (lined ls) h.0.no_feed)
-    ∙ ap (λ (x : List ℕ). x ∷ lines (lined ls)) (kept l h.0)
+    ∙ line_cut l (lined ls) h.0
     ∙ ap (λ (x : List (List ℕ)). l ∷ x) (lines_again ls h.1)
 
 all_mapped : {A : Type 0} (line_of : A → List ℕ) (xs : List A) → AllByRecursion (λ x. IsLine (line_of x)) xs → AllByRecursion IsLine (map line_of xs)

@@ -1,5 +1,6 @@
 -- Reading a text line by line: what is known after all lines, or the first fault with the number of its line.
 use Rattle.std.specs.Prelude.{◌≡◌, ◌<◌, ◌≤◌, ◌⊎◌, ℕ, ◌+◌, List, [], ◌∷◌, ◌++◌, length, Result, Ok, Err}
+use Rattle.std.specs.Str.Lines.{lines}
 use Rattle.sk_words.specs.declared.fault.FaultKind.{FaultKind}
 use Rattle.sk_words.specs.declared.fault.FaultKind.TheVariants as kinds
 use Rattle.sk_words.specs.declared.fault.Fault.{Fault}
@@ -24,6 +25,10 @@ TellsKind e (Err k) = e ≡ k
 abbrev pub Leaves : {S : Type 0} → Result (Unit {0}) FaultKind → Result S FaultKind → S → S → Type 0
 Leaves (Ok u) said old new = said ≡ Ok new
 Leaves (Err e) said old new = TellsKind e said × (new ≡ old)
+
+-- a text begins with a line, which leaves what it says, and this is left behind it
+abbrev pub TakesIn : {S : Type 0} → (S → List ℕ → Result S FaultKind) → S → S → List ℕ → List ℕ → Type 0
+TakesIn said old new text rest = (line : List ℕ) × (lines text ≡ line ∷ lines rest) × (said old line ≡ Ok new)
 
 -- The fault that is told of lines of which this is said, the first and the last of them having these numbers: the
 -- first fault, or want of memory at one of the lines before the first that has a fault.

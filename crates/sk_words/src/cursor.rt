@@ -1,5 +1,5 @@
 //! The lines of a text, counted.
-ghost use Rattle.std.specs.Prelude.{◌≡◌, ◌+◌, ◌<◌, ◌^◌, ◌∷◌, [], MatchOption, length, take};
+ghost use Rattle.std.specs.Prelude.{◌≡◌, ◌+◌, ◌<◌, ◌^◌, ◌∷◌, [], List, ℕ, MatchOption, IfSome, length, take};
 ghost use Rattle.std.specs.Str.Lines.{lines};
 
 use crate::text::Block;
@@ -67,6 +67,26 @@ impl<'a> Cursor<'a> {
         let line = self.lines.next()?;
         self.line += 1;
         Some(line)
+    }
+
+    /// The text of these lines, where their count is not limited.
+    #[inline(always)]
+    pub fn text(&self) -> Option<&'a [u8]>
+        ensures { IfSome result (λ text. lines text.now ≡ self.now.lines) }
+    {
+        self.lines.text()
+    }
+
+    /// Passes the first of these lines, behind which this is left of their text.
+    #[inline(always)]
+    pub fn pass(&mut self, rest: &'a [u8])
+        requires { (line : List ℕ) × (self.old.lines ≡ line ∷ lines rest.now) }
+        ensures { self.new ≡ record { line = self.old.line + 1; lines = lines rest.now } }
+    {
+        *self = Cursor {
+            lines: Block::whole(rest),
+            line: self.line + 1,
+        };
     }
 
     /// The number of the last line taken.

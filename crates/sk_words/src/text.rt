@@ -108,6 +108,17 @@ impl<'a> Block<'a> {
         }
     }
 
+    /// The text of these lines, where their count is not limited.
+    #[inline(always)]
+    pub(crate) fn text(&self) -> Option<&'a [u8]>
+        ensures { IfSome result (λ text. lines text.now ≡ self.now) }
+    {
+        match self.left {
+            None => Some(self.lines.rest),
+            Some(_) => None,
+        }
+    }
+
     /// The first of these lines, so many or all that are left.
     pub(crate) fn first(&self, count: u64) -> Block<'a>
         ensures { result ≡ take count self.now }

@@ -243,7 +243,7 @@ fn one_digit(word: &[u8]) -> Option<u16>
 }
 
 /// The boot process whose number a word says.
-#[inline]
+#[inline(always)]
 fn boot(word: &[u8]) -> Result<Pid, FaultKind>
     ensures { result ≡ index word.now }
 {
@@ -259,7 +259,7 @@ impl Operand for Pid {
 
     ghost said = { pid };
 
-    #[inline]
+    #[inline(always)]
     fn read(word: &[u8]) -> Result<Pid, FaultKind> {
         if let [b'0'..=b'9'] = word {
             return boot(word);

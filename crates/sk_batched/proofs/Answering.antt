@@ -1,11 +1,10 @@
 -- What calls of the kernel leave of the step that kernel and queue keep, whatever they answer.
-use Rattle.sk_batched.proofs.Names.{◌≡◌, ℕ, ◌+◌, ◌*◌, ◌<◌, ◌≤◌, Bool, true, false, cond, is_err, List, [], ◌∷◌, ◌++◌}
-use Rattle.sk_batched.proofs.Names.{length, map, Option, Some, None, Result, Ok, Err, inl, inr, refl, sym, ◌∙◌, ap}
-use Rattle.sk_batched.proofs.Names.{subst, arith, ◌⊎◌, nat_le, nat_lt, IfOk, OnErr, OnOk, Vec, vec_items, true≢false}
-use Rattle.sk_batched.proofs.Names.{leb-false, ltb-false, Token, bytes_cmp, Deed, Refuses, Takes, Parts, IsSame}
-use Rattle.sk_batched.proofs.Names.{WholeStep, Unchanged, byte_deed, ByteView, QueueView, FramePost, PlacesView, Sealed}
-use Rattle.sk_batched.proofs.Names.{Refusal, batch_key, capped, opening, BatchedView, Begins, Draws, IsStill, MayBegin}
-use Rattle.sk_batched.proofs.Names.{IsInStep}
+use Rattle.sk_batched.proofs.Names.{◌≡◌, ℕ, ◌<◌, ◌≤◌, Bool, true, false, cond, is_err, List, [], ◌∷◌, length, map}
+use Rattle.sk_batched.proofs.Names.{Option, Some, None, Result, Ok, Err, inl, inr, refl, sym, ◌∙◌, subst, arith, nat_lt}
+use Rattle.sk_batched.proofs.Names.{OnErr, OnOk, Vec, vec_items, true≢false, leb-false, ltb-false, Token, bytes_cmp}
+use Rattle.sk_batched.proofs.Names.{Deed, Refuses, Takes, Parts, IsSame, WholeStep, Unchanged, byte_deed, ByteView}
+use Rattle.sk_batched.proofs.Names.{QueueView, FramePost, PlacesView, Sealed, Refusal, batch_key, capped, opening}
+use Rattle.sk_batched.proofs.Names.{BatchedView, Begins, Draws, IsStill, MayBegin, IsInStep}
 use Rattle.sk_speculator.specs.declared.refusal.Refusal.TheVariants as inner
 use Rattle.sk_batched.proofs.Moves.{Spares}
 use Rattle.sk_batched.proofs.Queues.{same_seen, step_taken, taken}

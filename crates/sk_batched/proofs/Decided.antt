@@ -1,9 +1,9 @@
 -- The kernel inside was told of a commit or a failure just where a batch was decided so.
-use Rattle.sk_batched.proofs.Names.{◌≡◌, ℕ, zero, suc, ◌+◌, ◌<◌, Bool, true, false, List, [], ◌∷◌, length, Option, Some}
-use Rattle.sk_batched.proofs.Names.{None, inl, inr, refl, sym, ◌∙◌, ap, arith, ◌⊎◌, ◌↔◌, Contains, Event, Taken, Commit}
-use Rattle.sk_batched.proofs.Names.{Fail, events_of, Stage, Cut, Decision, Logged, Refused, kernel_calls, opens_first}
-use Rattle.sk_batched.proofs.Names.{BatchStep, Opens, Plain, InBatch, Call, Steps, LogsStep, IsRefused, DrawsGuess}
-use Rattle.sk_batched.proofs.Names.{Sends, Hears, Cuts, Stops, Decides, LetsOut}
+use Rattle.sk_batched.proofs.Names.{◌≡◌, ℕ, zero, suc, ◌+◌, ◌<◌, Bool, true, false, List, [], ◌∷◌, Option, Some, None}
+use Rattle.sk_batched.proofs.Names.{inl, inr, refl, sym, ◌∙◌, ap, arith, ◌⊎◌, ◌↔◌, Contains, Event, Taken, Commit, Fail}
+use Rattle.sk_batched.proofs.Names.{events_of, Logged, Refused, kernel_calls, Opens, Plain, InBatch, Call, Steps}
+use Rattle.sk_batched.proofs.Names.{LogsStep, IsRefused, DrawsGuess, Sends, Hears, Cuts, Stops, Decides, LetsOut}
+use Rattle.sk_batched.proofs.Names.{none-some}
 
 module _ {A : Type 0} where
   front : (x y : A) (xs : List A) → x ≡ y → Contains (x ∷ xs) y
@@ -53,14 +53,12 @@ none_below k less = omega (arith, less)
 
 -- what an event decides, and what a call does
 abbrev committed_by : {M : Type 0} → Event M → Option ℕ
-committed_by (Taken s) = None
 committed_by (Commit g) = Some g
-committed_by (Fail g) = None
+committed_by other = None
 
 abbrev failed_by : {M : Type 0} → Event M → Option ℕ
-failed_by (Taken s) = None
-failed_by (Commit g) = None
 failed_by (Fail g) = Some g
+failed_by other = None
 
 abbrev logged_by : {N O : Type 0} → Call N O → Option ℕ
 logged_by (Decides (Logged n)) = Some n
@@ -74,15 +72,12 @@ abbrev or_zero : Option ℕ → ℕ
 or_zero None = 0
 or_zero (Some n) = n
 
-none_some : (n : ℕ) → None ≡ Some n → ⊥
-none_some n is = cc
-
 module _ {M : Type 0} where
   no_commit : (e : Event M) (n : ℕ) → committed_by e ≡ None → e ≡ Commit n → ⊥
-  no_commit e n none is = none_some n (sym none ∙ ap committed_by is)
+  no_commit e n none is = none-some n (sym none ∙ ap committed_by is)
 
   no_fail : (e : Event M) (n : ℕ) → failed_by e ≡ None → e ≡ Fail n → ⊥
-  no_fail e n none is = none_some n (sym none ∙ ap failed_by is)
+  no_fail e n none is = none-some n (sym none ∙ ap failed_by is)
 
   same_commit : (m n : ℕ) (e f : Event M) → e ≡ Commit m → f ≡ Commit n → e ≡ f → m ≡ n
   same_commit m n e f at to is = ap or_zero (ap committed_by (sym at ∙ is ∙ to))
@@ -92,10 +87,10 @@ module _ {M : Type 0} where
 
 module _ {N O : Type 0} where
   no_logged : (c : Call N O) (n : ℕ) → logged_by c ≡ None → c ≡ Decides (Logged n) → ⊥
-  no_logged c n none is = none_some n (sym none ∙ ap logged_by is)
+  no_logged c n none is = none-some n (sym none ∙ ap logged_by is)
 
   no_refused : (c : Call N O) (n : ℕ) → refused_by c ≡ None → c ≡ Decides (Refused n) → ⊥
-  no_refused c n none is = none_some n (sym none ∙ ap refused_by is)
+  no_refused c n none is = none-some n (sym none ∙ ap refused_by is)
 
   same_logged : (m n : ℕ) (c d : Call N O) → c ≡ Decides (Logged m) → d ≡ Decides (Logged n) → c ≡ d → m ≡ n
   same_logged m n c d at to is = ap or_zero (ap logged_by (sym at ∙ is ∙ to))

@@ -1,20 +1,17 @@
 -- Each call is told to the kernel inside as steps, guesses, commits and failures of one trace.
-use Rattle.sk_batched.proofs.Names.{◌≡◌, ℕ, ◌+◌, ◌*◌, ◌<◌, ◌≤◌, Bool, true, false, cond, not, ◌||◌, ◌&&◌, List, [], ◌∷◌}
-use Rattle.sk_batched.proofs.Names.{◌++◌, length, map, Option, Some, None, Result, Ok, Err, inl, inr, refl, sym, ◌∙◌}
-use Rattle.sk_batched.proofs.Names.{ap, subst, arith, ◌↔◌, ◌==◌, nat_le, nat_lt, slice_index_or, list_any, remove}
-use Rattle.sk_batched.proofs.Names.{eq_by_cmp, empty, get, true≢false, leb-false, ltb-false, or_parts, or_from}
-use Rattle.sk_batched.proofs.Names.{false_from_ne_true, map-append, list_any-append, is_in, written_value, Step, Ask}
-use Rattle.sk_batched.proofs.Names.{Refuse, Done, Effect, perform, with_read, System, Taken, KeptView, Token}
-use Rattle.sk_batched.proofs.Names.{IsPlainRun, Deed, effect_of, Told, told_more, with_told, look_at, bytes_cmp}
-use Rattle.sk_batched.proofs.Names.{same_bytes, next_of, Commits, FailsIn, Takes, KernelCall, Calls, Does, Tells}
-use Rattle.sk_batched.proofs.Names.{events_of, Hands, IsFirst, Parts, IsSame, ByteView, Unchanged, QueueView}
-use Rattle.sk_batched.proofs.Names.{after_word, after_cut, after_take, decided, left, Decision, Logged, Refused}
-use Rattle.sk_batched.proofs.Names.{batch_key, is_reserved, capped, in_batch, is_full, opening, BatchedView, Draws}
-use Rattle.sk_batched.proofs.Names.{IsNew, IsStill, open_if, open_numbers, tokens_of, IsInStep, IsRow, act_of}
-use Rattle.sk_batched.proofs.Names.{in_batches, kernel_calls, looking_at, opens_first, BatchStep, Opens, Plain, InBatch}
-use Rattle.sk_batched.proofs.Names.{Call, Steps, LogsStep, IsRefused, DrawsGuess, Sends, Hears, Cuts, Stops, Decides}
-use Rattle.sk_batched.proofs.Names.{LetsOut, HandsIn, Runs, BatchesAsPlain, runs_whole, bytes_exact, bytes_total}
-use Rattle.sk_batched.proofs.Names.{get-empty}
+use Rattle.sk_batched.proofs.Names.{◌≡◌, ℕ, ◌+◌, ◌*◌, ◌<◌, Bool, true, false, not, ◌&&◌, List, [], ◌∷◌, ◌++◌, length}
+use Rattle.sk_batched.proofs.Names.{map, Option, Some, Result, Ok, Err, inl, inr, refl, sym, ◌∙◌, ap, subst, ◌↔◌}
+use Rattle.sk_batched.proofs.Names.{nat_le, slice_index_or, list_any, remove, eq_by_cmp, empty, true≢false, leb-false}
+use Rattle.sk_batched.proofs.Names.{or_parts, or_from, false_from_ne_true, map-append, list_any-append, is_in, Step}
+use Rattle.sk_batched.proofs.Names.{Ask, Effect, perform, with_read, System, Taken, KeptView, Token, IsPlainRun, Deed}
+use Rattle.sk_batched.proofs.Names.{effect_of, Told, told_more, with_told, look_at, bytes_cmp, same_bytes, next_of}
+use Rattle.sk_batched.proofs.Names.{Commits, FailsIn, Takes, KernelCall, Calls, Does, events_of, Hands, IsFirst, Parts}
+use Rattle.sk_batched.proofs.Names.{IsSame, ByteView, QueueView, decided, left, Decision, Logged, Refused, batch_key}
+use Rattle.sk_batched.proofs.Names.{is_reserved, capped, in_batch, is_full, opening, BatchedView, Draws, IsNew, IsStill}
+use Rattle.sk_batched.proofs.Names.{open_if, open_numbers, tokens_of, IsInStep, in_batches, kernel_calls, looking_at}
+use Rattle.sk_batched.proofs.Names.{opens_first, BatchStep, Opens, InBatch, Call, Steps, LogsStep, IsRefused}
+use Rattle.sk_batched.proofs.Names.{DrawsGuess, Sends, Hears, Cuts, Stops, Decides, LetsOut, Runs, BatchesAsPlain}
+use Rattle.sk_batched.proofs.Names.{runs_whole, bytes_exact, bytes_total, get-empty}
 use Rattle.sk_batched.proofs.Answering.{capped_small}
 use Rattle.sk_batched.proofs.Moves.{looks_as_before, Spares}
 use Rattle.sk_batched.proofs.Queues.{batch_of, begins, cut_kept, decided_first, new_in_step, new_row, oldest_committed, oldest_failed, requeued, said_less, same_seen, step_taken, taken, word_kept, IsNumbered}
@@ -34,8 +31,7 @@ module _ {K V W F : Type 0} (look : K → Option V) (k : K) where
 
   looks : (s : Step K V W F) → perform look (looking_at k s) ≡ with_look (perform look s)
   looks (Ask q next) = ap (with_read q (look q)) (looks (next (look q))) ∙ in_turn q (look q) (perform look (next (look q)))
-  looks (Refuse why) = refl
-  looks (Done written said) = refl
+  looks s = refl
 
 looks_too : {V O F : Type 0} (look : List ℕ → Option V) (n : ℕ) (d : Deed (List ℕ) V O) (s : Step (List ℕ) V (ℕ × O) F) → perform look s ≡ Ok (effect_of look d)
     → perform look (looking_at (batch_key n) s) ≡ Ok (effect_of look (in_batch n d))

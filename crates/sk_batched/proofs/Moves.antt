@@ -1,16 +1,14 @@
 -- What a step, a new guess, a commit and a failure leave of a row of guesses that stand alone.
 use Rattle.sk_batched.proofs.Names.{◌≡◌, ℕ, ◌+◌, ◌<◌, ◌≤◌, ◌%◌, Bool, true, false, cond, ◌||◌, List, [], ◌∷◌, ◌++◌}
 use Rattle.sk_batched.proofs.Names.{length, map, Option, Some, None, Result, Ok, Err, refl, sym, ◌∙◌, ap, subst, arith}
-use Rattle.sk_batched.proofs.Names.{◌==◌, list_any, filter, eq_by_cmp, true≢false, eqb-true, eq-eqb, ne_eqb, or_parts}
-use Rattle.sk_batched.proofs.Names.{append-nil, length-append, Effect, is_in, is_marked, written_value, marked_effect}
-use Rattle.sk_batched.proofs.Names.{Note, has, noted, last_tags, committed, cut, unwound, Open, UndoState, is_tag}
-use Rattle.sk_batched.proofs.Names.{not_struck, numbers, opened, still_open, step_tags, Merges, MergedTakes}
-use Rattle.sk_batched.proofs.Names.{MergedCommits, Fails, with_drawn, with_failure, with_status, Status, Undecided}
-use Rattle.sk_batched.proofs.Names.{StatusCommitted, KeptView, AreStatuses, struck_with, open_in, Deed, again}
-use Rattle.sk_batched.proofs.Names.{effect_of, step_of, performs, look_at, log_at, bytes_cmp, same_bytes, Commits}
-use Rattle.sk_batched.proofs.Names.{FailsIn, Takes, Parts, machine_of, undo_state_of, IsSame, batch_key, opening, alone}
-use Rattle.sk_batched.proofs.Names.{notes_by, AreInRow, IsRow}
-use Rattle.std.specs.Prelude.{Decides}
+use Rattle.sk_batched.proofs.Names.{◌==◌, filter, eq_by_cmp, true≢false, eq-eqb, ne_eqb, or_parts, append-nil}
+use Rattle.sk_batched.proofs.Names.{length-append, Effect, is_in, written_value, marked_effect, Note, has, noted}
+use Rattle.sk_batched.proofs.Names.{last_tags, committed, cut, unwound, UndoState, is_tag, not_struck, numbers}
+use Rattle.sk_batched.proofs.Names.{still_open, step_tags, Merges, MergedTakes, MergedCommits, Fails, with_drawn}
+use Rattle.sk_batched.proofs.Names.{with_failure, with_status, Status, Undecided, StatusCommitted, KeptView}
+use Rattle.sk_batched.proofs.Names.{AreStatuses, struck_with, open_in, Deed, again, effect_of, performs, look_at}
+use Rattle.sk_batched.proofs.Names.{log_at, bytes_cmp, same_bytes, Commits, FailsIn, Takes, Parts, machine_of}
+use Rattle.sk_batched.proofs.Names.{undo_state_of, IsSame, batch_key, opening, notes_by, AreInRow, IsRow, or-false}
 use Rattle.sk_batched.proofs.Rows.{alone_more, first_committed, first_failed, longer, never_there, none_before, none_left_out, not_again, not_beyond, notes_committed, notes_cut, notes_more, numbers_alone, only_new, strikes_none}
 
 abbrev ok_or : {A B : Type 0} → A → Result A B → A
@@ -40,10 +38,6 @@ unwritten [] k v none = refl
 unwritten (w ∷ ws) k v none =
     let parts = or_parts (eq_by_cmp bytes_cmp k w.0) (is_in bytes_cmp (map (λ w. w.0) ws) k) none in
     ap (λ b. written_value bytes_cmp ws k (cond b w.1 v)) parts.0 ∙ unwritten ws k v parts.1
-
-or_none : (c : Bool) → (c || false) ≡ c
-or_none true = refl
-or_none false = refl
 
 -- a step that writes no key of a batch
 abbrev pub Spares : {V O : Type 0} → Deed (List ℕ) V O → Type 0
@@ -141,12 +135,12 @@ module _ {V O : Type 0} (a : Parts (List ℕ) V O) (ns : List ℕ) (r : IsRow a 
     writes : (m : ℕ) → is_in bytes_cmp (map (λ w. w.0) t.effect.written) (batch_key m) ≡ (n % 128 == m % 128)
     writes m =
         ap (λ (f : Effect (List ℕ) V (ℕ × O)). is_in bytes_cmp (map (λ w. w.0) f.written) (batch_key m)) (sym did)
-        ∙ ap (λ c. c || false) (same_key m n) ∙ or_none (n % 128 == m % 128)
+        ∙ ap (λ c. c || false) (same_key m n) ∙ or-false (n % 128 == m % 128)
 
     tests : (g : ℕ) → is_tag own (marked_effect (again {V = V} {O = O} bytes_cmp) (Some n) (Ok (effect_of (look_at bytes_cmp a.slots) (opening n)))) g ≡ (n == g)
     tests g =
         ap (λ log. (n == g) || (has g (last_tags [] log) || false)) (r.log n ∙ none_before ns a.guesses.drawn n r.row next (let limit = r.limit in omega (arith, less, limit)))
-        ∙ or_none (n == g)
+        ∙ or-false (n == g)
 
     tags : step_tags own (marked_effect (again bytes_cmp) (Some n) (Ok t.effect)) ≡ n ∷ []
     tags =

@@ -1,24 +1,20 @@
 -- The numbers of undecided batches behind each call of the queue, and the row of guesses with them.
-use Rattle.sk_batched.proofs.Names.{◌≡◌, ℕ, suc, ◌+◌, ◌*◌, ◌<◌, ◌≤◌, Bool, true, false, cond, ◌&&◌, ◌||◌, List, [], ◌∷◌}
-use Rattle.sk_batched.proofs.Names.{◌++◌, length, map, Option, Some, None, Result, Ok, Err, refl, sym, ◌∙◌, ap, subst}
-use Rattle.sk_batched.proofs.Names.{append_assoc, arith, ◌==◌, nat_lt, slice_index_or, if◌then◌else◌, remove, eq-eqb}
-use Rattle.sk_batched.proofs.Names.{append-nil, length-append, map-append, has, Open, numbers, KeptView, none_drawn}
-use Rattle.sk_batched.proofs.Names.{one_drawn, struck_with, Token, look_at, log_at, bytes_cmp, Deed, next_of, Commits}
-use Rattle.sk_batched.proofs.Names.{FailsIn, Takes, Parts, IsSame, Stage, Kept, Sent, Synced, Failed, Batch, Cut}
-use Rattle.sk_batched.proofs.Names.{Decision, Refusal, Stopped, NoCut, new_queue, CutPost, WordPost, kept, QueueView}
-use Rattle.sk_batched.proofs.Names.{after_cut, after_take, after_word, awaits, cut_off, decided, decision_of}
+use Rattle.sk_batched.proofs.Names.{◌≡◌, ℕ, suc, ◌+◌, ◌*◌, ◌<◌, ◌≤◌, Bool, true, false, cond, ◌||◌, List, [], ◌∷◌, ◌++◌}
+use Rattle.sk_batched.proofs.Names.{length, map, Option, Some, None, Result, Ok, Err, refl, sym, ◌∙◌, ap, subst, arith}
+use Rattle.sk_batched.proofs.Names.{◌==◌, nat_lt, slice_index_or, if◌then◌else◌, remove, eq-eqb, append-nil, map-append}
+use Rattle.sk_batched.proofs.Names.{has, numbers, KeptView, none_drawn, struck_with, Token, look_at, log_at, bytes_cmp}
+use Rattle.sk_batched.proofs.Names.{Deed, next_of, Commits, FailsIn, Takes, Parts, IsSame, Stage, Kept, Sent, Synced}
+use Rattle.sk_batched.proofs.Names.{Batch, Cut, Decision, Refusal, Stopped, NoCut, new_queue, CutPost, WordPost, kept}
+use Rattle.sk_batched.proofs.Names.{QueueView, after_cut, after_take, after_word, awaits, cut_off, decided, decision_of}
 use Rattle.sk_batched.proofs.Names.{is_decided, is_kept, left, open_batch, send, tell, batch_key, opening, alone}
-use Rattle.sk_batched.proofs.Names.{not_yet, open_if, open_numbers, tokens_of, AreInRow, IsInStep, IsRow}
+use Rattle.sk_batched.proofs.Names.{not_yet, open_if, open_numbers, tokens_of, IsInStep, IsRow, none-some}
 use Rattle.sk_batches.specs.declared.batch.Stage.TheVariants.{Refused}
 use Rattle.sk_batches.specs.declared.queue.Decision.TheVariants as decision
-use Rattle.sk_batched.proofs.Rows.{numbers_alone, strikes_none, tokens_more}
+use Rattle.sk_batched.proofs.Rows.{strikes_none, tokens_more}
 use Rattle.sk_batched.proofs.Moves.{committed_row, drew, failed_row, let_out, stepped, still, Spares}
 
 abbrev number_of : Batch → ℕ
 number_of b = b.number
-
-none_some : (d : Decision) → None ≡ Some d → ⊥
-none_some d is = cc
 
 -- what keeps the number of each batch
 kept_numbers : (f : Batch → Batch) → ((b : Batch) → number_of (f b) ≡ number_of b) → (bs : List Batch) → map number_of (map f bs) ≡ map number_of bs
@@ -179,12 +175,10 @@ batch_or n (Some d) = batch_of d
 first_of : (s : Stage) (b : Batch) (bs : List Batch) (d : Decision) → decision_of s b.number ≡ Some d → b.number ∷ map number_of bs ≡ batch_of d ∷ map number_of (if is_decided s then bs else b ∷ bs)
 first_of Synced b bs d is = ap (λ o. batch_or b.number o ∷ map number_of bs) is
 first_of Refused b bs d is = ap (λ o. batch_or b.number o ∷ map number_of bs) is
-first_of Kept b bs d is = absurd (none_some d is)
-first_of Sent b bs d is = absurd (none_some d is)
-first_of Failed b bs d is = absurd (none_some d is)
+first_of s b bs d is = absurd (none-some d is)
 
 pub decided_first : (bs : List Batch) (d : Decision) → decided bs ≡ Some d → map number_of bs ≡ batch_of d ∷ map number_of (left bs)
-decided_first [] d is = absurd (none_some d is)
+decided_first [] d is = absurd (none-some d is)
 decided_first (b ∷ bs) d is = first_of b.stage b bs d is
 
 module _ {V O : Type 0} (m : Parts (List ℕ) V O) (q : QueueView) (begun : Bool) (ts us : List Token) (t : Token) (h : IsInStep m q begun ts) (d : Decision) (decides : decided q.batches ≡ Some d)
@@ -200,15 +194,6 @@ module _ {V O : Type 0} (m : Parts (List ℕ) V O) (q : QueueView) (begun : Bool
 
   are : ts ≡ tokens_of m.guesses.kernel (batch_of d ∷ later)
   are = h.tokens_are ∙ ap (tokens_of m.guesses.kernel) all
-
-  pub oldest_own : t.kernel ≡ m.guesses.kernel
-  oldest_own = first_own m (batch_of d) later ts us t row are value rest
-
-  pub oldest_id : t.id ≡ batch_of d
-  oldest_id = first_id m (batch_of d) later ts us t row are value rest
-
-  pub oldest_undecided : has t.id (numbers m.opens) ≡ true
-  oldest_undecided = first_undecided m (batch_of d) later ts us t row are value rest
 
   pub oldest_alone : struck_with t.id m.opens ≡ []
   oldest_alone = first_alone m (batch_of d) later ts us t row are value rest
@@ -251,9 +236,6 @@ new_in_step m q ts number most bytes frame cap row guesses queue none = subst (�
 -- ---- tokens that are left
 abbrev pub Holds : {V O : Type 0} → Parts (List ℕ) V O → List Token → Type 0
 Holds m ts = (ns : List ℕ) × IsRow m ns × (ts ≡ tokens_of m.guesses.kernel ns)
-
-pub holds_all : {V O : Type 0} (m : Parts (List ℕ) V O) (q : QueueView) (begun : Bool) (ts : List Token) → IsInStep m q begun ts → Holds m ts
-holds_all m q begun ts h = (open_numbers q begun, h.row, h.tokens_are)
 
 none_left : (ts : List Token) (kernel : ℕ) → 0 < length ts → ts ≡ tokens_of kernel [] → ⊥
 none_left ts kernel some are = let many = ap length are in omega (arith, many, some)

@@ -1,10 +1,9 @@
 -- Rows of numbers, the guesses that stand alone in them, and the notes of their keys.
-use Rattle.sk_batched.proofs.Names.{◌≡◌, ℕ, suc, ◌+◌, ◌<◌, ◌≤◌, ◌%◌, Bool, true, false, cond, not, ◌&&◌, ◌||◌, List, []}
-use Rattle.sk_batched.proofs.Names.{◌∷◌, ◌++◌, length, map, Option, None, inl, inr, refl, sym, ◌∙◌, ap, subst, arith}
-use Rattle.sk_batched.proofs.Names.{◌==◌, filter, eq_by_cmp, true≢false, eqb-true, eq-eqb, ne_eqb, cases_eq, or_cases}
-use Rattle.sk_batched.proofs.Names.{false_from_ne_true, length-append, map-append, Note, has, without, noted, last_tags}
-use Rattle.sk_batched.proofs.Names.{cut, unwound, committed, Open, numbers, still_open, not_struck, Merges, struck_with}
-use Rattle.sk_batched.proofs.Names.{alone, notes_by, tokens_of, AreInRow}
+use Rattle.sk_batched.proofs.Names.{◌≡◌, ℕ, ◌+◌, ◌<◌, ◌≤◌, ◌%◌, Bool, true, false, cond, not, ◌&&◌, ◌||◌, List, [], ◌∷◌}
+use Rattle.sk_batched.proofs.Names.{◌++◌, length, map, Option, None, inl, inr, refl, sym, ◌∙◌, ap, arith, ◌==◌, filter}
+use Rattle.sk_batched.proofs.Names.{true≢false, eqb-true, eq-eqb, ne_eqb, or_cases, false_from_ne_true, length-append}
+use Rattle.sk_batched.proofs.Names.{Note, has, without, noted, cut, unwound, committed, Open, numbers, still_open}
+use Rattle.sk_batched.proofs.Names.{not_struck, Merges, struck_with, alone, notes_by, tokens_of, AreInRow, or_right}
 
 -- two numbers less than 128 apart have different keys
 pub apart : (g h : ℕ) → g < h → h < g + 128 → (g % 128 == h % 128) ≡ false
@@ -130,10 +129,7 @@ module _ {V : Type 0} where
   none_of k [] differ = refl
   none_of k (n ∷ ns) differ =
       ap (λ b. cond b (note n ∷ notes_by k ns) (notes_by k ns)) (differ n (ap (λ b. b || has n ns) (same_number n)))
-      ∙ none_of k ns (λ h here. differ h (later (n == h) (has h ns) here)) where
-        later : (a b : Bool) → b ≡ true → (a || b) ≡ true
-        later true b is = refl
-        later false b is = is
+      ∙ none_of k ns (λ h here. differ h (or_right (n == h) (has h ns) here))
 
   -- the next of a row has a key of its own
   pub none_before : (ns : List ℕ) (last n : ℕ) → AreInRow ns last → n ≡ last + 1 → length ns < 128 → notes_by {V = V} n ns ≡ []
@@ -214,12 +210,8 @@ module _ {V : Type 0} where
   none_left_out t k (n ∷ ns) last ms row new h =
       elim (n % 128 == k % 128) as (λ b. Merges t (cond b (note n ∷ notes_by k ns) (notes_by k ns)) ms → ms ≡ cond b (note n ∷ notes_by k ns) (notes_by k ns)) [
         | true ↦ first ms (λ rest h. none_left_out (n ∷ []) k ns last rest row.1 other h)
-        | false ↦ none_left_out t k ns last ms row.1 (λ h here. new h (later (n == h) (has h ns) here))
+        | false ↦ none_left_out t k ns last ms row.1 (λ h here. new h (or_right (n == h) (has h ns) here))
       ] h where
-        later : (a b : Bool) → b ≡ true → (a || b) ≡ true
-        later true b is = refl
-        later false b is = is
-
         itself : n ∷ [] ≡ t → ⊥
         itself = new n (ap (λ b. b || has n ns) (same_number n))
 

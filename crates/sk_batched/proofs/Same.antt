@@ -1,12 +1,11 @@
 -- From parts that look the same the same moves lead on.
-use Rattle.sk_batched.proofs.Names.{◌≡◌, ℕ, false, List, [], ◌∷◌, ◌++◌, Option, Some, None, Ok, inl, inr, refl, sym}
-use Rattle.sk_batched.proofs.Names.{◌∙◌, ap, subst, ◌==◌, ◌⊎◌, Ordering, has, without, perform, System, Event, Taken}
-use Rattle.sk_batched.proofs.Names.{Commit, Fail, marks, Open, numbers, not_struck, still_open, Machine, Fails}
-use Rattle.sk_batched.proofs.Names.{with_drawn, with_failure, with_status, MergedCommits, MergedTakes, Status}
-use Rattle.sk_batched.proofs.Names.{Committed, KeptView, AreStatuses, with_struck, Deed, Entry, again, effect_of, Told}
-use Rattle.sk_batched.proofs.Names.{told_more, look_at, log_at, said_at, Parts, machine_of, IsSame, drawn_by, next_of}
-use Rattle.sk_batched.proofs.Names.{Commits, FailsIn, Forgets, Takes, Does, Tells, Returns, TakesOut, Hands, Happens}
-use Rattle.sk_batched.proofs.Names.{Calls}
+use Rattle.sk_batched.proofs.Names.{◌≡◌, ℕ, List, [], ◌∷◌, ◌++◌, Option, Some, None, Ok, inl, inr, refl, sym, ◌∙◌, ap}
+use Rattle.sk_batched.proofs.Names.{subst, ◌⊎◌, Ordering, has, without, perform, System, Event, Taken, Commit, Fail}
+use Rattle.sk_batched.proofs.Names.{marks, Open, numbers, not_struck, still_open, Machine, Fails, with_drawn}
+use Rattle.sk_batched.proofs.Names.{with_failure, with_status, MergedCommits, MergedTakes, Status, Committed, KeptView}
+use Rattle.sk_batched.proofs.Names.{AreStatuses, with_struck, Deed, again, effect_of, Told, told_more, look_at, log_at}
+use Rattle.sk_batched.proofs.Names.{said_at, Parts, machine_of, IsSame, drawn_by, next_of, Commits, FailsIn, Takes}
+use Rattle.sk_batched.proofs.Names.{Does, Tells, Returns, Happens, Calls}
 use Rattle.sk_speculator.specs.Law.{Call}
 
 module _ {K V O : Type 0} (R : K → K → Ordering) where

@@ -1,9 +1,9 @@
 -- A step that names no reserved key writes no key of a batch.
-use Rattle.sk_batched.proofs.Names.{◌≡◌, ℕ, Bool, true, false, ◌||◌, List, [], ◌∷◌, map, Option, Some, None, refl, sym}
-use Rattle.sk_batched.proofs.Names.{◌∙◌, ap, if◌then◌else◌, list_any, Vec, vec_items, eq_by_cmp, true≢false, or_from}
+use Rattle.sk_batched.proofs.Names.{◌≡◌, ℕ, Bool, true, false, List, [], ◌∷◌, map, Option, Some, None, refl, sym, ◌∙◌}
+use Rattle.sk_batched.proofs.Names.{ap, if◌then◌else◌, list_any, Vec, vec_items, eq_by_cmp, true≢false, or_from}
 use Rattle.sk_batched.proofs.Names.{or_parts, false_from_ne_true, is_in, bytes_cmp, same_bytes, WholeStep, has_long_key}
 use Rattle.sk_batched.proofs.Names.{byte_deed, LongKey, Reserved, batch_key, is_reserved, has_reserved_key}
-use Rattle.sk_batched.proofs.Names.{is_batch_key, step_refused, in_batch}
+use Rattle.sk_batched.proofs.Names.{is_batch_key, step_refused}
 use Rattle.sk_batched.specs.declared.refusal.Refusal.{Refusal}
 use Rattle.sk_batched.proofs.Moves.{Spares}
 
@@ -37,6 +37,3 @@ module _ {V O : Type 0} (step : WholeStep (Vec ℕ) V O) (free : step_refused st
 
   pub spared : Spares (byte_deed step)
   spared n = written_spared step.written.items n (or_parts (list_any is_batch_key step.looked.items) (list_any (λ w. is_batch_key w.0) step.written.items) unreserved).1
-
-  pub spared_in_batch : (number : ℕ) → Spares (in_batch number (byte_deed step))
-  spared_in_batch number = spared

@@ -1,23 +1,14 @@
 -- The guesses that keys rest on, one key after another.
-use Rattle.sk_batched.proofs.Names.{◌≡◌, ℕ, zero, suc, Bool, true, false, ◌||◌, ◌&&◌, not, List, [], ◌∷◌, ◌++◌, length}
-use Rattle.sk_batched.proofs.Names.{drop, take, arith, ◌+◌, ◌<◌, map, Option, refl, sym, ◌∙◌, ap, ◌==◌, slice_index_or}
+use Rattle.sk_batched.proofs.Names.{◌≡◌, ℕ, zero, suc, Bool, true, false, ◌||◌, ◌&&◌, List, [], ◌∷◌, ◌++◌, length, drop}
+use Rattle.sk_batched.proofs.Names.{take, arith, ◌+◌, ◌<◌, map, Option, refl, sym, ◌∙◌, ap, slice_index_or}
 use Rattle.sk_batched.proofs.Names.{suc-eq-add-one, drop-cons, list_any, Vec, vec_items, list_any-append, or_from}
-use Rattle.sk_batched.proofs.Names.{or_parts}
+use Rattle.sk_batched.proofs.Names.{or_parts, and-false}
 
 pub joins : (a e d n : Bool) → ((a || (e && n)) || (d && n)) ≡ (a || ((e || d) && n))
 joins true e d n = refl
 joins false true d true = refl
-joins false true d false = no d where
-  no : (d : Bool) → (d && false) ≡ false
-  no true = refl
-  no false = refl
+joins false true d false = and-false d
 joins false false d n = refl
-
-pub splits : (p q n : Bool) → ((p && n) || (q && n)) ≡ ((p || q) && n)
-splits true q true = refl
-splits true true false = refl
-splits true false false = refl
-splits false q n = refl
 
 -- what is left begins with the next
 pub next_at : {X : Type 0} (xs : List X) (i : ℕ) (x : X) → i < length xs → x ≡ slice_index_or xs i x → drop i xs ≡ x ∷ drop (i + 1) xs

@@ -1,7 +1,7 @@
 -- Batches stand in the log one behind another, and a cut takes away just those of its frame.
-use Rattle.sk_batches.proofs.Names.{◌≡◌, ℕ, ◌+◌, ◌<◌, ◌≤◌, Bool, true, false, cond, ◌||◌, ◌&&◌, List, [], ◌∷◌, ◌++◌}
-use Rattle.sk_batches.proofs.Names.{length, map, Option, Some, None, inl, inr, refl, sym, ◌∙◌, ap, subst, arith, ◌⊎◌}
-use Rattle.sk_batches.proofs.Names.{◌==◌, nat_lt, nat_le, both_ways, list_any, AllByRecursion, Contains, true≢false}
+use Rattle.sk_batches.proofs.Names.{◌≡◌, ℕ, ◌+◌, ◌<◌, ◌≤◌, true, false, cond, ◌||◌, ◌&&◌, List, [], ◌∷◌, ◌++◌, length}
+use Rattle.sk_batches.proofs.Names.{map, Option, Some, None, inl, inr, refl, sym, ◌∙◌, ap, subst, arith, ◌⊎◌, ◌==◌}
+use Rattle.sk_batches.proofs.Names.{nat_lt, nat_le, both_ways, list_any, AllByRecursion, Contains, true≢false}
 use Rattle.sk_batches.proofs.Names.{false≢true, and_from, and_left, and_parts, eqb-true, eq-eqb, or_cases, or_from}
 use Rattle.sk_batches.proofs.Names.{or_left, or_right, cases_order, leb-true, le-leb, ltb-true, lt-ltb, le-ltb, ne_eqb}
 use Rattle.sk_batches.proofs.Names.{false_from_ne_true, length-append, length-map, All-contains, All-from_recursion}
@@ -155,10 +155,6 @@ module _ (first next number : ℕ) (records : List RecordView) (least : first �
 -- ---- a frame is told of
 
 module _ (frame : ℕ) (stage : Stage) (unkept : is_kept stage ≡ false) (on : is_off stage ≡ false) where
-  told_frame : (b : Batch) → (tell frame stage b).frame ≡ b.frame
-  told_frame b = elim (awaits frame b) as
-      (λ t. (cond t (record b { stage = stage }) b).frame ≡ b.frame) [ true ↦ refl | false ↦ refl ]
-
   told_between : (first next : ℕ) (b : Batch) → (is_kept b.stage ≡ false → IsBetween first next b)
       → is_kept (tell frame stage b).stage ≡ false → IsBetween first next (tell frame stage b)
   told_between first next b old =
@@ -394,9 +390,6 @@ run_on n last g least = both_ways ((n + 1 == g) || (nat_lt (n + 1) g && nat_le g
       ]
     ])
 
-in_frame : (frame g : ℕ) → Batch → Bool
-in_frame frame g b = (b.frame == frame) && (b.number == g)
-
 -- none of those behind a higher frame
 none_in : (frame g : ℕ) (bs : List Batch) → AllByRecursion (λ (b : Batch). frame < b.frame) bs
     → list_any (λ (b : Batch). (b.frame == frame) && (b.number == g)) bs ≡ false
@@ -489,11 +482,8 @@ kept_unfailing (b ∷ bs) all =
     ∙ kept_unfailing bs all.1
   where
     unfailed : (s : Stage) → is_kept s ≡ true → is_failed s ≡ false
-    unfailed Kept e = refl
-    unfailed Sent e = refl
-    unfailed Synced e = refl
     unfailed Failed e = absurd (false≢true e)
-    unfailed Refused e = refl
+    unfailed s e = refl
 
 abbrev frame_cut : Option Cut → ℕ
 frame_cut None = 0
@@ -600,17 +590,12 @@ range_here first next number b bs so fails =
   where
     on_unkept : (s : Stage) → is_off s ≡ false → is_kept s ≡ false
     on_unkept Kept e = absurd (true≢false e)
-    on_unkept Sent e = refl
-    on_unkept Synced e = refl
-    on_unkept Failed e = refl
-    on_unkept Refused e = refl
+    on_unkept s e = refl
 
     on_taken : (s : Stage) → is_off s ≡ false → is_taken s ≡ true
     on_taken Kept e = absurd (true≢false e)
-    on_taken Sent e = refl
-    on_taken Synced e = refl
-    on_taken Failed e = refl
     on_taken Refused e = absurd (true≢false e)
+    on_taken s e = refl
 
 ranged : (first next number : ℕ) (c : Cut) (bs : List Batch) → AreDense first next number bs
     → list_any (λ (b : Batch). is_sent b.stage) bs ≡ false

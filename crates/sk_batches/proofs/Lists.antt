@@ -126,10 +126,6 @@ kept_size (b ∷ bs) =
     let all = sum_by-cons size b bs in
     let both = both_length (kept_of b) (kept_records bs) in omega (arith, here, rest, both, all)
 
-pub sends_last : (frame : ℕ) (bs : List Batch) (b : Batch) → map (send frame) (bs ++ b ∷ []) ≡ map (send frame) bs ++ send frame b ∷ []
-sends_last frame [] b = refl
-sends_last frame (x ∷ bs) b = ap (λ ys. send frame x ∷ ys) (sends_last frame bs b)
-
 -- ---- bytes that are written one piece after the other
 pub record IsWritten (before whole rest first room : List ℕ) (at : ℕ) : Type 0 where
   pub within : at + length rest ≤ length room
@@ -220,26 +216,18 @@ something : (d : Decision) → Some d ≡ None → ⊥
 something d e = cc
 
 goes : (s : Stage) (b : Batch) (bs : List Batch) (d : Decision) → decision_of s b.number ≡ Some d → bs ≡ cond (is_decided s) bs (b ∷ bs)
-goes Kept b bs d is = absurd (nothing d is)
-goes Sent b bs d is = absurd (nothing d is)
 goes Synced b bs d is = refl
-goes Failed b bs d is = absurd (nothing d is)
 goes Refused b bs d is = refl
+goes s b bs d is = absurd (nothing d is)
 
 stays : (s : Stage) (b : Batch) (bs : List Batch) → decision_of s b.number ≡ None → cond (is_decided s) bs (b ∷ bs) ≡ b ∷ bs
-stays Kept b bs is = refl
-stays Sent b bs is = refl
 stays Synced b bs is = absurd (something _ is)
-stays Failed b bs is = refl
 stays Refused b bs is = absurd (something _ is)
+stays s b bs is = refl
 
 pub is_left : (bs : List Batch) (d : Decision) → decided bs ≡ Some d → remove bs 0 ≡ left bs
 is_left [] d is = absurd (nothing d is)
 is_left (b ∷ bs) d is = goes b.stage b bs d is
-
-pub stays_left : (bs : List Batch) → decided bs ≡ None → left bs ≡ bs
-stays_left [] is = refl
-stays_left (b ∷ bs) is = stays b.stage b bs is
 
 pub there_is : (bs : List Batch) (d : Decision) → decided bs ≡ Some d → 0 < length bs
 there_is [] d is = absurd (nothing d is)

@@ -1,7 +1,7 @@
 -- What the proofs of this crate cite from outside of them, passed on from one place. Declares nothing.
 pub use Rattle.std.proofs.Common.{Some, Bool, subst, inr, Ok, ◌∷◌, ◌&&◌, inl, Err, zero, ◌≡◌, rules, ◌-◌, ◌+◌, Option}
 pub use Rattle.std.proofs.Common.{arith, map, List, ap, ◌++◌, length, append_assoc, ◌||◌, ℕ, true, ltb, drop, sym, None}
-pub use Rattle.std.proofs.Common.{suc, if◌then◌else◌, ◌≤◌, take, false, ◌<◌, refl, [], Result, ◌∙◌, not, cond}
+pub use Rattle.std.proofs.Common.{suc, ◌≤◌, take, false, ◌<◌, refl, [], Result, ◌∙◌, not, cond}
 pub use Rattle.std.proofs.Math.Numerals.{suc-eq-add-one}
 pub use Rattle.std.proofs.Math.Seq.{drop-length, take-append-add, drop-append-add, drop-append_seam, drop-cons}
 pub use Rattle.std.proofs.Math.Seq.{take-append_seam}
@@ -22,8 +22,8 @@ pub use Rattle.std.specs.Result.{IsErrAnd}
 pub use Rattle.sk_batches.specs.Calls.{cause_of, take_refused}
 pub use Rattle.sk_batches.specs.Dense.{IsRange, is_off, AreDense, IsAtCut, IsBehind, IsBetween, FramesAreDense}
 pub use Rattle.sk_batches.specs.Dense.{CutsARange}
-pub use Rattle.sk_batches.specs.Frames.{FramePost, frame_refused, sealed_of, next_payload, first_cause}
-pub use Rattle.sk_batches.specs.Places.{PlacesView, has_room}
+pub use Rattle.sk_batches.specs.Frames.{FramePost, frame_refused, sealed_of, next_payload}
+pub use Rattle.sk_batches.specs.Places.{PlacesView}
 pub use Rattle.sk_batches.specs.Queue.{kept_of, last_in, awaits, decided, first_taken, next_records, undecided, is_kept}
 pub use Rattle.sk_batches.specs.Queue.{QueueView, tell, is_sent, send, is_failed, is_refused, past, kept_records}
 pub use Rattle.sk_batches.specs.Queue.{is_decided, decision_of, first_failed, is_taken, left, cut_off}
@@ -39,7 +39,6 @@ pub use Rattle.sk_batches.specs.declared.frames.Sealed.{Sealed}
 pub use Rattle.sk_batches.specs.declared.queue.Cut.{Cut}
 pub use Rattle.sk_batches.specs.declared.queue.Decision.{Decision}
 pub use Rattle.sk_batches.specs.declared.refusal.Refusal.{Refusal}
-pub use Rattle.sk_batches.specs.declared.refusal.Refusal.TheVariants.{Short, Full}
 pub use Rattle.sk_log.specs.Frame.{frame}
 pub use Rattle.sk_log.specs.declared.frame.TheConstants.{NUMBER_LIMIT}
 pub use borrow.Rule.Slice.PartMut.{post_of, put_mid, mid_of, Post-is, put_same}

@@ -44,11 +44,9 @@ numbers_pushed (x ∷ bs) b = ap (λ ns. x.number ∷ ns) (numbers_pushed bs b)
 
 oldest_numbers : (stage : Stage) (b : Batch) (bs : List Batch) (s : Story)
     → (with_oldest stage b s).decided ++ numbers (cond (is_decided stage) bs (b ∷ bs)) ≡ s.decided ++ b.number ∷ numbers bs
-oldest_numbers Kept b bs s = refl
-oldest_numbers Sent b bs s = refl
 oldest_numbers Synced b bs s = append_assoc s.decided (b.number ∷ []) (numbers bs)
-oldest_numbers Failed b bs s = refl
 oldest_numbers Refused b bs s = append_assoc s.decided (b.number ∷ []) (numbers bs)
+oldest_numbers other b bs s = refl
 
 decided_numbers : (bs : List Batch) (s : Story) → (with_decided bs s).decided ++ numbers (left bs) ≡ s.decided ++ numbers bs
 decided_numbers [] s = refl

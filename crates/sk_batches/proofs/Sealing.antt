@@ -1,10 +1,10 @@
 -- A frame that is sealed in the room that its payload was written into.
-use Rattle.sk_batches.proofs.Names.{◌≡◌, ℕ, ◌+◌, ◌-◌, ◌≤◌, true, false, if◌then◌else◌, Some, None, List, [], ◌++◌}
-use Rattle.sk_batches.proofs.Names.{length, take, drop, Result, Ok, Err, refl, sym, ap, ◌∙◌, arith, nat_tests, IsErrAnd}
-use Rattle.sk_batches.proofs.Names.{append-nil, drop-drop, length-append, length-drop, length-take-le, take_rest}
-use Rattle.sk_batches.proofs.Names.{drop-append_seam, drop-length, take-append_seam, mid_of, post_of, put_mid, put_same}
-use Rattle.sk_batches.proofs.Names.{Post-is, frame, Sealed, Refusal, Full, Short, cause_of, take_refused, first_cause}
-use Rattle.sk_batches.proofs.Names.{frame_refused, next_payload, FramePost, PlacesView, has_room, QueueView}
+use Rattle.sk_batches.proofs.Names.{◌≡◌, ℕ, ◌+◌, ◌-◌, ◌≤◌, false, None, List, [], ◌++◌, length, take, drop, Result, Ok}
+use Rattle.sk_batches.proofs.Names.{Err, refl, sym, ap, ◌∙◌, arith, nat_tests, IsErrAnd, append-nil, drop-drop}
+use Rattle.sk_batches.proofs.Names.{length-append, length-drop, length-take-le, take_rest, drop-append_seam}
+use Rattle.sk_batches.proofs.Names.{drop-length, take-append_seam, mid_of, post_of, put_mid, put_same, Post-is, frame}
+use Rattle.sk_batches.proofs.Names.{Sealed, Refusal, cause_of, take_refused, frame_refused, FramePost, PlacesView}
+use Rattle.sk_batches.proofs.Names.{QueueView}
 use Rattle.std.proofs.Common.{nat_lt}
 use Rattle.std.proofs.lemmas.List.{append_assoc}
 
@@ -63,13 +63,6 @@ framed room payload new sealed segment number len large same is made =
 
 pub above : (n : ℕ) → 24 ≤ n → nat_lt n 24 ≡ false
 above n h = grind (arith, nat_tests)
-
--- nothing speaks against the frame
-pub none_against : (q : QueueView) (p : PlacesView) (room : ℕ) → take_refused q (room - 24) ≡ None → nat_lt room 24 ≡ false → has_room p (length (next_payload q)) ≡ true → frame_refused q p room ≡ None
-none_against q p room queue head segment =
-    ap (λ t. first_cause t (if nat_lt room 24 then Some Short else if has_room p (length (next_payload q)) then None else Some Full)) queue
-    ∙ ap (λ b. if b then Some Short else if has_room p (length (next_payload q)) then None else Some Full) head
-    ∙ ap (λ b. if b then None else Some Full) segment
 
 -- after a refusal the room is as it was
 pub unwritten : (room new : List ℕ) → new ≡ mid_of 24 (length room - 24) room → put_mid 24 (length room - 24) room new ≡ room

@@ -7,75 +7,46 @@ use Rattle.sk_batches.proofs.Names.{Failed, Refused, Batch, Cut, RecordView, kep
 use Rattle.sk_batches.proofs.Names.{cut_off, first_failed, last_in, is_kept, is_sent, is_failed, is_decided}
 use Rattle.sk_batches.proofs.Names.{kept_records, left, past, Call, Appends, Withdraws, Takes, Syncs, Fails, Decides}
 use Rattle.sk_batches.proofs.Names.{Cuts, Stops, Happens, Runs, Story, story_after, synced_after, with_decided}
-use Rattle.sk_batches.proofs.Names.{with_oldest, has, LogsWhatIsSynced, NoneIsKept, NUMBER_LIMIT}
+use Rattle.sk_batches.proofs.Names.{with_oldest, has, LogsWhatIsSynced, NoneIsKept, NUMBER_LIMIT, and_parts, and_from}
 
 -- ---- tests
-
-first_holds : (x y : Bool) → (x && y) ≡ true → x ≡ true
-first_holds true y e = refl
-first_holds false y e = e
-
-second_holds : (x y : Bool) → (x && y) ≡ true → y ≡ true
-second_holds true y e = e
-second_holds false y e = absurd (false≢true e)
-
-both_hold : (x y : Bool) → x ≡ true → y ≡ true → (x && y) ≡ true
-both_hold true y a b = b
-both_hold false y a b = a
 
 not_second : (x y : Bool) → y ≡ false → (x && y) ≡ false
 not_second true y e = e
 not_second false y e = refl
 
 pub sent_undecided : (s : Stage) → is_sent s ≡ true → is_decided s ≡ false
-sent_undecided Kept e = refl
-sent_undecided Sent e = refl
 sent_undecided Synced e = absurd (false≢true e)
-sent_undecided Failed e = refl
 sent_undecided Refused e = absurd (false≢true e)
+sent_undecided s e = refl
 
 pub sent_unkept : (s : Stage) → is_sent s ≡ true → is_kept s ≡ false
 sent_unkept Kept e = absurd (false≢true e)
-sent_unkept Sent e = refl
-sent_unkept Synced e = refl
-sent_unkept Failed e = refl
-sent_unkept Refused e = refl
+sent_unkept s e = refl
 
 decided_unkept : (s : Stage) → is_decided s ≡ true → is_kept s ≡ false
 decided_unkept Kept e = absurd (false≢true e)
-decided_unkept Sent e = refl
-decided_unkept Synced e = refl
-decided_unkept Failed e = refl
-decided_unkept Refused e = refl
+decided_unkept s e = refl
 
 pub failed_undecided : (s : Stage) → is_failed s ≡ true → is_decided s ≡ false
-failed_undecided Kept e = refl
-failed_undecided Sent e = refl
 failed_undecided Synced e = absurd (false≢true e)
-failed_undecided Failed e = refl
 failed_undecided Refused e = absurd (false≢true e)
+failed_undecided s e = refl
 
 pub failed_unkept : (s : Stage) → is_failed s ≡ true → is_kept s ≡ false
 failed_unkept Kept e = absurd (false≢true e)
-failed_unkept Sent e = refl
-failed_unkept Synced e = refl
-failed_unkept Failed e = refl
-failed_unkept Refused e = refl
+failed_unkept s e = refl
 
 kept_unfailed : (s : Stage) → is_kept s ≡ true → is_failed s ≡ false
-kept_unfailed Kept e = refl
-kept_unfailed Sent e = refl
-kept_unfailed Synced e = refl
 kept_unfailed Failed e = absurd (false≢true e)
-kept_unfailed Refused e = refl
+kept_unfailed s e = refl
 
 -- what is not to be sent again, not waited for and not failed is decided
 pub else_decided : (s : Stage) → is_kept s ≡ false → is_sent s ≡ false → is_failed s ≡ false → is_decided s ≡ true
 else_decided Kept a b c = absurd (true≢false a)
 else_decided Sent a b c = absurd (true≢false b)
-else_decided Synced a b c = refl
 else_decided Failed a b c = absurd (true≢false c)
-else_decided Refused a b c = refl
+else_decided s a b c = refl
 
 -- ---- frames that are synced
 
@@ -192,7 +163,7 @@ kept_told : (frame : ℕ) (stage : Stage) (bs : List Batch) → AllKept bs → A
 kept_told frame stage [] all = all
 kept_told frame stage (b ∷ bs) all = (
   elim (awaits frame b) as (λ t. awaits frame b ≡ t → is_kept (cond t (record b { stage = stage }) b).stage ≡ true) [
-    | true ↦ λ e. absurd (true≢false (sym all.0 ∙ sent_unkept b.stage (first_holds (is_sent b.stage) (b.frame == frame) e)))
+    | true ↦ λ e. absurd (true≢false (sym all.0 ∙ sent_unkept b.stage (and_parts (is_sent b.stage) (b.frame == frame) e).0))
     | false ↦ λ e. all.0
   ] refl,
   kept_told frame stage bs all.1,
@@ -206,8 +177,8 @@ module _ (synced more : List ℕ) (frame : ℕ) (stage : Stage) (grows : (k : �
   told f prev calm calmer (b ∷ bs) next calms so =
       elim (awaits frame b) as (λ t. awaits frame b ≡ t → InLog more f (told_before frame stage prev) calmer (cond t (record b { stage = stage }) b ∷ map (tell frame stage) bs) next) [
         | true ↦ λ is.
-            let sent = first_holds (is_sent b.stage) (b.frame == frame) is in
-            let same = eqb-true b.frame frame (second_holds (is_sent b.stage) (b.frame == frame) is) in
+            let sent = (and_parts (is_sent b.stage) (b.frame == frame) is).0 in
+            let same = eqb-true b.frame frame (and_parts (is_sent b.stage) (b.frame == frame) is).1 in
             let old = so.0 (sent_unkept b.stage sent) in
             let changes : cond (is_sent b.stage && (b.frame == frame)) stage b.stage ≡ stage = ap (λ t. cond t stage b.stage) is in (
               λ _. (
@@ -221,7 +192,7 @@ module _ (synced more : List ℕ) (frame : ℕ) (stage : Stage) (grows : (k : �
                 },
                 subst (λ s. InLog more (b.frame + 1) (Some (b.frame, s)) (calmer && is_decided stage) (map (tell frame stage) bs) next) changes
                     (told (b.frame + 1) (Some (b.frame, b.stage)) (calm && is_decided b.stage) (calmer && is_decided stage) bs next
-                    (λ e. absurd (true≢false (sym (second_holds calm (is_decided b.stage) e) ∙ sent_undecided b.stage sent))) old.1),
+                    (λ e. absurd (true≢false (sym (and_parts calm (is_decided b.stage) e).1 ∙ sent_undecided b.stage sent))) old.1),
               ),
               λ e. absurd (true≢false (sym e ∙ unkept)),
             )
@@ -239,7 +210,7 @@ module _ (synced more : List ℕ) (frame : ℕ) (stage : Stage) (grows : (k : �
                     },
                     subst (λ s. InLog more (b.frame + 1) (Some (b.frame, s)) (calmer && is_decided b.stage) (map (tell frame stage) bs) next) stays
                         (told (b.frame + 1) (Some (b.frame, b.stage)) (calm && is_decided b.stage) (calmer && is_decided b.stage) bs next
-                        (λ e. both_hold calmer (is_decided b.stage) (calms (first_holds calm (is_decided b.stage) e)) (second_holds calm (is_decided b.stage) e)) old.1),
+                        (λ e. and_from calmer (is_decided b.stage) (calms (and_parts calm (is_decided b.stage) e).0) (and_parts calm (is_decided b.stage) e).1) old.1),
                   ),
               λ k. (calms (so.1 k).0, more_told synced more f next (λ k lt. grows k) (so.1 k).1, kept_told frame stage bs (so.1 k).2),
             )
@@ -373,7 +344,7 @@ module _ (synced : List ℕ) (c : Cut) (small : c.frame < NUMBER_LIMIT) where
             elim (b.frame == c.frame) as (λ t. (b.frame == c.frame) ≡ t → InLog cut_synced (c.frame + 1) (Some (c.frame, Refused)) calmer (map (cut_off c) (b ∷ bs)) (past c.frame)) [
               | true ↦ λ e.
                   let same = eqb-true b.frame c.frame e in
-                  let rest = cut_behind b.stage (calm && is_decided b.stage) (calmer && true) bs next roughs (both_hold calmer true calms refl)
+                  let rest = cut_behind b.stage (calm && is_decided b.stage) (calmer && true) bs next roughs (and_from calmer true calms refl)
                   (subst (λ n. InLog synced (n + 1) (Some (n, b.stage)) (calm && is_decided b.stage) bs next) same old.1) in
                   subst (λ (x : Batch). InLog cut_synced (c.frame + 1) (Some (c.frame, Refused)) calmer (x ∷ map (cut_off c) bs) (past c.frame)) (sym (cut_refused b same)) (
                     λ _. (
@@ -433,7 +404,7 @@ module _ (synced : List ℕ) (c : Cut) where
         | inr was ↦ absurd (true≢false (sym (followed f prev (b.frame, b.stage) was follows).1 ∙ failed_undecided b.stage fails))
       ] in
       let rough = not_second calm (is_decided b.stage) (failed_undecided b.stage fails) in
-      let rest = cut_behind synced c small b.stage (calm && is_decided b.stage) (calmer && true) bs next rough (both_hold calmer true calms refl)
+      let rest = cut_behind synced c small b.stage (calm && is_decided b.stage) (calmer && true) bs next rough (and_from calmer true calms refl)
       (subst (λ n. InLog synced (n + 1) (Some (n, b.stage)) (calm && is_decided b.stage) bs next) same behind) in
       record {
         least = subst (λ n. f ≤ n) same all.least;
@@ -499,7 +470,7 @@ module _ (synced : List ℕ) (c : Cut) where
                   let decided = else_decided b.stage n unsent.0 stands in
                   cut_later f prev calmer b bs n follows old.0
                   (cut_all (b.frame + 1) (Some (b.frame, b.stage)) (calm && is_decided b.stage) (calmer && is_decided b.stage) bs next
-                  (both_hold calmer (is_decided b.stage) calms decided) (refl, decided) old.1 unsent.1 later)
+                  (and_from calmer (is_decided b.stage) calms decided) (refl, decided) old.1 unsent.1 later)
             ] refl
       ] refl is
 
@@ -507,10 +478,7 @@ module _ (synced : List ℕ) (c : Cut) where
 
 oldest_synced : (stage : Stage) (b : Batch) (s : Story) → (with_oldest stage b s).synced ≡ s.synced
 oldest_synced Kept b s = refl
-oldest_synced Sent b s = refl
-oldest_synced Synced b s = refl
-oldest_synced Failed b s = refl
-oldest_synced Refused b s = refl
+oldest_synced stage b s = refl
 
 pub decided_synced : (bs : List Batch) (s : Story) → (with_decided bs s).synced ≡ s.synced
 decided_synced [] s = refl

@@ -1,13 +1,13 @@
 -- Numbers that go and come one after another, and a step that is handed over with them.
 use Rattle.sk_bytes.proofs.Names.{◌≡◌, ℕ, zero, suc, ◌<◌, ◌≤◌, ◌+◌, arith, true, false, List, [], ◌∷◌, ◌++◌, map}
-use Rattle.sk_bytes.proofs.Names.{length, get_or, take, Option, Some, None, cond, refl, sym, ◌∙◌, ap, subst, inl, inr}
-use Rattle.sk_bytes.proofs.Names.{◌==◌, ◌⊎◌, ◌&&◌, ◌||◌, Bool, Result, Err, IfOk, IfSome, nat_lt, not, is_none, is_some}
+use Rattle.sk_bytes.proofs.Names.{length, get_or, Option, Some, None, cond, refl, sym, ◌∙◌, ap, subst, inl, inr, ◌==◌}
+use Rattle.sk_bytes.proofs.Names.{◌⊎◌, ◌&&◌, ◌||◌, Bool, Result, Err, IfOk, IfSome, nat_lt, not, is_none, is_some}
 use Rattle.sk_bytes.proofs.Names.{slice_get, slice_set, nat_cmp, eq_by_cmp, unsigned_tied, option_map, vec_items, Vec}
 use Rattle.sk_bytes.proofs.Names.{eqb-true, eqb-false, eq-eqb, ltb-true, ltb-false, ne_eqb, or_left, or_right, or_cases}
 use Rattle.sk_bytes.proofs.Names.{true≢false, false≢true, list_any-append, is_in, Note, last_tags, at_key, keys_of}
-use Rattle.sk_bytes.proofs.Names.{AreWrites, SlotView, look_at, Numbered, number_of, string_of, Adds, Removes, list_any}
-use Rattle.sk_bytes.proofs.Names.{take_all, take_next, some_none, same_bytes, shown, slot_shown, AllRest, IsTwoWay}
-use Rattle.sk_bytes.proofs.Names.{LetsGo, Gains, AreNames, names, exchanged}
+use Rattle.sk_bytes.proofs.Names.{AreWrites, SlotView, look_at, Numbered, number_of, string_of, Adds, Removes}
+use Rattle.sk_bytes.proofs.Names.{some_none, same_bytes, shown, slot_shown, AllRest, IsTwoWay, LetsGo, Gains, AreNames}
+use Rattle.sk_bytes.proofs.Names.{names, exchanged}
 use Rattle.std.specs.Prelude.{Ok}
 use Rattle.sk_bytes.proofs.Told.{two_way_more, two_way_less}
 
@@ -149,15 +149,6 @@ module _ {V : Type 0} where
   bare_told [] rests = refl
   bare_told (n ∷ ns) rests = some_tags n.tags ns rests.0 rests.1
 
-  -- a key that is there is not bare
-  pub there_told : (v : Option V) (log : List (Note V)) → is_none v ≡ false → false ≡ is_none (shown v log)
-  there_told None log there = absurd (cc)
-  there_told (Some v) log there = refl
-
-  pub absent_told : (v : Option V) → is_none v ≡ true → v ≡ None
-  absent_told None is = refl
-  absent_told (Some v) is = absurd (cc)
-
 -- ---- numbers come
 
 pub none_comes : (es : Numbered) (loose : List ℕ) → IsTwoWay es → Gains es loose es
@@ -258,12 +249,6 @@ module _ {A B V : Type 0} where
   pub swapped_more : (i : ℕ) (ls : List (A × V)) (rs : List (B × V)) (l : A × V) (r : B × V) → i < length ls → i < length rs → l ≡ get_or ls i l → r ≡ get_or rs i r → slice_set (swapped i ls rs) i (l.0, r.1) ≡ swapped (i + 1) ls rs
   swapped_more i ls rs l r near other is at = let next : suc i ≡ i + 1 = omega arith in swapped_set i ls rs l r near other is at ∙ ap (λ k. swapped k ls rs) next
 
-  pub swapped_length : (i : ℕ) (ls : List (A × V)) (rs : List (B × V)) → length (swapped i ls rs) ≡ length ls
-  swapped_length zero ls rs = refl
-  swapped_length (suc i) [] rs = refl
-  swapped_length (suc i) (l ∷ ls) [] = refl
-  swapped_length (suc i) (l ∷ ls) (r ∷ rs) = ap suc (swapped_length i ls rs)
-
   pub swapped_all : (i : ℕ) (ls : List (A × V)) (rs : List (B × V)) → length ls ≤ i → swapped i ls rs ≡ exchanged ls rs
   swapped_all zero [] rs far = refl
   swapped_all zero (l ∷ ls) rs far = absurd (omega arith)
@@ -296,19 +281,6 @@ writes_named key (w ∷ ws) [] are = absurd are
 writes_named key (w ∷ ws) (n ∷ ns) are = (are.0, refl, writes_named key ws ns are.1)
 
 -- ---- one of a list
-
-module _ {A : Type 0} (p : A → Bool) where
-  pub any_here : (xs : List A) (i : ℕ) (x : A) → i < length xs → x ≡ get_or xs i x → p x ≡ true → list_any p xs ≡ true
-  any_here [] i x near is holds = absurd (omega arith)
-  any_here (y ∷ xs) zero x near is holds = or_left _ _ (ap p (sym is) ∙ holds)
-  any_here (y ∷ xs) (suc i) x near is holds = or_right _ _ (any_here xs i x (omega arith) is holds)
-
-  pub none_of_more : (xs : List A) (i : ℕ) (x : A) → i < length xs → x ≡ get_or xs i x → list_any p (take i xs) ≡ false → p x ≡ false → list_any p (take (i + 1) xs) ≡ false
-  none_of_more xs i x near is first last =
-      ap (list_any p) (take_next xs i x near is) ∙ list_any-append p (take i xs) (x ∷ []) ∙ (λ j. first j || (last j || false))
-
-  pub none_of_all : (xs : List A) (i : ℕ) → length xs ≤ i → list_any p (take i xs) ≡ false → list_any p xs ≡ false
-  none_of_all xs i far first = ap (list_any p) (sym (take_all xs i far)) ∙ first
 
 -- what is in a place of a list
 pub get_some : {A : Type 0} (xs : List A) (i : ℕ) (x : A) → i < length xs → x ≡ get_or xs i x → Some x ≡ slice_get xs i

@@ -1,11 +1,10 @@
 -- The strings of the numbers that rest on a guess.
-use Rattle.sk_bytes.proofs.Names.{◌≡◌, ℕ, ◌<◌, true, false, List, [], ◌∷◌, length, map, Option, Some, None, cond, refl}
-use Rattle.sk_bytes.proofs.Names.{sym, ◌∙◌, ap, arith, ◌==◌, ◌||◌, Bool, is_some, slice_get, unsigned_tied}
-use Rattle.sk_bytes.proofs.Names.{AllByRecursion, filter, nat_cmp, Less, eq-eqb, ne_eqb, true≢false}
-use Rattle.sk_bytes.proofs.Names.{IsStrictlySortedBy-filter, is_in, has, last_tags, tags_at, has_filter, above}
-use Rattle.sk_bytes.proofs.Names.{same_rising, eqb_turned, at_key, log_at, Numbered, bytes_cmp, number_of, numbers_in}
-use Rattle.sk_bytes.proofs.Names.{string_of, Parts, undo_state_of, names, strings_of, told_of, with_string, ByteView}
-use Rattle.sk_bytes.proofs.Names.{Fits, resting_on}
+use Rattle.sk_bytes.proofs.Names.{◌≡◌, ℕ, ◌<◌, true, false, List, [], ◌∷◌, length, Option, Some, None, cond, refl, sym}
+use Rattle.sk_bytes.proofs.Names.{◌∙◌, ap, arith, ◌==◌, ◌||◌, Bool, is_some, slice_get, unsigned_tied, AllByRecursion}
+use Rattle.sk_bytes.proofs.Names.{filter, nat_cmp, Less, eq-eqb, ne_eqb, true≢false, IsStrictlySortedBy-filter, is_in}
+use Rattle.sk_bytes.proofs.Names.{has, last_tags, tags_at, has_filter, above, same_rising, eqb_turned, at_key, log_at}
+use Rattle.sk_bytes.proofs.Names.{Numbered, bytes_cmp, numbers_in, string_of, Parts, undo_state_of, names, strings_of}
+use Rattle.sk_bytes.proofs.Names.{told_of, with_string, ByteView, Fits, resting_on}
 use Rattle.std.proofs.Common.{◌&&◌}
 use Rattle.std.specs.List.Sorted.{IsStrictlySortedBy}
 use Rattle.sk_bytes.proofs.Told.{log_told}

@@ -3,12 +3,12 @@ use Rattle.sk_commands.proofs.Names.{◌≡◌, ℕ, ◌+◌, Bool, true, false,
 use Rattle.sk_commands.proofs.Names.{flat_map, length, count_by, fold, is_some, bytes_eq, cond, Option, Some, None}
 use Rattle.sk_commands.proofs.Names.{Result, Ok, if◌then◌else◌, refl, sym, ap, ◌∙◌, nat_cmp, slice_cmp, by_order}
 use Rattle.sk_commands.proofs.Names.{Ordering, Less, Equal, Greater, bytes_eq-Decides, perform, with_read, Effect}
-use Rattle.sk_commands.proofs.Names.{effect_of, When, Command, Get, Set, Del, Exists, Add, Append, StrLen, MGet, MSet}
-use Rattle.sk_commands.proofs.Names.{DbSize, KeysWith, FlushAll, Ping, Echo, Wrong, Reply, Array, Work, Answer, added}
-use Rattle.sk_commands.proofs.Names.{asks, begins_with, bytes_of, counts, deleted, flushed, is_among, joined, number_at}
-use Rattle.sk_commands.proofs.Names.{outcome, replies, shown, there, with_key, is_seen, may_set, set, set_reply, Have}
-use Rattle.sk_commands.proofs.Names.{Outcome, Written, after, answered, comes_to, each, followed, known_after, looks_at}
-use Rattle.sk_commands.proofs.Names.{with_known, with_value, act, asking_for, deed}
+use Rattle.sk_commands.proofs.Names.{effect_of, When, Command, Get, Set, Del, Exists, Add, Append, StrLen, MGet, DbSize}
+use Rattle.sk_commands.proofs.Names.{KeysWith, FlushAll, Reply, Array, Work, Answer, added, asks, begins_with, bytes_of}
+use Rattle.sk_commands.proofs.Names.{counts, deleted, flushed, is_among, joined, number_at, outcome, replies, shown}
+use Rattle.sk_commands.proofs.Names.{there, with_key, is_seen, may_set, set, set_reply, Have, Outcome, Written, after}
+use Rattle.sk_commands.proofs.Names.{answered, comes_to, each, followed, known_after, looks_at, with_known, with_value}
+use Rattle.sk_commands.proofs.Names.{act, asking_for, deed}
 use Rattle.sk_commands.specs.declared.command.When.TheVariants as when
 use Rattle.sk_commands.specs.declared.work.Work.TheVariants as works
 use Rattle.sk_commands.specs.declared.work.Answer.TheVariants as answers
@@ -87,13 +87,10 @@ row_alike known (Add key by) f g h = ap (λ has. added key by (number_at has)) h
 row_alike known (Append key more) f g h = ap (λ has. joined key (bytes_of has ++ more)) h.0
 row_alike known (StrLen key) f g h = ap (λ has. replies (counts (length (bytes_of has)))) h.0
 row_alike known (MGet keys) f g h = ap (λ values. replies (Array values)) (map_alike keys f g h)
-row_alike known (MSet words) f g h = refl
 row_alike known DbSize f g h = ap (λ n. replies (counts n)) (count_alike known f g h)
 row_alike known (KeysWith prefix) f g h = ap (λ keys. replies (Array (map Some keys))) (listed_alike (begins_with prefix) known f g h)
 row_alike known FlushAll f g h = ap flushed (listed_alike (λ key. true) known f g h)
-row_alike known Ping f g h = refl
-row_alike known (Echo text) f g h = refl
-row_alike known (Wrong fault) f g h = refl
+row_alike known command f g h = refl
 
 front_alike : (xs ys : List (List ℕ)) (f g : Have) → AreAlike (xs ++ ys) f g → AreAlike xs f g
 front_alike [] ys f g h = tt
@@ -149,13 +146,10 @@ asks_after ws known (Add key by) f g h = keys_after ws (key ∷ []) f g h
 asks_after ws known (Append key more) f g h = keys_after ws (key ∷ []) f g h
 asks_after ws known (StrLen key) f g h = keys_after ws (key ∷ []) f g h
 asks_after ws known (MGet keys) f g h = keys_after ws keys f g h
-asks_after ws known (MSet words) f g h = tt
 asks_after ws known DbSize f g h = all_after ws known f g h
 asks_after ws known (KeysWith prefix) f g h = all_after ws known f g h
 asks_after ws known FlushAll f g h = all_after ws known f g h
-asks_after ws known Ping f g h = tt
-asks_after ws known (Echo text) f g h = tt
-asks_after ws known (Wrong fault) f g h = tt
+asks_after ws known command f g h = tt
 
 each_asks_after : (ws : Written) (known : List (List ℕ)) (cs : List Command) (f g : Have) → AreAlike (flat_map (asks known) cs) f g → AreAlike (flat_map (asks (known_after ws known)) cs) (after ws f) (after ws g)
 each_asks_after ws known [] f g h = tt

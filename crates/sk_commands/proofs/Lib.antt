@@ -3,7 +3,6 @@ pub mod Numbers
 pub mod Deleted
 pub mod Asked
 pub mod Shown
-pub mod Pairs
 pub mod Queued
 pub mod Unwritten
 pub mod Alone

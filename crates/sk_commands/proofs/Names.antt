@@ -1,16 +1,17 @@
 -- What the proofs of this crate cite from outside of them, passed on from one place. Declares nothing.
+pub use Rattle.std.proofs.lemmas.Bool.{and_parts, and_from, or_parts, not-true}
 pub use Rattle.std.proofs.Common.{fold, Some, ℤ, count_by, filter, Bool, negsuc, FitsSigned, vec_len, subst, neg_ℤ, Ok}
 pub use Rattle.std.proofs.Common.{◌∷◌, ◌&&◌, Err, slice_index, ◌≡◌, ◌^◌, ◌-◌, rules, ◌+◌, Option, arith, map, List}
-pub use Rattle.std.proofs.Common.{get_or, ap, bytes_eq, ◌++◌, length, ◌||◌, ℕ, true, pos, drop, sym, None, is_some}
-pub use Rattle.std.proofs.Common.{is_err, suc, OnErr, if◌then◌else◌, ◌≤◌, take, false, ◌<◌, refl, w64, flat_map, Result}
-pub use Rattle.std.proofs.Common.{[], ◌%◌, ◌∙◌, nat_lt, not, ◌==◌, cond}
+pub use Rattle.std.proofs.Common.{get_or, ap, bytes_eq, ◌++◌, length, ℕ, true, pos, drop, sym, None, is_some, is_err}
+pub use Rattle.std.proofs.Common.{suc, OnErr, if◌then◌else◌, ◌≤◌, take, false, ◌<◌, refl, w64, flat_map, Result, []}
+pub use Rattle.std.proofs.Common.{◌%◌, ◌∙◌, nat_lt, not, ◌==◌, cond}
 pub use Rattle.std.proofs.Math.Seq.{drop-append_seam, get_or-append_seam, take-append_seam}
 pub use Rattle.std.proofs.lemmas.Bool.Decides.{same_from_decides, nat_tests}
 pub use Rattle.std.proofs.lemmas.Fmt.{IsAscii-signed, parse-signed_decimal, decimal_nonempty, signed_decimal_injective}
 pub use Rattle.std.proofs.lemmas.Grind.{flat_map-append}
 pub use Rattle.std.proofs.lemmas.Int.{to_z-of_z}
-pub use Rattle.std.proofs.lemmas.List.{drop_more, drop_all, take_all, append_assoc, length-map, take-append-drop}
-pub use Rattle.std.proofs.lemmas.List.{take_more, length-append, take-map, append-nil}
+pub use Rattle.std.proofs.lemmas.List.{drop_more, take_all, append_assoc, length-map, take-append-drop, length-append}
+pub use Rattle.std.proofs.lemmas.List.{take-map, append-nil}
 pub use Rattle.std.proofs.lemmas.Slice.Eq.{bytes_eq-Decides}
 pub use Rattle.std.proofs.lemmas.Str.{IsUtf8-from_ascii}
 pub use Rattle.std.specs.Borrow.{Bor}
@@ -21,7 +22,7 @@ pub use Rattle.std.specs.Global.{Vec}
 pub use Rattle.std.specs.List.{list_any}
 pub use Rattle.std.specs.Option.{SomeIff, option_copied}
 pub use Rattle.std.specs.Ordering.{nat_cmp}
-pub use Rattle.std.specs.Prelude.{IfNone, insert, find}
+pub use Rattle.std.specs.Prelude.{IfNone, find}
 pub use Rattle.std.specs.Result.{result_ok}
 pub use Rattle.std.specs.Str.{IsUtf8}
 pub use Rattle.std.specs.Str.Parse.{ParsesSigned, signed_digits_value}
@@ -32,9 +33,9 @@ pub use Rattle.std.specs.declared.cmp.Ordering.TheVariants.{Equal, Greater, Less
 pub use Rattle.sk_commands.specs.Law.{asking_for, act, deed}
 pub use Rattle.sk_commands.specs.Names.{text_of, is_alike}
 pub use Rattle.sk_commands.specs.Numbers.{IsNoNumber, number_of, said_as, fits, fitting}
-pub use Rattle.sk_commands.specs.Parsing.{add_of, subtract_by, exchanged, matching, order_for, is_of_prefix, set_of}
-pub use Rattle.sk_commands.specs.Parsing.{runs, order_named, front, with_options, order_of, subtract_of, plainly}
-pub use Rattle.sk_commands.specs.Parsing.{pairs_for, is_special}
+pub use Rattle.sk_commands.specs.Parsing.{add_of, subtract_by, matching, order_for, is_of_prefix, set_of, runs}
+pub use Rattle.sk_commands.specs.Parsing.{order_named, front, with_options, order_of, subtract_of, plainly, pairs_for}
+pub use Rattle.sk_commands.specs.Parsing.{is_special}
 pub use Rattle.sk_commands.specs.Requests.{work_for, least, IsSaid, with_work, WaitsSaid, IsAsked, AreWithin}
 pub use Rattle.sk_commands.specs.Requests.{requests_of, IsReplyOrAsked, AreAsked, AreSaid, words_for, log_text}
 pub use Rattle.sk_commands.specs.Session.{turn, executes}
@@ -54,7 +55,7 @@ pub use Rattle.sk_commands.specs.declared.command.Order.{Order}
 pub use Rattle.sk_commands.specs.declared.command.Order.TheVariants.{Multi, Exec, Discard, Run}
 pub use Rattle.sk_commands.specs.declared.command.When.{When}
 pub use Rattle.sk_commands.specs.declared.fault.Fault.{Fault}
-pub use Rattle.sk_commands.specs.declared.fault.Fault.TheVariants.{Syntax, Overflow, Pattern, NotInteger}
+pub use Rattle.sk_commands.specs.declared.fault.Fault.TheVariants.{Overflow, Pattern, NotInteger}
 pub use Rattle.sk_commands.specs.declared.name.Name.{Name}
 pub use Rattle.sk_commands.specs.declared.reply.Reply.{Reply}
 pub use Rattle.sk_commands.specs.declared.reply.Reply.TheVariants.{Array}

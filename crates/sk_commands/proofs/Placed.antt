@@ -1,8 +1,7 @@
 -- The place of a key among keys, key by key.
-use Rattle.sk_commands.proofs.Names.{◌≡◌, ℕ, ◌+◌, ◌<◌, ◌≤◌, List, [], ◌∷◌, ◌++◌, length, map, take, drop, get_or, refl}
-use Rattle.sk_commands.proofs.Names.{sym, ap, ◌∙◌, arith, insert, nat_cmp, slice_cmp, by_order, Vec, vec_items}
-use Rattle.sk_commands.proofs.Names.{Ordering, Less, Equal, Greater, append_assoc, drop_all, drop_more, take_all}
-use Rattle.sk_commands.proofs.Names.{take_more, take-append-drop, with_known}
+use Rattle.sk_commands.proofs.Names.{◌≡◌, ℕ, ◌+◌, ◌<◌, List, [], ◌∷◌, ◌++◌, length, map, take, drop, get_or, refl, sym}
+use Rattle.sk_commands.proofs.Names.{ap, ◌∙◌, nat_cmp, slice_cmp, by_order, Vec, vec_items, Ordering, Equal, drop_more}
+use Rattle.sk_commands.proofs.Names.{take-append-drop, with_known}
 
 -- A key stands behind the first of these.
 abbrev pub IsBehind : List ℕ → List (Vec ℕ) → ℕ → Type 0
@@ -24,37 +23,9 @@ rest_is : (keys : List (Vec ℕ)) (i : ℕ) (e : Vec ℕ) → i < length keys �
     → e.items ∷ map vec_items (drop (i + 1) keys) ≡ map vec_items (drop i keys)
 rest_is keys i e small is = sym (ap (map vec_items) (drop_more keys i e small ∙ ap (λ x. x ∷ drop (i + 1) keys) is))
 
-pub goes_before : (key : List ℕ) (keys : List (Vec ℕ)) (i : ℕ) (e : Vec ℕ) → i < length keys → get_or keys i e ≡ e
-    → slice_cmp nat_cmp key e.items ≡ Less → IsBehind key keys i
-    → with_known (map vec_items keys) key ≡ map vec_items (take i keys) ++ key ∷ map vec_items (drop i keys)
-goes_before key keys i e small is less behind =
-    behind ∙ ap (λ r. map vec_items (take i keys) ++ r) (here key keys i e Less small is less)
-    ∙ ap (λ r. map vec_items (take i keys) ++ key ∷ r) (rest_is keys i e small is)
-
 pub stands_at : (key : List ℕ) (keys : List (Vec ℕ)) (i : ℕ) (e : Vec ℕ) → i < length keys → get_or keys i e ≡ e
     → slice_cmp nat_cmp key e.items ≡ Equal → IsBehind key keys i
     → with_known (map vec_items keys) key ≡ map vec_items keys
 stands_at key keys i e small is equal behind =
     behind ∙ ap (λ r. map vec_items (take i keys) ++ r) (here key keys i e Equal small is equal ∙ rest_is keys i e small is)
     ∙ sym (map_append (take i keys) (drop i keys)) ∙ ap (map vec_items) (take-append-drop i keys)
-
-pub goes_behind : (key : List ℕ) (keys : List (Vec ℕ)) (i : ℕ) (e : Vec ℕ) → i < length keys → get_or keys i e ≡ e
-    → slice_cmp nat_cmp key e.items ≡ Greater → IsBehind key keys i → IsBehind key keys (i + 1)
-goes_behind key keys i e small is greater behind =
-    let rest = with_known (map vec_items (drop (i + 1) keys)) key in
-    behind ∙ ap (λ r. map vec_items (take i keys) ++ r) (here key keys i e Greater small is greater)
-    ∙ sym (append_assoc (map vec_items (take i keys)) (e.items ∷ []) rest)
-    ∙ ap (λ r. r ++ rest) (sym (map_append (take i keys) (e ∷ [])) ∙ ap (map vec_items) (sym (take_more keys i e small ∙ ap (λ x. take i keys ++ x ∷ []) is)))
-
-pub goes_last : (key : List ℕ) (keys : List (Vec ℕ)) (i : ℕ) → length keys ≤ i → IsBehind key keys i
-    → with_known (map vec_items keys) key ≡ map vec_items (take (length keys) keys) ++ key ∷ map vec_items (drop (length keys) keys)
-goes_last key keys i past behind =
-    let all : length keys ≤ length keys = omega arith in
-    behind ∙ ap (λ r. map vec_items (take i keys) ++ with_known (map vec_items r) key) (drop_all i keys past)
-    ∙ ap (λ r. map vec_items r ++ key ∷ []) (take_all i keys past ∙ sym (take_all (length keys) keys all))
-    ∙ ap (λ r. map vec_items (take (length keys) keys) ++ key ∷ map vec_items r) (sym (drop_all (length keys) keys all))
-
--- what stands at the place of an inserted key
-pub inserted : (keys : List (Vec ℕ)) (i : ℕ) (copy : Vec ℕ)
-    → map vec_items (insert keys i copy) ≡ map vec_items (take i keys) ++ copy.items ∷ map vec_items (drop i keys)
-inserted keys i copy = map_append (take i keys) (copy ∷ drop i keys)

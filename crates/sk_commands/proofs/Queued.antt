@@ -1,45 +1,22 @@
 -- Commands of a queue, one after another.
 use Rattle.sk_commands.proofs.Names.{◌≡◌, ℕ, true, false, List, [], ◌∷◌, ◌++◌, Option, bytes_eq, if◌then◌else◌, refl}
-use Rattle.sk_commands.proofs.Names.{sym, ap, ◌∙◌, Vec, append_assoc, Command, Get, Set, Del, Exists, Add, Append}
-use Rattle.sk_commands.proofs.Names.{StrLen, MGet, MSet, DbSize, KeysWith, FlushAll, Ping, Echo, Wrong, Reply, asks}
+use Rattle.sk_commands.proofs.Names.{sym, ap, ◌∙◌, Vec, append_assoc, Command, DbSize, KeysWith, FlushAll, Reply, asks}
 use Rattle.sk_commands.proofs.Names.{is_told_of_all, outcome, told, Have, Outcome, Written, after, each, known_after}
 use Rattle.sk_commands.proofs.Names.{with_known, with_value}
 use Rattle.sk_commands.proofs.Deleted.{told_append}
 
 -- what keys are known changes nothing for a command that is not told of all
 pub alone : (c : Command) (known others : List (List ℕ)) (has : Have) → is_told_of_all c ≡ false → outcome known c has ≡ outcome others c has
-alone (Get key) known others has h = refl
-alone (Set key value options) known others has h = refl
-alone (Del keys) known others has h = refl
-alone (Exists keys) known others has h = refl
-alone (Add key by) known others has h = refl
-alone (Append key more) known others has h = refl
-alone (StrLen key) known others has h = refl
-alone (MGet keys) known others has h = refl
-alone (MSet words) known others has h = refl
 alone DbSize known others has h = cc
 alone (KeysWith prefix) known others has h = cc
 alone FlushAll known others has h = cc
-alone Ping known others has h = refl
-alone (Echo text) known others has h = refl
-alone (Wrong fault) known others has h = refl
+alone command known others has h = refl
 
 pub asks_alone : (c : Command) (known others : List (List ℕ)) → is_told_of_all c ≡ false → asks known c ≡ asks others c
-asks_alone (Get key) known others h = refl
-asks_alone (Set key value options) known others h = refl
-asks_alone (Del keys) known others h = refl
-asks_alone (Exists keys) known others h = refl
-asks_alone (Add key by) known others h = refl
-asks_alone (Append key more) known others h = refl
-asks_alone (StrLen key) known others h = refl
-asks_alone (MGet keys) known others h = refl
-asks_alone (MSet words) known others h = refl
 asks_alone DbSize known others h = cc
 asks_alone (KeysWith prefix) known others h = cc
 asks_alone FlushAll known others h = cc
-asks_alone Ping known others h = refl
-asks_alone (Echo text) known others h = refl
-asks_alone (Wrong fault) known others h = refl
+asks_alone command known others h = refl
 
 after_append : (vs ws : Written) (has : Have) → after (vs ++ ws) has ≡ after ws (after vs has)
 after_append [] ws has = refl

@@ -1,59 +1,31 @@
 -- The words that say a command say it again.
-use Rattle.sk_commands.proofs.Names.{◌≡◌, ℕ, ◌+◌, ◌-◌, ◌%◌, ◌==◌, ◌^◌, ◌<◌, Bool, true, false, not, ◌&&◌, ℤ, pos}
-use Rattle.sk_commands.proofs.Names.{negsuc, neg_ℤ, List, [], ◌∷◌, ◌++◌, length, take, slice_index, Option, Some, None}
-use Rattle.sk_commands.proofs.Names.{Result, Ok, Err, if◌then◌else◌, bytes_eq, nat_lt, refl, sym, ap, subst, ◌∙◌}
-use Rattle.sk_commands.proofs.Names.{FitsSigned, w64, arith, signed_decimal, list_any, signed_digits_value}
-use Rattle.sk_commands.proofs.Names.{ParsesSigned, decimal_nonempty, parse-signed_decimal, signed_decimal_injective}
-use Rattle.sk_commands.proofs.Names.{bytes_eq-Decides, length-append, get_or-append_seam, take-append_seam, text_of}
-use Rattle.sk_commands.proofs.Names.{fits, fitting, said_as, IsNoNumber, add_of, exchanged, front, is_of_prefix}
+use Rattle.sk_commands.proofs.Names.{◌≡◌, ℕ, ◌+◌, ◌-◌, ◌%◌, ◌==◌, Bool, true, false, not, ◌&&◌, ℤ, pos, negsuc, neg_ℤ}
+use Rattle.sk_commands.proofs.Names.{List, [], ◌∷◌, ◌++◌, length, take, slice_index, Option, Some, None, Result, Ok}
+use Rattle.sk_commands.proofs.Names.{if◌then◌else◌, bytes_eq, refl, sym, ap, subst, ◌∙◌, w64, arith, signed_decimal}
+use Rattle.sk_commands.proofs.Names.{list_any, signed_digits_value, decimal_nonempty, parse-signed_decimal}
+use Rattle.sk_commands.proofs.Names.{signed_decimal_injective, bytes_eq-Decides, length-append, get_or-append_seam}
+use Rattle.sk_commands.proofs.Names.{take-append_seam, text_of, fits, said_as, IsNoNumber, add_of, front, is_of_prefix}
 use Rattle.sk_commands.proofs.Names.{is_special, matching, order_for, order_named, order_of, pairs_for, plainly, runs}
 use Rattle.sk_commands.proofs.Names.{set_of, subtract_by, subtract_of, with_options, least, words_for, Name, Fault}
-use Rattle.sk_commands.proofs.Names.{Syntax, NotInteger, Overflow, Pattern, When, Options, Command, Get, Set, Del}
-use Rattle.sk_commands.proofs.Names.{Exists, Add, Append, StrLen, MGet, MSet, DbSize, KeysWith, FlushAll, Ping, Echo}
-use Rattle.sk_commands.proofs.Names.{Wrong, Order, Run, Multi, Exec, Discard}
+use Rattle.sk_commands.proofs.Names.{NotInteger, Overflow, Pattern, When, Options, Command, Get, Set, Del, Exists, Add}
+use Rattle.sk_commands.proofs.Names.{Append, StrLen, MGet, MSet, DbSize, KeysWith, FlushAll, Ping, Echo, Wrong, Order}
+use Rattle.sk_commands.proofs.Names.{Run, Multi, Exec, Discard, and_parts, and_from, not-true}
 use Rattle.sk_commands.specs.Names.{name_of}
 use Rattle.sk_commands.specs.Numbers.{number_of}
 use Rattle.sk_commands.specs.declared.name.Name.TheVariants as named
 use Rattle.sk_commands.specs.declared.command.When.TheVariants as when
-use Rattle.sk_commands.proofs.Numbers.{mag_fits, fits_from, no_parse, number_none}
+use Rattle.sk_commands.proofs.Numbers.{mag_fits, no_parse, number_none}
 
 -- each name is read from its text
 named_again : (n : Name) → name_of (text_of n) ≡ Some n
 unfolding name_of
 named_again named.Get = refl
-named_again named.Set = refl
-named_again named.Del = refl
-named_again named.Exists = refl
-named_again named.Incr = refl
-named_again named.Decr = refl
-named_again named.IncrBy = refl
-named_again named.DecrBy = refl
-named_again named.Append = refl
-named_again named.StrLen = refl
-named_again named.GetSet = refl
-named_again named.MGet = refl
-named_again named.MSet = refl
-named_again named.DbSize = refl
-named_again named.Keys = refl
-named_again named.FlushAll = refl
-named_again named.Multi = refl
-named_again named.Exec = refl
-named_again named.Discard = refl
-named_again named.Ping = refl
-named_again named.Echo = refl
+named_again other = refl
 
 pub says : (n : Name) (words : List (List ℕ)) → order_of (text_of n ∷ words) ≡ order_for n words
 says n words = ap (λ name. order_named name words) (named_again n)
 
 -- ---- integers
-
-both_true : (a b : Bool) → (a && b) ≡ true → (a ≡ true) × (b ≡ true)
-both_true true b h = (refl, h)
-both_true false b h = cc
-
-from_both : (a b : Bool) → a ≡ true → b ≡ true → (a && b) ≡ true
-from_both true b h j = j
-from_both false b h j = cc
 
 some_same : (x y : ℤ) → ◌≡◌ {A = Result ℤ (Unit {0})} (Ok x) (Ok y) → x ≡ y
 some_same x y h = cc
@@ -61,14 +33,14 @@ some_same x y h = cc
 text_again : (z : ℤ) (b : Bool) → fits z ≡ true → (fits (signed_digits_value 10 (signed_decimal z)) && bytes_eq (signed_decimal z) (signed_decimal (signed_digits_value 10 (signed_decimal z)))) ≡ b → said_as (signed_digits_value 10 (signed_decimal z)) (signed_decimal z) ≡ Some z
 text_again z true f e =
     let v = signed_digits_value 10 (signed_decimal z) in
-    let h = both_true _ _ e in
+    let h = and_parts _ _ e in
     let same : z ≡ v = signed_decimal_injective z v (mag_fits z f) (mag_fits v h.0) ((bytes_eq-Decides (signed_decimal z) (signed_decimal v)).0 h.1) in
     ap (λ b. if b then Some v else None) e ∙ ap Some (sym same)
 text_again z false f e =
     let v = signed_digits_value 10 (signed_decimal z) in
     absurd (no_parse {E = Unit {0}} (signed_decimal z) tt
     (λ p. let same : v ≡ z = some_same v z (parse-signed_decimal w64 z (signed_decimal z) (Ok v) (record { sfits = mag_fits z f }) (mag_fits z f) refl (p, refl)) in
-    let is : (fits v && bytes_eq (signed_decimal z) (signed_decimal v)) ≡ true = from_both _ _ (ap fits same ∙ f) ((bytes_eq-Decides (signed_decimal z) (signed_decimal v)).1 (ap signed_decimal (sym same))) in
+    let is : (fits v && bytes_eq (signed_decimal z) (signed_decimal v)) ≡ true = and_from _ _ (ap fits same ∙ f) ((bytes_eq-Decides (signed_decimal z) (signed_decimal v)).1 (ap signed_decimal (sym same))) in
     let wrong : false ≡ true = sym e ∙ is in cc) z f refl)
 
 -- an integer is read from its text
@@ -97,10 +69,7 @@ no_number = number_none [] no_text
 -- what comes of words comes of the words that say it
 abbrev pub Again : Result Order Fault → Type 0
 Again (Ok (Run command)) = order_of (words_for command) ≡ Ok (Run command)
-Again (Ok Multi) = Unit {0}
-Again (Ok Exec) = Unit {0}
-Again (Ok Discard) = Unit {0}
-Again (Err fault) = Unit {0}
+Again command = Unit {0}
 
 wrong_number : Again (Ok (Run (Wrong NotInteger)))
 wrong_number = says named.IncrBy ([] ∷ [] ∷ []) ∙ ap (λ n. Ok (Run (add_of [] n))) no_number
@@ -149,74 +118,34 @@ prefix_again prefix plain =
     let is : is_of_prefix w ≡ true = ap (λ b. (b == 42) && not (list_any is_special (front w))) last ∙ ap (λ f. not (list_any is_special f)) before ∙ ap not plain in
     ap (λ b. if b then KeysWith (front w) else Wrong Pattern) is ∙ ap KeysWith before
 
-plain_in : (a b : Bool) → (a && not b) ≡ true → b ≡ false
-plain_in true true h = cc
-plain_in true false h = refl
-plain_in false b h = cc
-
 matching_again : (pattern : List ℕ) (b : Bool) → is_of_prefix pattern ≡ b → Again (Ok (Run (if b then KeysWith (front pattern) else Wrong Pattern)))
-matching_again pattern true e = says named.Keys _ ∙ ap (λ c. Ok (Run c)) (prefix_again (front pattern) (plain_in _ _ e))
+matching_again pattern true e = says named.Keys _ ∙ ap (λ c. Ok (Run c)) (prefix_again (front pattern) (not-true _ (and_parts _ _ e).1))
 matching_again pattern false e = says named.Keys ([] ∷ [])
 
 again_for : (name : Name) (words : List (List ℕ)) → Again (order_for name words)
-again_for named.Get [] = tt
 again_for named.Get (a ∷ []) = says named.Get (a ∷ [])
-again_for named.Get (a ∷ b ∷ rest) = tt
-again_for named.Set [] = tt
-again_for named.Set (a ∷ []) = tt
 again_for named.Set (a ∷ b ∷ rest) = set_of_again a b (with_options rest (Some plainly))
-again_for named.Del [] = tt
 again_for named.Del (a ∷ rest) = says named.Del (a ∷ rest)
-again_for named.Exists [] = tt
 again_for named.Exists (a ∷ rest) = says named.Exists (a ∷ rest)
-again_for named.Incr [] = tt
 again_for named.Incr (a ∷ []) = add_fits a (pos 1) refl
-again_for named.Incr (a ∷ b ∷ rest) = tt
-again_for named.Decr [] = tt
 again_for named.Decr (a ∷ []) = add_fits a (negsuc 0) refl
-again_for named.Decr (a ∷ b ∷ rest) = tt
-again_for named.IncrBy [] = tt
-again_for named.IncrBy (a ∷ []) = tt
 again_for named.IncrBy (a ∷ b ∷ []) = add_again a b _ refl
-again_for named.IncrBy (a ∷ b ∷ c ∷ rest) = tt
-again_for named.DecrBy [] = tt
-again_for named.DecrBy (a ∷ []) = tt
 again_for named.DecrBy (a ∷ b ∷ []) = subtract_again a (number_of b)
-again_for named.DecrBy (a ∷ b ∷ c ∷ rest) = tt
-again_for named.Append [] = tt
-again_for named.Append (a ∷ []) = tt
 again_for named.Append (a ∷ b ∷ []) = says named.Append (a ∷ b ∷ [])
-again_for named.Append (a ∷ b ∷ c ∷ rest) = tt
-again_for named.StrLen [] = tt
 again_for named.StrLen (a ∷ []) = says named.StrLen (a ∷ [])
-again_for named.StrLen (a ∷ b ∷ rest) = tt
-again_for named.GetSet [] = tt
-again_for named.GetSet (a ∷ []) = tt
 again_for named.GetSet (a ∷ b ∷ []) = set_again a b when.Always true
-again_for named.GetSet (a ∷ b ∷ c ∷ rest) = tt
-again_for named.MGet [] = tt
 again_for named.MGet (a ∷ rest) = says named.MGet (a ∷ rest)
-again_for named.MSet [] = tt
 again_for named.MSet (a ∷ rest) = pairs_again a rest _ refl
 again_for named.DbSize [] = says named.DbSize []
-again_for named.DbSize (a ∷ rest) = tt
-again_for named.Keys [] = tt
 again_for named.Keys (a ∷ []) = matching_again a _ refl
-again_for named.Keys (a ∷ b ∷ rest) = tt
 again_for named.FlushAll [] = says named.FlushAll []
-again_for named.FlushAll (a ∷ rest) = tt
 again_for named.Multi [] = tt
-again_for named.Multi (a ∷ rest) = tt
 again_for named.Exec [] = tt
-again_for named.Exec (a ∷ rest) = tt
 again_for named.Discard [] = tt
-again_for named.Discard (a ∷ rest) = tt
 again_for named.Ping [] = says named.Ping []
 again_for named.Ping (a ∷ []) = says named.Echo (a ∷ [])
-again_for named.Ping (a ∷ b ∷ rest) = tt
-again_for named.Echo [] = tt
 again_for named.Echo (a ∷ []) = says named.Echo (a ∷ [])
-again_for named.Echo (a ∷ b ∷ rest) = tt
+again_for name words = tt
 
 again_named : (name : Option Name) (words : List (List ℕ)) → Again (order_named name words)
 again_named None words = tt

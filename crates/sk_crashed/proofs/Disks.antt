@@ -1,20 +1,21 @@
 -- What is found on a disk after a crash.
 use Rattle.sk_crashed.proofs.Names.{◌≡◌, ◌==◌, ℕ, zero, suc, ◌+◌, ◌-◌, ◌<◌, ◌≤◌, Bool, true, false, List, [], ◌∷◌, ◌++◌}
 use Rattle.sk_crashed.proofs.Names.{length, map, take, Option, Some, None, inl, inr, if◌then◌else◌, refl, sym, ap}
-use Rattle.sk_crashed.proofs.Names.{subst, ◌∙◌, arith, length-append, ◌⊎◌, true≢false, eq-eqb, append-nil, length-map}
-use Rattle.sk_crashed.proofs.Names.{map-append, take-map, segments_join, Cut, cut_due, payload, RecordView, has, Work}
-use Rattle.sk_crashed.proofs.Names.{Entries, payloads_of, SayAll, after_works, Damage, Head, Found, IsMade, IsFound}
-use Rattle.sk_crashed.proofs.Names.{counted, least, lower, AreRead, Part, counted_joined, Limits, Next, Call, frames}
-use Rattle.sk_crashed.proofs.Names.{frames_from, synced, AreSynced, HasDone, IsRecovered, StoreView}
-use Rattle.sk_crashed.proofs.Names.{crashes_are_recovered, frames_are_logged, AreAdded, AreLeft, IsLeft, Stored}
-use Rattle.sk_crashed.proofs.Names.{DisksAreRecovered, IsFront, begun, end_of, now_in, written_from, Written}
+use Rattle.sk_crashed.proofs.Names.{subst, ◌∙◌, arith, ◌⊎◌, true≢false, eq-eqb, append-nil, length-map, map-append}
+use Rattle.sk_crashed.proofs.Names.{take-map, segments_join, Cut, cut_due, payload, RecordView, has, Entries, SayAll}
+use Rattle.sk_crashed.proofs.Names.{Damage, IsMade, counted, least, lower, AreRead, Part, counted_joined, Limits, Next}
+use Rattle.sk_crashed.proofs.Names.{Call, frames, frames_from, synced, AreSynced, HasDone, IsRecovered, StoreView}
+use Rattle.sk_crashed.proofs.Names.{crashes_are_recovered, frames_are_logged, AreLeft, IsLeft, DisksAreRecovered}
+use Rattle.sk_crashed.proofs.Names.{IsFront, begun, end_of, written_from, Written}
 use Rattle.sk_crashed.proofs.Done.{all_untold, all_within, are_synced, due_within}
-use Rattle.sk_crashed.proofs.Joins.{lower_least, no_payloads, parts_there, read_of, stands, take_none, written_of, AreSeen, IsReadOf, Seen}
+use Rattle.sk_crashed.proofs.Joins.{lower_least, parts_there, read_of, stands, take_none, written_of, AreSeen, IsReadOf}
+use Rattle.sk_crashed.proofs.Joins.{Seen}
 use Rattle.sk_crashed.proofs.Said.{all_said, behind_front, both_logged, cut_said, front_logged, none_logged, of_works, undamaged, AllLogged, AreSaid, IsBehind, Reaches}
-use Rattle.sk_crashed.proofs.Scanned.{above_base, build, bytes_of, cut_in, disk_of, due_frame, heads_of, last_of, scanned, tried_from, AreTold, Built, Scan, Scanned}
+use Rattle.sk_crashed.proofs.Scanned.{above_base, build, bytes_of, cut_in, disk_of, due_frame, heads_of, last_of}
+use Rattle.sk_crashed.proofs.Scanned.{scanned, tried_from, AreTold, Built, Scan}
 use Rattle.sk_crashed.proofs.Tried.{cuts_of, end_now, frames_both, frames_cuts, last_now, push_cuts, within_both, within_cuts}
 use Rattle.sk_crashed.proofs.Untold.{due_untold}
-use Rattle.sk_crashed.proofs.Writing.{are_following, first_of, low, order, stands_are, AreFollowing, AreWithin, IsFirst}
+use Rattle.sk_crashed.proofs.Writing.{are_following, first_of, low, order, stands_are, AreFollowing, AreWithin}
 
 abbrev pub no_records : List (List RecordView)
 no_records = []

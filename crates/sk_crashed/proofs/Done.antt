@@ -1,10 +1,9 @@
 -- What holds of frames and cuts after all that a store did.
-use Rattle.sk_crashed.proofs.Names.{◌≡◌, ℕ, zero, suc, ◌+◌, ◌-◌, ◌<◌, ◌≤◌, Bool, true, false, List, [], ◌∷◌, ◌++◌}
-use Rattle.sk_crashed.proofs.Names.{length, map, Option, Some, None, refl, sym, ap, subst, ◌∙◌, arith, non_zero_u16_get}
-use Rattle.sk_crashed.proofs.Names.{list_any, length-map, NUMBER_LIMIT, Batch, Cut, cut_due, first_failed, is_sent}
-use Rattle.sk_crashed.proofs.Names.{RecordView, has, cut_between, due_cut, capped, Entries, Limits, Next, Call, Cuts}
-use Rattle.sk_crashed.proofs.Names.{Does, frames, synced, AreSynced, HasDone, StoreView, Marked, queue_led}
-use Rattle.sk_crashed.proofs.Names.{stands_densely, after_any, in_frames}
+use Rattle.sk_crashed.proofs.Names.{◌≡◌, ℕ, zero, suc, ◌+◌, ◌-◌, ◌<◌, ◌≤◌, true, false, List, [], ◌∷◌, length, map}
+use Rattle.sk_crashed.proofs.Names.{Some, refl, ap, subst, arith, non_zero_u16_get, list_any, length-map, NUMBER_LIMIT}
+use Rattle.sk_crashed.proofs.Names.{Batch, Cut, cut_due, first_failed, is_sent, has, cut_between, due_cut, capped}
+use Rattle.sk_crashed.proofs.Names.{Entries, Limits, Next, Call, Cuts, Does, frames, synced, AreSynced, HasDone}
+use Rattle.sk_crashed.proofs.Names.{StoreView, Marked, queue_led, stands_densely, after_any, in_frames}
 use Rattle.sk_crashed.proofs.Tried.{within_both}
 use Rattle.sk_crashed.proofs.Untold.{not_next, untold, Untold}
 use Rattle.sk_crashed.proofs.Writing.{AreWithin, IsWithin}

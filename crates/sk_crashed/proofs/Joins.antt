@@ -1,11 +1,10 @@
 -- What is read of segments, some of which have no head yet, is a front part of what stands in them.
 use Rattle.sk_crashed.proofs.Names.{◌≡◌, ◌==◌, ℕ, zero, suc, ◌+◌, ◌-◌, ◌<◌, ◌≤◌, min, Bool, true, false, nat_lt, List}
 use Rattle.sk_crashed.proofs.Names.{[], ◌∷◌, ◌++◌, length, map, take, Option, Some, None, inl, inr, if◌then◌else◌, refl}
-use Rattle.sk_crashed.proofs.Names.{sym, ap, subst, ◌∙◌, arith, length-append, ◌⊎◌, unwrap_or, ltb-false, ltb-true}
-use Rattle.sk_crashed.proofs.Names.{append_assoc, append-nil, length-take, length-take-le, take_all, ReadsPrefix}
-use Rattle.sk_crashed.proofs.Names.{joined, synced_of, SegmentsJoin, joined_all, joined_at, least_first, AreBounded}
-use Rattle.sk_crashed.proofs.Names.{CountedIsJoined, below, counted, counting, lower, Part, end_of, least_of, live}
-use Rattle.sk_crashed.proofs.Names.{Written}
+use Rattle.sk_crashed.proofs.Names.{sym, ap, subst, ◌∙◌, arith, length-append, ◌⊎◌, ltb-false, ltb-true, length-take}
+use Rattle.sk_crashed.proofs.Names.{take_all, ReadsPrefix, synced_of, SegmentsJoin, joined_all, joined_at, least_first}
+use Rattle.sk_crashed.proofs.Names.{AreBounded, CountedIsJoined, below, counted, counting, lower, Part, end_of}
+use Rattle.sk_crashed.proofs.Names.{least_of, live, Written, same_Some}
 
 -- ---- the lower of two numbers
 
@@ -103,9 +102,6 @@ module _ (E base : ℕ) where
       ] refl
 
 -- ---- what counts of them
-
-same_number : (a b : ℕ) → Some a ≡ Some b → a ≡ b
-same_number a b e = ap (λ o. unwrap_or o 0) e
 
 pub below_as : (o : Option ℕ) (f n : ℕ) (ps : List (List ℕ)) → length ps ≤ n → below o f ps ≡ take (lower (f + n) o - f) ps
 below_as None f n ps few = sym (take_all ((f + n) - f) ps (omega (arith, few)))
@@ -208,7 +204,7 @@ module _ (E base : ℕ) where
   bound_upto e [] b all is = cc
   bound_upto e (x ∷ xs) b all is =
       let least = least_of (written_of xs) in
-      let same = same_number (lower x.w.first least) b is in
+      let same = same_Some (lower x.w.first least) b is in
       let low = lower_least x.w.first least in
       let upto = all.0.upto in omega (arith, same, low, upto)
 

@@ -1,10 +1,10 @@
 -- What is read of earlier segments is what a later life began with.
-use Rattle.sk_crashed.proofs.Names.{◌≡◌, ◌==◌, ℕ, zero, suc, ◌+◌, ◌-◌, ◌<◌, ◌≤◌, min, Bool, true, false, List, [], ◌∷◌}
-use Rattle.sk_crashed.proofs.Names.{◌++◌, length, take, Option, Some, None, refl, sym, ap, subst, ◌∙◌, arith}
-use Rattle.sk_crashed.proofs.Names.{length-append, eqb-true, append_assoc, append-nil, length-take, Work, Entries}
-use Rattle.sk_crashed.proofs.Names.{SayAll, after_works, log_limits, IsRefused, Says, says_once, Damage, Head, Found}
-use Rattle.sk_crashed.proofs.Names.{IsMade, IsFound, below, counted, counting, least, lower, AreRead, Part}
-use Rattle.sk_crashed.proofs.Names.{after_append, cut_due, AreLeft, AreKept, LivesAreRecovered, begun, written}
+use Rattle.sk_crashed.proofs.Names.{◌≡◌, ◌==◌, ℕ, suc, ◌+◌, ◌-◌, ◌≤◌, min, Bool, true, false, List, [], ◌∷◌, ◌++◌}
+use Rattle.sk_crashed.proofs.Names.{length, take, Option, Some, None, refl, sym, ap, subst, ◌∙◌, arith, length-append}
+use Rattle.sk_crashed.proofs.Names.{eqb-true, append_assoc, append-nil, length-take, Work, Entries, SayAll, after_works}
+use Rattle.sk_crashed.proofs.Names.{log_limits, IsRefused, Says, says_once, Damage, Head, Found, IsMade, IsFound, below}
+use Rattle.sk_crashed.proofs.Names.{counted, counting, least, lower, AreRead, Part, after_append, cut_due, AreLeft}
+use Rattle.sk_crashed.proofs.Names.{AreKept, LivesAreRecovered, begun, written}
 use Rattle.sk_recovered.specs.Frames.{IsLeft}
 use Rattle.sk_durable.specs.History.{synced as synced_of}
 use Rattle.sk_crashed.proofs.Disks.{heads_from, recovered}

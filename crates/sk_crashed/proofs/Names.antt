@@ -1,10 +1,11 @@
 -- What the proofs of this crate cite from outside of them, passed on from one place. Declares nothing.
+pub use Rattle.std.proofs.lemmas.Option.{same_Some}
 pub use Rattle.std.proofs.Common.{Some, Bool, sum, subst, inr, zero, ◌^◌, ◌-◌, arith, ap, ◌*◌, ◌++◌, length}
-pub use Rattle.std.proofs.Common.{length-append, suc, ◌≤◌, take, false, refl, [], ◌%◌, ◌==◌, map, ◌∷◌, ◌&&◌, inl, Err}
-pub use Rattle.std.proofs.Common.{◌≡◌, ◌+◌, Option, List, ◌/◌, ◌||◌, ℕ, true, drop, sym, None, is_some, if◌then◌else◌}
-pub use Rattle.std.proofs.Common.{min, ◌<◌, flat_map, ◌∙◌, nat_lt, cond}
+pub use Rattle.std.proofs.Common.{length-append, suc, ◌≤◌, take, false, refl, [], ◌==◌, map, ◌∷◌, inl, Err, ◌≡◌, ◌+◌}
+pub use Rattle.std.proofs.Common.{Option, List, ◌/◌, ℕ, true, drop, sym, None, is_some, if◌then◌else◌, min, ◌<◌}
+pub use Rattle.std.proofs.Common.{flat_map, ◌∙◌, nat_lt, cond}
 pub use Rattle.std.proofs.lemmas.Bool.{or_right, lt-ltb, eqb-true, ltb-true, ltb-false, and_from, true≢false, or_cases}
-pub use Rattle.std.proofs.lemmas.Bool.{false_from_ne_true, false≢true, eq-eqb}
+pub use Rattle.std.proofs.lemmas.Bool.{false_from_ne_true, false≢true, eq-eqb, and_parts, or_from, or_left}
 pub use Rattle.std.proofs.lemmas.List.{length-take, length-take-le, take-take, take_all, append_assoc, length-map}
 pub use Rattle.std.proofs.lemmas.List.{take-append-le, map-append, take-append-drop, take-map, take_at, drop_at}
 pub use Rattle.std.proofs.lemmas.List.{append-nil}
@@ -13,20 +14,19 @@ pub use Rattle.std.specs.List.{filter, list_any, AllByRecursion}
 pub use Rattle.std.specs.Prelude.{unwrap_or, ◌⊎◌, nat_le}
 pub use Rattle.sk_batched.specs.Batched.{capped}
 pub use Rattle.sk_batches.proofs.Dense.{all_pushed, frames_are_dense, all_both, all_mapped, all_of, cut_between}
-pub use Rattle.sk_batches.proofs.Synced.{sent_unkept, no_cut, due_cut, decided_synced, failed_unkept}
+pub use Rattle.sk_batches.proofs.Synced.{sent_unkept, no_cut, due_cut, decided_synced}
 pub use Rattle.sk_batches.specs.Calls.{new_queue}
 pub use Rattle.sk_batches.specs.Dense.{AreDense, IsBehind}
 pub use Rattle.sk_batches.specs.Frames.{next_payload}
 pub use Rattle.sk_batches.specs.Places.{PlacesView, next_segment}
-pub use Rattle.sk_batches.specs.Queue.{last_in, is_kept, is_sent, is_failed, past, is_decided, left, awaits}
-pub use Rattle.sk_batches.specs.Queue.{next_records, QueueView, cut_due, tell, send, first_failed, cut_off}
+pub use Rattle.sk_batches.specs.Queue.{last_in, is_kept, is_sent, is_failed, past, is_decided, left, awaits, QueueView}
+pub use Rattle.sk_batches.specs.Queue.{cut_due, tell, send, first_failed, cut_off}
 pub use Rattle.sk_batches.specs.Records.{payload, kept, RecordView}
 pub use Rattle.sk_batches.specs.Runs.{Story, story_after, Runs, Fails, Appends, has, Happens, Withdraws, Takes}
 pub use Rattle.sk_batches.specs.Runs.{no_story, Syncs}
 pub use Rattle.sk_batches.specs.declared.batch.Batch.{Batch}
 pub use Rattle.sk_batches.specs.declared.batch.Stage.{Stage}
 pub use Rattle.sk_batches.specs.declared.batch.Stage.TheVariants.{Failed, Synced, Kept, Refused, Sent}
-pub use Rattle.sk_batches.specs.declared.frames.Sealed.{Sealed}
 pub use Rattle.sk_batches.specs.declared.queue.Cut.{Cut}
 pub use Rattle.sk_commands.specs.Parsing.{order_of}
 pub use Rattle.sk_commands.specs.Requests.{requests_of, AreWithin, AreAsked, log_text}
@@ -55,8 +55,8 @@ pub use Rattle.sk_log.proofs.Segments.{segments_join}
 pub use Rattle.sk_log.specs.Crash.{Crashed, ReadsPrefix}
 pub use Rattle.sk_log.specs.Frame.{Ends, front, head, frame}
 pub use Rattle.sk_log.specs.Front.{BeginsAs}
-pub use Rattle.sk_log.specs.Log.{IsLog, log, AreFrames}
-pub use Rattle.sk_log.specs.Segments.{SegmentsJoin, joined, synced_of}
+pub use Rattle.sk_log.specs.Log.{IsLog, log}
+pub use Rattle.sk_log.specs.Segments.{SegmentsJoin, synced_of}
 pub use Rattle.sk_log.specs.declared.frame.TheConstants.{NUMBER_LIMIT}
 pub use Rattle.sk_plain_store.specs.Plain.{Entries}
 pub use Rattle.sk_recovered.proofs.Joined.{counted_joined}

@@ -1,8 +1,7 @@
 -- The frames of a log are read in one way.
-use Rattle.sk_crashed.proofs.Names.{◌≡◌, ℕ, zero, suc, ◌+◌, ◌-◌, ◌*◌, ◌/◌, ◌%◌, ◌<◌, ◌≤◌, ◌^◌, List, [], ◌∷◌, ◌++◌}
-use Rattle.sk_crashed.proofs.Names.{length, take, drop, sum, refl, sym, ◌∙◌, ap, subst, arith, length-append}
-use Rattle.sk_crashed.proofs.Names.{append_assoc, append-nil, drop_at, take_at, frame, front, head, Ends, log}
-use Rattle.sk_crashed.proofs.Names.{AreFrames, IsLog}
+use Rattle.sk_crashed.proofs.Names.{◌≡◌, ℕ, zero, suc, ◌+◌, ◌-◌, ◌*◌, ◌/◌, ◌<◌, ◌^◌, List, [], ◌∷◌, ◌++◌, length, take}
+use Rattle.sk_crashed.proofs.Names.{drop, sum, refl, sym, ◌∙◌, ap, subst, arith, length-append, append_assoc}
+use Rattle.sk_crashed.proofs.Names.{append-nil, drop_at, take_at, frame, front, head, Ends, log, IsLog}
 use Rattle.sk_log.specs.Frame.{digits, head_of}
 
 -- ---- how long a frame is

@@ -1,13 +1,12 @@
 -- Each frame is to be written just behind those before it.
-use Rattle.sk_crashed.proofs.Names.{◌≡◌, ◌==◌, ℕ, ◌+◌, ◌-◌, ◌<◌, ◌≤◌, ◌^◌, Bool, true, false, cond, List, [], ◌∷◌, ◌++◌}
-use Rattle.sk_crashed.proofs.Names.{length, Option, Some, None, inl, inr, if◌then◌else◌, refl, sym, ap, subst, ◌∙◌}
-use Rattle.sk_crashed.proofs.Names.{arith, ◌⊎◌, nat_le, true≢false, eq-eqb, eqb-true, log, next_payload, next_segment}
-use Rattle.sk_crashed.proofs.Names.{PlacesView, next_records, payload, RecordView, Sealed, Entries, Limits, Next, Call}
-use Rattle.sk_crashed.proofs.Names.{Connects, HangsUp, Frees, Hears, Carries, Declines, Tells, Drops, Refuses, Hands}
-use Rattle.sk_crashed.proofs.Names.{Draws, Sends, Turns, Learns, Cuts, Stops, Decides, Rests, Does, HasDone, StoreView}
-use Rattle.sk_crashed.proofs.Names.{after_any, FramesAreBehind, IsFront, PlacesAreBehind, begun, cut_at, end_of, now_in}
-use Rattle.sk_crashed.proofs.Names.{turned, with_frame, written_by, Written}
-use Rattle.sk_crashed.proofs.Disks.{is_begun, no_records}
+use Rattle.sk_crashed.proofs.Names.{◌≡◌, ◌==◌, ℕ, ◌+◌, ◌-◌, ◌^◌, Bool, true, false, cond, List, [], ◌∷◌, ◌++◌, length}
+use Rattle.sk_crashed.proofs.Names.{Some, None, inl, inr, if◌then◌else◌, refl, sym, ap, subst, ◌∙◌, arith, nat_le}
+use Rattle.sk_crashed.proofs.Names.{true≢false, eq-eqb, eqb-true, log, next_payload, next_segment, PlacesView, payload}
+use Rattle.sk_crashed.proofs.Names.{Next, Call, Connects, HangsUp, Frees, Hears, Carries, Declines, Tells, Drops}
+use Rattle.sk_crashed.proofs.Names.{Refuses, Hands, Draws, Sends, Turns, Learns, Cuts, Stops, Decides, Rests, Does}
+use Rattle.sk_crashed.proofs.Names.{StoreView, after_any, FramesAreBehind, IsFront, PlacesAreBehind, begun, cut_at}
+use Rattle.sk_crashed.proofs.Names.{now_in, turned, with_frame, written_by, Written}
+use Rattle.sk_crashed.proofs.Disks.{is_begun}
 use Rattle.sk_crashed.proofs.Done.{all_within, next_frame}
 use Rattle.sk_crashed.proofs.Once.{length_log}
 use Rattle.sk_crashed.proofs.Tried.{end_now}

@@ -1,10 +1,9 @@
 -- What is carried out of frames that were logged.
-use Rattle.sk_crashed.proofs.Names.{◌≡◌, ℕ, Err, zero, suc, ◌+◌, ◌-◌, ◌<◌, ◌≤◌, List, [], ◌∷◌, ◌++◌, flat_map, length}
-use Rattle.sk_crashed.proofs.Names.{map, take, Option, Some, None, inl, inr, refl, sym, ap, subst, ◌∙◌, arith}
-use Rattle.sk_crashed.proofs.Names.{length-append, ◌⊎◌, AllByRecursion, append_assoc, append-nil, length-take}
-use Rattle.sk_crashed.proofs.Names.{length-take-le, take-append-le, take_all, take-take, log_text, requests_of}
-use Rattle.sk_crashed.proofs.Names.{AreAsked, AreWithin, Work, Entries, payloads_of, AreLogged, SayAll, log_limits}
-use Rattle.sk_crashed.proofs.Names.{Says, read_as, says_again, IsMade, Damage}
+use Rattle.sk_crashed.proofs.Names.{◌≡◌, ℕ, Err, zero, suc, ◌+◌, ◌-◌, ◌≤◌, List, [], ◌∷◌, ◌++◌, flat_map, length, take}
+use Rattle.sk_crashed.proofs.Names.{Option, Some, None, inl, inr, refl, sym, ap, subst, ◌∙◌, arith, length-append, ◌⊎◌}
+use Rattle.sk_crashed.proofs.Names.{AllByRecursion, length-take-le, take-append-le, take_all, take-take, log_text}
+use Rattle.sk_crashed.proofs.Names.{requests_of, AreAsked, AreWithin, Work, Entries, payloads_of, AreLogged, SayAll}
+use Rattle.sk_crashed.proofs.Names.{log_limits, Says, read_as, says_again, IsMade, Damage}
 use Rattle.sk_crashed.proofs.Writing.{order}
 
 -- ---- payloads that were logged

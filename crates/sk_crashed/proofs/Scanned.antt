@@ -1,9 +1,9 @@
 -- What is read of the segments of a disk is a front part of what was written in each.
-use Rattle.sk_crashed.proofs.Names.{◌≡◌, ◌==◌, ℕ, zero, suc, ◌+◌, ◌-◌, ◌<◌, ◌≤◌, Bool, true, false, List, [], ◌∷◌, ◌++◌}
-use Rattle.sk_crashed.proofs.Names.{length, map, Option, Some, None, inl, inr, refl, sym, ap, subst, ◌∙◌, arith, ◌⊎◌}
-use Rattle.sk_crashed.proofs.Names.{append_assoc, append-nil, Crashed, ReadsPrefix, BeginsAs, IsLog, crash_keeps_prefix}
-use Rattle.sk_crashed.proofs.Names.{has, Cut, Head, least, lower, AreRead, Part, TellsFirst, AreAdded, AreLeft}
-use Rattle.sk_crashed.proofs.Names.{AreTried, Stored, cut_at, end_of, least_of, live, run, synced_in, Written}
+use Rattle.sk_crashed.proofs.Names.{◌≡◌, ℕ, zero, suc, ◌+◌, ◌-◌, ◌<◌, ◌≤◌, true, false, List, [], ◌∷◌, ◌++◌, map}
+use Rattle.sk_crashed.proofs.Names.{Option, Some, None, inl, inr, refl, sym, ap, subst, ◌∙◌, arith, ◌⊎◌, append_assoc}
+use Rattle.sk_crashed.proofs.Names.{append-nil, Crashed, BeginsAs, IsLog, crash_keeps_prefix, has, Cut, Head, least}
+use Rattle.sk_crashed.proofs.Names.{lower, AreRead, Part, TellsFirst, AreAdded, AreLeft, AreTried, Stored, cut_at}
+use Rattle.sk_crashed.proofs.Names.{end_of, least_of, live, synced_in, Written}
 use Rattle.sk_crashed.proofs.Joins.{least_there, lower_least, lower_min, part_there, parts_there, written_of, AreSeen, Seen}
 use Rattle.sk_crashed.proofs.Writing.{run_far, AreFollowing}
 

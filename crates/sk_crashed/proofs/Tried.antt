@@ -1,6 +1,6 @@
 -- Where a cut is tried all is written as if it was made.
-use Rattle.sk_crashed.proofs.Names.{◌≡◌, ℕ, zero, suc, ◌+◌, ◌-◌, ◌<◌, ◌≤◌, List, [], ◌∷◌, ◌++◌, length, take, refl, sym}
-use Rattle.sk_crashed.proofs.Names.{ap, ◌∙◌, arith, length-append, append_assoc, length-take, length-take-le, take_at}
+use Rattle.sk_crashed.proofs.Names.{◌≡◌, ℕ, zero, suc, ◌+◌, ◌-◌, ◌≤◌, List, [], ◌∷◌, ◌++◌, length, take, refl, sym, ap}
+use Rattle.sk_crashed.proofs.Names.{◌∙◌, arith, length-append, append_assoc, length-take, length-take-le, take_at}
 use Rattle.sk_crashed.proofs.Names.{payload, RecordView, Cut, Call, Cuts, Sends, Turns, frames_by, frames_from, cut_at}
 use Rattle.sk_crashed.proofs.Names.{end_of, left_by, now_in, turned, with_frame, written_by, written_from, Written}
 use Rattle.sk_crashed.proofs.Scanned.{last_of, tried_from}

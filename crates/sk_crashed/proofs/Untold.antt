@@ -1,14 +1,14 @@
 -- No frame that may still be cut off was told as synced, nor one that was not taken.
-use Rattle.sk_crashed.proofs.Names.{◌≡◌, ℕ, ◌+◌, ◌<◌, ◌≤◌, Bool, true, false, cond, ◌||◌, ◌&&◌, List, [], ◌∷◌, ◌++◌}
-use Rattle.sk_crashed.proofs.Names.{map, Option, Some, None, inl, inr, refl, sym, ◌∙◌, ap, subst, arith, ◌⊎◌, filter}
-use Rattle.sk_crashed.proofs.Names.{list_any, AllByRecursion, true≢false, false≢true, and_from, eqb-true, eq-eqb}
-use Rattle.sk_crashed.proofs.Names.{false_from_ne_true, lt-ltb, ltb-true, or_cases, or_right, NUMBER_LIMIT, Stage, Kept}
-use Rattle.sk_crashed.proofs.Names.{Sent, Synced, Failed, Refused, Batch, Cut, new_queue, AreDense, IsBehind, awaits}
-use Rattle.sk_crashed.proofs.Names.{cut_due, cut_off, first_failed, is_decided, is_failed, is_kept, is_sent, last_in}
-use Rattle.sk_crashed.proofs.Names.{left, past, send, tell, QueueView, kept, has, no_story, story_after, Appends, Fails}
-use Rattle.sk_crashed.proofs.Names.{Happens, Runs, Story, Syncs, Takes, Withdraws, all_both, all_mapped, all_of}
-use Rattle.sk_crashed.proofs.Names.{all_pushed, cut_between, frames_are_dense, decided_synced, due_cut, failed_unkept}
-use Rattle.sk_crashed.proofs.Names.{no_cut, sent_unkept}
+use Rattle.sk_crashed.proofs.Names.{◌≡◌, ℕ, ◌+◌, ◌<◌, Bool, true, false, cond, List, [], ◌∷◌, ◌++◌, map, Option, Some}
+use Rattle.sk_crashed.proofs.Names.{None, inl, inr, refl, sym, ◌∙◌, ap, subst, arith, filter, list_any, AllByRecursion}
+use Rattle.sk_crashed.proofs.Names.{true≢false, false≢true, and_from, eqb-true, eq-eqb, false_from_ne_true, lt-ltb}
+use Rattle.sk_crashed.proofs.Names.{ltb-true, or_cases, or_right, NUMBER_LIMIT, Stage, Kept, Sent, Synced, Failed}
+use Rattle.sk_crashed.proofs.Names.{Refused, Batch, Cut, new_queue, AreDense, IsBehind, awaits, cut_due, cut_off}
+use Rattle.sk_crashed.proofs.Names.{first_failed, is_decided, is_failed, is_kept, is_sent, last_in, left, past, send}
+use Rattle.sk_crashed.proofs.Names.{tell, QueueView, kept, has, no_story, story_after, Appends, Fails, Happens, Runs}
+use Rattle.sk_crashed.proofs.Names.{Story, Syncs, Takes, Withdraws, all_both, all_mapped, all_of, all_pushed}
+use Rattle.sk_crashed.proofs.Names.{cut_between, frames_are_dense, decided_synced, due_cut, no_cut, sent_unkept}
+use Rattle.sk_crashed.proofs.Names.{and_parts, or_from, or_left}
 use Rattle.std.specs.Prelude.{◌==◌, nat_lt}
 use Rattle.sk_batches.specs.Runs.{Call, Cuts, Decides, Stops}
 
@@ -20,25 +20,16 @@ is_due Failed = true
 is_due other = false
 
 sent_due : (s : Stage) → is_sent s ≡ true → is_due s ≡ true
-sent_due Kept e = absurd (false≢true e)
 sent_due Sent e = refl
-sent_due Synced e = absurd (false≢true e)
-sent_due Failed e = absurd (false≢true e)
-sent_due Refused e = absurd (false≢true e)
+sent_due s e = absurd (false≢true e)
 
 failed_due : (s : Stage) → is_failed s ≡ true → is_due s ≡ true
-failed_due Kept e = absurd (false≢true e)
-failed_due Sent e = absurd (false≢true e)
-failed_due Synced e = absurd (false≢true e)
 failed_due Failed e = refl
-failed_due Refused e = absurd (false≢true e)
+failed_due s e = absurd (false≢true e)
 
 due_unkept : (s : Stage) → is_due s ≡ true → is_kept s ≡ false
 due_unkept Kept e = absurd (false≢true e)
-due_unkept Sent e = refl
-due_unkept Synced e = refl
-due_unkept Failed e = refl
-due_unkept Refused e = refl
+due_unkept s e = refl
 
 abbrev Waits : List ℕ → Batch → Type 0
 Waits told b = is_due b.stage ≡ true → has b.frame told ≡ false
@@ -49,18 +40,6 @@ pub record Untold (q : QueueView) (told : List ℕ) : Type 0 where
 
 -- ---- tests
 
-first_holds : (x y : Bool) → (x && y) ≡ true → x ≡ true
-first_holds true y e = refl
-first_holds false y e = e
-
-second_holds : (x y : Bool) → (x && y) ≡ true → y ≡ true
-second_holds true y e = e
-second_holds false y e = absurd (false≢true e)
-
-neither : (x y : Bool) → x ≡ false → y ≡ false → (x || y) ≡ false
-neither true y a b = a
-neither false y a b = b
-
 -- what a filter leaves was there, and passes
 filtered : (p : ℕ → Bool) (n : ℕ) (ns : List ℕ) → has n (filter p ns) ≡ true → (has n ns ≡ true) × (p n ≡ true)
 filtered p n [] here = absurd (false≢true here)
@@ -68,17 +47,13 @@ filtered p n (m ∷ ns) here = elim (p m) as (λ t. p m ≡ t → has n (cond t 
     → (has n (m ∷ ns) ≡ true) × (p n ≡ true)) [
       | true ↦ λ passes there. elim (or_cases (m == n) (has n (filter p ns)) there) [
         | inl is ↦ (
-          or_of_left (m == n) (has n ns) is,
+          or_left (m == n) (has n ns) is,
           subst (λ k. p k ≡ true) (eqb-true m n is) passes,
         )
         | inr later ↦ let rest = filtered p n ns later in (or_right (m == n) (has n ns) rest.0, rest.1)
       ]
       | false ↦ λ fails there. let rest = filtered p n ns there in (or_right (m == n) (has n ns) rest.0, rest.1)
     ] refl here
-  where
-    or_of_left : (x y : Bool) → x ≡ true → (x || y) ≡ true
-    or_of_left true y e = refl
-    or_of_left false y e = absurd (false≢true e)
 
 -- ---- a frame that something is told of
 
@@ -87,8 +62,8 @@ awaited_below : (first next number f : ℕ) (bs : List Batch) → AreDense first
 awaited_below first next number f [] dense there = absurd (false≢true there)
 awaited_below first next number f (b ∷ bs) dense there = elim (or_cases (awaits f b) (list_any (awaits f) bs) there) [
   | inl here ↦
-      let sent = first_holds (is_sent b.stage) (b.frame == f) here in
-      let same = eqb-true b.frame f (second_holds (is_sent b.stage) (b.frame == f) here) in
+      let sent = (and_parts (is_sent b.stage) (b.frame == f) here).0 in
+      let same = eqb-true b.frame f (and_parts (is_sent b.stage) (b.frame == f) here).1 in
       let before = (dense.1 (sent_unkept b.stage sent)).before in omega (arith, same, before)
   | inr later ↦ awaited_below first next number f bs dense.3 later
 ]
@@ -99,8 +74,8 @@ sent_with : (b : Batch) (f : ℕ) (bs : List Batch) → AllByRecursion (IsBehind
 sent_with b f [] behind there at = absurd (false≢true there)
 sent_with b f (d ∷ bs) behind there at = elim (or_cases (awaits f d) (list_any (awaits f) bs) there) [
   | inl here ↦
-      let sent = first_holds (is_sent d.stage) (d.frame == f) here in
-      let same = eqb-true d.frame f (second_holds (is_sent d.stage) (d.frame == f) here) in
+      let sent = (and_parts (is_sent d.stage) (d.frame == f) here).0 in
+      let same = eqb-true d.frame f (and_parts (is_sent d.stage) (d.frame == f) here).1 in
       ap is_sent (behind.0.alike (sent_unkept d.stage sent) (at ∙ sym same)) ∙ sent
   | inr later ↦ sent_with b f bs behind.1 later at
 ]
@@ -113,8 +88,8 @@ alike : (first next number f : ℕ) (bs : List Batch) → AreDense first next nu
 alike first next number f [] dense there = tt
 alike first next number f (b ∷ bs) dense there = elim (or_cases (awaits f b) (list_any (awaits f) bs) there) [
   | inl here ↦
-      let sent = first_holds (is_sent b.stage) (b.frame == f) here in
-      let same = eqb-true b.frame f (second_holds (is_sent b.stage) (b.frame == f) here) in (
+      let sent = (and_parts (is_sent b.stage) (b.frame == f) here).0 in
+      let same = eqb-true b.frame f (and_parts (is_sent b.stage) (b.frame == f) here).1 in (
         λ due at. sent,
         all_of (IsBehind b) (Alike f)
             (λ d behind due at. ap is_sent (sym (behind.alike (due_unkept d.stage due) (same ∙ sym at))) ∙ sent) bs dense.2,
@@ -135,17 +110,15 @@ synced_waits : (told : List ℕ) (f : ℕ) (b : Batch) → Waits told b × Alike
 synced_waits told f b both = elim (awaits f b) as (λ t. awaits f b ≡ t → is_due (cond t (record b { stage = Synced }) b).stage ≡ true
     → has (cond t (record b { stage = Synced }) b).frame (f ∷ told) ≡ false) [
       | true ↦ λ is due. absurd (false≢true due)
-      | false ↦ λ is due. neither (f == b.frame) (has b.frame told)
-          (false_from_ne_true (f == b.frame) (λ same.
+      | false ↦ λ is due. or_from (f == b.frame) (has b.frame told) (false_from_ne_true (f == b.frame) (λ same.
           let at : b.frame ≡ f = sym (eqb-true f b.frame same) in
-          true≢false (sym (and_from (is_sent b.stage) (b.frame == f) (both.1 due at) (eq-eqb b.frame f at)) ∙ is)))
-          (both.0 due)
+          true≢false (sym (and_from (is_sent b.stage) (b.frame == f) (both.1 due at) (eq-eqb b.frame f at)) ∙ is))) (both.0 due)
     ] refl
 
 failed_waits : (told : List ℕ) (f : ℕ) (b : Batch) → Waits told b → Waits told (tell f Failed b)
 failed_waits told f b waits = elim (awaits f b) as (λ t. awaits f b ≡ t → is_due (cond t (record b { stage = Failed }) b).stage ≡ true
     → has (cond t (record b { stage = Failed }) b).frame told ≡ false) [
-      | true ↦ λ is due. waits (sent_due b.stage (first_holds (is_sent b.stage) (b.frame == f) is))
+      | true ↦ λ is due. waits (sent_due b.stage (and_parts (is_sent b.stage) (b.frame == f) is).0)
       | false ↦ λ is due. waits due
     ] refl
 
@@ -157,8 +130,7 @@ cut_waits told c b waits = elim (nat_lt b.frame c.frame) as (λ t. nat_lt b.fram
     (c.frame ∷ filter (λ n. nat_lt n c.frame) told) ≡ false) [
       | true ↦ λ is due.
           let lt = ltb-true b.frame c.frame is in
-          neither (c.frame == b.frame) (has b.frame (filter (λ n. nat_lt n c.frame) told))
-          (false_from_ne_true (c.frame == b.frame) (λ same. let at = eqb-true c.frame b.frame same in omega (arith, at, lt)))
+          or_from (c.frame == b.frame) (has b.frame (filter (λ n. nat_lt n c.frame) told)) (false_from_ne_true (c.frame == b.frame) (λ same. let at = eqb-true c.frame b.frame same in omega (arith, at, lt)))
           (false_from_ne_true (has b.frame (filter (λ n. nat_lt n c.frame) told))
           (λ here. true≢false (sym (filtered (λ n. nat_lt n c.frame) b.frame told here).0 ∙ waits due)))
       | false ↦ λ is. elim (b.frame == c.frame) as (λ t.

@@ -1,11 +1,10 @@
 -- What calls write in segments stands there as the frames of the log.
-use Rattle.sk_crashed.proofs.Names.{◌≡◌, ◌==◌, ℕ, zero, suc, ◌+◌, ◌-◌, ◌<◌, ◌≤◌, min, Bool, true, false, nat_lt, List}
-use Rattle.sk_crashed.proofs.Names.{[], ◌∷◌, ◌++◌, length, map, take, Option, Some, None, inl, inr, if◌then◌else◌, refl}
-use Rattle.sk_crashed.proofs.Names.{sym, ap, subst, ◌∙◌, arith, length-append, ◌⊎◌, unwrap_or, ltb-false, ltb-true}
-use Rattle.sk_crashed.proofs.Names.{append_assoc, append-nil, length-map, length-take, map-append, take-map, take-take}
-use Rattle.sk_crashed.proofs.Names.{take_all, payload, RecordView, has, lower, Call, Cuts, Sends, Turns, frames_by}
-use Rattle.sk_crashed.proofs.Names.{frames_from, cut_at, end_of, least_of, left_by, now_in, run, turned, with_frame}
-use Rattle.sk_crashed.proofs.Names.{written_by, written_from, Written}
+use Rattle.sk_crashed.proofs.Names.{◌≡◌, ℕ, zero, suc, ◌+◌, ◌-◌, ◌<◌, ◌≤◌, true, false, nat_lt, List, [], ◌∷◌, ◌++◌}
+use Rattle.sk_crashed.proofs.Names.{length, map, take, Some, inl, inr, if◌then◌else◌, refl, sym, ap, subst, ◌∙◌, arith}
+use Rattle.sk_crashed.proofs.Names.{length-append, ◌⊎◌, unwrap_or, ltb-false, ltb-true, append_assoc, append-nil}
+use Rattle.sk_crashed.proofs.Names.{length-map, length-take, map-append, take-map, take-take, take_all, payload}
+use Rattle.sk_crashed.proofs.Names.{RecordView, has, lower, Call, Cuts, Sends, Turns, frames_by, frames_from, cut_at}
+use Rattle.sk_crashed.proofs.Names.{end_of, least_of, run, turned, with_frame, written_from, Written}
 use Rattle.sk_crashed.proofs.Joins.{lower_least, lower_min, stands, stands_at}
 
 pub order : (a b : ℕ) → (b ≤ a) ⊎ (a < b)

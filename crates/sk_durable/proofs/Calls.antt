@@ -1,22 +1,20 @@
 -- What the calls come to that bring bytes in, and those that connect and hang up.
-use Rattle.sk_durable.proofs.Names.{is_some, ◌≡◌, ◌<◌, ◌≤◌, ◌+◌, ◌-◌, ◌^◌, ◌||◌, ◌&&◌, cond, ⊎_elim, ℕ, Bool, true}
-use Rattle.sk_durable.proofs.Names.{false, List, [], ◌∷◌, ◌++◌, length, take, Option, Some, None, Result, Ok, Err}
-use Rattle.sk_durable.proofs.Names.{flat_map, inl, inr, refl, sym, ◌∙◌, ap, subst, list_any, ◌==◌, ◌⊎◌, nat_lt, is_err}
-use Rattle.sk_durable.proofs.Names.{append-nil, list_any-append, is_marked, has, marks, tags_at, bytes_cmp, TakesOut}
-use Rattle.sk_durable.proofs.Names.{undo_state_of, Stays, Requests, Answer, Work, answer_text, comes_to, names_reserved}
-use Rattle.sk_durable.proofs.Names.{Asked, Channel, Ask, Do, OneAsked, FedBytes, Channels, only_posed, posed_ticket}
-use Rattle.sk_durable.proofs.Names.{Feeds, HasServed, HasServedOn, channel_at, place_at, with_channel, Told, Refusal}
-use Rattle.sk_durable.proofs.Names.{NotDone, LongKey, Stopped, Full, TooMany, Memory, End, Asker, error, long_key_words}
-use Rattle.sk_durable.proofs.Names.{told_work, work_of, channel_refused, against, ahead_of, asked_by, batch_for}
-use Rattle.sk_durable.proofs.Names.{deed_now, has_now, touched, Batches, CarryPost, IsNotDone, IsTold, KnowsIfTold}
-use Rattle.sk_durable.proofs.Names.{asked_for, came, first_answer, Becomes, Goes, HasPast, HavePasts, Past, StoreView}
-use Rattle.sk_durable.proofs.Names.{AsksFor, Call, Does, Draws, Drops, Rests, IsDone, IsFor, LeavesIt, Serves, drops}
-use Rattle.sk_durable.proofs.Names.{end_of, is_posed, AnswerPost, has_refused, FreesIfLast, HasNoneReady, LetGoPost}
-use Rattle.sk_durable.proofs.Names.{MayFeed, PosedPost, TakePost, TellPost, TryPost}
+use Rattle.sk_durable.proofs.Names.{is_some, ◌≡◌, ◌<◌, ◌≤◌, ◌+◌, ◌-◌, ◌^◌, ◌||◌, ◌&&◌, cond, ℕ, Bool, true, false, List}
+use Rattle.sk_durable.proofs.Names.{[], ◌∷◌, ◌++◌, length, take, Option, Some, None, Result, Ok, Err, flat_map, inl}
+use Rattle.sk_durable.proofs.Names.{inr, refl, sym, ◌∙◌, ap, subst, list_any, ◌==◌, nat_lt, is_err, append-nil}
+use Rattle.sk_durable.proofs.Names.{list_any-append, is_marked, has, marks, tags_at, bytes_cmp, TakesOut, undo_state_of}
+use Rattle.sk_durable.proofs.Names.{Stays, Requests, Answer, Work, answer_text, comes_to, names_reserved, Asked}
+use Rattle.sk_durable.proofs.Names.{Channel, Ask, Do, OneAsked, FedBytes, Channels, only_posed, posed_ticket, Feeds}
+use Rattle.sk_durable.proofs.Names.{HasServed, HasServedOn, channel_at, with_channel, Told, NotDone, LongKey, Full}
+use Rattle.sk_durable.proofs.Names.{Memory, End, Asker, error, long_key_words, told_work, work_of, channel_refused}
+use Rattle.sk_durable.proofs.Names.{against, ahead_of, asked_by, batch_for, deed_now, has_now, touched, Batches}
+use Rattle.sk_durable.proofs.Names.{CarryPost, IsNotDone, IsTold, KnowsIfTold, asked_for, came, first_answer, Becomes}
+use Rattle.sk_durable.proofs.Names.{Goes, HasPast, HavePasts, Past, StoreView, AsksFor, Call, Drops, IsDone, IsFor}
+use Rattle.sk_durable.proofs.Names.{LeavesIt, Serves, drops, end_of, is_posed, AnswerPost, has_refused, FreesIfLast}
+use Rattle.sk_durable.proofs.Names.{HasNoneReady, LetGoPost, MayFeed, PosedPost, TakePost, TellPost, TryPost, or-false}
 use Rattle.std.proofs.Common.{true≢false, IfSome, unwrap_or}
 use Rattle.sk_channels.specs.declared.refusal.Refusal.{Refusal as Refused}
 use Rattle.sk_channels.specs.declared.refusal.Refusal.TheVariants as channels
-use Rattle.sk_durable.specs.declared.refusal.Refusal.TheVariants as refusals
 use Rattle.sk_durable.specs.declared.store.End.TheVariants as ends
 use Rattle.sk_durable.proofs.Ways.{nothing_came, now_there}
 
@@ -32,9 +30,6 @@ serves_on a m b (c ∷ cs) ds (next, does, rest) serves = (next, does, serves_on
 pub record AreDropped (t : ℕ) (a b : StoreView) : Type 0 where
   pub answers : List (ℕ × Answer)
   pub serves : Serves a (drops t answers) b
-
-pub none_dropped : (t : ℕ) (a : StoreView) → AreDropped t a a
-none_dropped t a = record { answers = []; serves = refl }
 
 drops_on : (t : ℕ) (answers : List (ℕ × Answer)) (x : ℕ × Answer) → drops t (answers ++ x ∷ []) ≡ drops t answers ++ Drops t x.0 x.1 ∷ []
 drops_on t [] x = refl
@@ -77,13 +72,9 @@ has_some : {K : Type 0} (g : ℕ) (rests : K → List ℕ) (keys : List K) → h
 has_some g rests [] = refl
 has_some g rests (k ∷ keys) = list_any-append (λ t. t == g) (rests k) (flat_map rests keys) ∙ ap (λ b. has g (rests k) || b) (has_some g rests keys)
 
-or_no : (b : Bool) → (b || false) ≡ b
-or_no true = refl
-or_no false = refl
-
 has_mark : (g : ℕ) (batch : Option ℕ) → has g (marks batch) ≡ is_marked batch g
 has_mark g None = refl
-has_mark g (Some n) = or_no (n == g)
+has_mark g (Some n) = or-false (n == g)
 
 -- what it is asked with, its answer and what it rests on
 abbrev pub now_asked : Batches → Asker → List (List ℕ) → Work → Asked
@@ -309,41 +300,6 @@ abbrev pub IsToldTo : Channel → Channel → Type 0
 IsToldTo before after = (limits : Requests) (asked : List Ask) (stream : List ℕ) (told : Told) (handed text : List ℕ)
     → HasServed limits asked stream told handed before
     → HasServed limits (asked ++ Do (told_work text) ∷ []) stream told handed after
-
-rests_still : (a b : StoreView) → Stays a.batched b.batched → b ≡ record a { batched = b.batched } → Does a Rests b
-rests_still a b stays same = (
-  stays,
-  (λ number. ap (λ (s : StoreView). place_at s.channels number) same),
-  (ap (λ (s : StoreView). s.limits) same, ap (λ (s : StoreView). s.places) same),
-)
-
--- it is not asked there
-pub not_posed : (t : ℕ) (text : List ℕ) (a : StoreView) (why : Refusal) → has_refused a ≡ false → PosedPost t (Err why) a
-    → TellPost t text (Err why) a a
-not_posed t text a refusals.NoChannel none posed = (none, posed, refl)
-not_posed t text a refusals.NoTicket none posed = (none, posed, refl)
-not_posed t text a refusals.DecisionDue none posed = absurd posed
-not_posed t text a refusals.Full none posed = absurd posed
-not_posed t text a refusals.Memory none posed = absurd posed
-
--- without memory for the text
-pub no_text : (a : StoreView) → Does a Rests a
-no_text a = (all_stays a.batched, (λ number. refl), (refl, refl))
-
--- nothing of it is done: nothing is seen to have changed, or the guess of the open batch is drawn
-pub not_told : (why : NotDone) (asker : Asker) (work : Work) (a b : StoreView) → IsNotDone why a.batched asker work b.batched
-    → b ≡ record a { batched = b.batched } → Does a Rests b ⊎ Does a Draws b
-not_told Memory asker work a b left same =
-    ⊎_elim (λ stays. inl (rests_still a b stays same)) (λ begins. inr (
-      begins.0,
-      begins.1,
-      (ap (λ (s : StoreView). s.limits) same, ap (λ (s : StoreView). s.channels) same),
-      ap (λ (s : StoreView). s.places) same,
-    )) left
-not_told LongKey asker work a b (known, knows, is, stays) same = inl (rests_still a b stays same)
-not_told Stopped asker work a b (known, knows, is, stays) same = inl (rests_still a b stays same)
-not_told Full asker work a b (known, knows, is, stays) same = inl (rests_still a b stays same)
-not_told TooMany asker work a b (known, knows, is, stays) same = inl (rests_still a b stays same)
 
 -- the channel has some past then
 pub told_past : (limits : Requests) (before after : Channel) → IsToldTo before after → (p : Past) × HasPast limits p before

@@ -6,7 +6,7 @@ use Rattle.sk_durable.proofs.Names.{tags_at, Status, bytes_cmp, same_bytes, undo
 use Rattle.sk_durable.proofs.Names.{open_numbers, batch_key, is_reserved, spares_named, looks_as_before, Answer}
 use Rattle.sk_durable.proofs.Names.{comes_to, looks_at, may_write_some, IsProper, Out, names_reserved, batch_keys, deed}
 use Rattle.sk_durable.proofs.Names.{Asked, Runs, deed_now, has_now, touched, Batches, CarriesOut, IsTold, Kernel}
-use Rattle.sk_durable.proofs.Names.{KnowsIfTold, TakenIn, StoreView}
+use Rattle.sk_durable.proofs.Names.{KnowsIfTold, TakenIn, StoreView, or-false}
 use Rattle.sk_batched.specs.Batched.{Draws}
 use Rattle.sk_durable.proofs.Inside.{drawn, drawn_store, kept_as, stepped}
 use Rattle.sk_durable.proofs.Machines.{Agree, led_on, machine, InStep, Led}
@@ -73,15 +73,9 @@ any_same p q (k ∷ ks) same none =
     λ i. same k parts.0 i || any_same p q ks same parts.1 i
 
 turn : (l k w : Bool) → ((l || (k || false)) || w) ≡ ((l || w) || k)
-turn true k w = refl
-turn false true true = refl
 turn false true false = refl
-turn false false true = refl
 turn false false false = refl
-
-or_none : (b : Bool) → (b || false) ≡ b
-or_none true = refl
-or_none false = refl
+turn l k w = refl
 
 -- one key in the middle of others
 in_middle : (p : List ℕ → Bool) (ls ws : List (List ℕ)) (k : List ℕ)
@@ -130,7 +124,7 @@ module _ (told : Out) (a : StoreView) (status : ℕ → Option Status)
       (deed_alone asked kernel none) takes
       (spares_named (deed_now kernel (alone asked)) plain) (proper kernel status asked free knows) says.answer_is
       (λ g. says.rests_are g ∙ ap (λ b. is_touched kernel.parts (deed_now kernel (alone asked)) g || is_marked b g) none
-      ∙ or_none (is_touched kernel.parts (deed_now kernel (alone asked)) g)
+      ∙ or-false (is_touched kernel.parts (deed_now kernel (alone asked)) g)
       ∙ ap (λ d. list_any (tag_in kernel g) (touched d)) (deed_alone asked kernel none))
       (ap (λ q. map (λ b. b.number) q.batches) queue, ap (λ q. q.number) queue) begun
 
@@ -169,7 +163,7 @@ module _ (told : Out) (a : StoreView) (status : ℕ → Option Status)
       ∙ (λ i. sym (any_same (tag_in m g) (tag_in kernel g) (looked ++ written)
       (λ k out. ap (has g) (tags k (apart_from n k out)))
       (subst (λ ls. list_any is_reserved (ls ++ written) ≡ false) (append-nil looked) plain)) i
-      || sym (ap (has g) own ∙ or_none (n == g)) i)
+      || sym (ap (has g) own ∙ or-false (n == g)) i)
       ∙ sym (in_middle (tag_in m g) looked written (batch_key n))
       ∙ ap (λ b. list_any (tag_in m g) ((looked ++ batch_keys b) ++ written)) (sym some)
       ∙ ap (λ has. list_any (tag_in m g) (touched (deed (Runs asked) has))) look)

@@ -9,7 +9,7 @@ use Rattle.sk_durable.proofs.Names.{may_write_some, Asked, NotDone, Asker, again
 use Rattle.sk_durable.proofs.Names.{names_wrong, touched, Batches, CarryPost, IsAhead, IsHanded, IsNotDone, KnowsIfTold}
 use Rattle.sk_durable.proofs.Names.{LetsOut, TakenIn, TakesAlone, WorkStep}
 use Rattle.sk_batched.specs.declared.refusal.Refusal.{Refusal}
-use Rattle.sk_batched.specs.declared.refusal.Refusal.TheVariants.{LongKey, Stopped, Full, TooMany, Memory}
+use Rattle.sk_batched.specs.declared.refusal.Refusal.TheVariants.{LongKey, TooMany, Memory}
 use Rattle.sk_batched.specs.Batched.{Logs, TakePost}
 use Rattle.sk_durable.specs.declared.refusal.NotDone.TheVariants as undone
 use Rattle.sk_durable.specs.Refused as told
@@ -160,12 +160,8 @@ module _ (b : Batches) (asker : Asker) (work : Work) (step : WorkStep) (h : IsHa
 
     pub not_logged : (why : Refusal) → LogPost (Err why) step after bytes b c
         → IsNotDone (told.step_refused why) b asker work c
-    not_logged LongKey post = left c first LongKey (logs_against writes bytes is) post.0 (still c post.1)
-    not_logged Reserved post = left c first Reserved (logs_against writes bytes is) post.0 (still c post.1)
-    not_logged Stopped post = left c first Stopped (logs_against writes bytes is) post.0 (still c post.1)
-    not_logged Full post = left c first Full (logs_against writes bytes is) post.0 (still c post.1)
-    not_logged TooMany post = left c first TooMany (logs_against writes bytes is) post.0 (still c post.1)
     not_logged Memory post = ⊎_elim (λ stays. inl stays) (λ begins. inr (room post.0, begins.1)) post.1
+    not_logged why post = left c first why (logs_against writes bytes is) post.0 (still c post.1)
 
     pub logged : (number : ℕ) (looks : Bool) (ahead : Option (List ℕ)) → LogPost (Ok number) step after bytes b c
         → ahead ≡ ahead_in looks step.said → CarryPost looks asker work (Ok ahead) b c
@@ -189,12 +185,8 @@ module _ (b : Batches) (asker : Asker) (work : Work) (step : WorkStep) (h : IsHa
   module _ (reads : may_write_some work ≡ false) (c : Batches) (after : WorkStep) where
     pub not_taken : (why : Refusal) → TakePost (Err why) step after b c
         → IsNotDone (told.step_refused why) b asker work c
-    not_taken LongKey post = left c (step_refused step) LongKey (takes_against reads) post.0 post.1
-    not_taken Reserved post = left c (step_refused step) Reserved (takes_against reads) post.0 post.1
-    not_taken Stopped post = left c (step_refused step) Stopped (takes_against reads) post.0 post.1
-    not_taken Full post = left c (step_refused step) Full (takes_against reads) post.0 post.1
-    not_taken TooMany post = left c (step_refused step) TooMany (takes_against reads) post.0 post.1
     not_taken Memory post = inl post.1
+    not_taken why post = left c (step_refused step) why (takes_against reads) post.0 post.1
 
     pub taken : (looks : Bool) (ahead : Option (List ℕ)) → TakePost (Ok tt) step after b c
         → ahead ≡ ahead_in looks step.said → CarryPost looks asker work (Ok ahead) b c

@@ -1,4 +1,5 @@
 -- A ticket was told its command's answer, or that nothing of it was done; a channel let go of just what may go out.
+use Rattle.sk_durable.proofs.Contained.{at_first, from_map, to_map, from_filter}
 use Rattle.sk_durable.proofs.Names.{◌≡◌, ℕ, ◌+◌, ◌<◌, ◌≤◌, true, false, not, List, [], ◌∷◌, length, Some, None, inl}
 use Rattle.sk_durable.proofs.Names.{inr, refl, sym, ◌∙◌, ap, subst, arith, ◌==◌, ◌⊎◌, nat_lt, slice_get, filter}
 use Rattle.sk_durable.proofs.Names.{Contains, and_parts, eq-eqb, eqb-true, ltb-false, or_left, true≢false}
@@ -13,7 +14,7 @@ use Rattle.sk_durable.proofs.Machines.{Machine}
 use Rattle.sk_durable.proofs.Plain.{led, logged_is}
 use Rattle.sk_durable.proofs.Pasts.{taken, Said}
 use Rattle.sk_durable.proofs.Since.{last_machine, said_since, Since}
-use Rattle.sk_durable.proofs.Tickets.{here, it_says, kept_there, mapped, mapped_from, resting, says_it, ticket_of, Output}
+use Rattle.sk_durable.proofs.Tickets.{it_says, resting, says_it, ticket_of, Output}
 use Rattle.sk_durable.proofs.Channels.{connected, waits_at, IsOnAfter}
 
 -- what does not go out rests on something
@@ -40,7 +41,7 @@ module _ (limits : Limits) (next : Next) (start : Entries) (cs : List Call) (s :
   answered k text is =
       let one = known.1.told_of.texts k text is in
       let w = one.0 in
-      let out = mapped_from mine said.out w (subst (λ l. Contains l w) said.gone one.1) in
+      let out = from_map mine said.out w (subst (λ l. Contains l w) said.gone one.1) in
       let of = says_it t (stands_on t cs) out.0
       (subst (λ l. Contains l out.0) (sym said.split) (Contains-append_left said.out said.waiting out.0 out.1)) in
       let its : w.0 ≡ t = eqb-true w.0 t (ap (λ (v : Said). v.0 == t) (sym out.2) ∙ of.4) in
@@ -69,7 +70,7 @@ module _ (limits : Limits) (next : Next) (start : Entries) (cs : List Call) (s :
       elim (out_or_waits r (k + 1) answer inside says) [
         | inl out ↦ known.1.told_of.nones k (t, (k + 1, answer)) is
             (subst (λ l. Contains l (t, (k + 1, answer))) (sym said.gone)
-            (mapped mine said.out ((t, (k + 1, answer)), r.rests) out)) refl
+            (to_map mine said.out ((t, (k + 1, answer)), r.rests) out)) refl
         | inr less ↦ let within = slice_get_within (past t cs).told k None is in omega (arith, less, within)
       ]
 
@@ -80,7 +81,7 @@ module _ (limits : Limits) (next : Next) (start : Entries) (cs : List Call) (s :
     refused = refused_gone;
     asked = λ r asked inside runs k is.
         known.1.asked r asked
-        (kept_there (λ (q : Command). not (is_struck (failed cs) q)) (carried_from t [] cs) r inside) runs k is;
+        ((from_filter (λ (q : Command). not (is_struck (failed cs) q)) (carried_from t [] cs) r inside).0) runs k is;
   }
 
   out_logged : (r : Command) (ticket batch : ℕ) (answer : Answer) → Contains (stands_on t cs) r
@@ -122,7 +123,7 @@ module _ (limits : Limits) (next : Next) (start : Entries) (cs : List Call) (s :
   first_next y ys is none =
       let texts = waiting_is (y ∷ ys) is in
       let x : Output = (y.0, filter (λ g. has g y.1) opens) in
-      let later = known.1.later x (subst (λ l. Contains l x) (sym texts) (here x (resting_among opens ys))) in
+      let later = known.1.later x (subst (λ l. Contains l x) (sym texts) (at_first x (resting_among opens ys))) in
       let bounds : nat_lt channel.outlet.next (ticket_of y) ≡ false =
       ap (λ l. has_refusals (Some channel) (first_of l)) (sym texts) ∙ none in
       let least = ltb-false channel.outlet.next (ticket_of y) bounds in
@@ -135,7 +136,7 @@ module _ (limits : Limits) (next : Next) (start : Entries) (cs : List Call) (s :
   first_waits y ys is ready none =
       let ticket = first_next y ys is none in
       let rests = first_rests y ys is ready in
-      let waits : Contains said.waiting y = subst (λ l. Contains l y) (sym is) (here y ys) in
+      let waits : Contains said.waiting y = subst (λ l. Contains l y) (sym is) (at_first y ys) in
       let of = says_it t (stands_on t cs) y
       (subst (λ l. Contains l y) (sym said.split) (Contains-append_right said.out said.waiting y waits)) in
       let its : y.0.0 ≡ t = eqb-true y.0.0 t of.4 in

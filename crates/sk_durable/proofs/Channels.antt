@@ -1,4 +1,5 @@
 -- What each channel was asked for and told, along all that a store did.
+use Rattle.sk_durable.proofs.Contained.{first_or_later, at_first, nothing_there, from_map, to_map}
 use Rattle.sk_durable.proofs.Names.{◌≡◌, ℕ, ◌+◌, ◌-◌, ◌<◌, ◌≤◌, true, false, cond, List, [], ◌∷◌, ◌++◌, length, Some}
 use Rattle.sk_durable.proofs.Names.{None, inl, inr, refl, sym, ◌∙◌, ap, subst, arith, append_assoc, length-append, ◌⊎◌}
 use Rattle.sk_durable.proofs.Names.{slice_get, filter, Contains, eq-eqb, append-nil, length-map, Contains-append_right}
@@ -14,7 +15,7 @@ use Rattle.sk_durable.proofs.Machines.{Machine}
 use Rattle.sk_durable.proofs.Served.{carried_behind, decided_behind, outs_from, serves_behind}
 use Rattle.sk_durable.proofs.Pasts.{was_there, by_call, carried_push, carried_reset, connects, connects_is, freed, never_push, outs_behind, outs_grow, past_push, past_reset, same_limits, silent, taken, taken_after, taken_push, taken_reset, Said}
 use Rattle.sk_durable.proofs.Since.{all_said, last_machine, said_since, Since}
-use Rattle.sk_durable.proofs.Tickets.{answer_told, fewer_said, first_or_behind, got_before, got_last, here, kept_append, less_said, mapped, mapped_from, mapped_none, none_long, nothing_told, nowhere, refused_long, refused_told, rested, resting, rises_apart, rises_behind, rises_first, rises_kept, rises_push, rises_resting, rises_to, said_append, ticket_of, told_long, IsToldOf, Output, Rises}
+use Rattle.sk_durable.proofs.Tickets.{answer_told, fewer_said, got_before, got_last, kept_append, less_said, mapped_none, none_long, nothing_told, refused_long, refused_told, rested, resting, rises_apart, rises_behind, rises_first, rises_kept, rises_push, rises_resting, rises_to, said_append, ticket_of, told_long, IsToldOf, Output, Rises}
 
 -- ---- what waits after a call
 
@@ -23,7 +24,7 @@ module _ (t : ℕ) (left now : List Output) (xs ys : List Said) (M N : Machine) 
   -- what waits is behind all that was taken out
   out_below : (w : Said) (y : Output) → Contains ys w → Contains two.waiting y → w.1.0 < ticket_of y
   out_below w y there waits =
-      let out = mapped_from (λ (z : Output). z.0) two.out w (subst (λ l. Contains l w) two.gone there) in
+      let out = from_map (λ (z : Output). z.0) two.out w (subst (λ l. Contains l w) two.gone there) in
       let less = rises_apart n m two.out two.waiting out.0 y (subst (λ l. Rises n l m) two.split rises) out.1 waits in
       let same = ap (λ (v : Said). v.1.0) out.2 in
       omega (arith, less, same)
@@ -46,7 +47,7 @@ module _ (t : ℕ) (left now : List Output) (xs ys : List Said) (M N : Machine) 
     by_old x y is waits (inl old) =
         elim (Contains-append_cases one.out one.waiting y (subst (λ l. Contains l y) one.split old)) [
           | inl out ↦
-              let gone = subst (λ l. Contains l y.0) (sym one.gone) (mapped (λ (z : Output). z.0) one.out y out) in
+              let gone = subst (λ l. Contains l y.0) (sym one.gone) (to_map (λ (z : Output). z.0) one.out y out) in
               let less = out_below y.0 y (grows y.0 gone) waits in
               absurd (omega (arith, less))
           | inr still ↦
@@ -65,7 +66,7 @@ module _ (t : ℕ) (left now : List Output) (xs ys : List Said) (M N : Machine) 
 first_least : (channel : Channel) (n m : ℕ) (waiting : List Output) (y : Output) → Rises n waiting m
     → Contains waiting y
     → bound channel (first_of waiting) ≤ ticket_of y
-first_least channel n m [] y rises there = nowhere y there
+first_least channel n m [] y rises there = nothing_there y there
 first_least channel n m (x ∷ xs) y rises there = rises_first n m x y xs rises there
 
 first_none : (waiting : List Output) → first_of waiting ≡ None → waiting ≡ []
@@ -299,14 +300,14 @@ module _ (limits : Limits) (next : Next) (start : Entries) (t : ℕ) (cs : List 
           told_of = on.told_of;
           asked = λ q other inside runs k is. elim (Contains-append_cases commands (r ∷ []) q inside) [
             | inl old ↦ asked_more p.asked (ask ∷ []) k other.work (on.asked q other old runs k is)
-            | inr new ↦ elim (first_or_behind r q [] new) [
+            | inr new ↦ elim (first_or_later r [] q new) [
               | inl one_of ↦
                   let entry : Runs asked ≡ q.entry = ap (λ (z : Command). z.entry) one_of in
                   let alike : asked ≡ other = cc in
                   let numbered = ap (λ (z : Asked). z.ticket) alike in
                   subst (λ (z : Asked). IsAskedAt (p.asked ++ ask ∷ []) k z.work) alike
                   (ask, got_last p.asked ask k (omega (arith, ticket, numbered, is)), work)
-              | inr none ↦ nowhere q none
+              | inr none ↦ nothing_there q none
             ]
           ];
           rising = rises;
@@ -321,11 +322,10 @@ module _ (limits : Limits) (next : Next) (start : Entries) (t : ℕ) (cs : List 
               (said_to served t (kept fails_then (r ∷ []))) z
               (subst (λ l. Contains l z) (kept_append t fails_then commands (r ∷ [])) inside)) [
                 | inl old ↦ inl (fewer commands z old)
-                | inr new ↦ elim (first_or_behind y z []
-                    (subst (λ l. Contains l z) own (less_said t fails_then (r ∷ []) z new))) [
-                      | inl one_of ↦ inr (ap ticket_of (sym one_of))
-                      | inr none ↦ nowhere z none
-                    ]
+                | inr new ↦ elim (first_or_later y [] z (subst (λ l. Contains l z) own (less_said t fails_then (r ∷ []) z new))) [
+                  | inl one_of ↦ inr (ap ticket_of (sym one_of))
+                  | inr none ↦ nothing_there z none
+                ]
               ]) x waits) [
                 | inl old ↦ let less =
                     on.later old.0 old.1 in let alike = ap (λ (w : Said). w.1.0) old.2 in omega (arith, less, alike)
@@ -351,7 +351,7 @@ module _ (limits : Limits) (next : Next) (start : Entries) (t : ℕ) (cs : List 
               let behind = out_first t (said_to served t (kept fails_then commands))
               (said_to served t (kept fails_then commands)) xs (xs ++ w ∷ []) M N two 0
               (length p.asked) (rises_kept t fails_then commands 0 (length p.asked) on.rising) w x
-              (Contains-append_right xs (w ∷ []) w (here w [])) waits in
+              (Contains-append_right xs (w ∷ []) w (at_first w [])) waits in
               omega (arith, long, behind);
         }
 
@@ -429,9 +429,9 @@ module _ (limits : Limits) (next : Next) (start : Entries) (t : ℕ) where
         has = subst (λ (l : Limits). HasPast l.requests no_past channel) known.limits_are
             (subst (HasPast a.limits.requests no_past) same has);
         told_of = nothing_told;
-        asked = λ r asked inside runs k next. nowhere r inside;
+        asked = λ r asked inside runs k next. nothing_there r inside;
         rising = omega arith;
-        later = λ x waits. nowhere x (subst (λ l. Contains l x) nothing waits);
+        later = λ x waits. nothing_there x (subst (λ l. Contains l x) nothing waits);
       } in (
         record { pre = cs; mid = a; done = done; empty = empty; post = []; at = refl; never = tt },
         subst (λ q. IsOn limits.requests t q (carried_from t [] (cs ++ Connects t ∷ []))

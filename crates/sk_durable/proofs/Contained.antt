@@ -1,7 +1,8 @@
 -- What is in lists that are made of others.
 use Rattle.sk_durable.proofs.Names.{◌≡◌, zero, suc, ◌+◌, ◌<◌, Bool, true, false, cond, List, [], ◌∷◌, flat_map, length}
 use Rattle.sk_durable.proofs.Names.{map, inl, inr, refl, sym, ◌∙◌, ap, subst, arith, ◌⊎◌, filter, Contains}
-use Rattle.sk_durable.proofs.Names.{Contains-append_cases}
+use Rattle.sk_durable.proofs.Names.{Contains-append_cases, ℕ, ◌==◌, list_any, has, false≢true, or_cases, or_left}
+use Rattle.sk_durable.proofs.Names.{or_right, eq-eqb, eqb-true}
 
 pub first_or_later : {A : Type 0} (y : A) (ys : List A) (x : A) → Contains (y ∷ ys) x → (y ≡ x) ⊎ Contains ys x
 first_or_later y ys x (zero, lt, is) = inl is
@@ -96,3 +97,27 @@ none_lost p (y ∷ xs) x same at =
       ]
       | false ↦ λ fails all. let less = filter_shorter p xs in absurd (omega (arith, less, all))
     ] refl same
+
+-- a number that is among others
+pub any_has : (p : ℕ → Bool) (xs : List ℕ) → list_any p xs ≡ true → (g : ℕ) × (has g xs ≡ true) × (p g ≡ true)
+any_has p [] is = absurd (false≢true is)
+any_has p (x ∷ xs) is =
+    elim (or_cases (p x) (list_any p xs) is) as (λ _. (g : ℕ) × (has g (x ∷ xs) ≡ true) × (p g ≡ true)) [
+      | inl here ↦ (x, or_left (x == x) (has x xs) (eq-eqb x x refl), here)
+      | inr later ↦ let r = any_has p xs later in (r.0, or_right (x == r.0) (has r.0 xs) r.1, r.2)
+    ]
+
+pub has_any : (p : ℕ → Bool) (xs : List ℕ) (g : ℕ) → has g xs ≡ true → p g ≡ true → list_any p xs ≡ true
+has_any p [] g here is = absurd (false≢true here)
+has_any p (x ∷ xs) g here is =
+    elim (or_cases (x == g) (has g xs) here) as (λ _. list_any p (x ∷ xs) ≡ true) [
+      | inl same ↦ or_left (p x) (list_any p xs) (subst (λ z. p z ≡ true) (sym (eqb-true x g same)) is)
+      | inr later ↦ or_right (p x) (list_any p xs) (has_any p xs g later is)
+    ]
+
+pub has_at : (ns : List ℕ) (g : ℕ) → has g ns ≡ true → Contains ns g
+has_at [] g is = absurd (false≢true is)
+has_at (n ∷ ns) g is = elim (or_cases (n == g) (has g ns) is) [
+  | inl here ↦ subst (Contains (n ∷ ns)) (eqb-true n g here) (at_first n ns)
+  | inr later ↦ at_later n ns g (has_at ns g later)
+]

@@ -1,17 +1,17 @@
 -- What a crash leaves is read as the first of the logged commands.
-use Rattle.sk_durable.proofs.Names.{◌≡◌, ℕ, ◌+◌, ◌-◌, ◌^◌, ◌<◌, Bool, true, false, cond, ◌&&◌, List, [], ◌∷◌, ◌++◌}
-use Rattle.sk_durable.proofs.Names.{length, map, take, zero, suc, Option, Some, None, inl, inr, refl, sym, ◌∙◌, ap}
-use Rattle.sk_durable.proofs.Names.{subst, arith, nat_lt, nat_le, Contains, option_or, false≢true, ltb-true}
+use Rattle.sk_durable.proofs.Names.{◌≡◌, ℕ, ◌+◌, ◌-◌, ◌^◌, ◌<◌, Bool, true, false, cond, List, [], ◌∷◌, ◌++◌, length}
+use Rattle.sk_durable.proofs.Names.{map, take, zero, suc, Option, Some, None, inl, inr, refl, sym, ◌∙◌, ap, subst}
+use Rattle.sk_durable.proofs.Names.{arith, nat_lt, nat_le, Contains, option_or, false≢true, ltb-true}
 use Rattle.sk_durable.proofs.Names.{Contains-append_cases, Contains-push_cases, Contains-push, kept, Why, take_refused}
 use Rattle.sk_durable.proofs.Names.{first_cause, frame_refused, next_payload, has_room, PlacesView, next_records}
 use Rattle.sk_durable.proofs.Names.{QueueView, payload, RecordView, is_full, Channel, Ask, Do, Reject, Inlet, Rejection}
 use Rattle.sk_durable.proofs.Names.{is_hosts, with_words, AskInTurn, Asks, ComesTo, IsHeard, Text, Queue, Answer, Work}
-use Rattle.sk_durable.proofs.Names.{Say, One, Each, IsAsked, IsReplyOrAsked, WaitsSaid, may_write_some, what_is_said}
-use Rattle.sk_durable.proofs.Names.{ReaderLimits, Entries, payloads_of, AreLogged, names_reserved, entries_after, Asked}
-use Rattle.sk_durable.proofs.Names.{Runs, Limits, Next, Asker, error, reserved_words, work_of, Batches, asked_for}
-use Rattle.sk_durable.proofs.Names.{HasPast, Past, StoreView, Call, Carries, Cuts, Sends, Does, IsFor, carried}
-use Rattle.sk_durable.proofs.Names.{carried_by, cut_off, decided, failed, frames, frames_by, is_logged, logged, past}
-use Rattle.sk_durable.proofs.Names.{synced, Command, CrashesAreRecovered, HasDone}
+use Rattle.sk_durable.proofs.Names.{Say, IsAsked, IsReplyOrAsked, WaitsSaid, may_write_some, what_is_said, ReaderLimits}
+use Rattle.sk_durable.proofs.Names.{Entries, payloads_of, AreLogged, names_reserved, entries_after, Asked, Runs, Limits}
+use Rattle.sk_durable.proofs.Names.{Next, Asker, error, reserved_words, work_of, Batches, asked_for, HasPast, Past}
+use Rattle.sk_durable.proofs.Names.{StoreView, Call, Carries, Cuts, Sends, Does, IsFor, carried, carried_by, cut_off}
+use Rattle.sk_durable.proofs.Names.{decided, failed, frames, frames_by, is_logged, logged, past, synced, Command}
+use Rattle.sk_durable.proofs.Names.{CrashesAreRecovered, HasDone, and_parts}
 use Rattle.std.specs.Prelude.{is_some}
 use Rattle.sk_batches.specs.declared.refusal.Refusal.TheVariants as why
 use Rattle.sk_batches.specs.Places.{end_of}
@@ -35,10 +35,6 @@ short_front : (n : ℕ) (log : List (List RecordView)) → AreShort log → AreS
 short_front zero log all = tt
 short_front (suc n) [] all = tt
 short_front (suc n) (rs ∷ log) all = (all.0, short_front n log all.1)
-
-first_of : (x y : Bool) → (x && y) ≡ true → x ≡ true
-first_of true y e = refl
-first_of false y e = e
 
 no_room : (short room : Bool) → (cond short (Some why.Short) (cond room None (Some why.Full))) ≡ None → room ≡ true
 no_room true room is = cc
@@ -64,8 +60,7 @@ short_frame q p room full none =
     (cond (nat_lt room 24) (Some why.Short) (cond (has_room p (length (next_payload q))) None (Some why.Full)))
     (or_none_first (frame_refused q p room) (cond full (Some why.Busy) None) none)) in
     let lt = ltb-true (24 + length (next_payload q)) (2 ^ 28)
-    (first_of (nat_lt (24 + length (next_payload q)) (2 ^ 28))
-    (nat_le (end_of p (length (next_payload q))) p.length) fits) in
+    (and_parts (nat_lt (24 + length (next_payload q)) (2 ^ 28)) (nat_le (end_of p (length (next_payload q))) p.length) fits).0 in
     omega (arith, lt)
 
 short_after : (m s : StoreView) (c : Call) (first : ℕ) (log : List (List RecordView)) → Does m c s → AreShort log
@@ -91,8 +86,7 @@ are_short limits origin start cs s done =
 -- work that may write is more than a reply
 more_than_reply : (work : Work) → may_write_some work ≡ true → IsReplyOrAsked work → IsAsked work
 more_than_reply (Say reply) writes is = absurd (false≢true writes)
-more_than_reply (One command) writes is = is
-more_than_reply (Each commands) writes is = is
+more_than_reply s writes is = is
 
 reject_or_do : {P : Type 0} (rejection : Rejection) (work : Work) → Reject rejection ≡ Do work → P
 reject_or_do rejection work is = cc

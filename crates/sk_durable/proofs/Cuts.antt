@@ -7,15 +7,16 @@ use Rattle.sk_durable.proofs.Names.{or_cases, or_left, or_right, or_from, cases_
 use Rattle.sk_durable.proofs.Names.{leb-true, lt-leb, lt-ltb, le-ltb, length-take-le, map-append, take-map}
 use Rattle.sk_durable.proofs.Names.{All-contains_itself, All-weaker, filter-append, recursion_from_All}
 use Rattle.sk_durable.proofs.Names.{Any-from_list_any, list_any-append, NUMBER_LIMIT, has, Event, failed_in, kept_log}
-use Rattle.sk_durable.proofs.Names.{range_struck, Batch, Stage, Kept, Sent, Synced, Failed, Refused, Cut, AreDense}
-use Rattle.sk_durable.proofs.Names.{IsAtCut, IsBehind, IsRange, after_cut, is_failed, is_refused, is_sent, is_taken}
-use Rattle.sk_durable.proofs.Names.{QueueView, RecordView, synced_after, all_both, all_of, cut_into, dense_at, of_all}
-use Rattle.sk_durable.proofs.Names.{CutInto, cut_number, failed_unkept, stays_below, Entry, Answer, is_logged, Command}
+use Rattle.sk_durable.proofs.Names.{range_struck, Batch, Stage, Refused, Cut, AreDense, IsAtCut, IsBehind, IsRange}
+use Rattle.sk_durable.proofs.Names.{after_cut, is_failed, is_refused, is_sent, is_taken, QueueView, RecordView}
+use Rattle.sk_durable.proofs.Names.{synced_after, all_both, all_of, cut_into, dense_at, of_all, CutInto, cut_number}
+use Rattle.sk_durable.proofs.Names.{failed_unkept, stays_below, Entry, Answer, is_logged, Command}
 use Rattle.std.specs.Prelude.{flat_map}
 use Rattle.std.proofs.lemmas.List.{length-append}
 use Rattle.sk_batches.specs.Queue.{cut_off, past}
 use Rattle.sk_batches.specs.Records.{is_struck, kept}
 use Rattle.sk_durable.proofs.Contained.{from_map}
+pub use Rattle.sk_durable.proofs.Contained.{any_has, has_any}
 use Rattle.sk_durable.proofs.Frames.{in_frame, living, marked, next_marked, numbered, off, placed, unsent, AreOf, HasFrames, IsOf, Marked, Placed}
 
 -- ---- lists
@@ -69,33 +70,12 @@ filter_turned p q (x ∷ xs) =
           ]
     ] refl
 
-mapped_flat : {X Y Z : Type 0} (f : Y → Z) (g : X → List Y) (xs : List X)
-    → map f (flat_map g xs) ≡ flat_map (λ x. map f (g x)) xs
-mapped_flat f g [] = refl
-mapped_flat f g (x ∷ xs) = map-append f (g x) (flat_map g xs) ∙ ap (λ ys. map f (g x) ++ ys) (mapped_flat f g xs)
-
 filter_flat : {X Y : Type 0} (p : Y → Bool) (g : X → List Y) (xs : List X)
     → filter p (flat_map g xs) ≡ flat_map (λ x. filter p (g x)) xs
 filter_flat p g [] = refl
 filter_flat p g (x ∷ xs) = filter-append p (g x) (flat_map g xs) ∙ ap (λ ys. filter p (g x) ++ ys) (filter_flat p g xs)
 
 -- ---- sets of guesses
-
-pub any_has : (p : ℕ → Bool) (xs : List ℕ) → list_any p xs ≡ true → (g : ℕ) × (has g xs ≡ true) × (p g ≡ true)
-any_has p [] is = absurd (false≢true is)
-any_has p (x ∷ xs) is =
-    elim (or_cases (p x) (list_any p xs) is) as (λ _. (g : ℕ) × (has g (x ∷ xs) ≡ true) × (p g ≡ true)) [
-      | inl here ↦ (x, or_left (x == x) (has x xs) (eq-eqb x x refl), here)
-      | inr later ↦ let r = any_has p xs later in (r.0, or_right (x == r.0) (has r.0 xs) r.1, r.2)
-    ]
-
-pub has_any : (p : ℕ → Bool) (xs : List ℕ) (g : ℕ) → has g xs ≡ true → p g ≡ true → list_any p xs ≡ true
-has_any p [] g here is = absurd (false≢true here)
-has_any p (x ∷ xs) g here is =
-    elim (or_cases (x == g) (has g xs) here) as (λ _. list_any p (x ∷ xs) ≡ true) [
-      | inl same ↦ or_left (p x) (list_any p xs) (subst (λ z. p z ≡ true) (sym (eqb-true x g same)) is)
-      | inr later ↦ or_right (p x) (list_any p xs) (has_any p xs g later is)
-    ]
 
 has_numbers : (p : Batch → Bool) (bs : List Batch) (g : ℕ)
     → has g (map (λ (b : Batch). b.number) (filter p bs)) ≡ list_any (λ (b : Batch). p b && (b.number == g)) bs
@@ -188,18 +168,12 @@ all_placed (b ∷ bs) = map-append (λ (y : Placed). y.1) (placed b) (flat_map p
     ∙ (λ i. records_placed b i ++ all_placed bs i)
 
 failed_taken : (s : Stage) → is_failed s ≡ true → is_refused s ≡ false
-failed_taken Kept e = refl
-failed_taken Sent e = refl
-failed_taken Synced e = refl
-failed_taken Failed e = refl
 failed_taken Refused e = absurd (false≢true e)
+failed_taken s e = refl
 
 taken_whole : (s : Stage) → is_taken s ≡ true → is_refused s ≡ false
-taken_whole Kept e = refl
-taken_whole Sent e = refl
-taken_whole Synced e = refl
-taken_whole Failed e = refl
 taken_whole Refused e = absurd (false≢true e)
+taken_whole s e = refl
 
 or_in : (x y l : Bool) → (x || (y || l)) ≡ ((x || y) || l)
 or_in true y l = refl
@@ -278,11 +252,6 @@ module _ (c : Cut) where
   placed_cut [] = refl
   placed_cut (b ∷ bs) = filter-append (is_below c.frame) (placed b) (flat_map placed bs)
       ∙ (λ i. placed_into b (cut_off c b) (cut_into c b) i ++ placed_cut bs i)
-
-  -- a batch before the cut
-  record StaysWhole (b : Batch) : Type 0 where
-    pub same : cut_off c b ≡ b
-    pub whole : filter (stays c) (records_of b) ≡ records_of b
 
   before_cut : (b a : Batch) → CutInto c b a → b.frame < c.frame → a ≡ b
   before_cut b a (inl (less, x)) before = x

@@ -1,8 +1,8 @@
 -- Fewer outputs are left where channels are let go of.
-use Rattle.sk_durable.proofs.Names.{◌≡◌, ℕ, zero, suc, ◌+◌, ◌<◌, ◌≤◌, Bool, true, false, cond, List, [], ◌∷◌, length}
-use Rattle.sk_durable.proofs.Names.{map, Option, Some, None, refl, sym, ◌∙◌, ap, subst, arith, ◌==◌, eqb-true}
-use Rattle.sk_durable.proofs.Names.{nat_tests, length-map, Tagged, said_at, TakesOut, Parts, Answer, Batches}
-use Rattle.sk_durable.proofs.Names.{first_answer, StoreView, Serves, drops, FreesIfLast, HasNoneReady, LetGoPost}
+use Rattle.sk_durable.proofs.Names.{◌≡◌, ℕ, suc, ◌+◌, ◌<◌, ◌≤◌, true, false, cond, List, [], ◌∷◌, length, map, Option}
+use Rattle.sk_durable.proofs.Names.{Some, None, refl, sym, ap, subst, arith, ◌==◌, eqb-true, nat_tests, length-map}
+use Rattle.sk_durable.proofs.Names.{Tagged, said_at, TakesOut, Parts, Answer, Batches, first_answer, StoreView, Serves}
+use Rattle.sk_durable.proofs.Names.{drops, FreesIfLast, HasNoneReady, LetGoPost}
 
 -- ---- numbers, counted
 

@@ -3,14 +3,16 @@ use Rattle.sk_durable.proofs.Names.{◌≡◌, ℕ, ◌<◌, ◌≤◌, true, fa
 use Rattle.sk_durable.proofs.Names.{inr, refl, sym, ◌∙◌, ap, subst, append_assoc, length-append, arith, ◌⊎◌, ◌==◌}
 use Rattle.sk_durable.proofs.Names.{filter, Contains, true≢false, false≢true, append-nil, map-append, flat_map-append}
 use Rattle.sk_durable.proofs.Names.{filter-append, All-contains, All-from_recursion, Contains-append_cases}
-use Rattle.sk_durable.proofs.Names.{Contains-append_left, Contains-push_cases, has, Commit, Event, Fail, Taken}
-use Rattle.sk_durable.proofs.Names.{failed_in, is_struck, kept, Stage, Kept, Sent, Synced, Failed, Refused, Batch}
-use Rattle.sk_durable.proofs.Names.{AreDense, IsBehind, after_take, after_word, awaits, is_failed, is_kept, is_refused}
-use Rattle.sk_durable.proofs.Names.{is_sent, is_taken, next_records, tell, QueueView, RecordView, Entry, is_logged}
-use Rattle.sk_durable.proofs.Names.{Command}
+use Rattle.sk_durable.proofs.Names.{Contains-append_left, Contains-push_cases, has, Commit, Event, Fail, failed_in}
+use Rattle.sk_durable.proofs.Names.{is_struck, kept, Stage, Kept, Sent, Synced, Refused, Batch, AreDense, IsBehind}
+use Rattle.sk_durable.proofs.Names.{after_take, after_word, awaits, is_failed, is_kept, is_refused, is_sent, is_taken}
+use Rattle.sk_durable.proofs.Names.{next_records, tell, QueueView, RecordView, Entry, is_logged, Command, and_parts}
+use Rattle.sk_durable.proofs.Names.{failed_more}
 use Rattle.sk_durable.proofs.Contained.{at_later, from_map, nothing_there}
 use Rattle.sk_durable.proofs.Frames.{in_frame, living, marked, next_marked, off, placed, unsent, AreOf, HasFrames, IsBefore, IsBelow, IsOf, Marked, Placed}
-use Rattle.sk_durable.proofs.Marked.{all_told_placed, all_told_unsent, first_holds, next_unmarked, none_unsent, numbered_push, numbered_within, of_sent, off_sent, off_told, placed_of, placed_sent, sent_number, told_number}
+use Rattle.sk_durable.proofs.Marked.{all_told_placed, all_told_unsent, next_unmarked, none_unsent, numbered_push}
+use Rattle.sk_durable.proofs.Marked.{numbered_within, of_sent, off_sent, off_told, placed_of, placed_sent, sent_number}
+use Rattle.sk_durable.proofs.Marked.{told_number}
 
 -- ---- commands
 
@@ -199,7 +201,7 @@ module _ (first : ℕ) (cm : List Command) (ds : List (Event Entry)) (log : List
         → (is_sent b.stage ≡ true → stage ≡ d.stage → b.frame ≡ d.frame → P) → (b ≡ d → P) → P
     told_is {P} b d is changed same =
         elim (awaits frame b) as (λ t. awaits frame b ≡ t → cond t (record b { stage = stage }) b ≡ d → P) [
-          | true ↦ λ here was. changed (first_holds (is_sent b.stage) (b.frame == frame) here)
+          | true ↦ λ here was. changed (and_parts (is_sent b.stage) (b.frame == frame) here).0
               (ap (λ (e : Batch). e.stage) was) (ap (λ (e : Batch). e.frame) was)
           | false ↦ λ here was. same was
         ] refl is
@@ -266,12 +268,6 @@ module _ (first : ℕ) (cm : List Command) (ds : List (Event Entry)) (log : List
 
 -- ---- the oldest batch is decided
 
-failed_more : (ds es : List (Event Entry)) → failed_in (ds ++ es) ≡ failed_in ds ++ failed_in es
-failed_more [] es = refl
-failed_more (Taken n ∷ ds) es = failed_more ds es
-failed_more (Commit g ∷ ds) es = failed_more ds es
-failed_more (Fail g ∷ ds) es = ap (λ gs. g ∷ gs) (failed_more ds es)
-
 fail_or_commit : {P : Type 0} (g h : ℕ) → ◌≡◌ {A = Event Entry} (Fail g) (Commit h) → P
 fail_or_commit g h is = cc
 
@@ -284,10 +280,7 @@ synced_unrefused s is = ap is_refused is
 not_kept : (s : Stage) → (is_sent s ≡ true) ⊎ (is_failed s ≡ true) → is_kept s ≡ false
 not_kept Kept (inl e) = absurd (false≢true e)
 not_kept Kept (inr e) = absurd (false≢true e)
-not_kept Sent e = refl
-not_kept Synced e = refl
-not_kept Failed e = refl
-not_kept Refused e = refl
+not_kept s e = refl
 
 not_synced : (s : Stage) → (is_sent s ≡ true) ⊎ (is_failed s ≡ true) → s ≡ Synced → ⊥
 not_synced s (inl e) is = false≢true (sym (ap is_sent is) ∙ e)

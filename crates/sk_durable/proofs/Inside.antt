@@ -7,7 +7,8 @@ use Rattle.sk_durable.proofs.Names.{TakenOut, look_at, log_at, bytes_cmp, next_o
 use Rattle.sk_durable.proofs.Names.{IsSame, Parts, is_full, opening, IsStill, Stays, IsInStep, batch_key, Spares}
 use Rattle.sk_durable.proofs.Names.{begins, requeued, said_less, same_seen, step_taken, IsNumbered, all_same}
 use Rattle.sk_durable.proofs.Names.{same_machine, same_statuses, Answer, comes_to, IsProper, Out, deed, served, Asked}
-use Rattle.sk_durable.proofs.Names.{Opens, Runs, acts, has_now, touched, Batches, Kernel, StoreView, Command}
+use Rattle.sk_durable.proofs.Names.{Opens, Runs, acts, has_now, touched, Batches, Kernel, StoreView, Command, none-some}
+use Rattle.sk_durable.proofs.Names.{or-false}
 use Rattle.std.specs.Option.{unwrap_or}
 use Rattle.sk_deeds.specs.Told.{Does, Tells}
 use Rattle.sk_batched.specs.Batched.{Draws}
@@ -15,13 +16,6 @@ use Rattle.sk_durable.proofs.Machines.{Agree, machine, InStep, Led, Machine}
 
 abbrev Inner : Type 0
 Inner = Parts (List ℕ) (List ℕ) (ℕ × Answer)
-
-or_none : (b : Bool) → (b || false) ≡ b
-or_none true = refl
-or_none false = refl
-
-none_number : {P : Type 0} (g : ℕ) → None ≡ Some g → P
-none_number g is = cc
 
 -- what is read is what is looked at
 reads : {V : Type 0} (look : List ℕ → Option V) (ks : List (List ℕ))
@@ -156,7 +150,7 @@ module _ (told : Out) (a : StoreView) (status : ℕ → Option Status)
             record {
               entry = refl;
               said = refl;
-              rests = λ g. ap (λ b. (n == g) || b) (sym (or_none (has g tags)));
+              rests = λ g. ap (λ b. (n == g) || b) (sym (or-false (has g tags)));
             },
           ),
           (refl, refl, refl),
@@ -193,7 +187,7 @@ module _ (told : Out) (a : StoreView) (status : ℕ → Option Status)
         deed = d;
         honest = acts (Runs asked) look ∙ ap (λ e. Ok (effect_of look e)) (sym is);
         takes = takes.takes status are;
-        fresh = λ g h same le. none_number g same;
+        fresh = λ g h same le. absurd (none-some g same);
       } in
       let done = step_taken a.batched.kernel.parts a.batched.queue a.batched.begun known.0 known.1
       s.batched.kernel.parts d spares takes in

@@ -8,7 +8,7 @@ use Rattle.sk_durable.proofs.Names.{nat_list_eq_equiv, get_or-map, length-map, l
 use Rattle.sk_durable.proofs.Names.{IsPermutation-map, IsDistinct-push, IsDistinct-IsPermutation, apart_from_distinct}
 use Rattle.sk_durable.proofs.Names.{sorted_from_all_adjacent, is_eq-slice_cmp, bytes_eq-Decides, bytes_cmp, number_of}
 use Rattle.sk_durable.proofs.Names.{string_of, Numbered, HasPlaces, IsTwoWay, bytes_total, is_among, is_reserved}
-use Rattle.sk_durable.proofs.Names.{Kernel, LacksNone}
+use Rattle.sk_durable.proofs.Names.{Kernel, LacksNone, same_Some}
 use Rattle.std.proofs.Common.{◌⊎◌}
 use Rattle.std.specs.List.{IsDistinct}
 
@@ -91,9 +91,6 @@ apart_more (Some one) keys apart new =
       | false ↦ IsDistinct-push nat_list_eq_equiv keys one apart (new one refl)
     ]
 
-same_place : (n m : ℕ) → Some n ≡ Some m → n ≡ m
-same_place n m is = cc
-
 apart : (es : Numbered) → IsTwoWay es → (n : ℕ) → IsDistinct bytes_eq (listed es n)
 unfolding IsDistinct
 apart es two zero = tt
@@ -103,7 +100,7 @@ apart es two (suc n) =
     false_from_ne_true (is_among key (listed es n))
     (λ is.
     let at = placed es n key is in
-    let same = same_place n at.0 (sym (two.back key n here) ∙ two.back key at.0 at.2) in
+    let same = same_Some n at.0 (sym (two.back key n here) ∙ two.back key at.0 at.2) in
     let no : ⊥ = omega (arith, same, at.1) in no))
 
 -- ---- sorted they rise

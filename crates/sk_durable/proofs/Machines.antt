@@ -1,9 +1,8 @@
 -- Calls of the machine of records, one list behind another, with what is logged of them.
 use Rattle.sk_durable.proofs.Names.{◌≡◌, ℕ, Bool, true, false, List, [], ◌∷◌, ◌++◌, Option, None, refl, sym, ◌∙◌, ap}
-use Rattle.sk_durable.proofs.Names.{subst, append_assoc, filter, filter-append, Event, Taken, Commit, Fail, Status}
-use Rattle.sk_durable.proofs.Names.{AreStatuses, Token, moves_of, told_more, bytes_cmp, machine_of, IsInStep, Logs}
-use Rattle.sk_durable.proofs.Names.{Answer, Out, StoreCalls, served, Entry, Opens, Runs, Batches, Kernel, StoreView}
-use Rattle.sk_durable.proofs.Names.{Command}
+use Rattle.sk_durable.proofs.Names.{subst, append_assoc, filter, filter-append, Event, Taken, Status, AreStatuses}
+use Rattle.sk_durable.proofs.Names.{Token, moves_of, told_more, bytes_cmp, machine_of, IsInStep, Logs, Answer, Out}
+use Rattle.sk_durable.proofs.Names.{StoreCalls, served, Entry, Opens, Runs, Batches, Kernel, StoreView, Command}
 use Rattle.sk_deeds.specs.Told.{Does, Tells}
 use Rattle.sk_deeds.specs.Told as deeds
 use Rattle.sk_served.specs.Calls as served_calls
@@ -34,8 +33,7 @@ runs_work (Runs asked) = true
 -- a decision
 abbrev pub is_decision : Event Entry → Bool
 is_decision (Taken n) = false
-is_decision (Commit g) = true
-is_decision (Fail g) = true
+is_decision s = true
 
 -- what begins a batch says nothing
 abbrev pub Quiet : List Command → Type 0

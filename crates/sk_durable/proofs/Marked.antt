@@ -1,13 +1,12 @@
 -- Records of batches in frames, and what a queue's calls make of them.
-use Rattle.sk_durable.proofs.Names.{◌≡◌, ℕ, zero, suc, ◌+◌, ◌<◌, ◌≤◌, Bool, true, false, cond, List, [], ◌∷◌, ◌++◌}
-use Rattle.sk_durable.proofs.Names.{flat_map, length, map, drop, inl, inr, refl, sym, ◌∙◌, ap, append_assoc, arith, ◌⊎◌}
-use Rattle.sk_durable.proofs.Names.{◌==◌, filter, AllByRecursion, Contains, false≢true, append-nil, map-append}
+use Rattle.sk_durable.proofs.Names.{◌≡◌, ℕ, zero, suc, ◌+◌, ◌<◌, ◌≤◌, true, false, cond, List, [], ◌∷◌, ◌++◌, flat_map}
+use Rattle.sk_durable.proofs.Names.{length, map, drop, inl, inr, refl, sym, ◌∙◌, ap, append_assoc, arith, ◌⊎◌, ◌==◌}
+use Rattle.sk_durable.proofs.Names.{filter, AllByRecursion, Contains, false≢true, append-nil, map-append}
 use Rattle.sk_durable.proofs.Names.{flat_map-append, filter-append, Contains-append_cases, Contains-append_left}
-use Rattle.sk_durable.proofs.Names.{Contains-append_right, Contains-push_cases, Stage, Kept, Sent, Synced, Failed}
-use Rattle.sk_durable.proofs.Names.{Refused, Batch, AreDense, IsBehind, after_take, awaits, is_kept, is_refused}
-use Rattle.sk_durable.proofs.Names.{is_sent, is_taken, kept_of, kept_records, next_records, open_batch, send, tell}
-use Rattle.sk_durable.proofs.Names.{QueueView, RecordView}
-use Rattle.std.specs.Prelude.{◌&&◌}
+use Rattle.sk_durable.proofs.Names.{Contains-append_right, Contains-push_cases, Stage, Kept, Sent, Refused, Batch}
+use Rattle.sk_durable.proofs.Names.{AreDense, IsBehind, after_take, awaits, is_kept, is_refused, is_sent, is_taken}
+use Rattle.sk_durable.proofs.Names.{kept_of, kept_records, next_records, open_batch, send, tell, QueueView, RecordView}
+use Rattle.sk_durable.proofs.Names.{and_parts}
 use Rattle.sk_durable.proofs.Contained.{from_map, nothing_there, to_map}
 use Rattle.sk_durable.proofs.Frames.{in_frame, marked, next_marked, numbered, off, placed, unsent, Marked, Placed}
 
@@ -15,42 +14,24 @@ use Rattle.sk_durable.proofs.Frames.{in_frame, marked, next_marked, numbered, of
 
 kept_untaken : (s : Stage) → is_kept s ≡ true → is_taken s ≡ false
 kept_untaken Kept e = refl
-kept_untaken Sent e = absurd (false≢true e)
-kept_untaken Synced e = absurd (false≢true e)
-kept_untaken Failed e = absurd (false≢true e)
-kept_untaken Refused e = absurd (false≢true e)
+kept_untaken s e = absurd (false≢true e)
 
 kept_unrefused : (s : Stage) → is_kept s ≡ true → is_refused s ≡ false
-kept_unrefused Kept e = refl
-kept_unrefused Sent e = refl
-kept_unrefused Synced e = refl
-kept_unrefused Failed e = refl
 kept_unrefused Refused e = absurd (false≢true e)
+kept_unrefused s e = refl
 
 sent_taken : (s : Stage) → is_sent s ≡ true → is_taken s ≡ true
 sent_taken Kept e = absurd (false≢true e)
-sent_taken Sent e = refl
-sent_taken Synced e = refl
-sent_taken Failed e = refl
 sent_taken Refused e = absurd (false≢true e)
+sent_taken s e = refl
 
 sent_unkept : (s : Stage) → is_sent s ≡ true → is_kept s ≡ false
 sent_unkept Kept e = absurd (false≢true e)
-sent_unkept Sent e = refl
-sent_unkept Synced e = refl
-sent_unkept Failed e = refl
-sent_unkept Refused e = refl
+sent_unkept s e = refl
 
 sent_unrefused : (s : Stage) → is_sent s ≡ true → is_refused s ≡ false
-sent_unrefused Kept e = refl
-sent_unrefused Sent e = refl
-sent_unrefused Synced e = refl
-sent_unrefused Failed e = refl
 sent_unrefused Refused e = absurd (false≢true e)
-
-pub first_holds : (x y : Bool) → (x && y) ≡ true → x ≡ true
-first_holds true y e = refl
-first_holds false y e = e
+sent_unrefused s e = refl
 
 -- ---- lists that are made of others
 
@@ -280,7 +261,7 @@ module _ (frame : ℕ) (stage : Stage) (taken : is_taken stage ≡ true) (unkept
   told_refused b =
       elim (awaits frame b) as (λ t. awaits frame b ≡ t → is_refused (cond t (record b { stage = stage }) b).stage
       ≡ is_refused b.stage) [
-        | true ↦ λ is. stands ∙ sym (sent_unrefused b.stage (first_holds (is_sent b.stage) (b.frame == frame) is))
+        | true ↦ λ is. stands ∙ sym (sent_unrefused b.stage (and_parts (is_sent b.stage) (b.frame == frame) is).0)
         | false ↦ λ is. refl
       ] refl
 
@@ -289,7 +270,7 @@ module _ (frame : ℕ) (stage : Stage) (taken : is_taken stage ≡ true) (unkept
       let own = in_frame b.frame (marked b.number b.records) in
       elim (awaits frame b) as (λ t. awaits frame b ≡ t → placed (cond t (record b { stage = stage }) b) ≡ placed b) [
         | true ↦ λ is. ap (λ t. cond t own [])
-            (taken ∙ sym (sent_taken b.stage (first_holds (is_sent b.stage) (b.frame == frame) is)))
+            (taken ∙ sym (sent_taken b.stage (and_parts (is_sent b.stage) (b.frame == frame) is).0))
         | false ↦ λ is. refl
       ] refl
 
@@ -297,7 +278,7 @@ module _ (frame : ℕ) (stage : Stage) (taken : is_taken stage ≡ true) (unkept
   told_unsent b =
       elim (awaits frame b) as (λ t. awaits frame b ≡ t → unsent (cond t (record b { stage = stage }) b) ≡ unsent b) [
         | true ↦ λ is. ap (λ t. cond t (marked b.number b.records) [])
-            (unkept ∙ sym (sent_unkept b.stage (first_holds (is_sent b.stage) (b.frame == frame) is)))
+            (unkept ∙ sym (sent_unkept b.stage (and_parts (is_sent b.stage) (b.frame == frame) is).0))
         | false ↦ λ is. refl
       ] refl
 

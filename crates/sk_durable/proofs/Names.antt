@@ -1,4 +1,5 @@
 -- What the proofs of this crate cite from outside of them, passed on from one place. Declares nothing.
+pub use Rattle.std.proofs.Math.Bool.{or-false}
 pub use Rattle.std.proofs.Common.{Some, Bool, subst, ◌^◌, ◌-◌, ◌↔◌, arith, ◌*◌, ◌++◌, append_assoc, length-append, suc}
 pub use Rattle.std.proofs.Common.{refl, [], map, ◌≢◌, ◌∷◌, inl, Option, List, get_or, bytes_eq, get_or-set_other, ℕ}
 pub use Rattle.std.proofs.Common.{true, ⊎_elim, sym, is_some, not, cond, get_or-set_same, inr, zero, rules, ap, length}
@@ -7,7 +8,7 @@ pub use Rattle.std.proofs.Common.{Result, ◌∙◌}
 pub use Rattle.std.proofs.lemmas.Bool.{or_right, lt-ltb, or_parts, leb-true, eqb-true, ltb-true, false_from_ne_true}
 pub use Rattle.std.proofs.lemmas.Bool.{eq-eqb, eqb-false, not_from_false, cases_eq, or_from, and_parts}
 pub use Rattle.std.proofs.lemmas.Bool.{true_from_ne_false, ltb-false, and_from, cases_lt, true≢false, lt-leb, or_cases}
-pub use Rattle.std.proofs.lemmas.Bool.{or_left, leb-false, le-leb, false≢true, le-ltb, ne_eqb}
+pub use Rattle.std.proofs.lemmas.Bool.{or_left, leb-false, le-leb, false≢true, le-ltb, ne_eqb, not-true}
 pub use Rattle.std.proofs.lemmas.Bool.Decides.{nat_tests}
 pub use Rattle.std.proofs.lemmas.Cmp.{nat_list_eq_equiv}
 pub use Rattle.std.proofs.lemmas.List.{length-take-le, length-map, map-append, take-append-drop, take-map}
@@ -24,7 +25,7 @@ pub use Rattle.std.proofs.lemmas.List.Sums.{fold-append}
 pub use Rattle.std.proofs.lemmas.Map.Keys.{IsDistinct-IsPermutation, apart_from_distinct, IsDistinct-push}
 pub use Rattle.std.proofs.lemmas.Map.Keys.{sorted_from_all_adjacent}
 pub use Rattle.std.proofs.lemmas.Map.Text.{is_eq-slice_cmp}
-pub use Rattle.std.proofs.lemmas.Option.{slice_get_within, slice_get-map}
+pub use Rattle.std.proofs.lemmas.Option.{slice_get_within, slice_get-map, none-some, same_Some}
 pub use Rattle.std.proofs.lemmas.Result.{err_from_is_err_and}
 pub use Rattle.std.proofs.lemmas.Slice.Eq.{bytes_eq-Decides}
 pub use Rattle.std.specs.Cmp.{both_ways}
@@ -54,7 +55,6 @@ pub use Rattle.sk_batched.specs.Batched.{capped, is_full, Begins}
 pub use Rattle.sk_batched.specs.InStep.{IsInStep, notes_by, open_numbers, IsRow, tokens_of, open_if}
 pub use Rattle.sk_batched.specs.Keys.{has_reserved_key}
 pub use Rattle.sk_batched.specs.Refused.{step_refused, refusal_of}
-pub use Rattle.sk_batched.specs.declared.batched.Outcome.{Outcome}
 pub use Rattle.sk_batched.specs.declared.batched.Outcome.TheVariants.{Logged as LoggedBatch, Logged}
 pub use Rattle.sk_batched.specs.declared.refusal.Refusal.TheVariants.{Reserved}
 pub use Rattle.sk_batches.proofs.Dense.{cut_into, all_both, all_of, dense_at, CutInto, frames_are_dense, cuts_a_range}
@@ -85,8 +85,7 @@ pub use Rattle.sk_bytes.specs.declared.bytes.TheConstants.{KEY_LIMIT}
 pub use Rattle.sk_channels.specs.Asking.{AskInTurn, ComesTo, with_words, is_hosts, Asks}
 pub use Rattle.sk_channels.specs.Hearing.{IsHeard, posed_ticket, only_posed}
 pub use Rattle.sk_channels.specs.Serving.{RefusePost, FeedPost as Feeds, ReplyPost, HasServedOn, HasServed}
-pub use Rattle.sk_channels.specs.Table.{hung_up, place_at, KeepsAll, channel_of, with_channel, KeepsOthers, is_hung_up}
-pub use Rattle.sk_channels.specs.Table.{channel_at}
+pub use Rattle.sk_channels.specs.Table.{hung_up, place_at, channel_of, with_channel, KeepsOthers, channel_at}
 pub use Rattle.sk_channels.specs.Telling.{Told, refused, refused_up_to}
 pub use Rattle.sk_channels.specs.declared.channel.Channel.{Channel}
 pub use Rattle.sk_channels.specs.declared.inlet.Ask.{Ask}
@@ -105,7 +104,7 @@ pub use Rattle.sk_commands.specs.declared.reply.Reply.TheVariants.{Null, Text}
 pub use Rattle.sk_commands.specs.declared.session.Queue.{Queue}
 pub use Rattle.sk_commands.specs.declared.work.Answer.{Answer}
 pub use Rattle.sk_commands.specs.declared.work.Work.{Work}
-pub use Rattle.sk_commands.specs.declared.work.Work.TheVariants.{Each, Say, One}
+pub use Rattle.sk_commands.specs.declared.work.Work.TheVariants.{Say}
 pub use Rattle.sk_deeds.proofs.Runs.{performs}
 pub use Rattle.sk_deeds.specs.Deed.{again, Deed, effect_of}
 pub use Rattle.sk_deeds.specs.Moves.{Moves, Starts, IsNext}
@@ -125,9 +124,9 @@ pub use Rattle.sk_durable.specs.Laws.{IsLogged, Waits, LoggedIsOnDisk, MapIsPlai
 pub use Rattle.sk_durable.specs.Limits.{are_sound}
 pub use Rattle.sk_durable.specs.Posts.{RefusedPost, PosedPost, LetGoPost, OutputPost, TakePost, SyncedPost, Sweeps}
 pub use Rattle.sk_durable.specs.Posts.{is_posed, AllLetGo, HandsOver, HasNoneReady, TellPost, has_refused, RestorePost}
-pub use Rattle.sk_durable.specs.Posts.{BringPost, LearnPost, LetsGo, TryPost, ReadyPost, FreesIfLast, DecidePost}
-pub use Rattle.sk_durable.specs.Posts.{MayFeed, IsStray, end_of, CutPost, HoldsTooMany, AnswerPost, IsHeldUp}
-pub use Rattle.sk_durable.specs.Posts.{ConnectPost, drops, StopsThere, IsReady, tells, HangUpPost, TurnPost, FailedPost}
+pub use Rattle.sk_durable.specs.Posts.{BringPost, LearnPost, LetsGo, TryPost, ReadyPost, FreesIfLast, MayFeed, IsStray}
+pub use Rattle.sk_durable.specs.Posts.{end_of, CutPost, HoldsTooMany, AnswerPost, IsHeldUp, ConnectPost, drops}
+pub use Rattle.sk_durable.specs.Posts.{StopsThere, IsReady, tells, HangUpPost, TurnPost, FailedPost}
 pub use Rattle.sk_durable.specs.Refused.{channel_refused}
 pub use Rattle.sk_durable.specs.Store.{Past, Becomes, was_told, has_refusals, HasFirstTicket, IsNew, bound, asked_for}
 pub use Rattle.sk_durable.specs.Store.{was_refused, HasPast, no_past, StoreView, came, was_handed, Goes, HavePasts}
@@ -139,7 +138,7 @@ pub use Rattle.sk_durable.specs.Works.{KnowsIfTold, IsTold, ahead_of, IsNotDone}
 pub use Rattle.sk_durable.specs.contracts.store.Store.{the_view}
 pub use Rattle.sk_durable.specs.declared.limits.Limits.{Limits}
 pub use Rattle.sk_durable.specs.declared.refusal.NotDone.{NotDone}
-pub use Rattle.sk_durable.specs.declared.refusal.NotDone.TheVariants.{Memory, Full, Stopped, LongKey, TooMany}
+pub use Rattle.sk_durable.specs.declared.refusal.NotDone.TheVariants.{Memory, Full, LongKey}
 pub use Rattle.sk_durable.specs.declared.refusal.Refusal.{Refusal}
 pub use Rattle.sk_durable.specs.declared.refusal.Refusal.TheVariants.{NoChannel, DecisionDue, NoTicket}
 pub use Rattle.sk_durable.specs.declared.store.End.{End}

@@ -1,20 +1,21 @@
 -- A batch that is told as logged lies in frames that were told as synced, and its frame has all that it logs.
+use Rattle.sk_durable.proofs.Recovered.{of_at}
 use Rattle.sk_durable.proofs.Names.{◌≡◌, ℕ, suc, ◌+◌, ◌-◌, ◌<◌, ◌≤◌, Bool, true, false, cond, not, List, [], ◌∷◌, ◌++◌}
 use Rattle.sk_durable.proofs.Names.{map, Option, Some, None, inl, inr, refl, sym, ◌∙◌, ap, subst, arith, ◌==◌}
-use Rattle.sk_durable.proofs.Names.{slice_get, filter, Contains, option_map, true≢false, false≢true, eqb-true, or_cases}
+use Rattle.sk_durable.proofs.Names.{slice_get, filter, Contains, option_map, true≢false, false≢true, or_cases}
 use Rattle.sk_durable.proofs.Names.{false_from_ne_true, not_from_false, Contains-append_cases, Contains-append_left}
 use Rattle.sk_durable.proofs.Names.{Contains-append_right, list_any-append, slice_get-map, has, Event, failed_in}
-use Rattle.sk_durable.proofs.Names.{is_struck, kept, Batch, Stage, Kept, Sent, Synced, Failed, Refused, Decision}
-use Rattle.sk_durable.proofs.Names.{AreDense, IsBehind, decision_of, is_kept, is_refused, is_taken, QueueView}
-use Rattle.sk_durable.proofs.Names.{RecordView, dense_at, of_all, Logged, log_text, Asked, Entry, Opens, Runs, Decides}
-use Rattle.sk_durable.proofs.Names.{Serves, carried, told_decided, frames, is_logged, stands, Command, HasDone}
-use Rattle.sk_durable.proofs.Names.{LoggedIsOnDisk}
+use Rattle.sk_durable.proofs.Names.{is_struck, kept, Batch, Stage, Synced, Refused, Decision, AreDense, IsBehind}
+use Rattle.sk_durable.proofs.Names.{decision_of, is_kept, is_refused, is_taken, QueueView, RecordView, dense_at, of_all}
+use Rattle.sk_durable.proofs.Names.{Logged, log_text, Asked, Entry, Opens, Runs, Decides, Serves, carried, told_decided}
+use Rattle.sk_durable.proofs.Names.{frames, is_logged, stands, Command, HasDone, LoggedIsOnDisk, none-some, not-true}
 use Rattle.std.specs.Prelude.{flat_map}
 use Rattle.sk_batches.specs.declared.queue.Decision.TheVariants as decision
 use Rattle.sk_batches.specs.Queue.{decided}
-use Rattle.sk_durable.proofs.Contained.{at_first, at_later, first_or_later, from_filter, from_flat, from_map, nothing_there, to_filter, to_map}
-use Rattle.sk_durable.proofs.Cuts.{any_has, has_any}
-use Rattle.sk_durable.proofs.Frames.{in_frame, living, marked, next_marked, numbered, off, placed, unsent, AreOf, HasFrames, IsOf, Marked, Placed}
+use Rattle.sk_durable.proofs.Contained.{at_first, first_or_later, from_filter, from_flat, from_map, nothing_there}
+use Rattle.sk_durable.proofs.Contained.{to_filter, to_map, any_has, has_any, has_at}
+use Rattle.sk_durable.proofs.Frames.{in_frame, living, marked, next_marked, numbered, off, placed, unsent, HasFrames}
+use Rattle.sk_durable.proofs.Frames.{IsOf, Marked, Placed}
 use Rattle.sk_durable.proofs.Queued.{stands_densely, synced_upto}
 use Rattle.sk_durable.proofs.Records.{in_frames}
 use Rattle.sk_durable.proofs.Served.{between}
@@ -76,18 +77,6 @@ numbered_has first (xs ∷ sent) x at =
 
 -- ---- commands and their records
 
-record_for : (rs : List Command) (xs : List Marked) (r : Command) → AreOf rs xs → Contains rs r
-    → (x : Marked) × Contains xs x × IsOf r x
-record_for [] [] r all (k, lt, at) = absurd (omega arith)
-record_for [] (x ∷ xs) r all at = absurd all
-record_for (s ∷ rs) [] r all at = absurd all
-record_for (s ∷ rs) (x ∷ xs) r all at =
-    elim (first_or_later s rs r at) as (λ _. (z : Marked) × Contains (x ∷ xs) z × IsOf r z) [
-      | inl same ↦ (x, (0, omega arith, refl), subst (λ c. IsOf c x) same all.0)
-      | inr later ↦ let found = record_for rs xs r all.1 later in
-          (found.0, at_later x xs found.0 found.1, found.2)
-    ]
-
 abbrev asked_or : Asked → Entry → Asked
 asked_or other (Opens batch) = other
 asked_or other (Runs asked) = asked
@@ -111,20 +100,10 @@ logs_it r asked n runs batch = ap is_logged runs ∙ ap (λ (o : Option ℕ). is
   is_there None = false
   is_there (Some m) = true
 
-number_in : (xs : List ℕ) (g : ℕ) → has g xs ≡ true → Contains xs g
-number_in [] g is = absurd (false≢true is)
-number_in (x ∷ xs) g is = elim (or_cases (x == g) (has g xs) is) as (λ _. Contains (x ∷ xs) g) [
-  | inl same ↦ (0, omega arith, eqb-true x g same)
-  | inr later ↦ at_later x xs g (number_in xs g later)
-]
-
 -- ---- the oldest batch
 
 synced_kept : (s : Stage) → s ≡ Synced → (is_kept s ≡ false) × (is_refused s ≡ false)
 synced_kept s is = (ap is_kept is, ap is_refused is)
-
-none_some : (d : Decision) → None ≡ Some d → ⊥
-none_some d is = cc
 
 abbrev logged_in : Decision → Bool
 logged_in (decision.Logged n) = true
@@ -143,15 +122,13 @@ told_number None = 0
 told_number (Some d) = number_of d
 
 stage_of : (s : Stage) (m n : ℕ) → decision_of s m ≡ Some (decision.Logged n) → (s ≡ Synced) × (m ≡ n)
-stage_of Kept m n is = absurd (none_some (decision.Logged n) is)
-stage_of Sent m n is = absurd (none_some (decision.Logged n) is)
 stage_of Synced m n is = (refl, ap told_number is)
-stage_of Failed m n is = absurd (none_some (decision.Logged n) is)
 stage_of Refused m n is = absurd (false≢true (ap is_log is))
+stage_of s m n is = absurd (none-some (decision.Logged n) is)
 
 pub oldest_logged : (bs : List Batch) (n : ℕ) → decided bs ≡ Some (decision.Logged n)
     → (b : Batch) × (rest : List Batch) × (bs ≡ b ∷ rest) × (b.stage ≡ Synced) × (b.number ≡ n)
-oldest_logged [] n is = absurd (none_some (decision.Logged n) is)
+oldest_logged [] n is = absurd (none-some (decision.Logged n) is)
 oldest_logged (b ∷ bs) n is = let s = stage_of b.stage b.number n is in (b, bs, refl, s.0, s.1)
 
 module _ (first : ℕ) (commands : List Command) (decides : List (Event Entry)) (log : List (List RecordView))
@@ -171,14 +148,6 @@ module _ (first : ℕ) (commands : List Command) (decides : List (Event Entry)) 
     | inr later ↦ let more = (of_all (IsBehind b) bs d dense_here.2 later).number in absurd (omega arith)
   ]
 
-  -- no other is as old
-  not_before : (d : Batch) → Contains q.batches d → b.number ≤ d.number
-  not_before d at = elim (first_or_later b bs d (subst (λ (xs : List Batch). Contains xs d) are at)) as
-      (λ _. b.number ≤ d.number) [
-        | inl is ↦ let same = ap (λ (z : Batch). z.number) is in omega arith
-        | inr later ↦ let more = (of_all (IsBehind b) bs d dense_here.2 later).number in omega arith
-      ]
-
   -- what was cut off and is undecided stands behind it
   behind_off : (g : ℕ) → has g (off q.batches) ≡ true → b.number < g
   behind_off g is =
@@ -194,7 +163,7 @@ module _ (first : ℕ) (commands : List Command) (decides : List (Event Entry)) 
       contained_off : (ds : List Batch) (g : ℕ) → has g (off ds) ≡ true
           → (d : Batch) × Contains ds d × (is_refused d.stage ≡ true) × (d.number ≡ g)
       contained_off ds g is =
-          let n = number_in (off ds) g is in
+          let n = has_at (off ds) g is in
           let m = made_of (λ (d : Batch). d.number) (filter (λ (d : Batch). is_refused d.stage) ds) g n in
           let r = from_filter (λ (d : Batch). is_refused d.stage) ds m.0 m.1 in (m.0, r.0, r.1, sym m.2)
 
@@ -213,16 +182,12 @@ module _ (first : ℕ) (commands : List Command) (decides : List (Event Entry)) 
       (sym (list_any-append (λ t. t == g.0) (failed_in decides) (off q.batches)) ∙ g.2)) as (λ _. ⊥) [
         | inl failed ↦ true≢false
             (sym (has_any (λ h. has h (failed_in decides)) r.rests g.0 g.1 failed)
-            ∙ unstruck (is_struck (failed_in decides) r) came.1)
+            ∙ not-true (is_struck (failed_in decides) r) came.1)
         | inr gone ↦
             let low = has_frames.below r came.0 asked b.number g.0 runs batch g.1 in
             let high = behind_off g.0 gone in omega arith
       ]))))
       (logs_it r asked b.number runs batch)
-    where
-      unstruck : (t : Bool) → not t ≡ true → t ≡ false
-      unstruck true e = absurd (false≢true e)
-      unstruck false e = refl
 
   -- what is to be sent is of batches behind it
   not_next : (x : Marked) → Contains (next_marked q) x → b.number < x.0
@@ -280,8 +245,7 @@ module _ (first : ℕ) (commands : List Command) (decides : List (Event Entry)) 
       → (records : List RecordView) × (slice_get log (b.frame - first) ≡ Some records)
       × Contains (map (λ x. x.bytes) records) (log_text asked.work)
   frame_has r asked at runs batch =
-      let found = record_for (living commands (failed_in decides ++ off q.batches))
-      (flat_map (λ xs. xs) has_frames.sent ++ next_marked q) r has_frames.same (is_living r asked at runs batch) in
+      let found = of_at (living commands (failed_in decides ++ off q.batches)) (flat_map (λ xs. xs) has_frames.sent ++ next_marked q) r has_frames.same (is_living r asked at runs batch) in
       let x = found.0 in
       let same = same_batch r x asked b.number found.2 runs batch in
       elim (Contains-append_cases (flat_map (λ xs. xs) has_frames.sent) (next_marked q) x found.1) as

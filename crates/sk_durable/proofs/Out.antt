@@ -1,22 +1,20 @@
 -- What calls on the way out come to, and calls of the log.
-use Rattle.sk_durable.proofs.Names.{◌≡◌, ◌≢◌, ℕ, zero, suc, ◌+◌, ◌-◌, ◌<◌, ◌≤◌, ◌^◌, Bool, true, false, List, [], ◌∷◌}
-use Rattle.sk_durable.proofs.Names.{◌++◌, length, map, drop, take, min, Option, Some, None, Result, Ok, Err, refl, sym}
-use Rattle.sk_durable.proofs.Names.{◌∙◌, ap, subst, inl, inr, arith, ◌⊎◌, nat_le, unwrap_or, IfSome, if◌then◌else◌}
-use Rattle.sk_durable.proofs.Names.{option_map, nat_tests, append-nil, append_cancel_left, map-append, released, Tagged}
-use Rattle.sk_durable.proofs.Names.{said_at, first_of, TakesOut, Parts, WordPost, next_segment, PlacesView, QueueView}
-use Rattle.sk_durable.proofs.Names.{Stage, Synced, Failed, Cut, Queued, Outcome, Channel, Ask, Table, HasServed}
-use Rattle.sk_durable.proofs.Names.{RefusePost, ReplyPost, channel_at, channel_of, is_hung_up, with_channel, Told}
-use Rattle.sk_durable.proofs.Names.{Answer, answer_text, Requests, Refusal, NoChannel, NoTicket, DecisionDue}
-use Rattle.sk_durable.proofs.Names.{channel_refused, Batches, bound, first_answer, has_refusals, was_handed}
-use Rattle.sk_durable.proofs.Names.{was_refused, was_told, Becomes, HasPast, HavePasts, Past, StoreView, Call, Cuts}
-use Rattle.sk_durable.proofs.Names.{Drops, Frees, Hands, Refuses, Stops, Tells, Does, Passes, SameBatches, Serves}
-use Rattle.sk_durable.proofs.Names.{drops, tells, AllLetGo, BringPost, CutPost, DecidePost, FreesIfLast, HandsOver}
-use Rattle.sk_durable.proofs.Names.{HasNoneReady, HoldsTooMany, IsHeldUp, IsReady, IsStray, LearnPost, LetGoPost}
-use Rattle.sk_durable.proofs.Names.{LetsGo, ReadyPost, RefusedPost, StopsThere, Sweeps, TurnPost}
+use Rattle.sk_durable.proofs.Names.{◌≡◌, ◌≢◌, ℕ, ◌+◌, ◌-◌, ◌<◌, ◌≤◌, ◌^◌, Bool, true, false, List, [], ◌∷◌, ◌++◌}
+use Rattle.sk_durable.proofs.Names.{length, drop, take, min, Option, Some, None, Result, Ok, Err, refl, sym, ◌∙◌, ap}
+use Rattle.sk_durable.proofs.Names.{subst, inl, inr, arith, ◌⊎◌, nat_le, unwrap_or, IfSome, if◌then◌else◌, option_map}
+use Rattle.sk_durable.proofs.Names.{nat_tests, append-nil, append_cancel_left, map-append, released, Tagged, said_at}
+use Rattle.sk_durable.proofs.Names.{first_of, TakesOut, Parts, WordPost, next_segment, PlacesView, QueueView, Stage}
+use Rattle.sk_durable.proofs.Names.{Synced, Failed, Cut, Queued, Channel, Ask, Table, HasServed, RefusePost, ReplyPost}
+use Rattle.sk_durable.proofs.Names.{channel_at, with_channel, Told, Answer, answer_text, Requests, Refusal, NoChannel}
+use Rattle.sk_durable.proofs.Names.{NoTicket, DecisionDue, channel_refused, Batches, bound, first_answer, has_refusals}
+use Rattle.sk_durable.proofs.Names.{was_handed, was_refused, was_told, Becomes, HasPast, HavePasts, Past, StoreView}
+use Rattle.sk_durable.proofs.Names.{Call, Cuts, Drops, Frees, Hands, Refuses, Tells, Does, Passes, SameBatches, Serves}
+use Rattle.sk_durable.proofs.Names.{drops, tells, AllLetGo, BringPost, CutPost, FreesIfLast, HandsOver, HasNoneReady}
+use Rattle.sk_durable.proofs.Names.{HoldsTooMany, IsHeldUp, IsReady, IsStray, LearnPost, LetGoPost, LetsGo, ReadyPost}
+use Rattle.sk_durable.proofs.Names.{RefusedPost, StopsThere, Sweeps, TurnPost}
 use Rattle.std.specs.List.{slice_get}
 use Rattle.sk_batches.specs.Calls as queued
 use Rattle.sk_batches.specs.Places as places
-use Rattle.sk_batches.specs.declared.refusal.Refusal.TheVariants as stopping
 use Rattle.sk_batched.specs.Batched as batched
 use Rattle.sk_channels.specs.declared.refusal.Refusal.{Refusal as Channels}
 use Rattle.sk_channels.specs.declared.refusal.Refusal.TheVariants as channels
@@ -300,20 +298,15 @@ none_brought t (Ok unit) a b (answers, m, ticket, serves, ready, refuses) none =
 none_brought t (Err NoChannel) a b ([], m, serves, held, stops) none = stops ∙ sym serves
 none_brought t (Err NoChannel) a b (x ∷ xs, m, serves, held, stops) none =
     let there = tells_there t a m x xs serves in absurd (some_none (channel_at m.channels t) there.0 there.1 held)
-none_brought t (Err Full) a b (answers, m, serves, held, stops) none = absurd (stopped_there t m b stops none)
-none_brought t (Err NoTicket) a b (answers, m, serves, held, stops) none = absurd (stopped_there t m b stops none)
-none_brought t (Err Memory) a b (answers, m, serves, held, stops) none = absurd (stopped_there t m b stops none)
 none_brought t (Err DecisionDue) a b (answers, m, serves, held, stops) none = absurd held
+none_brought t (Err why) a b (answers, m, serves, held, stops) none = absurd (stopped_there t m b stops none)
 
 pub there_brought : (t : ℕ) (brought : Result (Unit {0}) Refusal) (a b : StoreView) (c : Channel)
     → BringPost t brought a b → channel_at b.channels t ≡ Some c → brought ≢ Err NoChannel
 there_brought t (Err NoChannel) a b c (answers, m, serves, held, stops) there is =
     some_none (channel_at m.channels t) c (ap (λ (s : StoreView). channel_at s.channels t) (sym stops) ∙ there) held
 there_brought t (Ok unit) a b c post there is = cc
-there_brought t (Err Full) a b c post there is = cc
-there_brought t (Err NoTicket) a b c post there is = cc
-there_brought t (Err Memory) a b c post there is = cc
-there_brought t (Err DecisionDue) a b c post there is = cc
+there_brought t (Err why) a b c post there is = cc
 
 -- ---- what is let go of
 

@@ -1,17 +1,16 @@
 -- What keys have and what was said is as in a plain store that carries out what stands.
-use Rattle.sk_durable.proofs.Names.{◌≡◌, ◌↔◌, ℕ, zero, suc, ◌+◌, ◌*◌, Bool, true, false, cond, not, List, [], ◌∷◌, ◌++◌}
-use Rattle.sk_durable.proofs.Names.{map, Option, Some, None, inl, inr, refl, sym, ◌∙◌, ap, subst, arith, ◌==◌, T}
-use Rattle.sk_durable.proofs.Names.{non_zero_u16_get, filter, Contains, FinMap, from_sorted, get, get-from_sorted}
-use Rattle.sk_durable.proofs.Names.{false≢true, map-append, Contains-append_cases, Contains-append_right, Tagged, has}
-use Rattle.sk_durable.proofs.Names.{Commit, Event, Fail, Taken, numbers, KeptView, Starts, moves_of, said_at, bytes_cmp}
-use Rattle.sk_durable.proofs.Names.{bytes_exact, bytes_total, capped, LoggedBatch, IsInStep, IsRow, batch_key}
-use Rattle.sk_durable.proofs.Names.{capped_small, new_in_step, IsAsLogged, failed_in, is_struck, kept, resting_among}
-use Rattle.sk_durable.proofs.Names.{said_to, as_logged, part_is_kept, Answer, held, Entries, Out, HoldsSame}
-use Rattle.sk_durable.proofs.Names.{entries_after, entry_after, replies_to, reply_to, served, Entry, Opens, Runs}
-use Rattle.sk_durable.proofs.Names.{calls_plain, Limits, Next, has_now, StoreView, Call, Decides, carried, decided}
-use Rattle.sk_durable.proofs.Names.{decided_by, entries, failed, stands, Command, says_to, AnswersArePlain, HasDone}
-use Rattle.sk_durable.proofs.Names.{IsLogged, MapIsPlain}
-use Rattle.std.proofs.Common.{◌⊎◌}
+use Rattle.sk_durable.proofs.Contained.{first_or_later, at_first, at_later, nothing_there, from_filter, to_filter}
+use Rattle.sk_durable.proofs.Names.{◌≡◌, ◌↔◌, ℕ, ◌+◌, ◌*◌, true, false, cond, not, List, [], ◌∷◌, ◌++◌, map, Option}
+use Rattle.sk_durable.proofs.Names.{Some, None, inl, inr, refl, sym, ◌∙◌, ap, subst, arith, ◌==◌, T, non_zero_u16_get}
+use Rattle.sk_durable.proofs.Names.{filter, Contains, FinMap, from_sorted, get, get-from_sorted, false≢true, map-append}
+use Rattle.sk_durable.proofs.Names.{Contains-append_cases, Contains-append_right, Tagged, has, Commit, Event, Fail}
+use Rattle.sk_durable.proofs.Names.{Taken, numbers, KeptView, Starts, moves_of, said_at, bytes_cmp, bytes_exact}
+use Rattle.sk_durable.proofs.Names.{bytes_total, capped, LoggedBatch, IsInStep, IsRow, batch_key, capped_small}
+use Rattle.sk_durable.proofs.Names.{new_in_step, IsAsLogged, failed_in, is_struck, kept, resting_among, said_to}
+use Rattle.sk_durable.proofs.Names.{as_logged, part_is_kept, Answer, held, Entries, Out, HoldsSame, entries_after}
+use Rattle.sk_durable.proofs.Names.{entry_after, replies_to, reply_to, served, Entry, Opens, Runs, calls_plain, Limits}
+use Rattle.sk_durable.proofs.Names.{Next, has_now, StoreView, Call, Decides, carried, decided, decided_by, entries}
+use Rattle.sk_durable.proofs.Names.{failed, stands, Command, says_to, AnswersArePlain, HasDone, IsLogged, MapIsPlain}
 use Rattle.sk_record.specs.Release as releases
 use Rattle.sk_record.specs.declared.status.Status.TheVariants as status_as
 use Rattle.sk_batched.specs.declared.batched.Outcome.TheVariants.{Refused}
@@ -82,44 +81,6 @@ fails_of (Taken n ∷ es) = fails_of es
 fails_of (Commit g ∷ es) = fails_of es
 fails_of (Fail g ∷ es) = ap (λ gs. g ∷ gs) (fails_of es)
 
--- what lists contain
-module _ {A : Type 0} where
-  first_there : (x : A) (xs : List A) → Contains (x ∷ xs) x
-  first_there x xs = (0, omega arith, refl)
-
-  later_there : (y x : A) (xs : List A) → Contains xs x → Contains (y ∷ xs) x
-  later_there y x xs (k, less, is) = (suc k, omega (arith, less), is)
-
-  first_or_later : (y x : A) (xs : List A) → Contains (y ∷ xs) x → (y ≡ x) ⊎ Contains xs x
-  first_or_later y x xs (zero, less, is) = inl is
-  first_or_later y x xs (suc k, less, is) = inr (k, omega (arith, less), is)
-
-  none_there : {P : Type 0} (x : A) → Contains [] x → P
-  none_there x there = let less = there.1 in absurd (omega (arith, less))
-
-  passes : (p : A → Bool) (xs : List A) (x : A) → p x ≡ true → Contains xs x → Contains (filter p xs) x
-  passes p [] x is there = there
-  passes p (y ∷ xs) x is there =
-      elim (first_or_later y x xs there) [
-        | inl same ↦ subst (λ b. Contains (cond b (y ∷ filter p xs) (filter p xs)) x) (sym (ap p same ∙ is))
-            (subst (λ z. Contains (z ∷ filter p xs) x) (sym same) (first_there x (filter p xs)))
-        | inr more ↦ elim (p y) as (λ b. Contains (cond b (y ∷ filter p xs) (filter p xs)) x) [
-          | true ↦ later_there y x (filter p xs) (passes p xs x is more)
-          | false ↦ passes p xs x is more
-        ]
-      ]
-
-  passed : (p : A → Bool) (xs : List A) (x : A) → Contains (filter p xs) x → Contains xs x
-  passed p [] x there = there
-  passed p (y ∷ xs) x there =
-      elim (p y) as (λ b. Contains (cond b (y ∷ filter p xs) (filter p xs)) x → Contains (y ∷ xs) x) [
-        | true ↦ λ h. elim (first_or_later y x (filter p xs) h) [
-          | inl same ↦ subst (λ z. Contains (z ∷ xs) x) (sym same) (first_there x xs)
-          | inr more ↦ later_there y x xs (passed p xs x more)
-        ]
-        | false ↦ λ h. later_there y x xs (passed p xs x h)
-      ] there
-
 -- a batch was told as logged just where it is among the decisions
 abbrev commit_of : ℕ → Event Entry → ℕ
 commit_of g (Commit h) = h
@@ -130,33 +91,33 @@ fail_commit g h is = cc
 
 told_logged : (c : Call) (n : ℕ) → Contains (decided_by c) (Commit n) → c ≡ Decides (LoggedBatch n)
 told_logged (Decides (LoggedBatch m)) n there =
-    elim (first_or_later (Commit m) (Commit n) [] there) [
+    elim (first_or_later (Commit m) [] (Commit n) there) [
       | inl same ↦ ap (λ k. Decides (LoggedBatch k)) (ap (commit_of m) same)
-      | inr more ↦ none_there (Commit n) more
+      | inr more ↦ nothing_there (Commit n) more
     ]
 told_logged (Decides (Refused m keys)) n there =
-    elim (first_or_later (Fail m) (Commit n) [] there) [
+    elim (first_or_later (Fail m) [] (Commit n) there) [
       | inl same ↦ fail_commit m n same
-      | inr more ↦ none_there (Commit n) more
+      | inr more ↦ nothing_there (Commit n) more
     ]
-told_logged other n there = none_there (Commit n) there
+told_logged other n there = nothing_there (Commit n) there
 
 pub logged_told : (cs : List Call) (n : ℕ) → Contains cs (Decides (LoggedBatch n)) → Contains (decided cs) (Commit n)
-logged_told [] n there = none_there (Decides (LoggedBatch n)) there
+logged_told [] n there = nothing_there (Decides (LoggedBatch n)) there
 logged_told (c ∷ cs) n there =
-    elim (first_or_later c (Decides (LoggedBatch n)) cs there) [
+    elim (first_or_later c cs (Decides (LoggedBatch n)) there) [
       | inl same ↦ subst (λ d. Contains (decided_by d ++ decided cs) (Commit n)) (sym same)
-          (first_there (Commit n) (decided cs))
+          (at_first (Commit n) (decided cs))
       | inr more ↦ Contains-append_right (decided_by c) (decided cs) (Commit n) (logged_told cs n more)
     ]
 
 pub logged_by : (cs : List Call) (n : ℕ) → Contains (decided cs) (Commit n) → Contains cs (Decides (LoggedBatch n))
-logged_by [] n there = none_there (Commit n) there
+logged_by [] n there = nothing_there (Commit n) there
 logged_by (c ∷ cs) n there =
     elim (Contains-append_cases (decided_by c) (decided cs) (Commit n) there) [
       | inl now ↦ subst (λ d. Contains (d ∷ cs) (Decides (LoggedBatch n))) (sym (told_logged c n now))
-          (first_there (Decides (LoggedBatch n)) cs)
-      | inr more ↦ later_there c (Decides (LoggedBatch n)) cs (logged_by cs n more)
+          (at_first (Decides (LoggedBatch n)) cs)
+      | inr more ↦ at_later c cs (Decides (LoggedBatch n)) (logged_by cs n more)
     ]
 
 module _ (limits : Limits) (next : Next) (start : Entries) (cs : List Call) (s : StoreView)
@@ -198,7 +159,7 @@ module _ (limits : Limits) (next : Next) (start : Entries) (cs : List Call) (s :
   holds_start : (key : List ℕ) → get map_of key ≡ held start key
   holds_start key = get-from_sorted bytes_cmp start key (subst T (sym done.new.in_order) tt)
 
-  starts : Starts served map_of (machine first.batched.kernel (λ g. None))
+  pub starts : Starts served map_of (machine first.batched.kernel (λ g. None))
   starts = record {
     look = λ k. done.new.look k ∙ sym (holds_start k);
     logs = done.new.log;
@@ -233,9 +194,8 @@ module _ (limits : Limits) (next : Next) (start : Entries) (cs : List Call) (s :
   commits_are n = (
     λ there. logged_by cs n
         (subst (λ es. Contains es (Commit n)) led.decides_are
-        (passes is_decision (moves_of led.moves) (Commit n) refl there)),
-    λ there. passed is_decision (moves_of led.moves) (Commit n)
-        (subst (λ es. Contains es (Commit n)) (sym led.decides_are) (logged_told cs n there)),
+        (to_filter is_decision (moves_of led.moves) (Commit n) there refl)),
+    λ there. (from_filter is_decision (moves_of led.moves) (Commit n) (subst (λ es. Contains es (Commit n)) (sym led.decides_are) (logged_told cs n there))).0,
   )
 
   pub logged_is : (n : ℕ) → IsLogged cs n ↔ (led.status n ≡ Some status_as.Committed)

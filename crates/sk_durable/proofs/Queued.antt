@@ -11,11 +11,9 @@ use Rattle.sk_durable.proofs.Names.{HangsUp, Frees, Hears, Carries, Declines, Te
 use Rattle.sk_durable.proofs.Names.{Sends, Turns, Learns, Cuts, Stops, Decides, Rests, Does, Serves, synced, synced_by}
 use Rattle.sk_durable.proofs.Names.{synced_from, HasDone, Limits, Next, Entries, capped, non_zero_u16_get}
 use Rattle.std.specs.Prelude.{◌-◌}
-use Rattle.sk_batches.specs.declared.batch.Stage.TheVariants as stage_as
 use Rattle.sk_batches.specs.declared.refusal.Refusal.TheVariants as why
-use Rattle.sk_batches.specs.Runs.{has}
+use Rattle.sk_batches.specs.Runs.{has, Runs}
 use Rattle.sk_batches.specs.Runs as queues
-use Rattle.sk_batches.specs.Runs.{Runs}
 use Rattle.sk_batched.specs.declared.batched.Outcome.TheVariants.{Refused}
 use Rattle.sk_durable.specs.declared.refusal.NotDone.TheVariants as undone
 
@@ -37,11 +35,8 @@ no_frame_why : (stopped none busy numberless short : Bool)
     → (if stopped then Some why.Stopped else if none then Some why.Nothing else if busy then Some why.Busy
     else if numberless then Some why.NoNumber else if short then Some why.Short else None) ≡ None
     → numberless ≡ false
-no_frame_why true none busy numberless short is = cc
-no_frame_why false true busy numberless short is = cc
-no_frame_why false false true numberless short is = cc
-no_frame_why false false false true short is = cc
 no_frame_why false false false false short is = refl
+no_frame_why stopped none busy numberless short is = cc
 
 none_first : (o p : Option Why) → first_cause o p ≡ None → o ≡ None
 none_first None p is = refl
@@ -65,17 +60,14 @@ awaited true here is = cc
 awaited false true is = refl
 awaited false false is = cc
 
-draws_same : (b c : Batches) → MayDraw b c → c.queue ≡ b.queue
+pub draws_same : (b c : Batches) → MayDraw b c → c.queue ≡ b.queue
 draws_same b c (inl stays) = stays.queue
 draws_same b c (inr draws) = draws.1.1
 
-not_done_same : (why : NotDone) (b : Batches) (asker : Asker) (work : Work) (c : Batches)
+pub not_done_same : (why : NotDone) (b : Batches) (asker : Asker) (work : Work) (c : Batches)
     → IsNotDone why b asker work c → c.queue ≡ b.queue
 not_done_same undone.Memory b asker work c draws = draws_same b c draws
-not_done_same undone.LongKey b asker work c (known, knows, against, stays) = stays.queue
-not_done_same undone.Stopped b asker work c (known, knows, against, stays) = stays.queue
-not_done_same undone.Full b asker work c (known, knows, against, stays) = stays.queue
-not_done_same undone.TooMany b asker work c (known, knows, against, stays) = stays.queue
+not_done_same other b asker work c (known, knows, against, stays) = stays.queue
 
 -- from one store to the next
 module _ (a m : StoreView) (story : Story) (synced : List ℕ) (s : StoreView) where
@@ -150,12 +142,8 @@ next a m story (Learns frame Failed) cs s (stages, known, is) rest =
           (λ (b : StoreView). b.batched.queue) is,
     ) refl
     (rest story.synced)
-next a m story (Learns frame stage_as.Kept) cs s (inl is, known, same) rest = cc
-next a m story (Learns frame stage_as.Kept) cs s (inr is, known, same) rest = cc
-next a m story (Learns frame stage_as.Sent) cs s (inl is, known, same) rest = cc
-next a m story (Learns frame stage_as.Sent) cs s (inr is, known, same) rest = cc
-next a m story (Learns frame stage_as.Refused) cs s (inl is, known, same) rest = cc
-next a m story (Learns frame stage_as.Refused) cs s (inr is, known, same) rest = cc
+next a m story (Learns frame other) cs s (inl is, known, same) rest = cc
+next a m story (Learns frame other) cs s (inr is, known, same) rest = cc
 next a m story (Cuts cut) cs s (going, due, (segment, more, is)) rest =
     one_first a.batched.queue m.batched.queue story (queues.Cuts cut) _ s
     (due, ap (λ (b : StoreView). b.batched.queue) is)

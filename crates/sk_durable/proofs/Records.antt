@@ -4,22 +4,21 @@ use Rattle.sk_durable.proofs.Names.{Option, Some, None, inl, inr, refl, sym, ◌
 use Rattle.sk_durable.proofs.Names.{list_any, true≢false, eq-eqb, eqb-true, false_from_ne_true, or_right, append-nil}
 use Rattle.sk_durable.proofs.Names.{is_marked, has, Commit, Fail, is_struck, Batch, Stage, after_cut, after_take}
 use Rattle.sk_durable.proofs.Names.{after_word, decided_batch, decision_of, is_decided, is_refused, left, next_records}
-use Rattle.sk_durable.proofs.Names.{QueueView, RecordView, Logged, is_touched, Answer, Work, log_text, may_write_some}
-use Rattle.sk_durable.proofs.Names.{Entries, Asked, Runs, Limits, Next, Asker, NotDone, deed_now, Batches, IsNotDone}
-use Rattle.sk_durable.proofs.Names.{IsTold, MayDraw, TakenIn, StoreView, Call, Connects, HangsUp, Frees, Hears, Carries}
-use Rattle.sk_durable.proofs.Names.{Declines, Tells, Drops, Refuses, Hands, Draws, Sends, Turns, Learns, Cuts, Stops}
-use Rattle.sk_durable.proofs.Names.{Decides, Rests, Does, Serves, carried, carried_by, decided, decided_by, failed}
-use Rattle.sk_durable.proofs.Names.{frames, frames_by, frames_from, synced, synced_by, synced_from, Command, HasDone}
+use Rattle.sk_durable.proofs.Names.{QueueView, RecordView, Logged, is_touched, Answer, log_text, may_write_some}
+use Rattle.sk_durable.proofs.Names.{Entries, Asked, Runs, Limits, Next, deed_now, Batches, IsTold, TakenIn, StoreView}
+use Rattle.sk_durable.proofs.Names.{Call, Connects, HangsUp, Frees, Hears, Carries, Declines, Tells, Drops, Refuses}
+use Rattle.sk_durable.proofs.Names.{Hands, Draws, Sends, Turns, Learns, Cuts, Stops, Decides, Rests, Does, Serves}
+use Rattle.sk_durable.proofs.Names.{carried, carried_by, decided, decided_by, failed, frames, frames_by, frames_from}
+use Rattle.sk_durable.proofs.Names.{synced, synced_by, synced_from, Command, HasDone, none-some, same_Some}
 use Rattle.std.specs.Prelude.{is_some}
 use Rattle.sk_batches.specs.declared.batch.Stage.TheVariants as stage_as
 use Rattle.sk_batches.specs.declared.queue.Decision.TheVariants as decision
 use Rattle.sk_batched.specs.declared.batched.Outcome.TheVariants.{Refused}
-use Rattle.sk_durable.specs.declared.refusal.NotDone.TheVariants as undone
 use Rattle.sk_durable.proofs.Contained.{at_first}
 use Rattle.sk_durable.proofs.Cuts.{cuts_step}
 use Rattle.sk_durable.proofs.Framed.{no_frames, with_logged, with_logged_batch, with_refused_batch, with_sent, with_stop, with_told, with_unlogged}
 use Rattle.sk_durable.proofs.Frames.{off, HasFrames, InFrames, IsBelow, IsOf}
-use Rattle.sk_durable.proofs.Queued.{cut_is_range, stands_densely, synced_upto}
+use Rattle.sk_durable.proofs.Queued.{cut_is_range, not_done_same, stands_densely, synced_upto}
 use Rattle.sk_durable.proofs.Served.{carried_behind, decided_behind, serves_behind}
 use Rattle.sk_durable.proofs.Standing.{drawn, unstruck}
 
@@ -45,19 +44,13 @@ decided_push cs c = decided_behind cs (c ∷ []) ∙ ap (λ es. decided cs ++ es
 
 logged_stage : (s : Stage) (number n : ℕ) → decision_of s number ≡ Some (decision.Logged n) → (s ≡ stage_as.Synced)
     × (number ≡ n)
-logged_stage stage_as.Kept number n is = cc
-logged_stage stage_as.Sent number n is = cc
 logged_stage stage_as.Synced number n is = (refl, cc)
-logged_stage stage_as.Failed number n is = cc
-logged_stage stage_as.Refused number n is = cc
+logged_stage s number n is = cc
 
 refused_stage : (s : Stage) (number n : ℕ) → decision_of s number ≡ Some (decision.Refused n)
     → (s ≡ stage_as.Refused) × (number ≡ n)
-refused_stage stage_as.Kept number n is = cc
-refused_stage stage_as.Sent number n is = cc
-refused_stage stage_as.Synced number n is = cc
-refused_stage stage_as.Failed number n is = cc
 refused_stage stage_as.Refused number n is = (refl, cc)
+refused_stage s number n is = cc
 
 pub record IsOldest (bs : List Batch) (stage : Stage) (n : ℕ) : Type 0 where
   pub oldest : Batch
@@ -82,18 +75,6 @@ without_oldest : (b : Batch) (bs : List Batch) (stage : Stage) → b.stage ≡ s
 without_oldest b bs stage is decides = ap (λ t. cond t bs (b ∷ bs)) (ap is_decided is ∙ decides)
 
 -- ---- nothing is done
-
-may_draw_same : (b c : Batches) → MayDraw b c → c.queue ≡ b.queue
-may_draw_same b c (inl stays) = stays.queue
-may_draw_same b c (inr draws) = draws.1.1
-
-not_done_same : (why : NotDone) (b : Batches) (asker : Asker) (work : Work) (c : Batches)
-    → IsNotDone why b asker work c → c.queue ≡ b.queue
-not_done_same undone.Memory b asker work c draws = may_draw_same b c draws
-not_done_same undone.LongKey b asker work c (known, knows, against, stays) = stays.queue
-not_done_same undone.Stopped b asker work c (known, knows, against, stays) = stays.queue
-not_done_same undone.Full b asker work c (known, knows, against, stays) = stays.queue
-not_done_same undone.TooMany b asker work c (known, knows, against, stays) = stays.queue
 
 -- ---- a command's record
 
@@ -135,12 +116,6 @@ own_beside t n g =
 
 same_runs : (a b : Asked) → Runs a ≡ Runs b → a ≡ b
 same_runs a b is = cc
-
-same_some : (a b : ℕ) → Some a ≡ Some b → a ≡ b
-same_some a b is = cc
-
-none_some : {P : Type 0} (n : ℕ) → None ≡ Some n → P
-none_some n is = cc
 
 module _ (limits : Limits) (origin : Next) (start : Entries) (cs : List Call) (m : StoreView)
     (done : HasDone limits origin start cs m)
@@ -185,8 +160,8 @@ module _ (limits : Limits) (origin : Next) (start : Entries) (cs : List Call) (m
         let r : Command = ran t asked answer rests in
         let free : asked.batch ≡ None = told.batch ∙ ap (λ b. cond b (Some seen.queue.number) None) reads in
         let under : IsBelow r =
-        λ other n g runs is here. none_some n (sym free ∙ ap (λ (a : Asked). a.batch) (same_runs asked other runs)
-        ∙ is) in
+        λ other n g runs is here. absurd (none-some n (sym free ∙ ap (λ (a : Asked). a.batch) (same_runs asked other runs)
+        ∙ is)) in
         subst (λ es. HasFrames origin.frame (carried cs ++ r ∷ []) es (frames origin.frame cs)
         (synced cs) s.batched.queue) (sym (append-nil (decided cs)))
         (subst (HasFrames origin.frame (carried cs ++ r ∷ []) (decided cs) (frames origin.frame cs) (synced cs))
@@ -220,8 +195,7 @@ module _ (limits : Limits) (origin : Next) (start : Entries) (cs : List Call) (m
         } in
         let under : IsBelow r =
         λ other n g runs at here.
-        subst (λ k. g ≤ k) (same_some q.number n
-        (sym own ∙ ap (λ (a : Asked). a.batch) (same_runs asked other runs) ∙ at)) (upto g here) in
+        subst (λ k. g ≤ k) (same_Some q.number n (sym own ∙ ap (λ (a : Asked). a.batch) (same_runs asked other runs) ∙ at)) (upto g here) in
         subst (λ es. HasFrames origin.frame (carried cs ++ r ∷ []) es (frames origin.frame cs)
         (synced cs) s.batched.queue) (sym (append-nil (decided cs)))
         (subst (HasFrames origin.frame (carried cs ++ r ∷ []) (decided cs) (frames origin.frame cs) (synced cs))
@@ -309,12 +283,8 @@ module _ (limits : Limits) (origin : Next) (start : Entries) (cs : List Call) (m
       (ap (λ (b : StoreView). b.batched.queue) is)
       (with_told origin.frame (carried cs) (decided cs) (frames origin.frame cs)
       (synced cs) q so frame stage_as.Failed refl refl refl refl (synced cs) (λ n here. here))
-  after (Learns frame stage_as.Kept) s (inl is, known, same) = cc
-  after (Learns frame stage_as.Kept) s (inr is, known, same) = cc
-  after (Learns frame stage_as.Sent) s (inl is, known, same) = cc
-  after (Learns frame stage_as.Sent) s (inr is, known, same) = cc
-  after (Learns frame stage_as.Refused) s (inl is, known, same) = cc
-  after (Learns frame stage_as.Refused) s (inr is, known, same) = cc
+  after (Learns frame other) s (inl is, known, same) = cc
+  after (Learns frame other) s (inr is, known, same) = cc
   after (Cuts cut) s (going, due, (segment, more, is)) =
       changed (frames_by origin.frame (Cuts cut) (frames origin.frame cs)) (synced_by (Cuts cut) (synced cs))
       (after_cut cut q) s.batched.queue (ap (λ (b : StoreView). b.batched.queue) is)

@@ -1,16 +1,16 @@
 -- What is read of the first frames is what the first commands do.
-use Rattle.sk_durable.proofs.Names.{◌≡◌, ℕ, zero, suc, ◌+◌, ◌^◌, ◌<◌, ◌≤◌, Bool, true, false, not, List, [], ◌∷◌, ◌++◌}
+use Rattle.sk_durable.proofs.Names.{◌≡◌, ℕ, zero, suc, ◌+◌, ◌^◌, ◌<◌, ◌≤◌, true, false, not, List, [], ◌∷◌, ◌++◌}
 use Rattle.sk_durable.proofs.Names.{flat_map, length, map, take, drop, Option, Some, None, inl, inr, refl, sym, ◌∙◌, ap}
-use Rattle.sk_durable.proofs.Names.{subst, append_assoc, arith, ◌==◌, filter, list_any, Contains, true≢false}
-use Rattle.sk_durable.proofs.Names.{false≢true, eq-eqb, eqb-true, false_from_ne_true, or_cases, or_left, or_right}
-use Rattle.sk_durable.proofs.Names.{map-append, take-append-drop, take-map, take_at, flat_map-append}
-use Rattle.sk_durable.proofs.Names.{Contains-append_cases, Contains-append_left, Contains-append_right, list_any-append}
-use Rattle.sk_durable.proofs.Names.{has, Commit, Event, failed_in, is_struck, kept, Batch, is_refused, QueueView}
-use Rattle.sk_durable.proofs.Names.{payload, RecordView, Null, Work, Say, log_text, AreAsked, IsAsked, Entries}
-use Rattle.sk_durable.proofs.Names.{payloads_of, works_in, AreLogged, SayAll, after_work, after_works, restore}
+use Rattle.sk_durable.proofs.Names.{subst, append_assoc, arith, ◌==◌, filter, Contains, true≢false, false≢true}
+use Rattle.sk_durable.proofs.Names.{false_from_ne_true, or_cases, map-append, take-append-drop, take-map, take_at}
+use Rattle.sk_durable.proofs.Names.{flat_map-append, Contains-append_cases, Contains-append_left, Contains-append_right}
+use Rattle.sk_durable.proofs.Names.{list_any-append, has, Commit, Event, failed_in, is_struck, kept, Batch, is_refused}
+use Rattle.sk_durable.proofs.Names.{QueueView, payload, RecordView, Null, Work, Say, log_text, AreAsked, IsAsked}
+use Rattle.sk_durable.proofs.Names.{Entries, payloads_of, works_in, AreLogged, SayAll, after_work, after_works, restore}
 use Rattle.sk_durable.proofs.Names.{short_is_within, entries_after, entry_after, Asked, Entry, Opens, Runs, is_logged}
-use Rattle.sk_durable.proofs.Names.{Command}
-use Rattle.sk_durable.proofs.Contained.{at_first, at_later, first_or_later, from_filter, from_flat, from_map, nothing_there, to_filter, to_map}
+use Rattle.sk_durable.proofs.Names.{Command, same_Some, not-true}
+use Rattle.sk_durable.proofs.Contained.{at_first, at_later, first_or_later, from_filter, from_flat, from_map}
+use Rattle.sk_durable.proofs.Contained.{nothing_there, to_filter, to_map, any_has, has_any, has_at}
 use Rattle.sk_durable.proofs.Frames.{living, marked, next_marked, off, placed, unsent, AreOf, HasFrames, IsOf, Marked, Placed}
 use Rattle.sk_durable.proofs.Marked.{numbered_behind, placed_of, unsent_of}
 
@@ -165,27 +165,6 @@ entries_works (r ∷ rs) start all =
 
 -- ---- guesses
 
-pub any_in : (p : ℕ → Bool) (gs : List ℕ) → list_any p gs ≡ true → (g : ℕ) × (has g gs ≡ true) × (p g ≡ true)
-any_in p [] is = absurd (false≢true is)
-any_in p (g ∷ gs) is = elim (or_cases (p g) (list_any p gs) is) [
-  | inl here ↦ (g, or_left (g == g) (has g gs) (eq-eqb g g refl), here)
-  | inr later ↦ let found = any_in p gs later in (found.0, or_right (g == found.0) (has found.0 gs) found.1, found.2)
-]
-
-pub in_any : (p : ℕ → Bool) (gs : List ℕ) (g : ℕ) → has g gs ≡ true → p g ≡ true → list_any p gs ≡ true
-in_any p [] g is passes = absurd (false≢true is)
-in_any p (h ∷ gs) g is passes = elim (or_cases (h == g) (has g gs) is) [
-  | inl here ↦ or_left (p h) (list_any p gs) (ap p (eqb-true h g here) ∙ passes)
-  | inr later ↦ or_right (p h) (list_any p gs) (in_any p gs g later passes)
-]
-
-pub has_at : (ns : List ℕ) (g : ℕ) → has g ns ≡ true → Contains ns g
-has_at [] g is = absurd (false≢true is)
-has_at (n ∷ ns) g is = elim (or_cases (n == g) (has g ns) is) [
-  | inl here ↦ subst (Contains (n ∷ ns)) (eqb-true n g here) (at_first n ns)
-  | inr later ↦ at_later n ns g (has_at ns g later)
-]
-
 -- a batch that was cut off is one of the queue's
 pub off_at : (bs : List Batch) (g : ℕ) → has g (off bs) ≡ true → (b : Batch) × Contains bs b × (b.number ≡ g)
 off_at bs g is =
@@ -195,13 +174,6 @@ off_at bs g is =
 
 same_runs : (a b : Asked) → Runs a ≡ Runs b → a ≡ b
 same_runs a b is = cc
-
-same_some : (a b : ℕ) → Some a ≡ Some b → a ≡ b
-same_some a b is = cc
-
-not_back : (t : Bool) → not t ≡ true → t ≡ false
-not_back true e = absurd (false≢true e)
-not_back false e = refl
 
 module _ (first : ℕ) (cm : List Command) (ds : List (Event Entry)) (log : List (List RecordView)) (told : List ℕ)
     (q : QueueView)
@@ -224,12 +196,12 @@ module _ (first : ℕ) (cm : List Command) (ds : List (Event Entry)) (log : List
       let old = from_filter (λ (c : Command). not (is_struck fails c)) cm r at in
       let none : is_struck (fails ++ off q.batches) r ≡ false =
       false_from_ne_true (is_struck (fails ++ off q.batches) r) (λ struck.
-      let found = any_in (λ g. has g (fails ++ off q.batches)) r.rests struck in
+      let found = any_has (λ g. has g (fails ++ off q.batches)) r.rests struck in
       let g = found.0 in
       elim (or_cases (has g fails) (has g (off q.batches))
       (sym (list_any-append (λ t. t == g) fails (off q.batches)) ∙ found.2)) [
-        | inl failed ↦ true≢false (sym (in_any (λ h. has h fails) r.rests g found.1 failed)
-            ∙ not_back (is_struck fails r) old.1)
+        | inl failed ↦ true≢false (sym (has_any (λ h. has h fails) r.rests g found.1 failed)
+            ∙ not-true (is_struck fails r) old.1)
         | inr cut ↦
             let b = off_at q.batches g cut in
             let behind = (so.settled batch logged).1 b.0 b.1 in
@@ -346,7 +318,6 @@ module _ (first : ℕ) (cm : List Command) (ds : List (Event Entry)) (log : List
               (of_all (drop n split.parts) (drop n so.sent) (of_behind n split.parts so.sent split.each)) split.last in
               let x = of_at back (all_in (drop n so.sent) ++ next_marked q) r.0 all behind in
               let same : batch ≡ x.0.0 =
-              same_some batch x.0.0
-              (sym is ∙ ap (λ (b : Asked). b.batch) (same_runs a x.2.asked (sym r.2 ∙ x.2.entry)) ∙ x.2.batch) in
+              same_Some batch x.0.0 (sym is ∙ ap (λ (b : Asked). b.batch) (same_runs a x.2.asked (sym r.2 ∙ x.2.entry)) ∙ x.2.batch) in
               absurd (none_behind k unsynced upto x.0 batch same logged x.1)
         ]

@@ -1,4 +1,5 @@
 -- A new store that has carried out work which is in the log already is a new one with what the work leaves.
+use Rattle.sk_durable.proofs.Tagged.{ok_or}
 use Rattle.sk_durable.proofs.Names.{◌≡◌, ℕ, Bool, true, false, cond, List, [], ◌∷◌, ◌++◌, Option, Some, None, Result}
 use Rattle.sk_durable.proofs.Names.{Ok, Err, is_some, inl, inr, refl, sym, ap, ◌∙◌, subst, ◌==◌, filter, eq-eqb}
 use Rattle.sk_durable.proofs.Names.{eqb-true, false≢true, true≢false, true_from_ne_false, is_in, MarkedEffect}
@@ -47,10 +48,6 @@ written_is (w ∷ ws) has key =
     ∙ written_is ws (with_value w.0 w.1 has) key
 
 -- ---- a step in a kernel in which no guess is undecided and nothing waits
-
-abbrev ok_or : {A B : Type 0} → A → Result A B → A
-ok_or d (Ok x) = x
-ok_or d (Err y) = d
 
 not_noted : (b : Bool) (v : Option (List ℕ)) → noted b [] v [] ≡ []
 not_noted true v = refl

@@ -51,10 +51,7 @@ module _ (told : Out) (a : StoreView) (status : ℕ → Option Status)
   not_done : (s : StoreView) (why : NotDone) (asker : Asker) (work : Work)
       → IsNotDone why a.batched asker work s.batched → Led told told x [] [] s
   not_done s undone.Memory asker work draws = may_draw s draws
-  not_done s undone.LongKey asker work (known_keys, knows, against, stays) = still told a status are known s stays
-  not_done s undone.Stopped asker work (known_keys, knows, against, stays) = still told a status are known s stays
-  not_done s undone.Full asker work (known_keys, knows, against, stays) = still told a status are known s stays
-  not_done s undone.TooMany asker work (known_keys, knows, against, stays) = still told a status are known s stays
+  not_done s other asker work (known_keys, knows, against, stays) = still told a status are known s stays
 
 -- what was taken out after a call
 abbrev pub outs_by : Call → Out → Out

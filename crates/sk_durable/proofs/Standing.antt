@@ -1,17 +1,17 @@
 -- A command that is carried out rests on nothing that failed, and on guesses that were drawn alone.
-use Rattle.sk_durable.proofs.Names.{◌≡◌, ℕ, ◌<◌, ◌≤◌, Bool, true, false, not, List, [], ◌∷◌, ◌++◌, length, map, Option}
-use Rattle.sk_durable.proofs.Names.{Some, None, inl, inr, refl, sym, ◌∙◌, ap, subst, append_assoc, arith, T, filter}
-use Rattle.sk_durable.proofs.Names.{fold, Contains, FinMap, from_sorted, get-from_sorted, false≢true, append-nil}
-use Rattle.sk_durable.proofs.Names.{append_cancel_left, length-map, map-append, filter-append, Contains-append_right}
-use Rattle.sk_durable.proofs.Names.{fold-append, has, record_after, record_of, Commit, Event, Fail, Taken, Status}
-use Rattle.sk_durable.proofs.Names.{Starts, moves_of, told_more, DoesMove, TellsOut, said_at, bytes_cmp, bytes_exact}
-use Rattle.sk_durable.proofs.Names.{bytes_total, IsAsLogged, failed_in, is_struck, kept, Logs, as_logged, Entries, Out}
-use Rattle.sk_durable.proofs.Names.{served, Entry, Limits, Next, StoreView, Call, Does, carried, carried_by, decided}
-use Rattle.sk_durable.proofs.Names.{decided_by, failed, Command, HasDone}
+use Rattle.sk_durable.proofs.Names.{◌≡◌, ℕ, ◌<◌, ◌≤◌, true, false, not, List, [], ◌∷◌, ◌++◌, length, map, Option, Some}
+use Rattle.sk_durable.proofs.Names.{None, inl, inr, refl, sym, ◌∙◌, ap, subst, append_assoc, arith, filter, fold}
+use Rattle.sk_durable.proofs.Names.{Contains, FinMap, from_sorted, append-nil, append_cancel_left, length-map}
+use Rattle.sk_durable.proofs.Names.{map-append, filter-append, Contains-append_right, fold-append, has, record_after}
+use Rattle.sk_durable.proofs.Names.{record_of, Commit, Event, Fail, Taken, Status, moves_of, told_more, DoesMove}
+use Rattle.sk_durable.proofs.Names.{TellsOut, bytes_exact, bytes_total, IsAsLogged, failed_in, is_struck, kept, Logs}
+use Rattle.sk_durable.proofs.Names.{as_logged, Entries, Out, served, Entry, Limits, Next, StoreView, Call, Does}
+use Rattle.sk_durable.proofs.Names.{carried, carried_by, decided, decided_by, failed, Command, HasDone, not-true}
+use Rattle.sk_durable.proofs.Names.{failed_more}
 use Rattle.sk_record.specs.declared.status.Status.TheVariants as status_as
 use Rattle.sk_durable.proofs.Contained.{from_filter, none_lost, to_filter}
 use Rattle.sk_durable.proofs.Machines.{is_decision, machine, runs_work, Led, Machine, Move}
-use Rattle.sk_durable.proofs.Plain.{as_log, fails_are, led, outs}
+use Rattle.sk_durable.proofs.Plain.{as_log, fails_are, led, outs, starts}
 use Rattle.sk_durable.proofs.Served.{call, outs_by}
 
 moves_both : (cs ds : List Move) → moves_of (cs ++ ds) ≡ moves_of cs ++ moves_of ds
@@ -19,17 +19,10 @@ moves_both [] ds = refl
 moves_both (DoesMove e ∷ cs) ds = ap (λ es. e ∷ es) (moves_both cs ds)
 moves_both (TellsOut t output ∷ cs) ds = moves_both cs ds
 
-failed_both : (es fs : List (Event Entry)) → failed_in (es ++ fs) ≡ failed_in es ++ failed_in fs
-failed_both [] fs = refl
-failed_both (Taken n ∷ es) fs = failed_both es fs
-failed_both (Commit g ∷ es) fs = failed_both es fs
-failed_both (Fail g ∷ es) fs = ap (λ gs. g ∷ gs) (failed_both es fs)
-
 none_failed : (es : List (Event Entry)) → filter is_decision es ≡ [] → failed_in es ≡ []
 none_failed [] none = refl
 none_failed (Taken n ∷ es) none = none_failed es none
-none_failed (Commit g ∷ es) none = cc
-none_failed (Fail g ∷ es) none = cc
+none_failed s none = cc
 
 -- what is logged of calls behind others
 logs_both : (cs ds : List Move) (told mid last : Out) (x y z : Machine) (one two : List Command)
@@ -71,10 +64,6 @@ module _ (start : FinMap served.order (List ℕ)) where
 some_none : {P : Type 0} (o : Option Status) (st : Status) → o ≡ Some st → o ≡ None → P
 some_none o st some none = cc
 
-not_back : (b : Bool) → not b ≡ true → b ≡ false
-not_back true e = absurd (false≢true e)
-not_back false e = refl
-
 module _ (limits : Limits) (next : Next) (start : Entries) (cs : List Call) (m : StoreView)
     (done : HasDone limits next start cs m)
     (c : Call) (s : StoreView) (does : Does m c s) (undecided : decided_by c ≡ []) where
@@ -83,15 +72,6 @@ module _ (limits : Limits) (next : Next) (start : Entries) (cs : List Call) (m :
 
   abbrev map_of : FinMap served.order (List ℕ)
   map_of = from_sorted start
-
-  starts : Starts served map_of (machine first.batched.kernel (λ g. None))
-  starts = record {
-    look = λ k. done.new.look k ∙ sym (get-from_sorted bytes_cmp start k (subst T (sym done.new.in_order) tt));
-    logs = done.new.log;
-    opens = done.new.opens;
-    status = λ g. refl;
-    texts = λ t. ap (λ xs. said_at xs t) done.new.said;
-  }
 
   abbrev told : Out
   told = outs limits next start cs m done
@@ -113,14 +93,14 @@ module _ (limits : Limits) (next : Next) (start : Entries) (cs : List Call) (m :
       (machine s.batched.kernel two.status)
   both_as = as_logged served bytes_total bytes_exact (λ w. refl) map_of (machine first.batched.kernel (λ g. None))
       (machine s.batched.kernel two.status)
-      (one.moves ++ two.moves) (one.log ++ two.log) (outs_by c told) starts both_logged
+      (one.moves ++ two.moves) (one.log ++ two.log) (outs_by c told) (starts limits next start cs m done) both_logged
 
   abbrev fails : List ℕ
   fails = failed_in (moves_of one.moves)
 
   same_fails : failed_in (moves_of (one.moves ++ two.moves)) ≡ fails
   same_fails =
-      ap failed_in (moves_both one.moves two.moves) ∙ failed_both (moves_of one.moves) (moves_of two.moves)
+      ap failed_in (moves_both one.moves two.moves) ∙ failed_more (moves_of one.moves) (moves_of two.moves)
       ∙ ap (λ gs. fails ++ gs) (none_failed (moves_of two.moves) (two.decides_are ∙ undecided)) ∙ append-nil fails
 
   abbrev entry_of : List Command → List Entry
@@ -152,7 +132,7 @@ module _ (limits : Limits) (next : Next) (start : Entries) (cs : List Call) (m :
   -- no guess failed that it rests on
   pub unstruck : (r : Command) → Contains (carried_by c) r → is_struck (failed cs) r ≡ false
   unstruck r at = ap (λ gs. is_struck gs r) (sym (fails_are limits next start cs m done))
-      ∙ not_back (is_struck fails r) (stands r at).1
+      ∙ not-true (is_struck fails r) (stands r at).1
 
   -- and each was drawn
   pub drawn : (r : Command) → Contains (carried_by c) r → (g : ℕ) → has g r.rests ≡ true → g ≤ s.batched.queue.number

@@ -26,7 +26,7 @@ pub tags_of_batch : {V O : Type 0} (m : Parts (List ℕ) V O) (gs : List ℕ) (n
     → tags_at (undo_state_of bytes_cmp m) (batch_key n) ≡ n ∷ []
 tags_of_batch {V} m gs n row = ap (last_tags []) (row.log n) ∙ last_noted V [] n gs
 
-abbrev ok_or : {A B : Type 0} → A → Result A B → A
+abbrev pub ok_or : {A B : Type 0} → A → Result A B → A
 ok_or d (Ok x) = x
 ok_or d (Err y) = d
 

@@ -1,4 +1,6 @@
 -- Outputs of a channel by their tickets, and what tickets were told.
+use Rattle.sk_durable.proofs.Contained.{first_or_later, at_first, at_later, nothing_there, from_map, to_map}
+use Rattle.sk_durable.proofs.Contained.{from_filter}
 use Rattle.sk_durable.proofs.Names.{◌≡◌, ℕ, zero, suc, ◌+◌, ◌-◌, ◌<◌, ◌≤◌, Bool, true, false, cond, not, List, [], ◌∷◌}
 use Rattle.sk_durable.proofs.Names.{◌++◌, length, map, Option, Some, None, inl, inr, refl, sym, ◌∙◌, ap, subst, arith}
 use Rattle.sk_durable.proofs.Names.{append_assoc, length-append, ◌==◌, ◌⊎◌, slice_get, filter, list_any, Contains}
@@ -17,35 +19,10 @@ ticket_of x = x.0.1.0
 -- ---- elements of lists
 
 module _ {A : Type 0} where
-  pub here : (x : A) (xs : List A) → Contains (x ∷ xs) x
-  here x xs = (0, omega arith, refl)
-
-  pub behind : (y x : A) (xs : List A) → Contains xs x → Contains (y ∷ xs) x
-  behind y x xs (k, less, is) = (suc k, omega (arith, less), is)
-
-  pub first_or_behind : (y x : A) (xs : List A) → Contains (y ∷ xs) x → (y ≡ x) ⊎ Contains xs x
-  first_or_behind y x xs (zero, less, is) = inl is
-  first_or_behind y x xs (suc k, less, is) = inr (k, omega (arith, less), is)
-
-  pub nowhere : {P : Type 0} (x : A) → Contains [] x → P
-  nowhere x there = let less = there.1 in absurd (omega (arith, less))
-
-  -- what a filter keeps was there
-  pub kept_there : (p : A → Bool) (xs : List A) (x : A) → Contains (filter p xs) x → Contains xs x
-  kept_there p [] x there = there
-  kept_there p (y ∷ xs) x there =
-      elim (p y) as (λ b. Contains (cond b (y ∷ filter p xs) (filter p xs)) x → Contains (y ∷ xs) x) [
-        | true ↦ λ at. elim (first_or_behind y x (filter p xs) at) [
-          | inl is ↦ subst (λ z. Contains (z ∷ xs) x) (sym is) (here x xs)
-          | inr more ↦ behind y x xs (kept_there p xs x more)
-        ]
-        | false ↦ λ at. behind y x xs (kept_there p xs x at)
-      ] there
-
   -- a list of nothing is empty
   pub is_none : (xs : List A) → ((x : A) → Contains xs x → ⊥) → xs ≡ []
   is_none [] none = refl
-  is_none (x ∷ xs) none = absurd (none x (here x xs))
+  is_none (x ∷ xs) none = absurd (none x (at_first x xs))
 
   pub none_long : (xs : List A) → length xs ≤ 0 → xs ≡ []
   none_long [] le = refl
@@ -74,22 +51,6 @@ module _ {A : Type 0} where
       ]
 
 module _ {A B : Type 0} (f : A → B) where
-  pub mapped : (xs : List A) (x : A) → Contains xs x → Contains (map f xs) (f x)
-  mapped [] x there = nowhere x there
-  mapped (y ∷ xs) x there =
-      elim (first_or_behind y x xs there) [
-        | inl is ↦ subst (λ z. Contains (z ∷ map f xs) (f x)) (sym (ap f is)) (here (f x) (map f xs))
-        | inr more ↦ behind (f y) (f x) (map f xs) (mapped xs x more)
-      ]
-
-  pub mapped_from : (xs : List A) (w : B) → Contains (map f xs) w → (x : A) × Contains xs x × (f x ≡ w)
-  mapped_from [] w there = nowhere w there
-  mapped_from (y ∷ xs) w there =
-      elim (first_or_behind (f y) w (map f xs) there) [
-        | inl is ↦ (y, here y xs, is)
-        | inr more ↦ let rest = mapped_from xs w more in (rest.0, behind y rest.0 xs rest.1, rest.2)
-      ]
-
   pub mapped_none : (xs : List A) → map f xs ≡ [] → xs ≡ []
   mapped_none [] is = refl
   mapped_none (x ∷ xs) is = cc
@@ -127,9 +88,9 @@ rises_push n m k [] x le less most = (omega (arith, le, less), most)
 rises_push n m k (y ∷ xs) x (above, rest) less most = (above, rises_push (ticket_of y) m k xs x rest less most)
 
 pub rises_above : (n m : ℕ) (xs : List Output) (x : Output) → Rises n xs m → Contains xs x → n < ticket_of x
-rises_above n m [] x le there = nowhere x there
+rises_above n m [] x le there = nothing_there x there
 rises_above n m (y ∷ xs) x (less, rest) there =
-    elim (first_or_behind y x xs there) [
+    elim (first_or_later y xs x there) [
       | inl is ↦ subst (λ z. n < ticket_of z) is less
       | inr more ↦ let after = rises_above (ticket_of y) m xs x rest more in omega (arith, less, after)
     ]
@@ -138,7 +99,7 @@ rises_above n m (y ∷ xs) x (less, rest) there =
 pub rises_first : (n m : ℕ) (y x : Output) (ys : List Output) → Rises n (y ∷ ys) m → Contains (y ∷ ys) x
     → ticket_of y ≤ ticket_of x
 rises_first n m y x ys (less, rest) there =
-    elim (first_or_behind y x ys there) [
+    elim (first_or_later y ys x there) [
       | inl is ↦ subst (λ z. ticket_of y ≤ ticket_of z) is (omega arith)
       | inr more ↦ let after = rises_above (ticket_of y) m ys x rest more in omega (arith, after)
     ]
@@ -146,9 +107,9 @@ rises_first n m y x ys (less, rest) there =
 -- one that stands in front of another is less
 pub rises_apart : (n m : ℕ) (xs ys : List Output) (x y : Output) → Rises n (xs ++ ys) m → Contains xs x → Contains ys y
     → ticket_of x < ticket_of y
-rises_apart n m [] ys x y rises there that = nowhere x there
+rises_apart n m [] ys x y rises there that = nothing_there x there
 rises_apart n m (z ∷ xs) ys x y (less, rest) there that =
-    elim (first_or_behind z x xs there) [
+    elim (first_or_later z xs x there) [
       | inl is ↦ subst (λ w. ticket_of w < ticket_of y) is
           (rises_above (ticket_of z) m (xs ++ ys) y rest (Contains-append_right xs ys y that))
       | inr more ↦ rises_apart (ticket_of z) m xs ys x y rest more that
@@ -174,13 +135,13 @@ rises_resting gs n m (x ∷ xs) (less, rest) = (less, rises_resting gs (ticket_o
 pub rested : (gs : List ℕ) (ys : List Output) (x : Output) → Contains (resting_among gs ys) x
     → (y : Output) × Contains ys y × (x.0 ≡ y.0)
 rested gs ys x there =
-    let at = mapped_from (λ (z : Output). (z.0, filter (λ g. has g z.1) gs)) ys x there in
+    let at = from_map (λ (z : Output). (z.0, filter (λ g. has g z.1) gs)) ys x there in
     (at.0, at.1, ap (λ (z : Output). z.0) (sym at.2))
 
 pub resting : (gs : List ℕ) (ys : List Output) (y : Output) → Contains ys y
     → (x : Output) × Contains (resting_among gs ys) x × (x.0 ≡ y.0)
 resting gs ys y there =
-    ((y.0, filter (λ g. has g y.1) gs), mapped (λ (z : Output). (z.0, filter (λ g. has g z.1) gs)) ys y there, refl)
+    ((y.0, filter (λ g. has g y.1) gs), to_map (λ (z : Output). (z.0, filter (λ g. has g z.1) gs)) ys y there, refl)
 
 -- ---- what commands said to a channel
 
@@ -206,20 +167,20 @@ module _ (t : ℕ) where
   -- what one command said
   its_own : (said : Option (ℕ × (ℕ × Answer))) (rests : List ℕ) (y : Output) → Contains (said_by served t said rests) y
       → (said ≡ Some y.0) × (rests ≡ y.1) × ((y.0.0 == t) ≡ true)
-  its_own None rests y there = nowhere y there
+  its_own None rests y there = nothing_there y there
   its_own (Some w) rests y there =
       elim (w.0 == t) as (λ b. (w.0 == t) ≡ b → Contains (cond b ((w, rests) ∷ []) []) y
       → (Some w ≡ Some y.0) × (rests ≡ y.1) × ((y.0.0 == t) ≡ true)) [
-        | true ↦ λ to at. elim (first_or_behind (w, rests) y [] at) [
+        | true ↦ λ to at. elim (first_or_later (w, rests) [] y at) [
           | inl is ↦ (
             ap (λ (z : Output). Some z.0) is,
             ap (λ (z : Output). z.1) is,
             ap (λ (z : Output). z.0.0 == t)
                 (sym is) ∙ to,
           )
-          | inr more ↦ nowhere y more
+          | inr more ↦ nothing_there y more
         ]
-        | false ↦ λ to at. nowhere y at
+        | false ↦ λ to at. nothing_there y at
       ] refl there
 
   own_said : (r : Command) (w : ℕ × (ℕ × Answer)) → r.said ≡ Some w → (w.0 == t) ≡ true
@@ -227,25 +188,25 @@ module _ (t : ℕ) where
   own_said r w is to =
       subst (λ said. Contains (said_by served t said r.rests) (w, r.rests)) (sym is)
       (subst (λ b. Contains {X = Output} (cond b ((w, r.rests) ∷ []) []) (w, r.rests)) (sym to)
-      (here {A = Output} (w, r.rests) []))
+      (at_first {A = Output} (w, r.rests) []))
 
   -- each output is what a command said
   pub says_it : (log : List Command) (y : Output) → Contains (said_to served t log) y
       → (r : Command) × Contains log r × (r.said ≡ Some y.0) × (r.rests ≡ y.1) × ((y.0.0 == t) ≡ true)
-  says_it [] y there = nowhere y there
+  says_it [] y there = nothing_there y there
   says_it (r ∷ log) y there =
       elim (Contains-append_cases (said_by served t r.said r.rests) (said_to served t log) y there) [
-        | inl own ↦ let one = its_own r.said r.rests y own in (r, here r log, one.0, one.1, one.2)
-        | inr more ↦ let rest = says_it log y more in (rest.0, behind r rest.0 log rest.1, rest.2, rest.3, rest.4)
+        | inl own ↦ let one = its_own r.said r.rests y own in (r, at_first r log, one.0, one.1, one.2)
+        | inr more ↦ let rest = says_it log y more in (rest.0, at_later r log rest.0 rest.1, rest.2, rest.3, rest.4)
       ]
 
   -- and what a command said is there
   pub it_says : (log : List Command) (r : Command) (w : ℕ × (ℕ × Answer)) → Contains log r → r.said ≡ Some w
       → (w.0 == t) ≡ true
       → Contains (said_to served t log) (w, r.rests)
-  it_says [] r w there is to = nowhere r there
+  it_says [] r w there is to = nothing_there r there
   it_says (q ∷ log) r w there is to =
-      elim (first_or_behind q r log there) [
+      elim (first_or_later q log r there) [
         | inl same ↦ Contains-append_left (said_by served t q.said q.rests) (said_to served t log) (w, r.rests)
             (subst (λ (z : Command). Contains (said_by served t z.said z.rests) (w, r.rests)) (sym same)
             (own_said r w is to))
@@ -259,7 +220,7 @@ module _ (t : ℕ) where
   less_said gs log y there =
       let at = says_it (kept gs log) y there in
       subst (λ rests. Contains (said_to served t log) (y.0, rests)) at.3
-      (it_says log at.0 y.0 (kept_there (λ (r : Command). not (is_struck gs r)) log at.0 at.1) at.2 at.4)
+      (it_says log at.0 y.0 ((from_filter (λ (r : Command). not (is_struck gs r)) log at.0 at.1).0) at.2 at.4)
 
   pub fewer_said : (gs : List ℕ) (log : List Command)
       → length (said_to served t (kept gs log)) ≤ length (said_to served t log)
@@ -320,8 +281,8 @@ pub record IsToldOf (told : Told) (taken : List (ℕ × (ℕ × Answer))) : Type
 pub nothing_told : IsToldOf [] []
 nothing_told = record {
   texts = λ k text is. cc;
-  nones = λ k w is there same. nowhere w there;
-  below = λ w there. nowhere w there;
+  nones = λ k w is there same. nothing_there w there;
+  below = λ w there. nothing_there w there;
 }
 
 got_refused : (n j : ℕ) (v : Option (List ℕ)) → slice_get (refused n) j ≡ Some v → v ≡ None
@@ -369,16 +330,16 @@ text_told told taken w one next =
             let now = last_text w more.0 text more.2 in
             let none = now.0 in
             let far = more.1 in
-            (w, Contains-append_right taken (w ∷ []) w (here w []), omega (arith, next, far, none), now.1)
+            (w, Contains-append_right taken (w ∷ []) w (at_first w []), omega (arith, next, far, none), now.1)
       ];
       nones = λ k v is there same. elim (got_cases told last k None is) [
         | inl at ↦ elim (Contains-append_cases taken (w ∷ []) v there) [
           | inl old ↦ one.nones k v at old same
-          | inr new ↦ elim (first_or_behind w v [] new) [
+          | inr new ↦ elim (first_or_later w [] v new) [
             | inl own ↦ let within =
                 slice_get_within told k None at in let its =
                 ap (λ (u : ℕ × (ℕ × Answer)). u.1.0) own in omega (arith, next, same, within, its)
-            | inr more ↦ nowhere v more
+            | inr more ↦ nothing_there v more
           ]
         ]
         | inr more ↦ no_last (answer_text w.1.1) more.0 more.2
@@ -387,9 +348,9 @@ text_told told taken w one next =
           let long = length-append told last in
           elim (Contains-append_cases taken (w ∷ []) v there) [
             | inl old ↦ let le = one.below v old in omega (arith, le, long)
-            | inr new ↦ elim (first_or_behind w v [] new) [
+            | inr new ↦ elim (first_or_later w [] v new) [
               | inl own ↦ let its = ap (λ (u : ℕ × (ℕ × Answer)). u.1.0) own in omega (arith, next, its, long)
-              | inr more ↦ nowhere v more
+              | inr more ↦ nothing_there v more
             ]
           ];
     }

@@ -2,11 +2,10 @@
 use Rattle.sk_durable.proofs.Names.{◌≡◌, ◌≢◌, ◌<◌, ℕ, [], length, get_or-set_same, get_or-set_other, set, Option, Some}
 use Rattle.sk_durable.proofs.Names.{None, ⊎_elim, refl, sym, ◌∙◌, ap, subst, cases_eq, cases_lt, get_or_past}
 use Rattle.sk_durable.proofs.Names.{set-get_or, Requests, Channel, Channels, HasServed, channel_at, channel_of, hung_up}
-use Rattle.sk_durable.proofs.Names.{place_at, with_channel, KeepsAll, KeepsOthers, came, no_past, Becomes, Goes}
-use Rattle.sk_durable.proofs.Names.{HasPast, HavePasts, Past}
+use Rattle.sk_durable.proofs.Names.{place_at, with_channel, KeepsOthers, came, no_past, Becomes, Goes, HasPast}
+use Rattle.sk_durable.proofs.Names.{HavePasts, Past}
 use Rattle.std.proofs.Common.{append-nil}
 use Rattle.sk_channels.specs.Table as table
-use Rattle.sk_channels.specs.Table.{released}
 
 -- ---- a channel becomes another
 
@@ -47,21 +46,9 @@ none_hung_up (Some place) = refl
 pub gone : (t : ℕ) (old new : Channels) → table.HangsUp t old new → channel_at new t ≡ None
 gone t old new (here, others) = ap channel_of here ∙ none_hung_up (place_at old t)
 
-same_released : (place : Option (Option Channel)) → channel_of (released place) ≡ channel_of place
-same_released None = refl
-same_released (Some None) = refl
-same_released (Some (Some channel)) = refl
-
 -- ---- pasts
 
 module _ (limits : Requests) where
-  -- the channels are the same
-  pub same_pasts : (old new : Channels) → ((u : ℕ) → channel_at new u ≡ channel_at old u) → HavePasts limits old → HavePasts limits new
-  same_pasts old new same have u channel at = have u channel (sym (same u) ∙ at)
-
-  pub kept_pasts : (old new : Channels) → KeepsAll old new → HavePasts limits old → HavePasts limits new
-  kept_pasts old new keeps = same_pasts old new (λ u. ap channel_of (keeps u))
-
   -- one channel is another, and the others are as they were
   module _ (old new : Channels) (t : ℕ) (have : HavePasts limits old) (others : (u : ℕ) → u ≢ t → channel_at new u ≡ channel_at old u) where
     one_past : (after : Channel) → channel_at new t ≡ Some after → (p : Past) × HasPast limits p after → HavePasts limits new
@@ -69,12 +56,6 @@ module _ (limits : Requests) where
         ⊎_elim
         (λ same. let is : channel ≡ after = (let there : channel_at new t ≡ Some channel = ap (channel_at new) (sym same) ∙ at in cc (there, here)) in
         subst (λ c. (p : Past) × HasPast limits p c) (sym is) past)
-        (λ apart. have u channel (sym (others u apart) ∙ at)) (cases_eq u t)
-
-    no_channel : channel_at new t ≡ None → HavePasts limits new
-    no_channel here u channel at =
-        ⊎_elim
-        (λ same. absurd (let none : channel_at new u ≡ None = ap (channel_at new) same ∙ here in cc (none, at)))
         (λ apart. have u channel (sym (others u apart) ∙ at)) (cases_eq u t)
 
   -- it was lent, and has some past then
@@ -91,16 +72,6 @@ module _ (limits : Requests) where
   pub connected_past : (channel : Channel) (t : ℕ) (old new : Channels) → HasPast limits no_past channel → place_at new t ≡ Some (Some channel) → KeepsOthers t old new → HavePasts limits old → HavePasts limits new
   connected_past channel t old new has here others have =
       one_past old new t have (λ u apart. ap channel_of (others u apart)) channel (ap channel_of here) (no_past, has)
-
-  pub hung_up_past : (t : ℕ) (old new : Channels) → table.HangsUp t old new → HavePasts limits old → HavePasts limits new
-  hung_up_past t old new (here, others) have =
-      no_channel old new t have (λ u apart. ap channel_of (others u apart)) (ap channel_of here ∙ none_hung_up (place_at old t))
-
-  pub released_past : (t : ℕ) (old new : Channels) → table.Releases t old new → HavePasts limits old → HavePasts limits new
-  released_past t old new (here, others) have =
-      same_pasts old new
-      (λ u. ⊎_elim (λ same. subst (λ n. channel_at new n ≡ channel_at old n) (sym same) (ap channel_of here ∙ same_released (place_at old t))) (λ apart. ap channel_of (others u apart)) (cases_eq u t))
-      have
 
 -- no byte came
 pub nothing_came : (before after : Channel) → ((limits : Requests) (p : Past) → HasPast limits p before → HasPast limits p after) → Goes (came []) before after

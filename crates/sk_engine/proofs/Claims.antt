@@ -1,16 +1,14 @@
 -- No leadership is told to two words.
 use Rattle.sk_engine.proofs.Names.{◌≡◌, ℕ, ◌<◌, ◌≤◌, Bool, true, false, cond, List, [], ◌∷◌, Option, Some, None, inl}
-use Rattle.sk_engine.proofs.Names.{inr, refl, sym, ◌∙◌, ap, subst, arith}
-use Rattle.sk_engine.proofs.Names.{LeadAnswer, LeadSeen, Held, Mine, Another, Absent, Claimed, Waits, Breach}
-use Rattle.sk_engine.proofs.Names.{claim_told, lead_told, held_of, may_put, may_fence, may_cut}
-use Rattle.sk_engine.proofs.Names.{with_entry, without_from, without_to, Has, World, Move, Leads, Ends, Reads, Fences}
-use Rattle.sk_engine.proofs.Names.{Sends, Tries, Cuts, Happens, Begins, ClaimHappens}
-use Rattle.sk_engine.proofs.Names.{ClaimMove, ClaimRuns, LeadershipIsOne, LeadTry, Worded, is_lead, lead_answer}
-use Rattle.sk_engine.proofs.Names.{new_worded, Claims, Goes}
+use Rattle.sk_engine.proofs.Names.{inr, refl, sym, ◌∙◌, ap, subst, arith, LeadAnswer, LeadSeen, Held, Mine, Another}
+use Rattle.sk_engine.proofs.Names.{Absent, Claimed, Waits, Breach, claim_told, lead_told, held_of, may_put, may_fence}
+use Rattle.sk_engine.proofs.Names.{may_cut, with_entry, without_from, without_to, Has, World, Move, Leads, Ends, Fences}
+use Rattle.sk_engine.proofs.Names.{Tries, Cuts, Begins, ClaimHappens, ClaimMove, ClaimRuns, LeadershipIsOne, LeadTry}
+use Rattle.sk_engine.proofs.Names.{Worded, is_lead, lead_answer, new_worded, Claims, Goes, none-some, subst₃}
+use Rattle.sk_engine.proofs.Names.{after_move}
 use Rattle.sk_engine.specs.Engine.{EngineView}
 use Rattle.sk_engine.specs.declared.answer.LeadAnswer.TheVariants as lead
 use Rattle.sk_engine.proofs.Tests.{mine}
-use Rattle.sk_engine.proofs.Steps.{none_some}
 
 -- it was put by this word
 abbrev HasLed : List LeadTry → List ℕ → ℕ → Type 0
@@ -23,8 +21,11 @@ record AreClaimed (leader : Option ℕ) (newest : ℕ) (word : List ℕ) (tries 
   pub low : (mine : List ℕ) (r : ℕ) → HasLed tries mine r → r ≤ newest
   pub one : (mine other : List ℕ) (r : ℕ) → HasLed tries mine r → HasLed tries other r → mine ≡ other
 
+abbrev AreSeen : World → List ℕ → List LeadTry → Type 0
+AreSeen w word tries = AreClaimed w.engine.leader w.engine.newest word tries
+
 abbrev AreSo : Worded → Type 0
-AreSo c = AreClaimed c.world.engine.leader c.world.engine.newest c.word c.tries
+AreSo c = AreSeen c.world c.word c.tries
 
 done_not : (r : ℕ) (seen : LeadSeen) → lead.Done r ≡ lead.Not seen → ⊥
 done_not r seen e = cc
@@ -121,29 +122,19 @@ record Keeps (a b : EngineView) : Type 0 where
   pub leader : (r : ℕ) → b.leader ≡ Some r → a.leader ≡ Some r
   pub newest : b.newest ≡ a.newest
 
-kept : (a b : EngineView) → b.leader ≡ a.leader → b.newest ≡ a.newest → Keeps a b
-kept a b same newest = record { leader = λ r e. sym same ∙ e; newest = newest }
-
 kept_by : (a b : EngineView) (t : Bool) → b.leader ≡ a.leader → b.newest ≡ a.newest → Keeps a (cond t b a)
-kept_by a b true same newest = kept a b same newest
-kept_by a b false same newest = kept a a refl refl
+kept_by a b true same newest = record { leader = λ r e. sym same ∙ e; newest = newest }
+kept_by a b false same newest = record { leader = λ r e. e; newest = refl }
 
-keeps : (w m : World) (c : Move) → is_lead c ≡ false → Happens w c m → Keeps w.engine m.engine
-keeps w m (Leads r) began h = absurd (let is : true ≡ false = began in cc)
-keeps w m Ends other h = subst (λ (x : World). Keeps w.engine x.engine) (sym h)
-    (record { leader = λ r e. absurd (none_some r e); newest = refl })
-keeps w m (Reads r g) other h = subst (λ (x : World). Keeps w.engine x.engine) (sym h.3)
-    (kept w.engine w.engine refl refl)
-keeps w m (Fences f) other h = subst (λ (x : World). Keeps w.engine x.engine) (sym h.1)
-    (kept_by w.engine (record w.engine { fence = f.leadership; log = without_from f.gap w.engine.log })
-    (may_fence w.engine f) refl refl)
-keeps w m (Sends b v) other h = subst (λ (x : World). Keeps w.engine x.engine) (sym h.1)
-    (kept w.engine w.engine refl refl)
-keeps w m (Tries b v) other h = subst (λ (x : World). Keeps w.engine x.engine) (sym h.1)
-    (kept_by w.engine (record w.engine { log = with_entry b.number v w.engine.log }) (may_put w.engine b) refl refl)
-keeps w m (Cuts r g last) other h = subst (λ (x : World). Keeps w.engine x.engine) (sym h.1)
-    (kept_by w.engine (record w.engine { log = without_to last w.engine.log; snap = last }) (may_cut w.engine r last)
-    refl refl)
+keeps : (w : World) (c : Move) → is_lead c ≡ false → Keeps w.engine (after_move w c).engine
+keeps w (Leads r) began = absurd (let is : true ≡ false = began in cc)
+keeps w Ends other = record { leader = λ r e. absurd (none-some r e); newest = refl }
+keeps w (Fences f) other = kept_by w.engine (record w.engine { fence = f.leadership; log = without_from f.gap w.engine.log })
+    (may_fence w.engine f) refl refl
+keeps w (Tries b v) other = kept_by w.engine (record w.engine { log = with_entry b.number v w.engine.log }) (may_put w.engine b) refl refl
+keeps w (Cuts r g last) other = kept_by w.engine (record w.engine { log = without_to last w.engine.log; snap = last })
+    (may_cut w.engine r last) refl refl
+keeps w c other = record { leader = λ r e. e; newest = refl }
 
 -- ---- over runs
 
@@ -151,33 +142,23 @@ leads_by : (c d : Worded) (o : Option ℕ) (word : List ℕ) (r : ℕ) → AreSo
     → Begins o word r c d.world d.word
     → d.tries ≡ record { word = word; answer = lead_answer word r c.word o } ∷ c.tries → AreSo d
 leads_by c d None word r so e begins tries =
-    let first = begun c.world.engine.leader c.world.engine.newest c.word c.tries so word r begins.0.1 in
-    let at = subst (λ (x : World). AreClaimed x.engine.leader x.engine.newest word
-    (record { word = word; answer = lead.Done r } ∷ c.tries)) (sym begins.0.2) first in
-    let own = subst (λ (x : List ℕ). AreClaimed d.world.engine.leader d.world.engine.newest x
-    (record { word = word; answer = lead.Done r } ∷ c.tries)) (sym begins.1) at in
-    subst (λ (x : List LeadTry). AreClaimed d.world.engine.leader d.world.engine.newest d.word x) (sym tries) own
+    subst₃ AreSeen (sym begins.0.1) (sym begins.1) (sym tries)
+    (begun c.world.engine.leader c.world.engine.newest c.word c.tries so word r begins.0.0.1)
 leads_by c d (Some one) word r so e begins tries =
-    let old = waited c.world.engine.leader c.world.engine.newest c.word c.tries so word one e in
-    let more = not_put c.world.engine.leader c.world.engine.newest c.word c.tries so word one in
-    let at = subst (λ (x : World). AreClaimed x.engine.leader x.engine.newest c.word (more ∷ c.tries)) (sym begins.0)
-    old in
-    let own = subst (λ (x : List ℕ). AreClaimed d.world.engine.leader d.world.engine.newest x (more ∷ c.tries))
-    (sym begins.1) at in
-    subst (λ (x : List LeadTry). AreClaimed d.world.engine.leader d.world.engine.newest d.word x) (sym tries) own
+    subst₃ AreSeen (sym begins.0) (sym begins.1) (sym tries)
+    (waited c.world.engine.leader c.world.engine.newest c.word c.tries so word one e)
 
 claim_step : (c : Worded) (m : ClaimMove) (d : Worded) → AreSo c → ClaimHappens c m d → AreSo d
 claim_step c (Claims word r) d so h = leads_by c d c.world.engine.leader word r so refl h.0 h.1
 claim_step c (Goes move) d so h =
-    let keeps = keeps c.world d.world move h.0 h.1 in
-    let at : AreClaimed d.world.engine.leader d.world.engine.newest c.word c.tries = record {
+    let keeps = keeps c.world move h.0 in
+    let at : AreSeen (after_move c.world move) c.word c.tries = record {
       led = λ r e. so.led r (keeps.leader r e);
       told = so.told;
       low = λ u r has. let low = so.low u r has in let same = keeps.newest in omega arith;
       one = so.one;
     } in
-    let own = subst (λ (x : List ℕ). AreClaimed d.world.engine.leader d.world.engine.newest x c.tries) (sym h.2) at in
-    subst (λ (x : List LeadTry). AreClaimed d.world.engine.leader d.world.engine.newest d.word x) (sym h.3) own
+    subst₃ AreSeen (sym h.1.1) (sym h.2) (sym h.3) at
 
 claims_run : (ms : List ClaimMove) (c d : Worded) → ClaimRuns c ms d → AreSo c → AreSo d
 claims_run [] c d r so = subst (λ (x : Worded). AreSo x) r so
@@ -185,7 +166,7 @@ claims_run (m ∷ ms) c d r so = claims_run ms r.0 d r.2 (claim_step c m r.0 so 
 
 none_yet : AreSo new_worded
 none_yet = record {
-  led = λ r e. absurd (none_some r e);
+  led = λ r e. absurd (none-some r e);
   told = λ u a r h e. absurd h;
   low = λ u r h. absurd h;
   one = λ u v r h k. absurd h;

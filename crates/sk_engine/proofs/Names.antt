@@ -1,8 +1,11 @@
 -- What the proofs of this crate cite from outside of them, passed on from one place. Declares nothing.
-pub use Rattle.std.proofs.Common.{ap, Some, Bool, ℕ, subst, inr, true, ◌∷◌, sym, None, ◌&&◌, inl, suc, ◌≤◌, ◌≡◌, false}
-pub use Rattle.std.proofs.Common.{Option, ◌<◌, arith, refl, List, [], ◌∙◌, not, ◌==◌, cond}
-pub use Rattle.std.proofs.lemmas.Bool.{eqb-false, le-leb, leb-true, eqb-true, ltb-true, ltb-false, eq-eqb, lt-ltb}
-pub use Rattle.std.proofs.lemmas.Bool.{leb-false}
+pub use Rattle.std.proofs.Math.Path.{subst₃}
+pub use Rattle.std.proofs.lemmas.Option.{none-some}
+pub use Rattle.std.proofs.Common.{ap, Some, Bool, ℕ, subst, inr, true, ◌∷◌, sym, None, inl, suc, ◌≤◌, ◌≡◌, false}
+pub use Rattle.std.proofs.Common.{Option, ◌<◌, arith, refl, List, [], ◌∙◌, not, ◌==◌, cond, ⊎_elim}
+pub use Rattle.std.proofs.lemmas.Bool.{eqb-false, le-leb, eqb-true, ltb-true, ltb-false, eq-eqb, lt-ltb, leb-false}
+pub use Rattle.std.proofs.lemmas.Bool.{and_parts, not-true, cond-true, cond-false, lt-leb, le-ltb, ne_eqb, cases_eq}
+pub use Rattle.std.proofs.lemmas.Bool.{cases_lt}
 pub use Rattle.std.proofs.lemmas.Slice.Eq.{bytes_eq-Decides}
 pub use Rattle.std.specs.Prelude.{◌⊎◌, is_none, if◌then◌else◌, nat_le, nat_lt}
 pub use Rattle.std.specs.Str.{bytes_eq}
@@ -13,7 +16,7 @@ pub use Rattle.sk_engine.specs.Engine.{with_entry, batch_answer}
 pub use Rattle.sk_engine.specs.Laws.{DecidedStays, StillHasAll, DecidedIsRead, DecidedIsSent, LostIsNeverFound}
 pub use Rattle.sk_engine.specs.Moves.{Reads, new_world, Sent, Move, Fences, Ends, whole, MaySend, World, FenceTry, Runs}
 pub use Rattle.sk_engine.specs.Moves.{Leads, HasDecided, Happens, owner_of, IsGap, BatchTry, Sends, fence_of, Has}
-pub use Rattle.sk_engine.specs.Moves.{Tries, WasLost, batch_of, ServesFrom, Cuts}
+pub use Rattle.sk_engine.specs.Moves.{Tries, WasLost, batch_of, ServesFrom, Cuts, Needs, after_move}
 pub use Rattle.sk_engine.specs.Newest.{new_hosted, round_of, Acts, Asks, Calls, Hosted, HostDoes, HostRuns, Rides}
 pub use Rattle.sk_engine.specs.Newest.{IsHeeded, IsKnown, Ride, RoundTry, Step, ToldIsNewest}
 pub use Rattle.sk_engine.specs.Rounds.{after_still, no_rounds, CarriesOut, Holds, IsHeld, Loses}

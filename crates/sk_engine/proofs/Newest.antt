@@ -1,15 +1,13 @@
 -- A host that heeds its rounds tells nothing old.
 use Rattle.sk_engine.proofs.Names.{◌≡◌, ℕ, ◌<◌, ◌≤◌, Bool, true, false, cond, List, [], ◌∷◌, Some, inl, inr, refl, sym}
-use Rattle.sk_engine.proofs.Names.{◌∙◌, ap, subst, arith, ◌⊎◌}
-use Rattle.sk_engine.proofs.Names.{ltb-true, ltb-false, BatchSeen, RoundAnswer, Seen, Still, leads, held_of, may_put}
-use Rattle.sk_engine.proofs.Names.{is_none}
-use Rattle.sk_engine.proofs.Names.{Has, BatchTry, World, batch_of, HasDecided, ServesFrom, Move, Leads, Ends, Reads}
-use Rattle.sk_engine.proofs.Names.{Fences, Sends, Tries, Cuts, Happens}
-use Rattle.sk_engine.proofs.Names.{round_told, new_hosted, round_of, Acts, Asks, Calls, Hosted, HostDoes, HostRuns}
-use Rattle.sk_engine.proofs.Names.{Rides, IsHeeded, IsKnown, Ride, RoundTry, Step}
+use Rattle.sk_engine.proofs.Names.{◌∙◌, ap, subst, arith, ◌⊎◌, ltb-true, ltb-false, BatchSeen, RoundAnswer, Seen, Still}
+use Rattle.sk_engine.proofs.Names.{leads, held_of, may_put, is_none, Has, BatchTry, World, batch_of, HasDecided}
+use Rattle.sk_engine.proofs.Names.{ServesFrom, Move, Tries, Happens, round_told, new_hosted, round_of, Acts, Asks}
+use Rattle.sk_engine.proofs.Names.{Calls, Hosted, HostDoes, HostRuns, Rides, IsHeeded, IsKnown, Ride, RoundTry, Step}
 use Rattle.sk_engine.proofs.Names.{ToldIsNewest, CarriesOut, Holds, Loses, Takes, RoundCall, RoundDoes, RoundsView}
+use Rattle.sk_engine.proofs.Names.{and_parts, after_move}
 use Rattle.sk_engine.specs.declared.answer.BatchAnswer.TheVariants as batch
-use Rattle.sk_engine.proofs.Tests.{both, led}
+use Rattle.sk_engine.proofs.Tests.{led}
 use Rattle.sk_engine.proofs.Sound.{HasPut, IsSound}
 use Rattle.sk_engine.proofs.Steps.{done_not, new_sound, step}
 use Rattle.sk_engine.proofs.Runs.{more_batches, more_fences, newest_found, still_led}
@@ -17,15 +15,16 @@ use Rattle.sk_engine.proofs.RoundRuns.{stilled}
 
 -- ---- nothing that a host knows of is past the last round that it took
 
-pub record IsBounded (h : Hosted) (known bound : ℕ) : Type 0 where
+pub record IsBounded (tries : List RoundTry) (riding : List Ride) (known bound : ℕ) : Type 0 where
   pub held : known ≤ bound
-  pub answered : (t : RoundTry) → Has t h.answered → t.round ≤ bound
-  pub rides : (t : Ride) → Has t h.rides → t.round ≤ bound
+  pub answered : (t : RoundTry) → Has t tries → t.round ≤ bound
+  pub rides : (t : Ride) → Has t riding → t.round ≤ bound
 
 abbrev pub AreTaken : Hosted → Type 0
-AreTaken h = IsBounded h h.rounds.held h.rounds.taken
+AreTaken h = IsBounded h.answered h.rides h.rounds.held h.rounds.taken
 
-more_bound : (h : Hosted) (held low high : ℕ) → IsBounded h held low → low ≤ high → IsBounded h held high
+more_bound : (h : Hosted) (held low high : ℕ) → IsBounded h.answered h.rides held low → low ≤ high
+    → IsBounded h.answered h.rides held high
 more_bound h held low high b le = record {
   held = let one = b.held in omega arith;
   answered = λ t has. let one = b.answered t has in omega arith;
@@ -33,12 +32,12 @@ more_bound h held low high b le = record {
 }
 
 called_taken : (h : Hosted) (c : RoundCall) (r : RoundsView) → RoundDoes h.rounds c r → AreTaken h
-    → IsBounded h r.held r.taken
-called_taken h (CarriesOut mark) r does b = subst (λ (x : RoundsView). IsBounded h x.held x.taken) (sym does.1) b
-called_taken h Loses r does b = subst (λ (x : RoundsView). IsBounded h x.held x.taken) (sym does) b
+    → IsBounded h.answered h.rides r.held r.taken
+called_taken h (CarriesOut mark) r does b = subst (λ (x : RoundsView). IsBounded h.answered h.rides x.held x.taken) (sym does.1) b
+called_taken h Loses r does b = subst (λ (x : RoundsView). IsBounded h.answered h.rides x.held x.taken) (sym does) b
 called_taken h (Takes round) r does b =
     let is = does.1 in
-    subst (λ (x : RoundsView). IsBounded h x.held x.taken) (sym does.2)
+    subst (λ (x : RoundsView). IsBounded h.answered h.rides x.held x.taken) (sym does.2)
     (more_bound h h.rounds.held h.rounds.taken round b (omega arith))
 called_taken h (Holds round) r does b =
     let at = stilled round h.rounds r does.1 in
@@ -52,12 +51,8 @@ called_taken h (Holds round) r does b =
     }
 
 taken_step : (r : ℕ) (h : Hosted) (s : Step) (g : Hosted) → HostDoes r h s g → AreTaken h → AreTaken g
-taken_step r h (Acts move) g does b = subst (λ (x : Hosted). AreTaken x) (sym does.2)
-    (record { held = b.held; answered = b.answered; rides = b.rides })
-taken_step r h (Calls c) g does b =
-    let now = called_taken h c does.0 does.1 b in
-    subst (λ (x : Hosted). AreTaken x) (sym does.3)
-    (record { held = now.held; answered = now.answered; rides = now.rides })
+taken_step r h (Acts move) g does b = subst (λ (x : Hosted). AreTaken x) (sym does.2) b
+taken_step r h (Calls c) g does b = subst (λ (x : Hosted). AreTaken x) (sym does.3) (called_taken h c does.0 does.1 b)
 taken_step r h (Asks round) g does b =
     let le = does.0 in
     subst (λ (x : Hosted). AreTaken x) (sym does.1) (record {
@@ -98,32 +93,23 @@ put_answer : (t : Bool) (seen : BatchSeen) → batch.Done ≡ cond t batch.Done 
 put_answer true seen e = refl
 put_answer false seen e = absurd (done_not seen e)
 
-put_before : (w m : World) (r n : ℕ) (v : List ℕ) → m.batches ≡ w.batches → HasPut m r n v
+move_put : (w : World) (c : Move) (r n : ℕ) (v : List ℕ) → HasPut (after_move w c) r n v
     → HasPut w r n v ⊎ (w.engine.leader ≡ Some r)
-put_before w m r n v same put = inl
-    (subst (λ (l : List BatchTry). Has (record { batch = batch_of r n; value = v; answer = batch.Done }) l) same put)
+move_put w (Tries b u) r n v put = elim put as (λ _. HasPut w r n v ⊎ (w.engine.leader ≡ Some r)) [
+  | inl is ↦
+      let answer = put_answer (may_put w.engine b)
+      (record { leader = w.engine.leader; held = held_of u (w.engine.log b.number); snap = w.engine.snap })
+      (ap (λ (t : BatchTry). t.answer) is) in
+      let may = and_parts (leads b.leadership w.engine.leader) (is_none (w.engine.log b.number)) answer in
+      inr (led b.leadership w.engine.leader may.0
+      ∙ ap (λ (n : ℕ). Some n) (sym (ap (λ (t : BatchTry). t.batch.leadership) is)))
+  | inr old ↦ inl old
+]
+move_put w c r n v put = inl put
 
 put_by : (w : World) (c : Move) (m : World) → Happens w c m → (r n : ℕ) (v : List ℕ) → HasPut m r n v
     → HasPut w r n v ⊎ (w.engine.leader ≡ Some r)
-put_by w (Leads k) m h r n v put = put_before w m r n v (ap (λ (x : World). x.batches) h.2) put
-put_by w Ends m h r n v put = put_before w m r n v (ap (λ (x : World). x.batches) h) put
-put_by w (Reads k g) m h r n v put = put_before w m r n v (ap (λ (x : World). x.batches) h.3) put
-put_by w (Fences f) m h r n v put = put_before w m r n v (ap (λ (x : World). x.batches) h.1) put
-put_by w (Sends b u) m h r n v put = put_before w m r n v (ap (λ (x : World). x.batches) h.1) put
-put_by w (Cuts k g last) m h r n v put = put_before w m r n v (ap (λ (x : World). x.batches) h.1) put
-put_by w (Tries b u) m h r n v put =
-    let now = subst (λ (l : List BatchTry). Has (record { batch = batch_of r n; value = v; answer = batch.Done }) l)
-    (ap (λ (x : World). x.batches) h.1) put in
-    elim now as (λ _. HasPut w r n v ⊎ (w.engine.leader ≡ Some r)) [
-      | inl is ↦
-          let answer = put_answer (may_put w.engine b)
-          (record { leader = w.engine.leader; held = held_of u (w.engine.log b.number); snap = w.engine.snap })
-          (ap (λ (t : BatchTry). t.answer) is) in
-          let may = both (leads b.leadership w.engine.leader) (is_none (w.engine.log b.number)) answer in
-          inr (led b.leadership w.engine.leader may.0
-          ∙ ap (λ (n : ℕ). Some n) (sym (ap (λ (t : BatchTry). t.batch.leadership) is)))
-      | inr old ↦ inl old
-    ]
+put_by w c m h r n v put = move_put w c r n v (subst (λ x. HasPut x r n v) h.1 put)
 
 -- ---- what was so when something was carried out
 

@@ -3,11 +3,11 @@ use Rattle.sk_engine.proofs.Names.{◌≡◌, ℕ, suc, ◌<◌, ◌≤◌, Bool
 use Rattle.sk_engine.proofs.Names.{inr, refl, sym, ◌∙◌, ap, subst, arith, nat_le, if◌then◌else◌, eqb-false, ltb-true}
 use Rattle.sk_engine.proofs.Names.{BatchAnswer, Batch, Fence, Still, Over, leads, with_entry, without_from, without_to}
 use Rattle.sk_engine.proofs.Names.{may_put, may_fence, may_cut, batch_answer, fence_answer, Has, BatchTry, FenceTry}
-use Rattle.sk_engine.proofs.Names.{World, new_world, batch_of, owner_of, whole, WasLost, HasDecided, Move, Leads, Ends, ServesFrom}
-use Rattle.sk_engine.proofs.Names.{Reads, Fences, Sends, Tries, Cuts, Happens, Runs, DecidedStays, DecidedIsSent}
-use Rattle.sk_engine.proofs.Names.{DecidedIsRead, LostIsNeverFound, StillHasAll}
+use Rattle.sk_engine.proofs.Names.{World, new_world, batch_of, owner_of, whole, WasLost, HasDecided, Move, ServesFrom}
+use Rattle.sk_engine.proofs.Names.{Fences, Tries, Cuts, Happens, Runs, DecidedStays, DecidedIsSent, DecidedIsRead}
+use Rattle.sk_engine.proofs.Names.{LostIsNeverFound, StillHasAll, and_parts, not-true, Needs, after_move}
 use Rattle.sk_engine.specs.declared.answer.BatchAnswer.TheVariants as batch
-use Rattle.sk_engine.proofs.Tests.{both, off, led, none}
+use Rattle.sk_engine.proofs.Tests.{led, none}
 use Rattle.sk_engine.proofs.Sound.{IsThere, IsDense, HasPut, IsSound}
 use Rattle.sk_engine.proofs.Steps.{order, absent_there, put_cases, fence_keeps, dense_before, cut_keeps, at_gap, step, new_sound}
 
@@ -19,7 +19,7 @@ tries_keep : (w : World) → IsSound w → (b : Batch) (v : List ℕ) (t : Bool)
       batches = record { batch = b; value = v; answer = answer } ∷ w.batches;
     }) i ≡ whole w i
 tries_keep w so b v true e answer i there =
-    let absent = none (w.engine.log b.number) (both _ _ e).1 in
+    let absent = none (w.engine.log b.number) (and_parts _ _ e).1 in
     elim (put_cases w so b v absent i) [ inl old ↦ old.before | inr new ↦ absurd (absent_there (whole w i) new.absent there) ]
 tries_keep w so b v false e answer i there = refl
 
@@ -27,9 +27,9 @@ fences_keep : (w : World) → IsSound w → (f : Fence) → Has f w.reads → (t
     → (n : ℕ) → IsDense (whole w) n → (i : ℕ) → i < n
     → whole (record w { engine = cond t (record w.engine { fence = f.leadership; log = without_from f.gap w.engine.log }) w.engine; fences = tries }) i ≡ whole w i
 fences_keep w so f read true e tries n dense i lt =
-    let may = both _ _ e in
+    let may = and_parts _ _ e in
     let leader = led f.leadership w.engine.leader may.0 in
-    let unfenced = eqb-false w.engine.fence f.leadership (off _ may.1) in
+    let unfenced = eqb-false w.engine.fence f.leadership (not-true _ may.1) in
     let bound : n ≤ f.gap = dense_before w so f read leader unfenced n dense in
     fence_keeps w so f i (omega arith)
 fences_keep w so f read false e tries n dense i lt = refl
@@ -39,38 +39,30 @@ cuts_keep : (w : World) → IsSound w → (r last : ℕ) (t : Bool) → may_cut 
       engine = cond t (record w.engine { log = without_to last w.engine.log; snap = last }) w.engine;
       kept = cond t (λ i. if nat_le i last then whole w i else w.kept i) w.kept;
     }) i ≡ whole w i
-cuts_keep w so r last true e i = cut_keeps w so last i (ltb-true w.engine.snap last (both _ _ e).1)
+cuts_keep w so r last true e i = cut_keeps w so last i (ltb-true w.engine.snap last (and_parts _ _ e).1)
 cuts_keep w so r last false e i = refl
+
+move_keeps : (w : World) → IsSound w → (c : Move) → Needs w c → (n : ℕ) → IsDense (whole w) n → (i : ℕ) → 0 < i → i < n
+    → whole (after_move w c) i ≡ whole w i
+move_keeps w so (Fences f) read n dense i low lt =
+    fences_keep w so f read (may_fence w.engine f) refl (record { fence = f; answer = fence_answer w.engine f } ∷ w.fences) n dense i lt
+move_keeps w so (Tries b v) sent n dense i low lt = tries_keep w so b v (may_put w.engine b) refl (batch_answer w.engine b v) i (dense i low lt)
+move_keeps w so (Cuts r g last) decided n dense i low lt = cuts_keep w so r last (may_cut w.engine r last) refl i
+move_keeps w so c needs n dense i low lt = refl
 
 keeps : (w : World) (c : Move) (m : World) → IsSound w → Happens w c m → (n : ℕ) → IsDense (whole w) n → (i : ℕ) → 0 < i → i < n
     → whole m i ≡ whole w i
-keeps w (Leads r) m so h n dense i low lt = ap (λ x. whole x i) h.2
-keeps w Ends m so h n dense i low lt = ap (λ x. whole x i) h
-keeps w (Reads r g) m so h n dense i low lt = ap (λ x. whole x i) h.3
-keeps w (Fences f) m so h n dense i low lt = ap (λ x. whole x i) h.1 ∙ fences_keep w so f h.0 (may_fence w.engine f) refl (record { fence = f; answer = fence_answer w.engine f } ∷ w.fences) n dense i lt
-keeps w (Sends b v) m so h n dense i low lt = ap (λ x. whole x i) h.1
-keeps w (Tries b v) m so h n dense i low lt = ap (λ x. whole x i) h.1 ∙ tries_keep w so b v (may_put w.engine b) refl (batch_answer w.engine b v) i (dense i low lt)
-keeps w (Cuts r g last) m so h n dense i low lt = ap (λ x. whole x i) h.1 ∙ cuts_keep w so r last (may_cut w.engine r last) refl i
+keeps w c m so h n dense i low lt = ap (λ x. whole x i) h.1 ∙ move_keeps w so c h.0 n dense i low lt
 
 -- ---- what was answered stays answered
 
 pub more_batches : (w : World) (c : Move) (m : World) → Happens w c m → (t : BatchTry) → Has t w.batches → Has t m.batches
-more_batches w (Leads r) m h t was = subst (λ x. Has t x.batches) (sym h.2) was
-more_batches w Ends m h t was = subst (λ x. Has t x.batches) (sym h) was
-more_batches w (Reads r g) m h t was = subst (λ x. Has t x.batches) (sym h.3) was
-more_batches w (Fences f) m h t was = subst (λ x. Has t x.batches) (sym h.1) was
-more_batches w (Sends b v) m h t was = subst (λ x. Has t x.batches) (sym h.1) was
 more_batches w (Tries b v) m h t was = subst (λ x. Has t x.batches) (sym h.1) (inr was)
-more_batches w (Cuts r g last) m h t was = subst (λ x. Has t x.batches) (sym h.1) was
+more_batches w c m h t was = subst (λ x. Has t x.batches) (sym h.1) was
 
 pub more_fences : (w : World) (c : Move) (m : World) → Happens w c m → (t : FenceTry) → Has t w.fences → Has t m.fences
-more_fences w (Leads r) m h t was = subst (λ x. Has t x.fences) (sym h.2) was
-more_fences w Ends m h t was = subst (λ x. Has t x.fences) (sym h) was
-more_fences w (Reads r g) m h t was = subst (λ x. Has t x.fences) (sym h.3) was
 more_fences w (Fences f) m h t was = subst (λ x. Has t x.fences) (sym h.1) (inr was)
-more_fences w (Sends b v) m h t was = subst (λ x. Has t x.fences) (sym h.1) was
-more_fences w (Tries b v) m h t was = subst (λ x. Has t x.fences) (sym h.1) was
-more_fences w (Cuts r g last) m h t was = subst (λ x. Has t x.fences) (sym h.1) was
+more_fences w c m h t was = subst (λ x. Has t x.fences) (sym h.1) was
 
 -- ---- over runs
 
@@ -129,7 +121,7 @@ pub decided_is_read : DecidedIsRead
 decided_is_read before after w m n r g last other found runs decided more reads =
     let so = run before new_world w runs new_sound in
     let later = run after w m more so in
-    let gap = at_gap m later found reads.2 in
+    let gap = at_gap m later found reads.0.2 in
     elim (order found last) as (λ _. last < found) [
       | inr lt ↦ lt
       | inl le ↦

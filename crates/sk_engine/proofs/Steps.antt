@@ -1,47 +1,27 @@
 -- Each move leaves what is so of an engine and its hosts.
 use Rattle.sk_engine.proofs.Names.{◌≡◌, ◌==◌, ℕ, suc, ◌<◌, ◌≤◌, Bool, true, false, cond, not, List, ◌∷◌, Option, Some}
 use Rattle.sk_engine.proofs.Names.{None, inl, inr, refl, sym, ◌∙◌, ap, subst, arith, ◌⊎◌, nat_le, nat_lt, is_none}
-use Rattle.sk_engine.proofs.Names.{if◌then◌else◌, eqb-true, eqb-false, eq-eqb, leb-false, leb-true, le-leb, ltb-true}
-use Rattle.sk_engine.proofs.Names.{lt-ltb, BatchSeen, FenceSeen, Synced, Lost, Serves, Batch, Fence, leads, held_of}
-use Rattle.sk_engine.proofs.Names.{batch_told, fence_told, with_entry, without_from, without_to, may_put, may_fence}
-use Rattle.sk_engine.proofs.Names.{may_cut, Has, Sent, BatchTry, FenceTry, World, new_world, batch_of, fence_of}
-use Rattle.sk_engine.proofs.Names.{owner_of, whole, HasDecided, IsGap, MaySend, Move, Leads, Ends, Reads, Fences, Sends}
-use Rattle.sk_engine.proofs.Names.{Tries, Cuts, Happens}
+use Rattle.sk_engine.proofs.Names.{if◌then◌else◌, eqb-true, eqb-false, eq-eqb, leb-false, le-leb, ltb-true, lt-ltb}
+use Rattle.sk_engine.proofs.Names.{BatchSeen, FenceSeen, Synced, Lost, Serves, Batch, Fence, leads, held_of, batch_told}
+use Rattle.sk_engine.proofs.Names.{fence_told, with_entry, without_from, without_to, may_put, may_fence, may_cut, Has}
+use Rattle.sk_engine.proofs.Names.{Sent, BatchTry, FenceTry, World, new_world, batch_of, fence_of, owner_of, whole}
+use Rattle.sk_engine.proofs.Names.{HasDecided, IsGap, MaySend, Move, Leads, Ends, Reads, Fences, Sends, Tries, Cuts}
+use Rattle.sk_engine.proofs.Names.{Happens, and_parts, not-true, cond-true, cond-false, lt-leb, le-ltb, ne_eqb}
+use Rattle.sk_engine.proofs.Names.{cases_eq, cases_lt, none-some, ⊎_elim, Needs, after_move}
 use Rattle.sk_engine.specs.declared.answer.BatchAnswer.TheVariants as batch
 use Rattle.sk_engine.specs.declared.answer.FenceAnswer.TheVariants as fence
-use Rattle.sk_engine.proofs.Tests.{both, off, led, unled, none, mine, is_mine, told_synced, told_lost, told_serves, on, not_on, not_le, not_lt, whole_behind, whole_cut}
+use Rattle.sk_engine.proofs.Tests.{led, unled, none, mine, is_mine, told_synced, told_lost, told_serves, whole_behind, whole_cut}
 use Rattle.sk_engine.proofs.Sound.{IsThere, IsDense, HasFenced, HasPut, AtGap, AfterFence, AsSent, IsOver, IsSound}
 
-order_by : (a b : ℕ) (t : Bool) → nat_le a b ≡ t → (a ≤ b) ⊎ (b < a)
-order_by a b true e = inl (leb-true a b e)
-order_by a b false e = inr (leb-false a b e)
-
 pub order : (a b : ℕ) → (a ≤ b) ⊎ (b < a)
-order a b = order_by a b (nat_le a b) refl
-
-equal_by : (a b : ℕ) (t : Bool) → (a == b) ≡ t → (a ≡ b) ⊎ (a ≡ b → ⊥)
-equal_by a b true e = inl (eqb-true a b e)
-equal_by a b false e = inr (eqb-false a b e)
-
-pub equal : (a b : ℕ) → (a ≡ b) ⊎ (a ≡ b → ⊥)
-equal a b = equal_by a b (a == b) refl
-
-differ_by : (a b : ℕ) (t : Bool) → (a == b) ≡ t → (a ≡ b → ⊥) → t ≡ false
-differ_by a b true e not_so = absurd (not_so (eqb-true a b e))
-differ_by a b false e not_so = refl
-
-differ : (a b : ℕ) → (a ≡ b → ⊥) → (a == b) ≡ false
-differ a b not_so = differ_by a b (a == b) refl not_so
-
-pub none_some : {A : Type 0} (x : A) → None ≡ Some x → ⊥
-none_some x e = cc
+order a b = ⊎_elim inr inl (cases_lt b a)
 
 pub both_there : (x y : List ℕ) (o : Option (List ℕ)) → o ≡ Some x → o ≡ Some y → x ≡ y
 both_there x y o e f = let is : Some x ≡ Some y = sym e ∙ f in cc
 
 -- nothing stands there and something does
 pub absent_there : (o : Option (List ℕ)) → o ≡ None → IsThere o → ⊥
-absent_there o e t = none_some t.0 (sym e ∙ t.1)
+absent_there o e t = none-some t.0 (sym e ∙ t.1)
 
 pub done_not : (seen : BatchSeen) → batch.Done ≡ batch.Not seen → ⊥
 done_not seen e = cc
@@ -64,15 +44,15 @@ was_there x y ys (inr has) other = has
 
 log_by : (log : Option (List ℕ)) (u : List ℕ) (t : Bool) → cond t log None ≡ Some u → log ≡ Some u
 log_by log u true e = e
-log_by log u false e = absurd (none_some u e)
+log_by log u false e = absurd (none-some u e)
 
 log_behind_by : (log : Option (List ℕ)) (u : List ℕ) (t : Bool) → cond t None log ≡ Some u → log ≡ Some u
-log_behind_by log u true e = absurd (none_some u e)
+log_behind_by log u true e = absurd (none-some u e)
 log_behind_by log u false e = e
 
 nothing_by : (t : Bool) (x y : Option (List ℕ)) (v : List ℕ) → x ≡ None → y ≡ None → cond t x y ≡ Some v → ⊥
-nothing_by true x y v first last e = none_some v (sym first ∙ e)
-nothing_by false x y v first last e = none_some v (sym last ∙ e)
+nothing_by true x y v first last e = none-some v (sym first ∙ e)
+nothing_by false x y v first last e = none-some v (sym last ∙ e)
 
 nothing_whole : (i : ℕ) (v : List ℕ) → whole new_world i ≡ Some v → ⊥
 nothing_whole i v e = nothing_by (nat_le i 0) (new_world.kept i) (new_world.engine.log i) v refl refl e
@@ -88,13 +68,15 @@ module _ (w : World) (so : IsSound w) where
 
   -- ---- leaderships
 
-  leads_sound : (r : ℕ) → w.engine.newest < r → IsSound (record w { engine = record w.engine { leader = Some r; newest = r } })
-  leads_sound r lt = record {
-    led = λ s e. let is : r ≡ s = cc in (sym is, omega arith);
+  led_sound : (leader : Option ℕ) (newest : ℕ) → w.engine.newest ≤ newest
+      → ((s : ℕ) → leader ≡ Some s → (s ≡ newest) × (w.engine.newest < s))
+      → IsSound (record w { engine = record w.engine { leader = leader; newest = newest } })
+  led_sound leader newest le new = record {
+    led = λ s e. let more = (new s e).1 in ((new s e).0, omega arith);
     fence_led = let old = so.fence_led in omega arith;
     read_led = λ s g h. let old = so.read_led s g h in omega arith;
     read_once = so.read_once;
-    gap = λ s g h lower is. let old = so.read_led s g h in absurd (omega arith);
+    gap = λ s g h lower is. let old = so.read_led s g h in so.gap s g h lower (omega arith);
     after = so.after;
     fence_done = so.fence_done;
     served = so.served;
@@ -110,36 +92,8 @@ module _ (w : World) (so : IsSound w) where
     firm = so.firm;
     rising = so.rising;
     over = λ b v a h t. let old = so.over b v a h t in record {
-      led = let le = old.led in omega arith;
-      ended = λ e. let is : r ≡ b.leadership = cc in let le = old.led in omega arith;
-      never = old.never;
-    };
-  }
-
-  ends_sound : IsSound (record w { engine = record w.engine { leader = None } })
-  ends_sound = record {
-    led = λ s e. absurd (none_some s e);
-    fence_led = so.fence_led;
-    read_led = so.read_led;
-    read_once = so.read_once;
-    gap = so.gap;
-    after = so.after;
-    fence_done = so.fence_done;
-    served = so.served;
-    tried_fence = so.tried_fence;
-    cut = so.cut;
-    in_log = so.in_log;
-    in_whole = so.in_whole;
-    sends = so.sends;
-    same = so.same;
-    tried = so.tried;
-    synced = so.synced;
-    put = so.put;
-    firm = so.firm;
-    rising = so.rising;
-    over = λ b v a h t. let old = so.over b v a h t in record {
-      led = old.led;
-      ended = λ e. none_some b.leadership e;
+      led = let led = old.led in omega arith;
+      ended = λ e. let more = (new b.leadership e).1 in let led = old.led in omega arith;
       never = old.never;
     };
   }
@@ -317,15 +271,15 @@ module _ (w : World) (so : IsSound w) where
       let m = put_world b v in
       elim (order i w.engine.snap) as (λ _. IsAsBefore b v i ⊎ IsNew b v i) [
         | inl le ↦ inl (record { before = whole_cut m i le ∙ sym (whole_cut w i le); cut = λ _. le })
-        | inr more ↦ elim (equal i b.number) as (λ _. IsAsBefore b v i ⊎ IsNew b v i) [
+        | inr more ↦ elim (cases_eq i b.number) as (λ _. IsAsBefore b v i ⊎ IsNew b v i) [
           | inl is ↦ inr (record {
             here = is;
             behind = more;
-            value = whole_behind m i more ∙ on (i == b.number) (Some v) (w.engine.log i) (eq-eqb i b.number is);
+            value = whole_behind m i more ∙ cond-true (i == b.number) (Some v) (w.engine.log i) (eq-eqb i b.number is);
             absent = whole_behind w i more ∙ (ap (λ n. w.engine.log n) is ∙ absent);
           })
           | inr isnt ↦ inl (record {
-            before = whole_behind m i more ∙ (not_on (i == b.number) (Some v) (w.engine.log i) (differ i b.number isnt) ∙ sym (whole_behind w i more));
+            before = whole_behind m i more ∙ (cond-false (i == b.number) (Some v) (w.engine.log i) (ne_eqb i b.number isnt) ∙ sym (whole_behind w i more));
             cut = λ is. absurd (isnt is);
           })
         ]
@@ -408,7 +362,7 @@ module _ (w : World) (so : IsSound w) where
 
     put_firm : (r g n : ℕ) → HasFenced w r g → ((i : ℕ) → g ≤ i → i ≤ n → (x : List ℕ) × HasPut (put_world b v) r i x)
         → (i : ℕ) (u : List ℕ) → g ≤ i → i ≤ n → HasPut (put_world b v) r i u → whole (put_world b v) i ≡ Some u
-    put_firm r g n f all i u ge le h = elim (equal r w.engine.fence) as (λ _. whole (put_world b v) i ≡ Some u) [
+    put_firm r g n f all i u ge le h = elim (cases_eq r w.engine.fence) as (λ _. whole (put_world b v) i ≡ Some u) [
       | inl is ↦ put_then i u (subst (λ k. HasPut (put_world b v) k i u) is h)
       | inr other ↦ kept_there i u (so.firm r g n f
           (λ j a c. let x = all j a c in (x.0, other_before r j x.0 other x.1)) i u ge le (other_before r i u other h))
@@ -550,13 +504,13 @@ module _ (w : World) (so : IsSound w) where
   pub fence_keeps : (f : Fence) (i : ℕ) → i < f.gap → whole (fence_world f) i ≡ whole w i
   fence_keeps f i lt = let m = fence_world f in elim (order i w.engine.snap) as (λ _. whole m i ≡ whole w i) [
     | inl le ↦ whole_cut m i le ∙ sym (whole_cut w i le)
-    | inr more ↦ whole_behind m i more ∙ (on (nat_lt i f.gap) (w.engine.log i) None (lt-ltb i f.gap lt) ∙ sym (whole_behind w i more))
+    | inr more ↦ whole_behind m i more ∙ (cond-true (nat_lt i f.gap) (w.engine.log i) None (lt-ltb i f.gap lt) ∙ sym (whole_behind w i more))
   ]
 
   pub fence_ends : (f : Fence) (i : ℕ) → w.engine.snap < f.gap → f.gap ≤ i → whole (fence_world f) i ≡ None
   fence_ends f i behind ge =
       let more : w.engine.snap < i = omega arith in
-      whole_behind (fence_world f) i more ∙ not_on (nat_lt i f.gap) (w.engine.log i) None (not_lt i f.gap ge)
+      whole_behind (fence_world f) i more ∙ cond-false (nat_lt i f.gap) (w.engine.log i) None (le-ltb i f.gap ge)
 
   module _ (f : Fence) (read : Has f w.reads) (leader : w.engine.leader ≡ Some f.leadership)
       (unfenced_yet : w.engine.fence ≡ f.leadership → ⊥) where
@@ -670,10 +624,10 @@ module _ (w : World) (so : IsSound w) where
   -- nothing that is whole changes
   pub cut_keeps : (last i : ℕ) → w.engine.snap < last → whole (cut_world last) i ≡ whole w i
   cut_keeps last i lt = let m = cut_world last in elim (order i last) as (λ _. whole m i ≡ whole w i) [
-    | inl le ↦ whole_cut m i le ∙ on (nat_le i last) (whole w i) (w.kept i) (le-leb i last le)
+    | inl le ↦ whole_cut m i le ∙ cond-true (nat_le i last) (whole w i) (w.kept i) (le-leb i last le)
     | inr more ↦
         let behind : w.engine.snap < i = omega arith in
-        whole_behind m i more ∙ (not_on (nat_le i last) None (w.engine.log i) (not_le i last more) ∙ sym (whole_behind w i behind))
+        whole_behind m i more ∙ (cond-false (nat_le i last) None (w.engine.log i) (lt-leb i last more) ∙ sym (whole_behind w i behind))
   ]
 
   module _ (r g last : ℕ) (decided : HasDecided w r g last) (leader : w.engine.leader ≡ Some r) (lt : w.engine.snap < last) where
@@ -745,7 +699,7 @@ module _ (w : World) (so : IsSound w) where
         } ∷ w.batches;
       })
   tries_sound b v sent true e =
-      let may = both (leads b.leadership w.engine.leader) (is_none (w.engine.log b.number)) e in
+      let may = and_parts (leads b.leadership w.engine.leader) (is_none (w.engine.log b.number)) e in
       put_sound b v sent (led b.leadership w.engine.leader may.0) (none (w.engine.log b.number) may.1)
   tries_sound b v sent false e = not_put_sound b v sent
 
@@ -755,8 +709,8 @@ module _ (w : World) (so : IsSound w) where
         fences = record { fence = f; answer = cond t fence.Done (fence.Not (record { leader = w.engine.leader; fence = w.engine.fence })) } ∷ w.fences;
       })
   fences_sound f read true e =
-      let may = both (leads f.leadership w.engine.leader) (not (w.engine.fence == f.leadership)) e in
-      fence_sound f read (led f.leadership w.engine.leader may.0) (eqb-false w.engine.fence f.leadership (off (w.engine.fence == f.leadership) may.1))
+      let may = and_parts (leads f.leadership w.engine.leader) (not (w.engine.fence == f.leadership)) e in
+      fence_sound f read (led f.leadership w.engine.leader may.0) (eqb-false w.engine.fence f.leadership (not-true (w.engine.fence == f.leadership) may.1))
   fences_sound f read false e = not_fenced_sound f read
 
   cuts_sound : (r g last : ℕ) → HasDecided w r g last → (t : Bool) → may_cut w.engine r last ≡ t
@@ -765,22 +719,26 @@ module _ (w : World) (so : IsSound w) where
         kept = cond t (λ i. if nat_le i last then whole w i else w.kept i) w.kept;
       })
   cuts_sound r g last decided true e =
-      let may = both (leads r w.engine.leader) (nat_lt w.engine.snap last) e in
+      let may = and_parts (leads r w.engine.leader) (nat_lt w.engine.snap last) e in
       cut_sound r g last decided (led r w.engine.leader may.0) (ltb-true w.engine.snap last may.1)
   cuts_sound r g last decided false e = so
 
+move_sound : (w : World) → IsSound w → (c : Move) → Needs w c → IsSound (after_move w c)
+move_sound w so (Leads r) needs = let lt = needs.1 in
+    led_sound w so (Some r) r (omega arith) (λ s e. let is : r ≡ s = cc in (sym is, omega arith))
+move_sound w so Ends needs = led_sound w so None w.engine.newest (omega arith) (λ s e. absurd (none-some s e))
+move_sound w so (Reads r g) needs = reads_sound w so r g needs.0 needs.1 needs.2
+move_sound w so (Fences f) read = fences_sound w so f read (may_fence w.engine f) refl
+move_sound w so (Sends b v) may = sends_sound w so b v may
+move_sound w so (Tries b v) sent = tries_sound w so b v sent (may_put w.engine b) refl
+move_sound w so (Cuts r g last) decided = cuts_sound w so r g last decided (may_cut w.engine r last) refl
+
 pub step : (w : World) (c : Move) (m : World) → IsSound w → Happens w c m → IsSound m
-step w (Leads r) m so h = subst (λ x. IsSound x) (sym h.2) (leads_sound w so r h.1)
-step w Ends m so h = subst (λ x. IsSound x) (sym h) (ends_sound w so)
-step w (Reads r g) m so h = subst (λ x. IsSound x) (sym h.3) (reads_sound w so r g h.0 h.1 h.2)
-step w (Fences f) m so h = subst (λ x. IsSound x) (sym h.1) (fences_sound w so f h.0 (may_fence w.engine f) refl)
-step w (Sends b v) m so h = subst (λ x. IsSound x) (sym h.1) (sends_sound w so b v h.0)
-step w (Tries b v) m so h = subst (λ x. IsSound x) (sym h.1) (tries_sound w so b v h.0 (may_put w.engine b) refl)
-step w (Cuts r g last) m so h = subst (λ x. IsSound x) (sym h.1) (cuts_sound w so r g last h.0 (may_cut w.engine r last) refl)
+step w c m so h = subst (λ x. IsSound x) (sym h.1) (move_sound w so c h.0)
 
 pub new_sound : IsSound new_world
 new_sound = record {
-  led = λ r e. absurd (none_some r e);
+  led = λ r e. absurd (none-some r e);
   fence_led = omega arith;
   read_led = λ r g h. absurd h;
   read_once = λ r g h one two. absurd one;
@@ -790,7 +748,7 @@ new_sound = record {
   served = λ r g s. absurd s.1;
   tried_fence = λ t h. absurd h;
   cut = λ i low le. absurd (omega arith);
-  in_log = λ i v e. absurd (none_some v e);
+  in_log = λ i v e. absurd (none-some v e);
   in_whole = λ i v e. absurd (nothing_whole i v e);
   sends = λ b v h. absurd h;
   same = λ b v u h k. absurd h;

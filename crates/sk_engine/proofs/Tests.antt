@@ -1,17 +1,8 @@
 -- What tests of the engine say, and what is whole.
-use Rattle.sk_engine.proofs.Names.{◌≡◌, ℕ, ◌<◌, ◌≤◌, Bool, true, false, cond, not, ◌&&◌, List, Option, Some, None, refl}
-use Rattle.sk_engine.proofs.Names.{sym, ap, arith, nat_le, nat_lt, is_none, bytes_eq, eqb-true, eqb-false, leb-true}
-use Rattle.sk_engine.proofs.Names.{le-leb, ltb-true, bytes_eq-Decides, Held, Absent, Mine, Another, Synced, Lost}
-use Rattle.sk_engine.proofs.Names.{Unknowable, Serves, Over, Breach, leads, held_of, refused_told, unfenced_told, World}
-use Rattle.sk_engine.proofs.Names.{whole}
-
-pub both : (a b : Bool) → a && b ≡ true → (a ≡ true) × (b ≡ true)
-both true b e = (refl, e)
-both false b e = absurd (let no : false ≡ true = e in cc)
-
-pub off : (a : Bool) → not a ≡ true → a ≡ false
-off true e = absurd (let no : false ≡ true = e in cc)
-off false e = refl
+use Rattle.sk_engine.proofs.Names.{◌≡◌, ℕ, ◌<◌, ◌≤◌, Bool, true, false, cond, List, Option, Some, None, refl, sym, ap}
+use Rattle.sk_engine.proofs.Names.{nat_le, is_none, bytes_eq, eqb-true, eqb-false, le-leb, bytes_eq-Decides, Held}
+use Rattle.sk_engine.proofs.Names.{Absent, Mine, Another, Synced, Lost, Unknowable, Serves, Over, Breach, leads}
+use Rattle.sk_engine.proofs.Names.{held_of, refused_told, unfenced_told, World, whole, cond-true, cond-false, lt-leb}
 
 -- the leader is of this leadership; or it isn't
 pub led : (leadership : ℕ) (leader : Option ℕ) → leads leadership leader ≡ true → leader ≡ Some leadership
@@ -72,28 +63,8 @@ told_serves true false e = absurd (let no : Breach ≡ Serves = e in cc)
 
 -- ---- what is whole
 
-pub on : {A : Type 0} (t : Bool) (x y : A) → t ≡ true → cond t x y ≡ x
-on t x y e = ap (λ b. cond b x y) e
-
-pub not_on : {A : Type 0} (t : Bool) (x y : A) → t ≡ false → cond t x y ≡ y
-not_on t x y e = ap (λ b. cond b x y) e
-
-above : (a b : ℕ) (t : Bool) → nat_le a b ≡ t → b < a → t ≡ false
-above a b true e lt = let le = leb-true a b e in absurd (omega arith)
-above a b false e lt = refl
-
-pub not_le : (a b : ℕ) → b < a → nat_le a b ≡ false
-not_le a b lt = above a b (nat_le a b) refl lt
-
-beside : (a b : ℕ) (t : Bool) → nat_lt a b ≡ t → b ≤ a → t ≡ false
-beside a b true e le = let lt = ltb-true a b e in absurd (omega arith)
-beside a b false e le = refl
-
-pub not_lt : (a b : ℕ) → b ≤ a → nat_lt a b ≡ false
-not_lt a b le = beside a b (nat_lt a b) refl le
-
 pub whole_behind : (w : World) (i : ℕ) → w.engine.snap < i → whole w i ≡ w.engine.log i
-whole_behind w i lt = not_on (nat_le i w.engine.snap) (w.kept i) (w.engine.log i) (not_le i w.engine.snap lt)
+whole_behind w i lt = cond-false (nat_le i w.engine.snap) (w.kept i) (w.engine.log i) (lt-leb i w.engine.snap lt)
 
 pub whole_cut : (w : World) (i : ℕ) → i ≤ w.engine.snap → whole w i ≡ w.kept i
-whole_cut w i le = on (nat_le i w.engine.snap) (w.kept i) (w.engine.log i) (le-leb i w.engine.snap le)
+whole_cut w i le = cond-true (nat_le i w.engine.snap) (w.kept i) (w.engine.log i) (le-leb i w.engine.snap le)

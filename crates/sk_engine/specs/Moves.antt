@@ -115,24 +115,31 @@ pub record MaySend (w : World) (b : Batch) (value : List ℕ) : Type 0 where
 abbrev pub kept_by : World → ℕ → ℕ → Entries
 kept_by w leadership last = if may_cut w.engine leadership last then (λ i. if nat_le i last then whole w i else w.kept i) else w.kept
 
--- what a move needs, and what it leaves
+-- what a move needs
+abbrev pub Needs : World → Move → Type 0
+Needs w (Leads leadership) = (w.engine.leader ≡ None) × (w.engine.newest < leadership)
+Needs w Ends = Unit {0}
+Needs w (Reads leadership gap) = (leadership ≤ w.engine.newest) × ((other : ℕ) → Has (fence_of leadership other) w.reads → ⊥) × IsGap w.engine gap
+Needs w (Fences f) = Has f w.reads
+Needs w (Sends b value) = MaySend w b value
+Needs w (Tries b value) = Has (record { batch = b; value = value }) w.sent
+Needs w (Cuts leadership gap last) = HasDecided w leadership gap last
+
+-- what it leaves
+abbrev pub after_move : World → Move → World
+after_move w (Leads leadership) = record w { engine = record w.engine { leader = Some leadership; newest = leadership } }
+after_move w Ends = record w { engine = record w.engine { leader = None } }
+after_move w (Reads leadership gap) = record w { reads = fence_of leadership gap ∷ w.reads }
+after_move w (Fences f) = record w { engine = after_fence w.engine f; fences = record { fence = f; answer = fence_answer w.engine f } ∷ w.fences }
+after_move w (Sends b value) = record w { sent = record { batch = b; value = value } ∷ w.sent }
+after_move w (Tries b value) = record w {
+  engine = after_batch w.engine b value;
+  batches = record { batch = b; value = value; answer = batch_answer w.engine b value } ∷ w.batches;
+}
+after_move w (Cuts leadership gap last) = record w { engine = after_cut w.engine leadership last; kept = kept_by w leadership last }
+
 abbrev pub Happens : World → Move → World → Type 0
-Happens w (Leads leadership) m = (w.engine.leader ≡ None) × (w.engine.newest < leadership)
-    × (m ≡ record w { engine = record w.engine { leader = Some leadership; newest = leadership } })
-Happens w Ends m = m ≡ record w { engine = record w.engine { leader = None } }
-Happens w (Reads leadership gap) m = (leadership ≤ w.engine.newest)
-    × ((other : ℕ) → Has (fence_of leadership other) w.reads → ⊥) × IsGap w.engine gap
-    × (m ≡ record w { reads = fence_of leadership gap ∷ w.reads })
-Happens w (Fences f) m = Has f w.reads
-    × (m ≡ record w { engine = after_fence w.engine f; fences = record { fence = f; answer = fence_answer w.engine f } ∷ w.fences })
-Happens w (Sends b value) m = MaySend w b value × (m ≡ record w { sent = record { batch = b; value = value } ∷ w.sent })
-Happens w (Tries b value) m = Has (record { batch = b; value = value }) w.sent
-    × (m ≡ record w {
-      engine = after_batch w.engine b value;
-      batches = record { batch = b; value = value; answer = batch_answer w.engine b value } ∷ w.batches;
-    })
-Happens w (Cuts leadership gap last) m = HasDecided w leadership gap last
-    × (m ≡ record w { engine = after_cut w.engine leadership last; kept = kept_by w leadership last })
+Happens w c m = Needs w c × (m ≡ after_move w c)
 
 abbrev pub Runs : World → List Move → World → Type 0
 Runs w [] last = w ≡ last

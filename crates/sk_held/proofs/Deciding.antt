@@ -1,9 +1,8 @@
 -- A guess is decided by the token at the place that was found: it is taken, and the other tokens are held as before.
-use Rattle.sk_held.proofs.Names.{◌≡◌, ℕ, zero, suc, true, false, cond, ◌||◌, List, [], ◌∷◌, ◌++◌, length, Some, None}
-use Rattle.sk_held.proofs.Names.{Result, Ok, Err, refl, sym, ap, ◌∙◌, subst, ◌==◌, get_or, slice_get, remove}
-use Rattle.sk_held.proofs.Names.{AllByRecursion, true≢false, eq-eqb, or_left, or_right, has, without, Open, numbers}
-use Rattle.sk_held.proofs.Names.{Undecided, Struck, KeptView, known, Token, IsStranger, Committed, bytes_cmp, ByteView}
-use Rattle.sk_held.proofs.Names.{CommitPost, FailPost, Unmade, ids, is_out, AreHeld}
+use Rattle.sk_held.proofs.Names.{◌≡◌, ℕ, zero, suc, true, ◌||◌, List, [], ◌∷◌, ◌++◌, length, Some, Result, Ok, Err}
+use Rattle.sk_held.proofs.Names.{refl, sym, ap, ◌∙◌, subst, ◌==◌, get_or, slice_get, remove, AllByRecursion, true≢false}
+use Rattle.sk_held.proofs.Names.{eq-eqb, or_left, or_right, has, without, KeptView, Token, IsStranger, Committed}
+use Rattle.sk_held.proofs.Names.{bytes_cmp, ByteView, CommitPost, FailPost, Unmade, ids, is_out, AreHeld}
 use Rattle.sk_speculator.specs.declared.decided.Committed.TheVariants as commit
 use Rattle.sk_bytes.specs.declared.bytes.Unmade.TheVariants as unmade
 use Rattle.sk_held.proofs.Found.{all_at, all_but, number_at, others, within}
@@ -13,14 +12,6 @@ has_at : (gs : List ℕ) (i g : ℕ) → slice_get gs i ≡ Some g → has g gs 
 has_at [] i g at = absurd cc
 has_at (n ∷ gs) zero g at = let same : n ≡ g = cc in or_left (n == g) (has g gs) (eq-eqb n g same)
 has_at (n ∷ gs) (suc i) g at = or_right (n == g) (has g gs) (has_at gs i g at)
-
--- of a guess that is not out nothing is known
-pub none_known : (v : KeptView) (os : List Open) (g : ℕ) → is_out v os g ≡ false → known v os g ≡ None
-none_known v os g none =
-    elim (has g (numbers os)) as (λ a. (a || has g v.struck) ≡ false → cond a (Some Undecided) (cond (has g v.struck) (Some Struck) None) ≡ None) [
-      | true ↦ λ no. absurd (true≢false no)
-      | false ↦ λ no. ap (λ b. cond b (Some Struck) None) no
-    ] none
 
 module _ {V O : Type 0} (old : ByteView V O) (ts us : List Token) (t : Token) (place g : ℕ) (held : AreHeld old.parts ts)
     (at : slice_get (ids ts) place ≡ Some g) (value : t ≡ get_or ts place t) (rest : us ≡ remove ts place) where
@@ -66,14 +57,6 @@ module _ {V O : Type 0} (old : ByteView V O) (ts us : List Token) (t : Token) (p
   fail_holds (Ok unmade.Gone) o new h e =
       forgotten old.parts new.parts ts us held t.id without_it bytes_cmp (subst (λ n. AllByRecursion (λ (u : Token). u.kernel ≡ n) us) (ap (λ m. m.guesses.kernel) (sym h.1.left)) left) h.1
   fail_holds (Err back) o new h e = absurd cc
-
-  pub commit_says : (result : Result Committed Token) (o : Committed) (new : ByteView V O) → CommitPost old t result new → result ≡ Ok o
-      → CommitPost old (record { kernel = old.parts.guesses.kernel; id = g }) (Ok o) new
-  commit_says result o new h e = subst (λ (u : Token). CommitPost old u (Ok o) new) token (subst (λ r. CommitPost old t r new) e h)
-
-  pub fail_says : (result : Result Unmade Token) (o : Unmade) (new : ByteView V O) → FailPost old t result new → result ≡ Ok o
-      → FailPost old (record { kernel = old.parts.guesses.kernel; id = g }) (Ok o) new
-  fail_says result o new h e = subst (λ (u : Token). FailPost old u (Ok o) new) token (subst (λ r. FailPost old t r new) e h)
 
 -- ---- the newest token is taken out
 last_at : (us : List Token) (t : Token) → slice_get (ids (us ++ t ∷ [])) (length us) ≡ Some t.id

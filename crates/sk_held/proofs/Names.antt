@@ -29,10 +29,10 @@ pub use Rattle.sk_bytes.specs.declared.refusal.Refusal.TheVariants.{NoNumber, Me
 pub use Rattle.sk_deeds.specs.Deed.{Deed}
 pub use Rattle.sk_guesses.proofs.Kept.{statuses_redeemed}
 pub use Rattle.sk_guesses.proofs.Opens.{more_rises}
-pub use Rattle.sk_guesses.specs.Kept.{struck_with, AreStatuses, known, none_drawn, KeptView}
+pub use Rattle.sk_guesses.specs.Kept.{struck_with, AreStatuses, none_drawn, KeptView}
 pub use Rattle.sk_guesses.specs.Opens.{open_in}
 pub use Rattle.sk_guesses.specs.Token.{Token}
-pub use Rattle.sk_held.specs.Held.{is_long_value, no_step, is_long_key, WritesPost, HeldView, PutsPost, Says}
+pub use Rattle.sk_held.specs.Held.{is_long_value, is_long_key, WritesPost, HeldView, PutsPost, Says}
 pub use Rattle.sk_held.specs.Outputs.{first_of, but_first, MayBring}
 pub use Rattle.sk_held.specs.Tokens.{AreHeld, is_out, ids}
 pub use Rattle.sk_held.specs.declared.output.Output.{Output}
@@ -43,7 +43,7 @@ pub use Rattle.sk_record.specs.Machine.{rests_on, with_drawn, with_failure, with
 pub use Rattle.sk_record.specs.Notes.{without, has}
 pub use Rattle.sk_record.specs.UndoState.{still_open, not_struck, numbers, Open}
 pub use Rattle.sk_record.specs.declared.status.Status.{Status}
-pub use Rattle.sk_record.specs.declared.status.Status.TheVariants.{Failed, Struck, Undecided}
+pub use Rattle.sk_record.specs.declared.status.Status.TheVariants.{Failed, Struck}
 pub use Rattle.sk_speculator.specs.Calls.{next_of, Forgets, FailsIn, Commits, IsStranger, Takes}
 pub use Rattle.sk_speculator.specs.Parts.{Parts}
 pub use Rattle.sk_speculator.specs.WholeStep.{WholeStep}

@@ -4,11 +4,10 @@ use Rattle.sk_led.proofs.Names.{take, map, Some, None, inl, inr, refl, sym, ◌�
 use Rattle.sk_led.proofs.Names.{true≢false, take-map, has, payload, RecordView, Work, Says, SayAll, log_limits}
 use Rattle.sk_led.proofs.Names.{after_works, Entries, Limits, Next, StoreView, Call, Cuts, frames, synced, HasDone}
 use Rattle.sk_led.proofs.Names.{IsRecovered, crashes_are_recovered, between, batch_of, owner_of, whole, World, HasPut}
-use Rattle.sk_led.proofs.Names.{IsSound, order, AreOf, IsGivenUp, IsLeading, NoneSynced}
-use Rattle.sk_led.proofs.Names.{Move, Moves, new_world, HasAll, StoreDoes, Decides, Logged, Contains, nothing_there}
-use Rattle.sk_led.proofs.Names.{AllByRecursion, Batch, Stage, Synced, is_kept, at_first, dense_at, oldest_logged}
-use Rattle.sk_led.proofs.Names.{Option}
-use Rattle.sk_led.proofs.Names.{queue_decided, stands_densely, synced_upto, log_text}
+use Rattle.sk_led.proofs.Names.{IsSound, order, AreOf, IsGivenUp, IsLeading, NoneSynced, Move, Moves, new_world, HasAll}
+use Rattle.sk_led.proofs.Names.{StoreDoes, Decides, Logged, Contains, nothing_there, AllByRecursion, Batch, Stage}
+use Rattle.sk_led.proofs.Names.{Synced, is_kept, at_first, dense_at, oldest_logged, Option, queue_decided}
+use Rattle.sk_led.proofs.Names.{stands_densely, synced_upto, log_text}
 use Rattle.sk_batches.specs.declared.queue.Decision.TheVariants as decision
 use Rattle.sk_engine.specs.declared.answer.BatchAnswer.TheVariants as batch
 use Rattle.sk_led.proofs.Grows.{first_off, same_payloads}

@@ -1,8 +1,8 @@
 -- Frames and words of the host only become more, where no cut is made.
 use Rattle.sk_led.proofs.Names.{◌≡◌, ◌==◌, ℕ, zero, suc, ◌<◌, ◌≤◌, Bool, true, false, List, [], ◌∷◌, ◌++◌, length, map}
-use Rattle.sk_led.proofs.Names.{take, Some, None, inl, inr, refl, sym, ◌∙◌, ap, subst, append_assoc, arith, ◌⊎◌}
-use Rattle.sk_led.proofs.Names.{slice_get, or_right, append-nil, has, payload, RecordView, Call, Sends, Learns, Cuts}
-use Rattle.sk_led.proofs.Names.{frames_by, frames_from, synced_by, synced_from, order, AreUncut}
+use Rattle.sk_led.proofs.Names.{take, Some, inl, inr, refl, sym, ◌∙◌, ap, subst, append_assoc, arith, ◌⊎◌, slice_get}
+use Rattle.sk_led.proofs.Names.{or_right, append-nil, has, payload, RecordView, Call, Sends, Learns, Cuts, frames_by}
+use Rattle.sk_led.proofs.Names.{frames_from, synced_by, synced_from, order, AreUncut, none-some}
 use Rattle.sk_batches.specs.declared.batch.Stage.TheVariants as stages
 
 pub uncut_behind : (cs ds : List Call) → AreUncut (cs ++ ds) → AreUncut ds
@@ -41,11 +41,8 @@ synced_grow n cs ds uncut is =
 
 -- ---- lists
 
-none_some : {A : Type 0} (x : A) → None ≡ Some x → ⊥
-none_some x e = cc
-
 pub get_front : {A : Type 0} (xs ys : List A) (k : ℕ) (x : A) → slice_get xs k ≡ Some x → slice_get (xs ++ ys) k ≡ Some x
-get_front [] ys k x e = absurd (none_some x e)
+get_front [] ys k x e = absurd (none-some x e)
 get_front (y ∷ xs) ys zero x e = e
 get_front (y ∷ xs) ys (suc k) x e = get_front xs ys k x e
 
@@ -62,7 +59,7 @@ pub same_payloads : (read : List ℕ → List ℕ) (values : List (List ℕ)) (l
     → ((k : ℕ) (v : List ℕ) → slice_get values k ≡ Some v → (records : List RecordView) × (slice_get log k ≡ Some records) × (read v ≡ payload records))
     → map read values ≡ take (length values) (map payload log)
 same_payloads read [] log each = refl
-same_payloads read (v ∷ values) [] each = absurd (none_some (each zero v refl).0 (each zero v refl).1)
+same_payloads read (v ∷ values) [] each = absurd (none-some (each zero v refl).0 (each zero v refl).1)
 same_payloads read (v ∷ values) (records ∷ log) each =
     let first = each zero v refl in
     let is : records ≡ first.0 = (let e = first.1 in cc) in

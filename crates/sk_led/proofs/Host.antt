@@ -1,13 +1,10 @@
 -- What a host lets out is the newest.
-use Rattle.sk_led.proofs.Names.{◌≡◌, ℕ, ◌≤◌, Bool, true, false, List, [], ◌∷◌, ◌++◌, refl, sym, ◌∙◌, ap, subst}
-use Rattle.sk_led.proofs.Names.{arith}
+use Rattle.sk_led.proofs.Names.{◌≡◌, ℕ, ◌≤◌, Bool, true, false, List, [], ◌∷◌, ◌++◌, refl, sym, ◌∙◌, ap, subst, arith}
 use Rattle.sk_led.proofs.Names.{◌==◌, ◌||◌, if◌then◌else◌, list_any, eq-eqb, ltb-true, lt-ltb, Carries, Connects, Tells}
 use Rattle.sk_led.proofs.Names.{Happens, Move, Moves, may_tell, CarriesOut, Holds, Loses, RoundCall, RoundDoes}
-use Rattle.sk_led.proofs.Names.{RoundRuns}
-use Rattle.sk_led.proofs.Names.{RoundsView, Takes, new_hosted, Acts, Asks, Calls, Hosted, HostDoes, HostRuns, Rides}
-use Rattle.sk_led.proofs.Names.{Step}
-use Rattle.sk_led.proofs.Names.{told_is_newest, stilled, told_behind_a_round, Act, AllActs, Does, Goes, Host, called}
-use Rattle.sk_led.proofs.Names.{connects, RepliesAreNewest}
+use Rattle.sk_led.proofs.Names.{RoundRuns, RoundsView, Takes, new_hosted, Acts, Asks, Calls, Hosted, HostDoes, HostRuns}
+use Rattle.sk_led.proofs.Names.{Rides, Step, told_is_newest, stilled, told_behind_a_round, Act, AllActs, Does, Goes}
+use Rattle.sk_led.proofs.Names.{Host, called, connects, RepliesAreNewest}
 use Rattle.sk_led.proofs.Led.{logged_at}
 
 -- ---- as the engine and the rounds have it

@@ -1,22 +1,19 @@
 -- What a store does that is wound up.
 use Rattle.sk_led.proofs.Names.{◌≡◌, ◌==◌, ◌||◌, ◌≢◌, ℕ, suc, ◌+◌, ◌<◌, ◌≤◌, Bool, true, false, List, [], ◌∷◌, ◌++◌}
-use Rattle.sk_led.proofs.Names.{length, map, Some, None, Ok, Err, Option, option_or, inl, inr, refl, sym, ◌∙◌, ap, subst, arith}
-use Rattle.sk_led.proofs.Names.{if◌then◌else◌, list_any, list_any-append, or_right, eq-eqb, false≢true, serves_behind}
-use Rattle.sk_led.proofs.Names.{Batch, Stage, QueueView, after_take, awaits, cut_due, first_failed, is_awaited, is_decided, is_failed}
-use Rattle.sk_led.proofs.Names.{last_in, left, next_records, open_batch, queue_decided, send, tell, word_refused, Cut, Decision}
-use Rattle.sk_led.proofs.Names.{decision_of, first_cause, PlacesView, Refusal, Sealed, Stays, AfterNoFrame, all_stays, place_at}
-use Rattle.sk_led.proofs.Names.{next_refused, queue_cause_of, Call, Cuts, Decides, Draws, Learns, Rests, Sends, Turns}
-use Rattle.sk_led.proofs.Names.{StoreDoes, StoreView, FramePost, any_failed, AreLast, DoesLast, IsAgainst}
-use Rattle.sk_led.proofs.Names.{◌^◌, ◌-◌, is_some, nat_le, DecidesAll, FailPost, leb-false, eqb-true, next_segment, Result, TakePost, TurnPost}
-use Rattle.sk_led.proofs.Names.{CutPost, WindUpPost}
-use Rattle.sk_led.proofs.Names.{frame_refused, MayBegin}
+use Rattle.sk_led.proofs.Names.{length, map, Some, None, Ok, Err, Option, option_or, inl, inr, refl, sym, ◌∙◌, ap}
+use Rattle.sk_led.proofs.Names.{subst, arith, if◌then◌else◌, list_any, list_any-append, or_right, eq-eqb, false≢true}
+use Rattle.sk_led.proofs.Names.{serves_behind, Batch, Stage, QueueView, after_take, awaits, cut_due, first_failed}
+use Rattle.sk_led.proofs.Names.{is_awaited, is_decided, is_failed, last_in, left, next_records, open_batch}
+use Rattle.sk_led.proofs.Names.{queue_decided, send, tell, word_refused, Cut, Decision, decision_of, first_cause}
+use Rattle.sk_led.proofs.Names.{PlacesView, Refusal, Sealed, Stays, AfterNoFrame, all_stays, place_at, next_refused}
+use Rattle.sk_led.proofs.Names.{queue_cause_of, Call, Cuts, Decides, Draws, Learns, Rests, Sends, Turns, StoreDoes}
+use Rattle.sk_led.proofs.Names.{StoreView, FramePost, any_failed, AreLast, DoesLast, IsAgainst, ◌^◌, ◌-◌, is_some}
+use Rattle.sk_led.proofs.Names.{nat_le, DecidesAll, FailPost, leb-false, eqb-true, next_segment, Result, TakePost}
+use Rattle.sk_led.proofs.Names.{TurnPost, CutPost, WindUpPost, frame_refused, MayBegin, none-some}
 use Rattle.sk_batches.specs.declared.batch.Stage.TheVariants as stages
 use Rattle.sk_batches.specs.declared.refusal.Refusal.TheVariants as refusals
 use Rattle.sk_batched.specs.declared.batched.Outcome.{Outcome}
 use Rattle.sk_batched.specs.declared.batched.Outcome.TheVariants as outcomes
-
-none_some : {A X : Type 0} (x : A) → None ≡ Some x → X
-none_some x e = cc
 
 -- ---- calls
 
@@ -45,12 +42,10 @@ stage_left : (s : Stage) (n : ℕ) (d : Decision) (b : Batch) (bs : List Batch) 
     → length (if is_decided s then bs else b ∷ bs) < suc (length bs)
 stage_left stages.Synced n d b bs e = omega arith
 stage_left stages.Refused n d b bs e = omega arith
-stage_left stages.Kept n d b bs e = none_some d e
-stage_left stages.Sent n d b bs e = none_some d e
-stage_left stages.Failed n d b bs e = none_some d e
+stage_left s n d b bs e = absurd (none-some d e)
 
 pub left_fewer : (bs : List Batch) (d : Decision) → queue_decided bs ≡ Some d → length (left bs) < length bs
-left_fewer [] d e = none_some d e
+left_fewer [] d e = absurd (none-some d e)
 left_fewer (b ∷ bs) d e = stage_left b.stage b.number d b bs e
 
 pub decides_fewer : (a b : StoreView) (outcome : Outcome) → StoreDoes a (Decides outcome) b
@@ -72,9 +67,9 @@ decides_more a m b outcome before does = (does_on a m b before.0 (one_done m b (
 -- no word on it is refused where it is awaited
 awaited_if : (stopped awaited : Bool) → (if stopped then Some refusals.Stopped else if awaited then None else Some refusals.Unknown) ≡ None
     → awaited ≡ true
-awaited_if true awaited e = none_some refusals.Stopped (sym e)
+awaited_if true awaited e = absurd (none-some refusals.Stopped (sym e))
 awaited_if false true e = refl
-awaited_if false false e = none_some refusals.Unknown (sym e)
+awaited_if false false e = absurd (none-some refusals.Unknown (sym e))
 
 pub any_told : (frame : ℕ) (bs : List Batch) → list_any (awaits frame) bs ≡ true
     → list_any (λ (b : Batch). is_failed b.stage) (map (tell frame stages.Failed) bs) ≡ true
@@ -90,7 +85,7 @@ abbrev cut_at : Batch → List Batch → Cut
 cut_at b bs = record { frame = b.frame; first = b.number; last = last_in b.frame b.number bs }
 
 first_some : (bs : List Batch) (c : Cut) → first_failed bs ≡ Some c → list_any (λ (b : Batch). is_failed b.stage) bs ≡ true
-first_some [] c e = none_some c e
+first_some [] c e = absurd (none-some c e)
 first_some (b ∷ bs) c e = elim (is_failed b.stage) as (λ t. (if t then Some (cut_at b bs) else first_failed bs) ≡ Some c
     → (t || list_any (λ (b : Batch). is_failed b.stage) bs) ≡ true) [
       | true ↦ λ _. refl
@@ -99,7 +94,7 @@ first_some (b ∷ bs) c e = elim (is_failed b.stage) as (λ t. (if t then Some (
 
 due_of : (t : Bool) (bs : List Batch) (c : Cut) → (if t then None else first_failed bs) ≡ Some c
     → list_any (λ (b : Batch). is_failed b.stage) bs ≡ true
-due_of true bs c e = none_some c e
+due_of true bs c e = absurd (none-some c e)
 due_of false bs c e = first_some bs c e
 
 pub due_failed : (q : QueueView) (c : Cut) → cut_due q ≡ Some c → list_any (λ (b : Batch). is_failed b.stage) q.batches ≡ true
@@ -128,48 +123,21 @@ cause stopped none busy number short head room full = option_or
     (if full then Some refusals.Busy else None)
 
 pub no_cause : (s n b m sh h r f : Bool) → cause s n b m sh h r f ≡ None → (s ≡ false) × (f ≡ false)
-no_cause true n b m sh h r f e = cc
-no_cause false true b m sh h r f e = cc
-no_cause false false true m sh h r f e = cc
-no_cause false false false true sh h r f e = cc
-no_cause false false false false true h r f e = cc
-no_cause false false false false false true r f e = cc
-no_cause false false false false false false false f e = cc
-no_cause false false false false false false true true e = cc
 no_cause false false false false false false true false e = (refl, refl)
+no_cause s n b m sh h r f e = cc
 
 pub is_nothing : (s n b m sh h r f : Bool) → cause s n b m sh h r f ≡ Some refusals.Nothing → n ≡ true
-is_nothing true n b m sh h r f e = cc
 is_nothing false true b m sh h r f e = refl
-is_nothing false false true m sh h r f e = cc
-is_nothing false false false true sh h r f e = cc
-is_nothing false false false false true h r f e = cc
-is_nothing false false false false false true r f e = cc
-is_nothing false false false false false false false f e = cc
-is_nothing false false false false false false true true e = cc
 is_nothing false false false false false false true false e = cc
+is_nothing s n b m sh h r f e = cc
 
 pub not_uncut : (s n b m sh h r f : Bool) → cause s n b m sh h r f ≡ Some refusals.NoCut → ⊥
-not_uncut true n b m sh h r f e = cc
-not_uncut false true b m sh h r f e = cc
-not_uncut false false true m sh h r f e = cc
-not_uncut false false false true sh h r f e = cc
-not_uncut false false false false true h r f e = cc
-not_uncut false false false false false true r f e = cc
-not_uncut false false false false false false false f e = cc
-not_uncut false false false false false false true true e = cc
 not_uncut false false false false false false true false e = cc
+not_uncut s n b m sh h r f e = cc
 
 pub not_unknown : (s n b m sh h r f : Bool) → cause s n b m sh h r f ≡ Some refusals.Unknown → ⊥
-not_unknown true n b m sh h r f e = cc
-not_unknown false true b m sh h r f e = cc
-not_unknown false false true m sh h r f e = cc
-not_unknown false false false true sh h r f e = cc
-not_unknown false false false false true h r f e = cc
-not_unknown false false false false false true r f e = cc
-not_unknown false false false false false false false f e = cc
-not_unknown false false false false false false true true e = cc
 not_unknown false false false false false false true false e = cc
+not_unknown s n b m sh h r f e = cc
 
 no_length : {A : Type 0} (xs : List A) → (length xs == 0) ≡ true → xs ≡ []
 no_length [] e = refl
@@ -185,7 +153,7 @@ awaited_now q e =
 
 none_first : (x y : Option Refusal) → option_or x y ≡ None → x ≡ None
 none_first None y e = refl
-none_first (Some why) y e = none_some why (sym e)
+none_first (Some why) y e = absurd (none-some why (sym e))
 
 -- of a store
 abbrev refused : StoreView → ℕ → Option Refusal
@@ -194,15 +162,13 @@ refused s room = next_refused s.batched s.places room
 -- why no frame is taken
 pub against : (why : Refusal) (room : ℕ) (s : StoreView) → why ≢ refusals.Full → why ≢ refusals.Nothing → refused s room ≡ queue_cause_of why
     → IsAgainst why room s
-against refusals.Stopped room s full none e = inr e
 against refusals.Full room s full none e = absurd (full refl)
 against refusals.Nothing room s full none e = absurd (none refl)
-against refusals.Busy room s full none e = inr e
-against refusals.NoNumber room s full none e = inr e
 against refusals.Short room s full none e = e
 against refusals.Unknown room s full none e = absurd (not_unknown _ _ _ _ _ _ _ _ e)
 against refusals.NoCut room s full none e = absurd (not_uncut _ _ _ _ _ _ _ _ e)
 against refusals.Memory room s full none e = none_first (frame_refused s.batched.queue s.places room) _ e
+against other room s full none e = inr e
 
 -- no record waits for a frame
 pub nothing_waits : (room : ℕ) (s : StoreView) → refused s room ≡ Some refusals.Nothing → next_records s.batched.queue ≡ []
@@ -272,20 +238,8 @@ taken_at_first (Err refusals.Nothing) a b room filled not post = (
   post.0.1,
   nothing_waits (length room) b (same_refused a b (length room) (Some refusals.Nothing) post.0.1 post.0.2 post.0.0),
 )
-taken_at_first (Err refusals.Stopped) a b room filled not post =
-    (not_taken a b refusals.Stopped room filled post, why_not refusals.Stopped a b room filled post (λ e. cc) (λ e. cc))
-taken_at_first (Err refusals.Busy) a b room filled not post =
-    (not_taken a b refusals.Busy room filled post, why_not refusals.Busy a b room filled post (λ e. cc) (λ e. cc))
-taken_at_first (Err refusals.NoNumber) a b room filled not post =
-    (not_taken a b refusals.NoNumber room filled post, why_not refusals.NoNumber a b room filled post (λ e. cc) (λ e. cc))
-taken_at_first (Err refusals.Short) a b room filled not post =
-    (not_taken a b refusals.Short room filled post, why_not refusals.Short a b room filled post (λ e. cc) (λ e. cc))
-taken_at_first (Err refusals.Unknown) a b room filled not post =
-    (not_taken a b refusals.Unknown room filled post, why_not refusals.Unknown a b room filled post (λ e. cc) (λ e. cc))
-taken_at_first (Err refusals.NoCut) a b room filled not post =
-    (not_taken a b refusals.NoCut room filled post, why_not refusals.NoCut a b room filled post (λ e. cc) (λ e. cc))
-taken_at_first (Err refusals.Memory) a b room filled not post =
-    (not_taken a b refusals.Memory room filled post, why_not refusals.Memory a b room filled post (λ e. cc) (λ e. cc))
+taken_at_first (Err other) a b room filled not post =
+    (not_taken a b other room filled post, why_not other a b room filled post (λ e. cc) (λ e. cc))
 
 -- what was done before, and the next segment
 pub record IsTurned (a m : StoreView) : Type 0 where
@@ -297,7 +251,7 @@ pub record IsTurned (a m : StoreView) : Type 0 where
 next_is : (p : PlacesView) (segment : ℕ) → next_segment p ≡ Some segment → (segment ≡ p.segment + 1) × (p.segment + 1 < 2 ^ 28)
 next_is p segment e = elim (nat_le (2 ^ 28) (p.segment + 1)) as (λ t. nat_le (2 ^ 28) (p.segment + 1) ≡ t
     → (if t then None else Some (p.segment + 1)) ≡ Some segment → (segment ≡ p.segment + 1) × (p.segment + 1 < 2 ^ 28)) [
-      | true ↦ λ t e. none_some segment e
+      | true ↦ λ t e. absurd (none-some segment e)
       | false ↦ λ t e. ((let same : p.segment + 1 ≡ segment = cc in sym same), leb-false (2 ^ 28) (p.segment + 1) t)
     ] refl e
 

@@ -1,14 +1,14 @@
 -- Behind a cut all that still waits for a word of the host is in later frames, and what was told as synced in earlier
 -- ones.
-use Rattle.sk_led.proofs.Names.{◌≡◌, ℕ, suc, ◌+◌, ◌<◌, ◌≤◌, Bool, true, false, List, [], ◌∷◌, refl, sym, ap}
-use Rattle.sk_led.proofs.Names.{subst, arith, ◌==◌, ◌&&◌, cond, Some, None, map, nat_lt, list_any, AllByRecursion}
-use Rattle.sk_led.proofs.Names.{Contains, ltb-true, ltb-false, NUMBER_LIMIT, Stage, Kept, Sent, Synced, Failed}
-use Rattle.sk_led.proofs.Names.{Refused, Batch, Cut, after_cut, awaits, cut_due, cut_off, first_failed, is_decided}
-use Rattle.sk_led.proofs.Names.{is_failed, is_kept, is_sent, last_in, left, open_batch, past, send, tell, QueueView}
-use Rattle.sk_led.proofs.Names.{kept_records_of, AreDense, IsAtCut, IsRange, all_mapped, all_pushed, dense_at}
+use Rattle.sk_led.proofs.Names.{◌≡◌, ℕ, suc, ◌+◌, ◌<◌, ◌≤◌, Bool, true, false, List, [], ◌∷◌, refl, sym, ap, subst}
+use Rattle.sk_led.proofs.Names.{arith, ◌==◌, cond, Some, None, map, nat_lt, list_any, AllByRecursion, Contains}
+use Rattle.sk_led.proofs.Names.{ltb-true, ltb-false, NUMBER_LIMIT, Stage, Kept, Sent, Synced, Failed, Refused, Batch}
+use Rattle.sk_led.proofs.Names.{Cut, after_cut, awaits, cut_due, cut_off, first_failed, is_decided, is_failed, is_kept}
+use Rattle.sk_led.proofs.Names.{is_sent, last_in, left, open_batch, past, send, tell, QueueView, kept_records_of}
+use Rattle.sk_led.proofs.Names.{AreDense, IsAtCut, IsRange, all_mapped, all_pushed, dense_at, ◌∙◌, decided_synced}
+use Rattle.sk_led.proofs.Names.{filter, and_parts, false≢true}
 use Rattle.sk_batches.specs.Runs.{story_after, Appends, Call, Cuts, Decides, Fails, Happens, Runs, Stops, Story, Syncs}
 use Rattle.sk_batches.specs.Runs.{Takes, Withdraws}
-use Rattle.sk_led.proofs.Names.{◌∙◌, decided_synced, filter}
 
 abbrev pub waits : Stage → Bool
 waits Sent = true
@@ -22,54 +22,29 @@ pub record AreLate (c : ℕ) (q : QueueView) : Type 0 where
   pub each : AllByRecursion (IsLate c) q.batches
   pub next : c < q.frame
 
-no_wait : {X : Type 0} → false ≡ true → X
-no_wait e = cc
-
-not_kept : {X : Type 0} → Kept ≡ Synced → X
-not_kept e = cc
-
-not_sent : {X : Type 0} → Sent ≡ Synced → X
-not_sent e = cc
-
-not_failed : {X : Type 0} → Failed ≡ Synced → X
-not_failed e = cc
-
-not_refused : {X : Type 0} → Refused ≡ Synced → X
-not_refused e = cc
-
 sent_waits : (s : Stage) → is_sent s ≡ true → waits s ≡ true
-sent_waits Kept e = no_wait e
 sent_waits Sent e = refl
-sent_waits Synced e = no_wait e
-sent_waits Failed e = no_wait e
-sent_waits Refused e = no_wait e
+sent_waits s e = absurd (false≢true e)
 
 failed_waits : (s : Stage) → is_failed s ≡ true → waits s ≡ true
-failed_waits Kept e = no_wait e
-failed_waits Sent e = no_wait e
-failed_waits Synced e = no_wait e
 failed_waits Failed e = refl
-failed_waits Refused e = no_wait e
+failed_waits s e = absurd (false≢true e)
 
 -- ---- each call of the queue
 
 late_sent : (c next : ℕ) → c < next → (b : Batch) → IsLate c b → IsLate c (send next b)
 late_sent c next lt b late = elim (is_kept b.stage) as
     (λ t. IsLate c (cond t (record b { frame = next; stage = Sent }) b)) [
-      | true ↦ (λ w. lt, λ is. not_sent is)
+      | true ↦ (λ w. lt, λ is. cc)
       | false ↦ late
     ]
-
-first_both : (a b : Bool) → a && b ≡ true → a ≡ true
-first_both true b e = refl
-first_both false b e = e
 
 late_told : (c frame : ℕ) (b : Batch) → IsLate c b → IsLate c (tell frame Failed b)
 late_told c frame b late = elim (awaits frame b) as
     (λ t. awaits frame b ≡ t → IsLate c (cond t (record b { stage = Failed }) b)) [
       | true ↦ λ e. (
-        λ w. late.0 (sent_waits b.stage (first_both (is_sent b.stage) (b.frame == frame) e)),
-        λ is. not_failed is,
+        λ w. late.0 (sent_waits b.stage ((and_parts (is_sent b.stage) (b.frame == frame) e).0)),
+        λ is. cc,
       )
       | false ↦ λ e. late
     ] refl
@@ -87,8 +62,8 @@ abbrev again : Cut → Batch → Batch
 again cut b = record b { stage = Kept; records = kept_records_of cut.first cut.last b.records }
 
 late_off : (c : ℕ) (cut : Cut) (b : Batch) (here : Bool) → IsLate c (cond here (refused b) (again cut b))
-late_off c cut b true = (λ w. no_wait w, λ is. not_refused is)
-late_off c cut b false = (λ w. no_wait w, λ is. not_kept is)
+late_off c cut b true = (λ w. absurd (false≢true w), λ is. cc)
+late_off c cut b false = (λ w. absurd (false≢true w), λ is. cc)
 
 late_cut : (c : ℕ) (cut : Cut) (b : Batch) → IsLate c b → IsLate c (cut_off cut b)
 late_cut c cut b late = elim (nat_lt b.frame cut.frame) as
@@ -139,10 +114,10 @@ late_step c q Stops m does quiet so =
 late_step c q Takes m does quiet so = subst (λ (x : QueueView). AreLate c x) (sym does.1) (record {
   each = all_pushed (IsLate c) (map (send q.frame) q.batches) (open_batch q)
       (all_mapped (send q.frame) (IsLate c) (IsLate c) (late_sent c q.frame so.next) q.batches so.each)
-      (λ w. so.next, λ is. not_sent is);
+      (λ w. so.next, λ is. cc);
   next = let lt = so.next in omega arith;
 })
-late_step c q (Syncs frame) m does quiet so = no_wait (sym quiet)
+late_step c q (Syncs frame) m does quiet so = absurd (false≢true (sym quiet))
 late_step c q (Fails frame) m does quiet so = subst (λ (x : QueueView). AreLate c x) (sym does.1) (record {
   each = all_mapped (tell frame Failed) (IsLate c) (IsLate c) (late_told c frame) q.batches so.each;
   next = so.next;
@@ -162,23 +137,15 @@ grown : (calls : List Call) (q m : QueueView) (story last : Story) → Runs q st
     → (n : ℕ) (ns : List ℕ) → story.synced ≡ n ∷ ns → last.synced ≡ [] → ⊥
 grown [] q m story last runs n ns is none =
     let e : n ∷ ns ≡ [] = sym is ∙ ap (λ (x : Story). x.synced) runs.1 ∙ none in cc
-grown (Appends added ∷ calls) q m story last runs n ns is none =
-    grown calls runs.0 m (story_after q (Appends added) story) last runs.2 n ns is none
-grown (Withdraws ∷ calls) q m story last runs n ns is none =
-    grown calls runs.0 m (story_after q Withdraws story) last runs.2 n ns is none
-grown (Takes ∷ calls) q m story last runs n ns is none =
-    grown calls runs.0 m (story_after q Takes story) last runs.2 n ns is none
 grown (Syncs frame ∷ calls) q m story last runs n ns is none =
     grown calls runs.0 m (story_after q (Syncs frame) story) last runs.2 frame story.synced refl none
-grown (Fails frame ∷ calls) q m story last runs n ns is none =
-    grown calls runs.0 m (story_after q (Fails frame) story) last runs.2 n ns is none
 grown (Decides ∷ calls) q m story last runs n ns is none =
     grown calls runs.0 m (story_after q Decides story) last runs.2 n ns (decided_synced q.batches story ∙ is) none
 grown (Cuts cut ∷ calls) q m story last runs n ns is none =
     grown calls runs.0 m (story_after q (Cuts cut) story) last runs.2 cut.frame
     (filter (λ frame. nat_lt frame cut.frame) story.synced) refl none
-grown (Stops ∷ calls) q m story last runs n ns is none =
-    grown calls runs.0 m (story_after q Stops story) last runs.2 n ns is none
+grown (call ∷ calls) q m story last runs n ns is none =
+    grown calls runs.0 m (story_after q call story) last runs.2 n ns is none
 
 pub late_run : (c : ℕ) (calls : List Call) (q m : QueueView) (story last : Story) → Runs q story calls m last
     → last.synced ≡ [] → AreLate c q → AreLate c m
@@ -191,11 +158,9 @@ late_run c (call ∷ calls) q m story last runs none so =
 -- ---- the first cut
 
 decided_waits : {X : Type 0} (s : Stage) → is_decided s ≡ true → waits s ≡ true → X
-decided_waits Kept e w = no_wait e
-decided_waits Sent e w = no_wait e
-decided_waits Synced e w = no_wait w
-decided_waits Failed e w = no_wait e
-decided_waits Refused e w = no_wait w
+decided_waits Synced e w = absurd (false≢true w)
+decided_waits Refused e w = absurd (false≢true w)
+decided_waits s e w = absurd (false≢true e)
 
 -- one that stands where a cut is due, is decided or taken away
 late_behind : (cut : Cut) (b : Batch) → IsAtCut cut b → IsLate cut.frame (cut_off cut b)
@@ -240,11 +205,8 @@ due_here cut q e = elim (list_any (λ (b : Batch). is_sent b.stage) q.batches) a
     ] e
 
 failed_unkept : (s : Stage) → is_failed s ≡ true → is_kept s ≡ false
-failed_unkept Kept e = no_wait e
-failed_unkept Sent e = refl
-failed_unkept Synced e = refl
-failed_unkept Failed e = refl
-failed_unkept Refused e = refl
+failed_unkept Kept e = absurd (false≢true e)
+failed_unkept s e = refl
 
 -- the frame of the cut stands in the log
 pub due_between : (first : ℕ) (cut : Cut) (q : QueueView) → AreDense first q.frame q.number q.batches

@@ -1,21 +1,16 @@
 -- What holds of a leadership, also once its store was wound up.
-use Rattle.sk_led.proofs.Names.{◌≡◌, ℕ, ◌+◌, Bool, true, false, List, [], ◌∷◌, ◌++◌, length, take, drop, map, Some, inl}
-use Rattle.sk_led.proofs.Names.{inr, refl, sym, ◌∙◌, ap, subst, append-nil, ◌≢◌, ◌==◌, not}
-use Rattle.sk_led.proofs.Names.{Contains}
-use Rattle.sk_led.proofs.Names.{false≢true, Contains-append_left, take-append-drop}
-use Rattle.sk_led.proofs.Names.{list_any-append}
-use Rattle.sk_led.proofs.Names.{or_left, not_from_false, false_from_ne_true, has, Logged, Limits, Next, Entries, Work}
-use Rattle.sk_led.proofs.Names.{SayAll, after_works, Entry, StoreView, Call, Cuts, Decides, Learns, Command, carried}
-use Rattle.sk_led.proofs.Names.{cut_off_in, entries, failed, is_logged, kept, is_struck, logged, stands, HasDone}
-use Rattle.sk_led.proofs.Names.{IsLogged}
-use Rattle.sk_led.proofs.Names.{IsRecovered, channels_let_go_just_what_may, tickets_are_told_right, any_has}
-use Rattle.sk_led.proofs.Names.{has_any, from_filter, from_map, to_filter, to_map}
-use Rattle.sk_led.proofs.Names.{new_world, owner_of, whole, Move, Moves, World, IsSound, new_sound, run, AreOf}
-use Rattle.sk_led.proofs.Names.{IsLeading}
-use Rattle.sk_led.proofs.Names.{IsLed, IsWoundUp, NoneSynced, LeadersGoOn, LoggedIsInEngine, RefusedIsNowhere}
-use Rattle.sk_led.proofs.Names.{RepliesRestOnEngine}
+use Rattle.sk_led.proofs.Names.{◌≡◌, ℕ, ◌+◌, true, List, [], ◌∷◌, ◌++◌, length, take, drop, map, Some, inl, inr, refl}
+use Rattle.sk_led.proofs.Names.{sym, ◌∙◌, ap, subst, append-nil, ◌≢◌, ◌==◌, not, Contains, false≢true}
+use Rattle.sk_led.proofs.Names.{Contains-append_left, take-append-drop, list_any-append, or_left, not_from_false}
+use Rattle.sk_led.proofs.Names.{false_from_ne_true, has, Logged, Limits, Next, Entries, Work, SayAll, after_works}
+use Rattle.sk_led.proofs.Names.{Entry, StoreView, Call, Cuts, Decides, Learns, Command, carried, cut_off_in, entries}
+use Rattle.sk_led.proofs.Names.{failed, is_logged, kept, is_struck, logged, stands, HasDone, IsLogged, IsRecovered}
+use Rattle.sk_led.proofs.Names.{channels_let_go_just_what_may, tickets_are_told_right, any_has, has_any, from_filter}
+use Rattle.sk_led.proofs.Names.{from_map, to_filter, to_map, new_world, owner_of, whole, Move, Moves, World, IsSound}
+use Rattle.sk_led.proofs.Names.{new_sound, run, AreOf, IsLeading, IsLed, IsWoundUp, NoneSynced, LeadersGoOn}
+use Rattle.sk_led.proofs.Names.{LoggedIsInEngine, RefusedIsNowhere, RepliesRestOnEngine, ◌≤◌, ◌⊎◌, HasAll}
+use Rattle.sk_led.proofs.Names.{logged_is_on_disk, synced, not-true}
 use Rattle.sk_batches.specs.declared.batch.Stage.TheVariants as stages
-use Rattle.sk_led.proofs.Names.{◌≤◌, ◌⊎◌, HasAll, logged_is_on_disk, synced}
 use Rattle.sk_led.proofs.Ended.{ended_found, ended_logged}
 use Rattle.sk_led.proofs.Leads.{leading_found, leading_logged, IsPlaced}
 
@@ -121,17 +116,13 @@ in_front : {X : Type 0} (n : ℕ) (xs : List X) (x : X) → Contains (take n xs)
 in_front n xs x at = subst (λ ys. Contains ys x) (take-append-drop n xs)
     (Contains-append_left (take n xs) (drop n xs) x at)
 
-unstruck : (t : Bool) → not t ≡ true → t ≡ false
-unstruck true e = absurd (false≢true e)
-unstruck false e = refl
-
 -- what rests on none of more rests on none of those
 fewer : (gone more : List ℕ) (r : Command) → not (is_struck (gone ++ more) r) ≡ true → not (is_struck gone r) ≡ true
 fewer gone more r free = not_from_false (is_struck gone r) (false_from_ne_true (is_struck gone r) (λ struck.
     let g = any_has (λ h. has h gone) r.rests struck in
     let all : has g.0 (gone ++ more) ≡ true = list_any-append (λ t. t == g.0) gone more
     ∙ or_left (has g.0 gone) (has g.0 more) g.2 in
-    false≢true (sym (unstruck (is_struck (gone ++ more) r) free)
+    false≢true (sym (not-true (is_struck (gone ++ more) r) free)
     ∙ has_any (λ h. has h (gone ++ more)) r.rests g.0 g.1 all)))
 
 -- what is logged stands

@@ -1,25 +1,15 @@
 -- A store that led, and is wound up, was led.
-use Rattle.sk_led.proofs.Names.{◌≡◌, ◌==◌, ◌⊎◌, ◌&&◌, ℕ, ◌≤◌, Bool, true, false, List, [], ◌∷◌, ◌++◌, map, Some, None}
-use Rattle.sk_led.proofs.Names.{inl, inr, refl, sym, ◌∙◌, ap, subst, arith, append_assoc, if◌then◌else◌, eqb-true}
-use Rattle.sk_led.proofs.Names.{Contains, Contains-append_cases, at_first, at_later, first_or_later, from_map, nothing_there, has}
-use Rattle.sk_led.proofs.Names.{after_take, after_word, awaits, first_failed, is_decided, is_failed, is_kept, is_sent, last_in, left, open_batch}
-use Rattle.sk_led.proofs.Names.{send, tell, Batch, Cut, QueueView, Call, Cuts, Decides, Draws, Learns, Rests, Sends, Turns}
-use Rattle.sk_led.proofs.Names.{synced_from, Next, StoreView}
-use Rattle.sk_led.proofs.Names.{StoreDoes, Serves, World, WasSent, batch_of, AreUncut, IsGivenUp, IsLeading, IsLed, NoneSynced}
-use Rattle.sk_led.proofs.Names.{AreLast, WoundUpIsLed}
+use Rattle.sk_led.proofs.Names.{◌≡◌, ◌==◌, ◌⊎◌, ℕ, ◌≤◌, Bool, true, false, List, [], ◌∷◌, ◌++◌, map, Some, None, inl}
+use Rattle.sk_led.proofs.Names.{inr, refl, sym, ◌∙◌, ap, subst, arith, append_assoc, if◌then◌else◌, eqb-true, Contains}
+use Rattle.sk_led.proofs.Names.{Contains-append_cases, at_first, at_later, first_or_later, from_map, nothing_there, has}
+use Rattle.sk_led.proofs.Names.{after_take, after_word, awaits, first_failed, is_decided, is_failed, is_kept, is_sent}
+use Rattle.sk_led.proofs.Names.{last_in, left, open_batch, send, tell, Batch, Cut, QueueView, Call, Cuts, Decides}
+use Rattle.sk_led.proofs.Names.{Draws, Learns, Rests, Sends, Turns, synced_from, Next, StoreView, StoreDoes, Serves}
+use Rattle.sk_led.proofs.Names.{World, WasSent, batch_of, AreUncut, IsGivenUp, IsLeading, IsLed, NoneSynced, AreLast}
+use Rattle.sk_led.proofs.Names.{WoundUpIsLed, none-some, and_parts}
 use Rattle.sk_batches.specs.declared.batch.Stage.TheVariants as stages
 use Rattle.sk_batched.specs.declared.batched.Outcome.TheVariants as outcomes
 use Rattle.sk_led.proofs.Grows.{frame_stays, synced_split}
-
-none_some : {A X : Type 0} (x : A) → None ≡ Some x → X
-none_some x e = cc
-
-refuted : {X : Type 0} → false ≡ true → X
-refuted e = cc
-
-and_right : (s t : Bool) → (s && t) ≡ true → t ≡ true
-and_right true t e = e
-and_right false t e = refuted e
 
 -- ---- calls
 
@@ -50,12 +40,12 @@ first_of_all b bs c false is later e = let it = later c e in (it.0, at_later b b
 -- the first is cut off
 first_there : (bs : List Batch) (c : Cut) → first_failed bs ≡ Some c
     → (b : Batch) × Contains bs b × (is_failed b.stage ≡ true) × (b.frame ≡ c.frame)
-first_there [] c e = none_some c e
+first_there [] c e = absurd (none-some c e)
 first_there (b ∷ bs) c e = first_of_all b bs c (is_failed b.stage) refl (λ d is. first_there bs d is) e
 
 due_there : (t : Bool) (bs : List Batch) (c : Cut) → (if t then None else first_failed bs) ≡ Some c
     → (b : Batch) × Contains bs b × (is_failed b.stage ≡ true) × (b.frame ≡ c.frame)
-due_there true bs c e = none_some c e
+due_there true bs c e = absurd (none-some c e)
 due_there false bs c e = first_there bs c e
 
 left_of_one : (b : Batch) (bs : List Batch) (x : Batch) (t : Bool) → Contains (if t then bs else b ∷ bs) x → Contains (b ∷ bs) x
@@ -77,7 +67,7 @@ tell_frame frame b false = refl
 of_awaited : (frame : ℕ) (bs : List Batch) (y : Batch) → Contains bs y → (t : Bool) → awaits frame y ≡ t
     → is_failed (if t then record y { stage = stages.Failed } else y).stage ≡ true
     → HadFailed frame bs (if t then record y { stage = stages.Failed } else y)
-of_awaited frame bs y at true e is = inl (eqb-true y.frame frame (and_right (is_sent y.stage) (y.frame == frame) e))
+of_awaited frame bs y at true e is = inl (eqb-true y.frame frame (and_parts (is_sent y.stage) (y.frame == frame) e).1)
 of_awaited frame bs y at false e is = inr (y, at, is, refl)
 
 told_of : (frame : ℕ) (bs : List Batch) (y : Batch) → Contains bs y → (kept : Bool)

@@ -1,13 +1,12 @@
 -- What cuts leave of the frames before the first of them.
 use Rattle.sk_led.proofs.Names.{◌≡◌, ℕ, zero, suc, ◌+◌, ◌-◌, ◌<◌, ◌≤◌, Bool, true, false, List, [], ◌∷◌, ◌++◌, refl}
-use Rattle.sk_led.proofs.Names.{sym, ◌∙◌, ap, subst, arith, ◌==◌, cond, inl, inr, Some, None, length, take, nat_lt, ◌⊎◌}
+use Rattle.sk_led.proofs.Names.{sym, ◌∙◌, ap, subst, arith, ◌==◌, cond, inl, inr, Some, length, take, nat_lt, ◌⊎◌}
 use Rattle.sk_led.proofs.Names.{slice_get, filter, eqb-true, ltb-true, or_cases, or_left, or_right, length-append}
 use Rattle.sk_led.proofs.Names.{length-map, length-take-le, take-append-le, append_assoc, append-nil, has, RecordView}
-use Rattle.sk_led.proofs.Names.{synced_after, Cut, Call, Sends, Learns, Cuts, StoreDoes, Serves}
-use Rattle.sk_led.proofs.Names.{StoreView}
-use Rattle.sk_led.proofs.Names.{frames, frames_by, synced, synced_by, HasDone, Limits, Next, Entries, NoneSynced}
+use Rattle.sk_led.proofs.Names.{synced_after, Cut, Call, Sends, Learns, Cuts, StoreDoes, Serves, StoreView, frames}
+use Rattle.sk_led.proofs.Names.{frames_by, synced, synced_by, HasDone, Limits, Next, Entries, NoneSynced}
 use Rattle.sk_led.proofs.Names.{stands_densely, cut_is_range, queued, no_story, in_frames, serves_behind, cut_due}
-use Rattle.sk_led.proofs.Names.{after_cut}
+use Rattle.sk_led.proofs.Names.{after_cut, none-some, false≢true}
 use Rattle.sk_batches.specs.declared.batch.Stage.TheVariants as stages
 use Rattle.sk_led.proofs.Grows.{frames_split, get_front, synced_split}
 use Rattle.sk_led.proofs.Late.{due_between, late_due, late_first, late_once, late_run, AreLate}
@@ -23,19 +22,13 @@ pub record IsWound (first at : ℕ) (log : Log) (told : List ℕ) (later : Log) 
   pub empty : (n : ℕ) → at ≤ n → has n now ≡ true → slice_get later (n - first) ≡ Some []
   pub below : (n : ℕ) → n < at → has n now ≡ true → has n told ≡ true
 
-none_some : {A X : Type 0} (x : A) → None ≡ Some x → X
-none_some x e = cc
-
-refuted : {X : Type 0} → false ≡ true → X
-refuted e = cc
-
 get_last : {A : Type 0} (xs : List A) (x : A) → slice_get (xs ++ x ∷ []) (length xs) ≡ Some x
 get_last [] x = refl
 get_last (y ∷ xs) x = get_last xs x
 
 pub get_taken : {A : Type 0} (xs : List A) (k n : ℕ) (x : A) → k < n → slice_get xs k ≡ Some x
     → slice_get (take n xs) k ≡ Some x
-get_taken [] k n x lt e = none_some x e
+get_taken [] k n x lt e = absurd (none-some x e)
 get_taken (y ∷ xs) k zero x lt e = absurd (omega arith)
 get_taken (y ∷ xs) zero (suc n) x lt e = e
 get_taken (y ∷ xs) (suc k) (suc n) x lt e = get_taken xs k n x (omega arith) e
@@ -44,7 +37,7 @@ pub get_of_taken : {A : Type 0} (xs : List A) (k n : ℕ) (x : A) → slice_get 
     → slice_get xs k ≡ Some x
 get_of_taken [] k zero x e = e
 get_of_taken [] k (suc n) x e = e
-get_of_taken (y ∷ xs) k zero x e = none_some x e
+get_of_taken (y ∷ xs) k zero x e = absurd (none-some x e)
 get_of_taken (y ∷ xs) zero (suc n) x e = e
 get_of_taken (y ∷ xs) (suc k) (suc n) x e = get_of_taken xs k n x e
 
@@ -56,7 +49,7 @@ take_less (suc k) (suc n) (x ∷ xs) le = ap (λ ys. x ∷ ys) (take_less k n xs
 
 -- a frame that is synced is one of those that a test lets by
 has_filtered : (n : ℕ) (p : ℕ → Bool) (ns : List ℕ) → has n (filter p ns) ≡ true → (has n ns ≡ true) × (p n ≡ true)
-has_filtered n p [] is = refuted is
+has_filtered n p [] is = absurd (false≢true is)
 has_filtered n p (m ∷ ns) is = elim (p m) as (λ t. p m ≡ t → has n (cond t (m ∷ filter p ns) (filter p ns)) ≡ true
     → (has n (m ∷ ns) ≡ true) × (p n ≡ true)) [
       | true ↦ λ e has_it. elim (or_cases (m == n) (has n (filter p ns)) has_it) as

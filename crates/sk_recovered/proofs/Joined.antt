@@ -1,13 +1,10 @@
 -- What counts of segments is what is joined of them, and is restored.
 use Rattle.sk_recovered.proofs.Names.{◌≡◌, ◌==◌, ℕ, zero, suc, ◌+◌, ◌-◌, ◌<◌, ◌≤◌, Bool, true, false, nat_lt, List, []}
 use Rattle.sk_recovered.proofs.Names.{◌∷◌, ◌++◌, flat_map, length, map, take, Option, Some, None, if◌then◌else◌, refl}
-use Rattle.sk_recovered.proofs.Names.{sym, ap, subst, ◌∙◌, arith, unwrap_or, eq-eqb, eqb-true, ltb-false, ltb-true}
-use Rattle.sk_recovered.proofs.Names.{append-nil, length-map, length-take-le, take_all, joined, log_text, SayAll}
-use Rattle.sk_recovered.proofs.Names.{restore, joined_all, joined_at, least_first, CountedIsJoined, CountedIsRestored}
-use Rattle.sk_recovered.proofs.Names.{counted, counting, lower, Part}
-
-same_number : (a b : ℕ) → Some a ≡ Some b → a ≡ b
-same_number a b e = ap (λ o. unwrap_or o 0) e
+use Rattle.sk_recovered.proofs.Names.{sym, ap, subst, ◌∙◌, arith, eq-eqb, eqb-true, ltb-false, ltb-true, append-nil}
+use Rattle.sk_recovered.proofs.Names.{length-map, length-take-le, take_all, joined, log_text, SayAll, restore}
+use Rattle.sk_recovered.proofs.Names.{joined_all, joined_at, least_first, CountedIsJoined, CountedIsRestored, counted}
+use Rattle.sk_recovered.proofs.Names.{counting, lower, Part, same_Some}
 
 other_number : (a b : ℕ) (t : Bool) → (a == b) ≡ t → (a ≡ b → ⊥) → (a == b) ≡ false
 other_number a b true e differ = absurd (differ (eqb-true a b e))
@@ -41,7 +38,7 @@ above (p ∷ parts) next least is high =
           let lows = lower_low p.first b in
           let low : next < lower p.first (Some b) = high (lower p.first (Some b)) (sym here) in
           none_first p parts next (λ same. omega (arith, low, lows.0, same))
-          ∙ above parts next (Some b) e (λ bound is. omega (arith, low, lows.1, same_number b bound is))
+          ∙ above parts next (Some b) e (λ bound is. omega (arith, low, lows.1, same_Some b bound is))
     ] refl is
 
 joined_enough : (c : ℕ) (ps later : List (List ℕ)) → c ≤ length ps → joined c ps later ≡ take c ps ++ later
@@ -68,7 +65,7 @@ first_joined p parts b low is later =
       | true ↦ λ e.
           let few : length p.payloads < c = ltb-true (length p.payloads) c e in
           let all : take c p.payloads ≡ p.payloads = take_all c p.payloads (omega (arith, few)) in
-          let none = above parts (p.first + length p.payloads) (Some b) is (λ bound same. omega (arith, few, low, same_number b bound same)) in
+          let none = above parts (p.first + length p.payloads) (Some b) is (λ bound same. omega (arith, few, low, same_Some b bound same)) in
           ap (λ own. own ++ counted (p.first + length own) parts) all ∙ ap (λ x. p.payloads ++ x) none
           ∙ append-nil p.payloads
           ∙ sym (joined_few c p.payloads (joined_all parts) few)
@@ -93,7 +90,7 @@ counted_joined (p ∷ parts) first bounded least =
       | None ↦ λ e bound here.
           let none = no_parts parts e in
           let own : counting true p ≡ p.payloads = ap (λ o. counting true (record p { bound = o })) bound in
-          true_first p parts first (same_number p.first first here)
+          true_first p parts first (same_Some p.first first here)
           ∙ ap (λ x. x ++ counted (p.first + length x) parts) own
           ∙ ap (λ ps. p.payloads ++ counted (p.first + length p.payloads) ps) none ∙ append-nil p.payloads
           ∙ ap (λ o. joined_at o p (joined_all parts)) (sym bound)
@@ -103,7 +100,7 @@ counted_joined (p ∷ parts) first bounded least =
           elim (nat_lt b p.first) as (λ t. nat_lt b p.first ≡ t → Some (if t then b else p.first) ≡ Some first → counted first (p ∷ parts) ≡ joined_all (p ∷ parts)) [
             | true ↦ λ t here.
                 let small : b < p.first = ltb-true b p.first t in
-                let is : b ≡ first = same_number b first here in
+                let is : b ≡ first = same_Some b first here in
                 let cut : b - p.first ≡ 0 = omega (arith, small) in
                 none_first p parts first (λ same. omega (arith, small, is, same))
                 ∙ ap (λ n. counted n parts) (sym is) ∙ later
@@ -111,7 +108,7 @@ counted_joined (p ∷ parts) first bounded least =
                 ∙ ap (λ o. joined_at o p (joined_all parts)) (sym bound)
             | false ↦ λ t here.
                 let small : p.first ≤ b = ltb-false b p.first t in
-                true_first p parts first (same_number p.first first here)
+                true_first p parts first (same_Some p.first first here)
                 ∙ ap (λ x. x ++ counted (p.first + length x) parts) own
                 ∙ first_joined p parts b small e later
                 ∙ ap (λ o. joined_at o p (joined_all parts)) (sym bound)

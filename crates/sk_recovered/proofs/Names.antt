@@ -6,10 +6,10 @@ pub use Rattle.std.proofs.lemmas.Bool.{ltb-false, eqb-true, ltb-true, eq-eqb}
 pub use Rattle.std.proofs.lemmas.List.{drop_more, length-take-le, take_all, append_assoc, length-map, take-append-le}
 pub use Rattle.std.proofs.lemmas.List.{map-append, take-append-drop, take-map, take_rest, append-nil}
 pub use Rattle.std.proofs.lemmas.Option.{get_or_from_slice_get, slice_get_within, slice_get-get_or, slice_get_past}
+pub use Rattle.std.proofs.lemmas.Option.{same_Some}
 pub use Rattle.std.proofs.lemmas.Result.{on_ok_weaker}
 pub use Rattle.std.specs.List.{slice_get}
 pub use Rattle.std.specs.Option.{option_map}
-pub use Rattle.std.specs.Prelude.{unwrap_or}
 pub use Rattle.std.specs.Vec.Iter.{into_iter_items}
 pub use Rattle.sk_commands.proofs.Said.{says}
 pub use Rattle.sk_commands.specs.Names.{text_of}
@@ -32,7 +32,6 @@ pub use Rattle.sk_recovered.specs.Segments.{AreRead, counted, least, is_below, l
 pub use Rattle.sk_recovered.specs.Snapshots.{ArePieces, SnapshotsAreRead}
 pub use Rattle.sk_recovered.specs.declared.frames.Damage.{Damage}
 pub use Rattle.sk_recovered.specs.declared.frames.Frames.{Frames}
-pub use Rattle.sk_recovered.specs.declared.frames.Place.{Place}
 pub use Rattle.sk_recovered.specs.declared.heads.Head.{Head}
 pub use Rattle.sk_recovered.specs.declared.recovered.Found.{Found}
 pub use Rattle.sk_recovered.specs.declared.recovered.Recovered.{Recovered}
@@ -43,6 +42,4 @@ pub use Rattle.sk_replay.proofs.Restored.{restored}
 pub use Rattle.sk_replay.proofs.Short.{short_is_within}
 pub use Rattle.sk_replay.specs.Frames.{SayAll, AreLogged, payloads_of, works_in}
 pub use Rattle.sk_replay.specs.Snapshot.{set_of, after_works, entries_text, after_work}
-pub use Rattle.sk_replay.specs.Works.{log_limits, IsRefused, Says}
-pub use Rattle.sk_replay.specs.declared.refusal.Refusal.{Refusal}
-pub use Rattle.sk_replay.specs.declared.refusal.Refusal.TheVariants.{Memory}
+pub use Rattle.sk_replay.specs.Works.{log_limits, Says}

@@ -1,27 +1,16 @@
 -- Entries that a new store gets, one after another.
-use Rattle.sk_reopened.proofs.Names.{◌≡◌, ◌||◌, ℕ, Bool, true, false, List, [], ◌∷◌, map, drop, take, refl, sym, ap}
-use Rattle.sk_reopened.proofs.Names.{subst, ◌∙◌, drop-take, list_any, keys_of, Entries, after_work, after_works, set_of}
-use Rattle.sk_reopened.proofs.Names.{names_reserved, is_reserved, Limits, Next, IsNew, StoreView, has_wrong, is_wrong}
-
-either_false : (a b : Bool) → (a || b) ≡ false → a ≡ false
-either_false false b h = refl
-either_false true b h = h
+use Rattle.sk_reopened.proofs.Names.{◌≡◌, ◌||◌, ℕ, Bool, true, false, List, [], ◌∷◌, map, drop, take, refl, sym, subst}
+use Rattle.sk_reopened.proofs.Names.{drop-take, Entries, after_work, after_works, set_of, Limits, Next, IsNew}
+use Rattle.sk_reopened.proofs.Names.{StoreView}
 
 no_more : (a : Bool) → (a || false) ≡ a
 no_more false = refl
 no_more true = refl
 
--- the work that sets an entry names just its key
-pub names_key : (entry : List ℕ × List ℕ) → is_wrong entry.0 ≡ false → names_reserved (set_of entry) ≡ false
-names_key entry right = no_more (is_reserved entry.0) ∙ either_false (is_reserved entry.0) _ right
-
 -- A store that was new has some entries, and those that are left make of them what all make of the first.
 abbrev pub HasSome : Entries → Entries → StoreView → StoreView → Type 0
 HasSome all left a b = (next : Next) (start : Entries) → IsNew a.limits next start a
     → (mid : Entries) × IsNew a.limits next mid b × (after_works (map set_of left) mid ≡ after_works (map set_of all) start)
-
-pub none_yet : (all : Entries) (a : StoreView) → HasSome all all a a
-none_yet all a = λ next start is. (start, is, refl)
 
 -- one more
 pub one_more : (all left : Entries) (entry : List ℕ × List ℕ) (a b c : StoreView) → HasSome all (entry ∷ left) a b

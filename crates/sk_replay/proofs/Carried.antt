@@ -1,8 +1,7 @@
 -- What a channel carries out, request by request.
 use Rattle.sk_replay.proofs.Names.{◌≡◌, ℕ, List, [], ◌∷◌, ◌++◌, unwrap_or, Option, Some, None, refl, sym, ap, subst}
-use Rattle.sk_replay.proofs.Names.{◌∙◌, order_of, turn, with_work, work_for, Fault, Simple, Error, Rejected, Text}
-use Rattle.sk_replay.proofs.Names.{Integer, Bulk, Null, Array, Queue, Work, Say, One, Each, fault_in, queue_after}
-use Rattle.sk_replay.proofs.Names.{AreTaken, HasCarried, Channel}
+use Rattle.sk_replay.proofs.Names.{◌∙◌, order_of, turn, with_work, work_for, Fault, Error, Queue, Work, Say, fault_in}
+use Rattle.sk_replay.proofs.Names.{queue_after, AreTaken, HasCarried, Channel}
 
 pub queue_on : (queue : Option Queue) (rs : List (List (List ℕ))) (words : List (List ℕ)) → queue_after queue (rs ++ words ∷ []) ≡ (turn (queue_after queue rs) (order_of words)).queue
 queue_on queue [] words = refl
@@ -10,8 +9,7 @@ queue_on queue (r ∷ rs) words = queue_on (turn queue (order_of r)).queue rs wo
 
 with_more : (w : Work) (xs ys : List Work) → with_work w (xs ++ ys) ≡ with_work w xs ++ ys
 with_more (Say reply) xs ys = refl
-with_more (One command) xs ys = refl
-with_more (Each commands) xs ys = refl
+with_more other xs ys = refl
 
 pub works_on : (queue : Option Queue) (rs : List (List (List ℕ))) (words : List (List ℕ)) → work_for queue (rs ++ words ∷ []) ≡ work_for queue rs ++ with_work (turn (queue_after queue rs) (order_of words)).work []
 works_on queue [] words = refl
@@ -38,16 +36,8 @@ carried_on rs words old new work carried is left taken works =
     }
 
 says_fault : (w : Work) (fault : Fault) → fault_in w ≡ Some fault → w ≡ Say (Error fault)
-says_fault (Say (Simple word)) fault e = cc
 says_fault (Say (Error other)) fault e = ap (λ o. Say (Error (unwrap_or o other))) e
-says_fault (Say (Rejected words)) fault e = cc
-says_fault (Say (Text bytes)) fault e = cc
-says_fault (Say (Integer n)) fault e = cc
-says_fault (Say (Bulk bytes)) fault e = cc
-says_fault (Say Null) fault e = cc
-says_fault (Say (Array values)) fault e = cc
-says_fault (One command) fault e = cc
-says_fault (Each commands) fault e = cc
+says_fault s fault e = cc
 
 -- a request to which a fault is replied
 pub refused_behind : (rs : List (List (List ℕ))) (words : List (List ℕ)) (old : Channel) (work : Work) (fault : Fault) → HasCarried rs old → work ≡ (turn old.session.queue (order_of words)).work → fault_in work ≡ Some fault

@@ -59,10 +59,7 @@ request_refused payload old count reader words (refusals.Command fault behind) c
       refused.1,
     )
 request_refused payload old count reader words refusals.Memory come few read refused = tt
-request_refused payload old count reader words (refusals.Request fault behind) come few read refused = absurd refused
-request_refused payload old count reader words (refusals.TooLarge behind) come few read refused = absurd refused
-request_refused payload old count reader words refusals.Cut come few read refused = absurd refused
-request_refused payload old count reader words refusals.Open come few read refused = absurd refused
+request_refused payload old count reader words s come few read refused = absurd refused
 
 -- no request can come
 pub reader_refused : (payload : List ℕ) (old : Reading) (new : Reader) (refusal : ReaderRefusal) (come : HasCome payload old) → ReadsOn log_limits (map Some come.requests) (take old.place payload) (drop old.place payload) (Err refusal) new

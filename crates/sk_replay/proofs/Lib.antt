@@ -4,7 +4,6 @@ pub mod Told
 pub mod Again
 pub mod Come
 pub mod Restored
-pub mod Filled
 pub mod Framed
 pub mod Short
 pub mod Left

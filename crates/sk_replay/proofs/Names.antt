@@ -1,18 +1,18 @@
 -- What the proofs of this crate cite from outside of them, passed on from one place. Declares nothing.
-pub use Rattle.std.proofs.Common.{Some, Bool, subst, unwrap_or, Ok, ◌∷◌, ◌&&◌, Err, inl, zero, ◌≡◌, ◌^◌, ◌-◌, rules}
-pub use Rattle.std.proofs.Common.{IfErr, ◌+◌, Option, arith, List, get_or, ap, length-drop, ◌++◌, length, ℕ, true, drop}
-pub use Rattle.std.proofs.Common.{sym, length-append, None, is_some, suc, ◌≤◌, take, false, ◌<◌, refl, flat_map, Result}
-pub use Rattle.std.proofs.Common.{[], OnOk, ◌∙◌, map}
+pub use Rattle.std.proofs.lemmas.Bool.{and_parts}
+pub use Rattle.std.proofs.Common.{Some, Bool, subst, unwrap_or, Ok, ◌∷◌, Err, inl, zero, ◌≡◌, ◌^◌, ◌-◌, rules, IfErr}
+pub use Rattle.std.proofs.Common.{◌+◌, Option, arith, List, ap, length-drop, ◌++◌, length, ℕ, true, drop, sym}
+pub use Rattle.std.proofs.Common.{length-append, None, is_some, suc, ◌≤◌, take, false, ◌<◌, refl, flat_map, Result, []}
+pub use Rattle.std.proofs.Common.{OnOk, ◌∙◌, map}
 pub use Rattle.std.proofs.Math.Seq.{take-add}
-pub use Rattle.std.proofs.lemmas.List.{take_all, append_assoc, take-append-drop, take_more, take-map, take_rest}
-pub use Rattle.std.proofs.lemmas.List.{append-nil}
+pub use Rattle.std.proofs.lemmas.List.{take_all, append_assoc, take-append-drop, take-map, take_rest, append-nil}
 pub use Rattle.std.specs.FinMap.{is_sorted}
 pub use Rattle.std.specs.FinMap.Entries.{below_all, by_order}
 pub use Rattle.std.specs.Global.{Vec}
 pub use Rattle.std.specs.Ordering.{ordering_reverse, is_lt}
 pub use Rattle.std.specs.Vec.{vec_items}
 pub use Rattle.std.specs.declared.cmp.Ordering.{Ordering}
-pub use Rattle.std.specs.declared.cmp.Ordering.TheVariants.{Equal, Greater, Less}
+pub use Rattle.std.specs.declared.cmp.Ordering.TheVariants.{Greater, Less}
 pub use Rattle.sk_commands.proofs.Said.{said_again, says}
 pub use Rattle.sk_commands.proofs.Works.{works_again, read_again, waiting}
 pub use Rattle.sk_commands.specs.Names.{text_of}
@@ -24,11 +24,10 @@ pub use Rattle.sk_commands.specs.declared.command.Command.{Command}
 pub use Rattle.sk_commands.specs.declared.command.Order.{Order}
 pub use Rattle.sk_commands.specs.declared.command.Order.TheVariants.{Multi, Exec, Run}
 pub use Rattle.sk_commands.specs.declared.fault.Fault.{Fault}
-pub use Rattle.sk_commands.specs.declared.reply.Reply.TheVariants.{Integer, Error, Null, Simple, Rejected, Text, Bulk}
-pub use Rattle.sk_commands.specs.declared.reply.Reply.TheVariants.{Array}
+pub use Rattle.sk_commands.specs.declared.reply.Reply.TheVariants.{Error}
 pub use Rattle.sk_commands.specs.declared.session.Queue.{Queue}
 pub use Rattle.sk_commands.specs.declared.work.Work.{Work}
-pub use Rattle.sk_commands.specs.declared.work.Work.TheVariants.{Each, One, Say}
+pub use Rattle.sk_commands.specs.declared.work.Work.TheVariants.{Say}
 pub use Rattle.sk_plain_store.proofs.Kept.{bytes_total}
 pub use Rattle.sk_plain_store.specs.Plain.{bytes_cmp, Entries, put_in}
 pub use Rattle.sk_replay.specs.Frames.{ShortIsWithin, SayAll, AreLogged, payloads_of, FramesRestore, works_in}

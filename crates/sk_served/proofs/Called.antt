@@ -5,11 +5,11 @@ use Rattle.sk_served.proofs.Names.{no_record, record_after, record_of, MergedSta
 use Rattle.sk_served.proofs.Names.{Moves, Starts, moves_of, told_more, with_told, Call, Does, Tells, Told, first, one}
 use Rattle.sk_served.proofs.Names.{commits_told, fails_told, stands_told, takes_told, Answer, held, Entries}
 use Rattle.sk_served.proofs.Names.{bytes_total, tied_is, served, Entry, Opens, Runs, NamesNoReserved, entries_after}
-use Rattle.sk_served.proofs.Names.{replies_to, HoldsSame, IsProper, Kernel, StoreCalls}
+use Rattle.sk_served.proofs.Names.{replies_to, HoldsSame, IsProper, Kernel, StoreCalls, not-true}
 use Rattle.std.proofs.Common.{append_assoc}
 use Rattle.sk_served.proofs.Absent.{after_event, clean_record, CleanAt, StandsClean}
 use Rattle.sk_served.proofs.Runs.{runs_plain}
-use Rattle.sk_served.proofs.Stored.{all_kept, lacks, not_true, one_longer, told_all, told_first, Rises}
+use Rattle.sk_served.proofs.Stored.{all_kept, lacks, one_longer, told_all, told_first, Rises}
 
 -- what holds of an entry that is taken
 abbrev OfTaken : (Entry → Type 0) → Event Entry → Type 0
@@ -18,16 +18,12 @@ OfTaken P (Commit g) = Unit {0}
 OfTaken P (Fail g) = Unit {0}
 
 named : (a : Kernel) (e : Event Entry) → IsProper a e → OfTaken NamesNoReserved e
-named a (Taken (Opens n)) h = tt
 named a (Taken (Runs r)) h = h.0
-named a (Commit g) h = tt
-named a (Fail g) h = tt
+named a other h = tt
 
 risen : (a : Kernel) (e : Event Entry) → IsProper a e → OfTaken Rises e
-risen a (Taken (Opens n)) h = tt
 risen a (Taken (Runs r)) h = λ wants. (h.1 wants).0
-risen a (Commit g) h = tt
-risen a (Fail g) h = tt
+risen a other h = tt
 
 moves_told : (told : Told (ℕ × Answer)) (a : Kernel) (e : Event Entry) (b : Kernel) → Moves served a e b
     → Moves served (with_told told a) e (with_told told b)
@@ -56,7 +52,7 @@ module _ (start : FinMap served.order (List ℕ)) where
       let run_of = merged_run served bytes_total tied_is start before (with_told told a) stands in
       let wants = and_both _ _ lacking in
       let parts = and_both _ _ wants.1 in
-      let at = (h.1 wants.0).1 key (not_true _ parts.0) (not_true _ parts.1) in (
+      let at = (h.1 wants.0).1 key (not-true _ parts.0) (not-true _ parts.1) in (
         sym (run_of.values key) ∙ at.0,
         λ g tag. absurd (true≢false (sym ((run_of.tags key g).1 tag) ∙ ap (has g) at.1)),
       )

@@ -1,11 +1,10 @@
 -- What names no reserved key writes none.
 use Rattle.sk_served.proofs.Names.{◌≡◌, ℕ, ℤ, Bool, true, false, List, [], ◌∷◌, ◌++◌, map, Option, Some, None, bytes_eq}
 use Rattle.sk_served.proofs.Names.{nat_le, length, if◌then◌else◌, refl, sym, subst, ◌∙◌, ◌+ℤ◌, list_any, or_parts}
-use Rattle.sk_served.proofs.Names.{true≢false, bytes_eq-Decides, Command, Get, Set, Del, Exists, Add, Append, StrLen}
-use Rattle.sk_served.proofs.Names.{MGet, MSet, DbSize, KeysWith, FlushAll, Ping, Echo, Wrong, Reply, Error, TooLong}
-use Rattle.sk_served.proofs.Names.{VALUE_LIMIT, Work, fitting, added, bytes_of, counted, joined, may_set, number_at}
-use Rattle.sk_served.proofs.Names.{pairs_of, present, puts, removals, replies, set, set_reply, there, counts, Have}
-use Rattle.sk_served.proofs.Names.{Written, comes_to, each, known_after, with_value, is_reserved}
+use Rattle.sk_served.proofs.Names.{true≢false, bytes_eq-Decides, Command, Set, Del, Add, Append, MSet, FlushAll, Reply}
+use Rattle.sk_served.proofs.Names.{Error, TooLong, VALUE_LIMIT, Work, fitting, added, bytes_of, counted, joined}
+use Rattle.sk_served.proofs.Names.{may_set, number_at, pairs_of, present, puts, removals, replies, set, set_reply}
+use Rattle.sk_served.proofs.Names.{there, counts, Have, Written, comes_to, each, known_after, with_value, is_reserved}
 use Rattle.sk_served.proofs.Names.{command_names_reserved, names_reserved, HasNoReserved}
 use Rattle.sk_commands.specs.declared.work.Work.TheVariants as works
 use Rattle.sk_commands.specs.Table.{outcome}
@@ -67,22 +66,14 @@ all_free (w ∷ ws) h = let parts = or_parts _ _ h in (not_both w.0 w.1 parts.0,
 
 outcome_free : (c : Command) (known : List (List ℕ)) (has : Have) → command_names_reserved c ≡ false
     → AreFree (outcome known c has).written
-outcome_free (Get key) known has h = tt
 outcome_free (Set key value options) known has h =
     set_free key value (may_set options.when (has key)) (set_reply options.gives (may_set options.when (has key)) (has key)) (only key h)
 outcome_free (Del keys) known has h = removals_free (there has keys)
-outcome_free (Exists keys) known has h = tt
 outcome_free (Add key by) known has h = added_free key by (number_at (has key)) (only key h)
 outcome_free (Append key more) known has h = joined_free key (bytes_of (has key) ++ more) (only key h)
-outcome_free (StrLen key) known has h = tt
-outcome_free (MGet keys) known has h = tt
 outcome_free (MSet words) known has h = all_free (pairs_of words) h
-outcome_free DbSize known has h = tt
-outcome_free (KeysWith prefix) known has h = tt
 outcome_free FlushAll known has h = removals_free (present has known)
-outcome_free Ping known has h = tt
-outcome_free (Echo text) known has h = tt
-outcome_free (Wrong fault) known has h = tt
+outcome_free command known has h = tt
 
 free_append : (vs ws : Written) → AreFree vs → AreFree ws → AreFree (vs ++ ws)
 free_append [] ws f g = g

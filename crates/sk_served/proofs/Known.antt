@@ -1,15 +1,14 @@
 -- Which absent keys are known too changes nothing.
+pub use Rattle.sk_served.proofs.Names.{alone_work}
 use Rattle.sk_served.proofs.Names.{◌≡◌, ℕ, Bool, true, false, ◌&&◌, ◌||◌, cond, T, List, [], ◌∷◌, map, filter, length}
 use Rattle.sk_served.proofs.Names.{count_by, Option, Some, None, is_some, bytes_eq, refl, sym, ap, subst, ◌∙◌, is_lt}
 use Rattle.sk_served.proofs.Names.{is_sorted, put, below_all, by_order, find-put, find-where_key, is_sorted-put}
-use Rattle.sk_served.proofs.Names.{is_sorted-where_key, same_entries, where_key, list_any, AllByRecursion, Ordering}
-use Rattle.sk_served.proofs.Names.{Less, Equal, Greater, or_parts, true≢false, length-filter, Command, Get, Set, Del}
-use Rattle.sk_served.proofs.Names.{Exists, Add, Append, StrLen, MGet, MSet, DbSize, KeysWith, FlushAll, Ping, Echo}
-use Rattle.sk_served.proofs.Names.{Wrong, Reply, Array, Work, begins_with, counts, flushed, is_among, is_told_of_all}
-use Rattle.sk_served.proofs.Names.{listed, present, replies, Have, Outcome, Written, answered, comes_to, each, followed}
-use Rattle.sk_served.proofs.Names.{known_after, wants_all, with_known, with_value, alone, bytes_cmp, held, keys_of}
-use Rattle.sk_served.proofs.Names.{Entries, bytes_same, bytes_total, knows, tied_is, is_reserved, HasNoReserved}
-use Rattle.sk_served.proofs.Names.{KnowsAll}
+use Rattle.sk_served.proofs.Names.{is_sorted-where_key, same_entries, where_key, AllByRecursion, Ordering, Less, Equal}
+use Rattle.sk_served.proofs.Names.{Greater, true≢false, length-filter, Command, DbSize, KeysWith, FlushAll, Reply}
+use Rattle.sk_served.proofs.Names.{Array, Work, begins_with, counts, flushed, is_among, listed, present, replies, Have}
+use Rattle.sk_served.proofs.Names.{Outcome, Written, answered, comes_to, each, followed, known_after, with_known}
+use Rattle.sk_served.proofs.Names.{with_value, bytes_cmp, held, keys_of, Entries, bytes_same, bytes_total, knows}
+use Rattle.sk_served.proofs.Names.{tied_is, is_reserved, HasNoReserved, KnowsAll}
 use Rattle.std.specs.List.Sorted.{IsStrictlySortedBy}
 use Rattle.sk_commands.specs.declared.work.Work.TheVariants as works
 use Rattle.sk_commands.specs.declared.work.Answer.TheVariants as answers
@@ -149,23 +148,12 @@ count_present known has = sym (length-filter (λ key. is_some (has key)) known)
 -- what comes of a command is told by those that are there
 outcome_same : (c : Command) (known others : List (List ℕ)) (has : Have) → present has known ≡ present has others
     → outcome known c has ≡ outcome others c has
-outcome_same (Get key) known others has h = refl
-outcome_same (Set key value options) known others has h = refl
-outcome_same (Del keys) known others has h = refl
-outcome_same (Exists keys) known others has h = refl
-outcome_same (Add key by) known others has h = refl
-outcome_same (Append key more) known others has h = refl
-outcome_same (StrLen key) known others has h = refl
-outcome_same (MGet keys) known others has h = refl
-outcome_same (MSet words) known others has h = refl
 outcome_same DbSize known others has h =
     ap (λ n. replies (counts n)) (count_present known has ∙ ap length h ∙ sym (count_present others has))
 outcome_same (KeysWith prefix) known others has h =
     ap (λ keys. replies (Array (map Some keys))) (listed_present known prefix has ∙ ap (filter (begins_with prefix)) h ∙ sym (listed_present others prefix has))
 outcome_same FlushAll known others has h = ap flushed h
-outcome_same Ping known others has h = refl
-outcome_same (Echo text) known others has h = refl
-outcome_same (Wrong fault) known others has h = refl
+outcome_same command known others has h = refl
 
 -- ---- one key more
 
@@ -230,20 +218,3 @@ work_same (works.Each cs) known others has h k = ap (answered answers.Each) (eac
 pub more_known : (work : Work) (known others : List (List ℕ)) (has : Have) → HasNoReserved has → KnowsAll known has
     → KnowsAll others has → comes_to known work has ≡ comes_to others work has
 more_known work known others has none h k = work_same work known others has (whole known has none h) (whole others has none k)
-
--- ---- what is not told of all keys
-
-alone_each : (cs : List Command) (known others : List (List ℕ)) (has : Have) → list_any is_told_of_all cs ≡ false
-    → each known cs has ≡ each others cs has
-alone_each [] known others has h = refl
-alone_each (c ∷ cs) known others has h =
-    let parts = or_parts _ _ h in
-    let one = outcome others c has in
-    ap (goes_on_with known cs has) (alone c known others has parts.0)
-    ∙ ap (followed one) (alone_each cs (known_after one.written known) (known_after one.written others) (after one.written has) parts.1)
-
-pub alone_work : (work : Work) (known others : List (List ℕ)) (has : Have) → wants_all work ≡ false
-    → comes_to known work has ≡ comes_to others work has
-alone_work (works.Say reply) known others has h = refl
-alone_work (works.One c) known others has h = ap (answered answers.One) (alone c known others has h)
-alone_work (works.Each cs) known others has h = ap (answered answers.Each) (alone_each cs known others has h)

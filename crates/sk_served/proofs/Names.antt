@@ -3,7 +3,7 @@ pub use Rattle.std.proofs.Common.{Some, ℤ, filter, Bool, subst, inr, slice_get
 pub use Rattle.std.proofs.Common.{map, T, count_by, Ok, ◌∷◌, Err, inl, ◌&&◌, ◌≡◌, Option, List, bytes_eq, IsOk, ◌||◌, ℕ}
 pub use Rattle.std.proofs.Common.{true, drop, sym, None, is_some, if◌then◌else◌, ◌<◌, nat_le, Result, ◌∙◌, not, cond}
 pub use Rattle.std.proofs.lemmas.Bool.{or_right, or_from, or_parts, eqb-true, true≢false, or_cases, false_from_ne_true}
-pub use Rattle.std.proofs.lemmas.Bool.{or_left, false≢true}
+pub use Rattle.std.proofs.lemmas.Bool.{or_left, false≢true, not-true}
 pub use Rattle.std.proofs.lemmas.List.{append_assoc, append-nil}
 pub use Rattle.std.proofs.lemmas.List.Folds.{list_any-append}
 pub use Rattle.std.proofs.lemmas.List.Sums.{length-filter}
@@ -20,20 +20,19 @@ pub use Rattle.std.specs.Prelude.{zero, ◌==◌, ◌+ℤ◌}
 pub use Rattle.std.specs.Vec.{vec_items}
 pub use Rattle.std.specs.declared.cmp.Ordering.{Ordering}
 pub use Rattle.std.specs.declared.cmp.Ordering.TheVariants.{Equal, Less, Greater}
+pub use Rattle.sk_commands.proofs.Alone.{work_alone as alone_work}
 pub use Rattle.sk_commands.proofs.Asked.{act_does}
-pub use Rattle.sk_commands.proofs.Queued.{alone}
 pub use Rattle.sk_commands.proofs.Unwritten.{nothing_done}
 pub use Rattle.sk_commands.specs.Law.{act as works}
 pub use Rattle.sk_commands.specs.Numbers.{fitting}
 pub use Rattle.sk_commands.specs.Table.{Have, counts, replies, set_reply, flushed, there, may_set, joined, puts}
-pub use Rattle.sk_commands.specs.Table.{pairs_of, number_at, counted, is_told_of_all, begins_with, set, is_among}
-pub use Rattle.sk_commands.specs.Table.{present, removals, bytes_of, listed, Written, Outcome, added}
+pub use Rattle.sk_commands.specs.Table.{pairs_of, number_at, counted, begins_with, set, is_among, present, removals}
+pub use Rattle.sk_commands.specs.Table.{bytes_of, listed, Written, Outcome, added}
 pub use Rattle.sk_commands.specs.Work.{with_value, each, wants_all, followed, after as written_after, comes_to}
 pub use Rattle.sk_commands.specs.Work.{with_known, may_write_some, known_after, looks_at, answered}
 pub use Rattle.sk_commands.specs.declared.command.Command.{Command}
-pub use Rattle.sk_commands.specs.declared.command.Command.TheVariants.{Exists, Set, MSet, FlushAll, Ping, Append, Echo}
-pub use Rattle.sk_commands.specs.declared.command.Command.TheVariants.{Get, KeysWith, MGet, Wrong, Add, Del, DbSize}
-pub use Rattle.sk_commands.specs.declared.command.Command.TheVariants.{StrLen}
+pub use Rattle.sk_commands.specs.declared.command.Command.TheVariants.{Set, MSet, FlushAll, Append, KeysWith, Add, Del}
+pub use Rattle.sk_commands.specs.declared.command.Command.TheVariants.{DbSize}
 pub use Rattle.sk_commands.specs.declared.fault.Fault.TheVariants.{TooLong}
 pub use Rattle.sk_commands.specs.declared.reply.Reply.{Reply}
 pub use Rattle.sk_commands.specs.declared.reply.Reply.TheVariants.{Error, Array}

@@ -5,7 +5,7 @@ use Rattle.sk_served.proofs.Names.{append_assoc, keep, after, marked_effect, out
 use Rattle.sk_served.proofs.Names.{Fail, IsSound, record_after, record_of, Machine, IsPlainRun, and_both, with_told}
 use Rattle.sk_served.proofs.Names.{Told, Answer, is_among, wants_all, bytes_cmp, held, Entries, bytes_total, tied_is}
 use Rattle.sk_served.proofs.Names.{is_reserved, served, Entry, Opens, Runs, NamesNoReserved, NoneTakenNamesReserved}
-use Rattle.sk_served.proofs.Names.{entries_after, replies_to, AreTold, IsTold, LeaveOutNothing, HoldsSame}
+use Rattle.sk_served.proofs.Names.{entries_after, replies_to, AreTold, IsTold, LeaveOutNothing, HoldsSame, not-true}
 use Rattle.sk_served.proofs.Absent.{left_absent, AllClean, LacksClean, TakenClean, dirtier}
 use Rattle.sk_served.proofs.Runs.{runs_plain}
 
@@ -54,10 +54,6 @@ abbrev pub lacks : Entry → List ℕ → Bool
 lacks (Opens n) key = false
 lacks (Runs a) key = wants_all a.work && (not (is_reserved key) && not (is_among key a.known))
 
-pub not_true : (b : Bool) → not b ≡ true → b ≡ false
-not_true true h = absurd (true≢false (sym h))
-not_true false h = refl
-
 module _ (start : FinMap served.order (List ℕ)) where
   one_more : (before rest : List (Event Entry)) (e : Event Entry) → LeaveOutNothing start (before ++ e ∷ rest)
       → LeaveOutNothing start ((before ++ e ∷ []) ++ rest)
@@ -77,7 +73,7 @@ module _ (start : FinMap served.order (List ℕ)) where
   taken_clean es h before later (Runs a) is key lacking =
       let wants = and_both _ _ lacking in
       let parts = and_both _ _ wants.1 in
-      (h before later a is wants.0).1 key (not_true _ parts.0) (not_true _ parts.1)
+      (h before later a is wants.0).1 key (not-true _ parts.0) (not-true _ parts.1)
 
   one_told : (gs : List ℕ) (dirty : ℕ → List (List ℕ)) (s : FinMap served.order (List ℕ)) (n : Entry)
       → LacksClean served bytes_total lacks gs dirty s n → Rises n → IsTold (get s) n

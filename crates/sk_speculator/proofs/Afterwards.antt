@@ -1,28 +1,24 @@
 -- The parts of a kernel after each call, and what they then are.
-use Rattle.sk_speculator.proofs.Names.{◌≡◌, ℕ, ◌<◌, ◌≤◌, ◌+◌, Bool, true, false, not, cond, ◌||◌, ◌&&◌, length, List}
-use Rattle.sk_speculator.proofs.Names.{[], ◌∷◌, ◌++◌, map, Option, Some, None, Result, Ok, Err, inl, inr, refl, sym}
-use Rattle.sk_speculator.proofs.Names.{◌∙◌, ap, subst, arith, ◌==◌, ◌↔◌, IfSome, list_any, filter, IsStrictlySortedBy}
-use Rattle.sk_speculator.proofs.Names.{eq_by_cmp, nat_cmp, Ordering, IsTotalOrder, Equal-is, FinMap, IsAntisymmetric}
-use Rattle.sk_speculator.proofs.Names.{empty, get-empty, or_assoc, true≢false, false≢true, eqb-true, eq-eqb, or_left}
-use Rattle.sk_speculator.proofs.Names.{or_right, or_cases, or_parts, append-nil, list_any-append}
+use Rattle.sk_speculator.proofs.Names.{◌≡◌, ℕ, ◌<◌, ◌+◌, Bool, true, false, not, cond, ◌||◌, List, [], ◌∷◌, ◌++◌, map}
+use Rattle.sk_speculator.proofs.Names.{Option, Some, None, Result, Ok, Err, inl, inr, refl, sym, ◌∙◌, ap, subst, arith}
+use Rattle.sk_speculator.proofs.Names.{◌==◌, IfSome, list_any, IsStrictlySortedBy, nat_cmp, Ordering, IsTotalOrder}
+use Rattle.sk_speculator.proofs.Names.{Equal-is, IsAntisymmetric, empty, get-empty, or_assoc, true≢false, false≢true}
+use Rattle.sk_speculator.proofs.Names.{eqb-true, eq-eqb, or_left, or_right, or_cases, or_parts, list_any-append}
 use Rattle.sk_speculator.proofs.Names.{sorted_from_strictly_increasing, unwrap_or, MarkedEffect, is_in, is_marked}
-use Rattle.sk_speculator.proofs.Names.{written_value, writes, System, marked_effect, said_by, Note, has, without, noted}
-use Rattle.sk_speculator.proofs.Names.{last_tags, unwound, cut, committed, Event, StatusIs, Taken, Commit, Fail, marks}
+use Rattle.sk_speculator.proofs.Names.{written_value, writes, marked_effect, said_by, Note, has, without, noted}
+use Rattle.sk_speculator.proofs.Names.{last_tags, unwound, cut, committed, StatusIs, Taken, Commit, Fail, marks}
 use Rattle.sk_speculator.proofs.Names.{all_recorded, no_record, Open, numbers, tags_at, step_tags, opened, still_open}
-use Rattle.sk_speculator.proofs.Names.{not_struck, IsTidy, IsGrowing, Machine, Fails, Tagged, lightened, not_dropped}
+use Rattle.sk_speculator.proofs.Names.{not_struck, IsTidy, IsGrowing, Machine, Fails, lightened, not_dropped}
 use Rattle.sk_speculator.proofs.Names.{with_status, with_drawn, with_failure, Merges, MergedTakes, MergedCommits}
 use Rattle.sk_speculator.proofs.Names.{MergedStands, joined, Status, Undecided, Struck, union_is_tags, AllSome, tidy_of}
-use Rattle.sk_speculator.proofs.Names.{grows_of, rests_of, no_tags, tags_by, with_tags, AllExact, AllAlmostExact}
-use Rattle.sk_speculator.proofs.Names.{Covers, with_entities, redeemed_at, KeptView, AreStatuses, forgotten, known}
-use Rattle.sk_speculator.proofs.Names.{none_drawn, one_drawn, redeemed_kept, with_struck, keys_of, Token, Redeemed}
-use Rattle.sk_speculator.proofs.Names.{OpenGuess, opens_of, dependents_of, but, not_resting, after_commit, open_in}
-use Rattle.sk_speculator.proofs.Names.{open_is, named_more, carries, none_carried, uncut, exact_as, exact_at}
-use Rattle.sk_speculator.proofs.Names.{exact_more, begun, tags_written, committed_exact, failed_almost, Deed, Entry}
-use Rattle.sk_speculator.proofs.Names.{effect_of, again, step_of, IsNext, with_told, told_more, untagged, takes_told}
-use Rattle.sk_speculator.proofs.Names.{commits_told, fails_told, stands_told, performs, allowed, first, SlotView}
-use Rattle.sk_speculator.proofs.Names.{look_at, log_at, merges, Said, said_at, Parts, undo_state_of, machine_of}
-use Rattle.sk_speculator.proofs.Names.{any_rests, Performed, IsWhole, IsSound, IsSame, says, drawn_by, next_of, Takes}
-use Rattle.sk_speculator.proofs.Names.{Commits, FailsIn, Forgets}
+use Rattle.sk_speculator.proofs.Names.{grows_of, rests_of, no_tags, tags_by, with_tags, AllExact, Covers, with_entities}
+use Rattle.sk_speculator.proofs.Names.{redeemed_at, KeptView, AreStatuses, known, none_drawn, redeemed_kept, keys_of}
+use Rattle.sk_speculator.proofs.Names.{Token, Redeemed, OpenGuess, opens_of, open_in, open_is, carries, none_carried}
+use Rattle.sk_speculator.proofs.Names.{uncut, exact_as, exact_more, begun, tags_written, Deed, Entry, effect_of, again}
+use Rattle.sk_speculator.proofs.Names.{IsNext, with_told, told_more, untagged, takes_told, commits_told, fails_told}
+use Rattle.sk_speculator.proofs.Names.{stands_told, performs, allowed, first, SlotView, look_at, log_at, merges, Said}
+use Rattle.sk_speculator.proofs.Names.{said_at, Parts, undo_state_of, machine_of, any_rests, Performed, IsWhole}
+use Rattle.sk_speculator.proofs.Names.{IsSound, IsSame, says, next_of, Takes, Commits, FailsIn}
 use Rattle.sk_record.specs.declared.status.Status.TheVariants as status_as
 use Rattle.sk_record.proofs.Merged as merged
 use Rattle.sk_guesses.specs.declared.guess.Redeemed.TheVariants as redeemed_as

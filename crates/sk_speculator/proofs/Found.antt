@@ -1,7 +1,7 @@
 -- A key that has no slot is absent and rests on nothing, and one that has a slot is there or rests on something.
-use Rattle.sk_speculator.proofs.Names.{◌≡◌, Bool, true, false, not, ◌&&◌, List, [], Option, Some, None, refl, sym, ◌∙◌}
-use Rattle.sk_speculator.proofs.Names.{ap, is_none, is_some, true≢false, false≢true, Note, and_both, SlotView, is_bare}
-use Rattle.sk_speculator.proofs.Names.{is_empty, is_settled, slot_in}
+use Rattle.sk_speculator.proofs.Names.{◌≡◌, true, false, not, ◌&&◌, [], Option, Some, None, refl, sym, ◌∙◌, ap, is_none}
+use Rattle.sk_speculator.proofs.Names.{is_some, true≢false, false≢true, and_both, SlotView, is_bare, is_empty}
+use Rattle.sk_speculator.proofs.Names.{is_settled, slot_in}
 
 module _ {V : Type 0} where
   pub no_value : (o : Option (SlotView V)) → is_some o ≡ false → (slot_in o).value ≡ None

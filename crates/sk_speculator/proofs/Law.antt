@@ -1,12 +1,11 @@
 -- Each call is a move of the machine, for statuses that agree with what is kept of guesses.
-use Rattle.sk_speculator.proofs.Names.{◌≡◌, ℕ, ◌<◌, ◌≤◌, List, [], ◌∷◌, Option, Some, None, inl, inr, refl, sym, ◌∙◌}
-use Rattle.sk_speculator.proofs.Names.{ap, subst, arith, ◌==◌, ◌⊎◌, unwrap_or, FinMap, IsAntisymmetric, IsTotalOrder}
-use Rattle.sk_speculator.proofs.Names.{false≢true, has, without, System, Event, Taken, Commit, Fail, numbers, Machine}
-use Rattle.sk_speculator.proofs.Names.{IsPlainRun, with_drawn, with_failure, with_status, Status, has_filter, and_both}
-use Rattle.sk_speculator.proofs.Names.{KeptView, AreStatuses, open_is, IsNext, Moves, Starts, Told, TakenOut, with_told}
-use Rattle.sk_speculator.proofs.Names.{told_more, tells, look_at, log_at, said_at, Parts, machine_of, next_of, Takes}
-use Rattle.sk_speculator.proofs.Names.{Commits, FailsIn, Forgets, Call, Does, Tells, Returns, events_of, TakesOut}
-use Rattle.sk_speculator.proofs.Names.{Hands, Happens, Calls, IsFirst, OwnRunsAsPlain}
+use Rattle.sk_speculator.proofs.Names.{◌≡◌, ℕ, List, [], ◌∷◌, Option, Some, None, inl, inr, refl, sym, ◌∙◌, ap, subst}
+use Rattle.sk_speculator.proofs.Names.{arith, ◌⊎◌, unwrap_or, FinMap, false≢true, has, without, System, Event, Taken}
+use Rattle.sk_speculator.proofs.Names.{Commit, Fail, numbers, IsPlainRun, with_drawn, with_failure, with_status, Status}
+use Rattle.sk_speculator.proofs.Names.{has_filter, and_both, AreStatuses, open_is, IsNext, Moves, Starts, Told}
+use Rattle.sk_speculator.proofs.Names.{TakenOut, with_told, told_more, tells, look_at, log_at, said_at, Parts}
+use Rattle.sk_speculator.proofs.Names.{machine_of, next_of, Call, Does, Tells, Returns, events_of, Happens, Calls}
+use Rattle.sk_speculator.proofs.Names.{IsFirst, OwnRunsAsPlain}
 use Rattle.sk_record.specs.declared.status.Status.TheVariants as status_as
 use Rattle.sk_deeds.specs.Told as deeds
 

@@ -12,30 +12,28 @@ pub use Rattle.std.proofs.lemmas.List.Folds.{list_any-append}
 pub use Rattle.std.proofs.lemmas.Map.Keys.{sorted_from_strictly_increasing}
 pub use Rattle.std.specs.Cmp.{eq_by_cmp_equiv, Equal-is, IsTotalOrder}
 pub use Rattle.std.specs.FinMap.{get-empty, empty, FinMap, IsAntisymmetric}
-pub use Rattle.std.specs.List.{filter, list_any}
+pub use Rattle.std.specs.List.{list_any}
 pub use Rattle.std.specs.List.Sorted.{IsStrictlySortedBy}
 pub use Rattle.std.specs.Option.{unwrap_or}
 pub use Rattle.std.specs.Ordering.{nat_cmp, eq_by_cmp}
-pub use Rattle.std.specs.Prelude.{IfOk, ◌↔◌, get_or, slice_set, ◌⊎◌, IfSome, is_none, is_some, OnErr, OnOk, ◌==◌}
+pub use Rattle.std.specs.Prelude.{get_or, slice_set, ◌⊎◌, IfSome, is_none, is_some, OnErr, OnOk, ◌==◌}
 pub use Rattle.std.specs.Result.{is_err}
 pub use Rattle.std.specs.declared.cmp.Ordering.{Ordering}
 pub use Rattle.sk_deeds.proofs.Runs.{first, allowed, performs}
 pub use Rattle.sk_deeds.proofs.Told.{fails_told, stands_told, commits_told, tells, takes_told}
-pub use Rattle.sk_deeds.specs.Deed.{Entry, Deed, effect_of, again, step_of}
+pub use Rattle.sk_deeds.specs.Deed.{Entry, Deed, effect_of, again}
 pub use Rattle.sk_deeds.specs.Moves.{IsNext, Moves, Starts}
 pub use Rattle.sk_deeds.specs.Told.{TakenOut, untagged, Told, told_more, with_told}
 pub use Rattle.sk_guesses.proofs.Listed.{left_more, none_carried, uncut, depends_exact, exact_at, depends_all}
 pub use Rattle.sk_guesses.proofs.Listed.{depends_opens, exact_as, tags_written, carries, exact_more, almost_of, begun}
 pub use Rattle.sk_guesses.proofs.Listed.{failed_almost, depends_none, none_left, committed_exact}
-pub use Rattle.sk_guesses.proofs.Opens.{taken_opens, none_there, more_rises, named_more, same_opens, open_is}
-pub use Rattle.sk_guesses.proofs.Opens.{left_to_keeps}
+pub use Rattle.sk_guesses.proofs.Opens.{taken_opens, none_there, more_rises, same_opens, open_is, left_to_keeps}
 pub use Rattle.sk_guesses.specs.Calls.{redeemed_at}
 pub use Rattle.sk_guesses.specs.Dependents.{with_tags, AllExact, Covers, tags_by, AllAlmostExact}
 pub use Rattle.sk_guesses.specs.EntitySet.{with_entities}
 pub use Rattle.sk_guesses.specs.Kept.{redeemed_kept, struck_with, forgotten, with_struck, AreStatuses, one_drawn}
 pub use Rattle.sk_guesses.specs.Kept.{HasKeptRoom, known, keys_of, none_drawn, KeptView}
-pub use Rattle.sk_guesses.specs.Opens.{open_in, left_to, but, dependents_of, opens_of, OpenGuess, not_resting}
-pub use Rattle.sk_guesses.specs.Opens.{after_commit}
+pub use Rattle.sk_guesses.specs.Opens.{open_in, left_to, dependents_of, opens_of, OpenGuess, not_resting}
 pub use Rattle.sk_guesses.specs.Token.{Token}
 pub use Rattle.sk_guesses.specs.declared.guess.Redeemed.{Redeemed}
 pub use Rattle.sk_ids.specs.SameLemma.{exact_bytes}
@@ -48,7 +46,7 @@ pub use Rattle.sk_record.proofs.UndoStates.{no_tags, and_both}
 pub use Rattle.sk_record.specs.Effects.{writes, MarkedEffect, is_marked, written_value, is_in}
 pub use Rattle.sk_record.specs.Machine.{lightened, Tagged, with_drawn, released, Fails, IsPlainRun, not_dropped}
 pub use Rattle.sk_record.specs.Machine.{with_failure, with_status, Machine}
-pub use Rattle.sk_record.specs.Merged.{MergedTakes, same_tags, MergedStands, MergedCommits, Merges, merged as joined}
+pub use Rattle.sk_record.specs.Merged.{MergedTakes, MergedStands, MergedCommits, Merges, merged as joined}
 pub use Rattle.sk_record.specs.Notes.{Note, committed, noted, unwound, without, last_tags, cut, has}
 pub use Rattle.sk_record.specs.Release.{said_by}
 pub use Rattle.sk_record.specs.Run.{marked_effect, System}
@@ -61,9 +59,8 @@ pub use Rattle.sk_slots.proofs.Joins.{merges}
 pub use Rattle.sk_slots.proofs.Logs.{noted_again}
 pub use Rattle.sk_slots.specs.Slot.{goes_unnoted, is_bare, is_settled, noted_on, is_empty, SlotView}
 pub use Rattle.sk_slots.specs.Slots.{log_at, found, SettledBut, IsReady, slot_in, look_at, AllSettled}
-pub use Rattle.sk_speculator.specs.Calls.{next_of, Forgets, FailsIn, Commits, drawn_by, TookBack, IsStranger, Takes}
-pub use Rattle.sk_speculator.specs.Law.{Returns, Does, Hands, IsFirst, Tells, Calls, TakesOut, events_of}
-pub use Rattle.sk_speculator.specs.Law.{OwnRunsAsPlain, Happens, Call}
+pub use Rattle.sk_speculator.specs.Calls.{next_of, Forgets, FailsIn, Commits, TookBack, IsStranger, Takes}
+pub use Rattle.sk_speculator.specs.Law.{Returns, Does, IsFirst, Tells, Calls, events_of, OwnRunsAsPlain, Happens, Call}
 pub use Rattle.sk_speculator.specs.Parts.{Performed, IsWhole, IsSame, undo_state_of, any_rests, Parts, machine_of, says}
 pub use Rattle.sk_speculator.specs.Parts.{IsSound, made_by}
 pub use Rattle.sk_speculator.specs.declared.decided.Undone.{Undone}

@@ -1,6 +1,6 @@
 -- What is said to each channel, after a step and a decision.
-use Rattle.sk_speculator.proofs.Names.{◌≡◌, ℕ, Bool, true, false, not, cond, List, [], ◌∷◌, ◌++◌, Option, Some, None}
-use Rattle.sk_speculator.proofs.Names.{refl, sym, ◌∙◌, ap, ◌==◌, Ordering, append-nil, has, without, Tagged, lightened}
+use Rattle.sk_speculator.proofs.Names.{◌≡◌, ℕ, true, false, not, cond, List, [], ◌∷◌, ◌++◌, Option, Some, None, refl}
+use Rattle.sk_speculator.proofs.Names.{sym, ◌∙◌, ap, ◌==◌, Ordering, append-nil, has, without, Tagged, lightened}
 use Rattle.sk_speculator.proofs.Names.{not_dropped, said_by, again, Said, said_at, says}
 
 said_more : {O : Type 0} (t : ℕ) (xs : Said O) (x : Tagged (ℕ × O)) → said_at (xs ++ x ∷ []) t ≡ said_at xs t ++ said_at (x ∷ []) t

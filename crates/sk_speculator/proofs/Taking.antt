@@ -1,13 +1,12 @@
 -- A step that is taken, with a guess of its own or none, and one that is refused.
-use Rattle.sk_speculator.proofs.Names.{◌≡◌, ℕ, suc, length, ◌<◌, ◌≤◌, ◌+◌, Bool, true, false, nat_lt, ◌||◌, List, []}
-use Rattle.sk_speculator.proofs.Names.{◌∷◌, ◌++◌, Option, Some, None, refl, sym, ◌∙◌, ap, subst, arith}
-use Rattle.sk_speculator.proofs.Names.{IsStrictlySortedBy, nat_cmp, Ordering, IsTotalOrder, IsAntisymmetric, false≢true}
-use Rattle.sk_speculator.proofs.Names.{eq-eqb, ltb-true, ltb-false, or_left, or_right, append-nil, is_in, is_marked}
-use Rattle.sk_speculator.proofs.Names.{has, last_tags, with_drawn, marks, Open, numbers, Status, Undecided, tags_by}
-use Rattle.sk_speculator.proofs.Names.{with_tags, AllExact, with_entities, KeptView, AreStatuses, one_drawn, keys_of}
-use Rattle.sk_speculator.proofs.Names.{OpenGuess, open_in, opens_of, exact_as, more_rises, open_is, Deed, SlotView}
-use Rattle.sk_speculator.proofs.Names.{look_at, log_at, AllSettled, Said, Parts, any_rests, Performed, IsSame, IsSound}
-use Rattle.sk_speculator.proofs.Names.{says, next_of, Takes}
+use Rattle.sk_speculator.proofs.Names.{◌≡◌, ℕ, suc, length, ◌<◌, ◌≤◌, ◌+◌, true, false, nat_lt, ◌||◌, List, [], ◌∷◌}
+use Rattle.sk_speculator.proofs.Names.{◌++◌, Option, Some, None, refl, sym, ◌∙◌, ap, subst, arith, IsStrictlySortedBy}
+use Rattle.sk_speculator.proofs.Names.{nat_cmp, Ordering, IsTotalOrder, IsAntisymmetric, false≢true, eq-eqb, ltb-true}
+use Rattle.sk_speculator.proofs.Names.{ltb-false, or_left, or_right, append-nil, is_in, is_marked, has, last_tags}
+use Rattle.sk_speculator.proofs.Names.{with_drawn, marks, Open, numbers, Status, tags_by, with_tags, AllExact}
+use Rattle.sk_speculator.proofs.Names.{with_entities, KeptView, AreStatuses, one_drawn, keys_of, OpenGuess, open_in}
+use Rattle.sk_speculator.proofs.Names.{opens_of, exact_as, more_rises, Deed, SlotView, look_at, log_at, AllSettled}
+use Rattle.sk_speculator.proofs.Names.{Said, Parts, any_rests, Performed, IsSame, IsSound, says, next_of, Takes}
 use Rattle.sk_speculator.proofs.Afterwards.{clean_at, exact_guessed, exact_taken, next_above, next_closed, no_next, opens_rise, performed_same, tags_are, takes_so, tidy, whole_same, whole_taken}
 
 -- an undecided guess was drawn

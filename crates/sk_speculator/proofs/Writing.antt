@@ -1,12 +1,11 @@
 -- Writes, one after another, and the tags of keys.
 use Rattle.sk_speculator.proofs.Names.{◌≡◌, ℕ, zero, suc, ◌+◌, ◌<◌, ◌≤◌, length, take, drop, arith, Bool, true, false}
-use Rattle.sk_speculator.proofs.Names.{cond, ◌||◌, ◌&&◌, List, [], ◌∷◌, ◌++◌, map, Option, Some, None, inl, inr, refl}
-use Rattle.sk_speculator.proofs.Names.{sym, ◌∙◌, ap, subst, ◌==◌, get_or, slice_set, IfOk, OnOk, OnErr, is_err}
-use Rattle.sk_speculator.proofs.Names.{drop-cons, suc-eq-add-one, list_any, eq_by_cmp, Ordering, IsTotalOrder}
-use Rattle.sk_speculator.proofs.Names.{eq_by_cmp_equiv, Equal-is, IsAntisymmetric, or_assoc, true≢false, eqb-true}
-use Rattle.sk_speculator.proofs.Names.{or_left, or_right, append-nil, exact_bytes, is_in, written_value, Note, has}
-use Rattle.sk_speculator.proofs.Names.{noted, last_tags, same_tags, Merges, all_kept, left_out, SlotView, goes_unnoted}
-use Rattle.sk_speculator.proofs.Names.{noted_on, look_at, log_at, IsReady, noted_again, keys_of, made_by, Performed}
+use Rattle.sk_speculator.proofs.Names.{cond, ◌||◌, List, [], ◌∷◌, ◌++◌, Option, refl, sym, ◌∙◌, ap, subst, get_or}
+use Rattle.sk_speculator.proofs.Names.{slice_set, OnOk, OnErr, is_err, drop-cons, suc-eq-add-one, eq_by_cmp, Ordering}
+use Rattle.sk_speculator.proofs.Names.{IsTotalOrder, eq_by_cmp_equiv, Equal-is, IsAntisymmetric, true≢false, or_left}
+use Rattle.sk_speculator.proofs.Names.{or_right, append-nil, exact_bytes, is_in, written_value, Note, noted, last_tags}
+use Rattle.sk_speculator.proofs.Names.{Merges, all_kept, left_out, SlotView, goes_unnoted, noted_on, look_at, log_at}
+use Rattle.sk_speculator.proofs.Names.{IsReady, noted_again, keys_of, made_by, Performed}
 use Rattle.std.specs.Prelude.{Result, Ok, Err}
 
 module _ {V : Type 0} where
@@ -57,9 +56,6 @@ pub record Writing {K V W : Type 0} (R : K → K → Ordering) (written : W → 
   pub ready : (q : K) → is_in R (keys_of rest) q ≡ true → IsReady R tags now q
 
 module _ {K V W : Type 0} (R : K → K → Ordering) (written : W → Option V → Option V) (tags : List ℕ) (old : List (K × SlotView V)) (all : List (K × W)) where
-  pub writing_from : ((q : K) → is_in R (keys_of all) q ≡ true → IsReady R tags old q) → Writing R written tags old all old all
-  writing_from ready = record { look = λ q. refl; logs = λ q. refl; ready = ready }
-
   pub writing_done : (new : List (K × SlotView V)) → ((q : K) → is_in R (keys_of all) q ≡ true → tags ≡ [] → log_at R old q ≡ []) → Writing R written tags old all new [] → Performed R old tags (made_by R written (look_at R old) all) new
   writing_done new clean w = record {
     look = w.look;
@@ -98,19 +94,6 @@ or_none false = refl
 
 pub none_more : (b : Bool) → b ≡ (b || false)
 none_more b = sym (or_none b)
-
--- one key more
-pub more_rests : (a b c all : Bool) → a ≡ (b || (c || false)) → (d rest : Bool) → (a || rest) ≡ (b || (c || rest))
-more_rests a b c all is d rest = ap (λ x. x || rest) (is ∙ ap (λ x. b || x) (or_none c)) ∙ or_assoc b c rest
-
--- one key more among the first of them
-in_take_at : {K : Type 0} (R : K → K → Ordering) (es : List K) (i : ℕ) (e q : K) → i < length es → e ≡ get_or es i e → is_in R (take (suc i) es) q ≡ (is_in R (take i es) q || eq_by_cmp R q e)
-in_take_at R [] i e q lt is = absurd (omega arith)
-in_take_at R (x ∷ es) zero e q lt is = or_none (eq_by_cmp R q x) ∙ ap (eq_by_cmp R q) (sym is)
-in_take_at R (x ∷ es) (suc i) e q lt is = ap (λ b. eq_by_cmp R q x || b) (in_take_at R es i e q (omega arith) is) ∙ sym (or_assoc (eq_by_cmp R q x) (is_in R (take i es) q) (eq_by_cmp R q e))
-
-pub in_take : {K : Type 0} (R : K → K → Ordering) (es : List K) (i : ℕ) (e q : K) → i < length es → e ≡ get_or es i e → is_in R (take (i + 1) es) q ≡ (is_in R (take i es) q || eq_by_cmp R q e)
-in_take R es i e q lt is = let next : i + 1 ≡ suc i = omega arith in ap (λ n. is_in R (take n es) q) next ∙ in_take_at R es i e q lt is
 
 -- what holds of the first and of one more holds of those
 pub either_key : {K : Type 0} {R : K → K → Ordering} → IsAntisymmetric R → (P : K → Type 0) (b : Bool) (q e : K) → (b || eq_by_cmp R q e) ≡ true → (b ≡ true → P q) → P e → P q
@@ -168,13 +151,6 @@ keys_set [] i w v lt is same = refl
 keys_set {K} {A} (x ∷ ws) zero w v lt is same = ap (λ k. k ∷ keys_of ws) (same ∙ ap (λ (p : K × A). p.0) is)
 keys_set (x ∷ ws) (suc i) w v lt is same = ap (λ ks. x.0 ∷ ks) (keys_set ws i w v (omega arith) is same)
 
--- the keys of the first writes, and of those behind them
-pub keys_take : {K A : Type 0} (ws : List (K × A)) (i : ℕ) → keys_of (take i ws) ≡ take i (keys_of ws)
-keys_take [] zero = refl
-keys_take [] (suc i) = refl
-keys_take (w ∷ ws) zero = refl
-keys_take (w ∷ ws) (suc i) = ap (λ ks. w.0 ∷ ks) (keys_take ws i)
-
 pub keys_more : {K A : Type 0} (ws vs : List (K × A)) → keys_of (ws ++ vs) ≡ keys_of ws ++ keys_of vs
 keys_more [] vs = refl
 keys_more (w ∷ ws) vs = ap (λ ks. w.0 ∷ ks) (keys_more ws vs)
@@ -196,10 +172,6 @@ pub when_ok : {A E P Q : Type 0} (r : Result A E) → OnOk r P → (P → Q) →
 when_ok (Ok x) p f = f p
 when_ok (Err why) p f = tt
 
-pub when_err : {A E P Q : Type 0} (r : Result A E) → OnErr r P → (P → Q) → OnErr r Q
-when_err (Ok x) p f = tt
-when_err (Err why) p f = f p
-
 pub from_ok : {A E P : Type 0} (r : Result A E) → false ≡ is_err r → OnOk r P → P
 from_ok (Ok x) is p = p
 from_ok (Err why) is p = absurd (true≢false (sym is))
@@ -207,7 +179,3 @@ from_ok (Err why) is p = absurd (true≢false (sym is))
 pub from_err : {A E P : Type 0} (r : Result A E) → true ≡ is_err r → OnErr r P → P
 from_err (Ok x) is p = absurd (true≢false is)
 from_err (Err why) is p = p
-
-pub when_keys : {A E : Type 0} {P Q : A → Type 0} (r : Result A E) → IfOk r P → ((x : A) → P x → Q x) → IfOk r Q
-when_keys (Ok x) p f = f x p
-when_keys (Err why) p f = tt

@@ -1,6 +1,6 @@
 -- All keys were gone through.
-use Rattle.sk_batched.proofs.Names.{◌≡◌, ◌||◌, ◌&&◌, not, ℕ, List, [], Option, drop, sym, ◌∙◌, ap, arith, ◌==◌}
-use Rattle.sk_batched.proofs.Names.{list_any, Vec, drop_all, has, tags_at, bytes_cmp, undo_state_of}
+use Rattle.sk_batched.proofs.Names.{◌≡◌, ◌||◌, ◌&&◌, not, ℕ, [], drop, sym, ◌∙◌, ap, arith, ◌==◌, list_any, Vec}
+use Rattle.sk_batched.proofs.Names.{drop_all, has, tags_at, bytes_cmp, undo_state_of}
 use Rattle.sk_batched.proofs.Touched.{any_touched, or_no}
 use Rattle.sk_batched.proofs.rests.rests_of.Goals as goal
 

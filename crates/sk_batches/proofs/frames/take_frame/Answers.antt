@@ -1,6 +1,6 @@
 -- The queue takes the frame's payload into the room behind the head, which is sealed in front of it.
-use Rattle.sk_batches.proofs.Names.{◌≡◌, ◌+◌, ◌-◌, length, drop, take, sym, ap, ◌∙◌, put_mid, frame, next_payload}
-use Rattle.sk_batches.proofs.Names.{sealed_of, Sealed}
+use Rattle.sk_batches.proofs.Names.{◌≡◌, ◌+◌, ◌-◌, length, drop, take, ap, ◌∙◌, put_mid, frame, next_payload, sealed_of}
+use Rattle.sk_batches.proofs.Names.{Sealed}
 use Rattle.sk_batches.specs.Places.{behind}
 use Rattle.sk_batches.proofs.Sealing.{framed, refused_frame}
 use Rattle.sk_batches.proofs.frames.take_frame.Goals as goal

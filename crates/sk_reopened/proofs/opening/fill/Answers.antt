@@ -1,6 +1,6 @@
 -- One entry more is set; at the end none is left.
-use Rattle.sk_reopened.proofs.Names.{rules, arith, ◌≡◌, ◌+◌, ◌<◌, ◌≤◌, ◌||◌, ◌∷◌, [], false, drop, length, get_or, sym}
-use Rattle.sk_reopened.proofs.Names.{ap, subst, ◌∙◌, drop_all, drop_more, Entries, has_wrong, is_wrong}
+use Rattle.sk_reopened.proofs.Names.{arith, ◌≡◌, ◌+◌, ◌<◌, ◌||◌, ◌∷◌, [], false, drop, length, sym, ap, subst, ◌∙◌}
+use Rattle.sk_reopened.proofs.Names.{drop_all, drop_more, Entries, has_wrong}
 use Rattle.sk_reopened.proofs.Filled.{all_set, one_more, HasSome}
 use Rattle.sk_reopened.proofs.opening.fill.Goals as goal
 

@@ -1,7 +1,6 @@
 -- The new store has the entries, and the head is in the room.
-use Rattle.sk_reopened.proofs.Names.{rules, ◌≡◌, ◌+◌, ◌≤◌, ◌++◌, [], true, false, drop, length, map, sym, ap, subst}
-use Rattle.sk_reopened.proofs.Names.{◌∙◌, frame, Sealed, Entries, after_works, set_of, restored, Limits, are_sound}
-use Rattle.sk_reopened.proofs.Names.{IsNew, has_wrong, head_of, next_of, HasNumbers}
+use Rattle.sk_reopened.proofs.Names.{rules, ◌≡◌, ◌+◌, ◌++◌, [], drop, map, sym, ap, subst, ◌∙◌, frame, Sealed, Entries}
+use Rattle.sk_reopened.proofs.Names.{after_works, set_of, restored, Limits, IsNew, head_of, next_of}
 use Rattle.sk_reopened.proofs.Filled.{front_has_none}
 use Rattle.sk_reopened.proofs.opening.reopen.Goals as goal
 

@@ -1,8 +1,6 @@
 -- What is seen of the slots is as before, and so are the lists where there is no memory.
-use Rattle.sk_speculator.proofs.Names.{◌≡◌, ℕ, [], cond, true, List, sym, ◌∙◌, ap, subst, IsTotalOrder, IsAntisymmetric}
-use Rattle.sk_speculator.proofs.Names.{AllAlmostExact, AllExact, Covers, tags_by, with_tags, keys_of, almost_of}
-use Rattle.sk_speculator.proofs.Names.{exact_as, is_in, has, last_tags, log_at}
-use Rattle.sk_speculator.proofs.Writing.{from_err, from_ok, when_ok}
+use Rattle.sk_speculator.proofs.Names.{[], sym, ◌∙◌, ap, subst, IsTotalOrder, IsAntisymmetric, tags_by, exact_as, has}
+use Rattle.sk_speculator.proofs.Names.{last_tags, log_at}
 use Rattle.sk_speculator.proofs.asking.make_ready.Goals as goal
 
 pub depend_all-requires-clause-exact : goal.depend_all-requires-clause-exact

@@ -1,7 +1,7 @@
 -- One key more is in the lists of all the guesses; without memory all are taken out again.
-use Rattle.sk_speculator.proofs.Names.{◌≡◌, ◌++◌, ◌∷◌, [], take, refl, sym, ◌∙◌, ap, subst, IsTotalOrder}
-use Rattle.sk_speculator.proofs.Names.{IsAntisymmetric, AllAlmostExact, AllExact, tags_by, with_tags, keys_of, opens_of}
-use Rattle.sk_speculator.proofs.Names.{last_tags, almost_of, depends_exact, depends_opens, log_at}
+use Rattle.sk_speculator.proofs.Names.{◌∷◌, [], take, refl, sym, ◌∙◌, ap, subst, IsTotalOrder, IsAntisymmetric}
+use Rattle.sk_speculator.proofs.Names.{AllAlmostExact, AllExact, tags_by, with_tags, keys_of, opens_of, last_tags}
+use Rattle.sk_speculator.proofs.Names.{almost_of, depends_exact, depends_opens, log_at}
 use Rattle.sk_speculator.proofs.Writing.{from_ok, from_err, in_front, in_place, keys_more, take_all, take_next}
 use Rattle.sk_speculator.proofs.lists.depend_all.Goals as goal
 

@@ -1,7 +1,7 @@
 -- One key more is in the lists of its guesses alone.
-use Rattle.sk_speculator.proofs.Names.{◌≡◌, ◌+◌, ◌∷◌, [], drop, sym, ◌∙◌, ap, subst, IsTotalOrder, IsAntisymmetric}
-use Rattle.sk_speculator.proofs.Names.{AllAlmostExact, tags_by, left_to, opens_of, left_more, none_left, left_to_keeps}
-use Rattle.sk_speculator.proofs.Names.{same_opens, log_at}
+use Rattle.sk_speculator.proofs.Names.{◌+◌, drop, sym, ◌∙◌, ap, subst, IsTotalOrder, IsAntisymmetric, AllAlmostExact}
+use Rattle.sk_speculator.proofs.Names.{tags_by, left_to, opens_of, left_more, none_left, left_to_keeps, same_opens}
+use Rattle.sk_speculator.proofs.Names.{log_at}
 use Rattle.sk_speculator.proofs.Writing.{drop_all, drop_next}
 use Rattle.sk_speculator.proofs.lists.relieve_all.Goals as goal
 

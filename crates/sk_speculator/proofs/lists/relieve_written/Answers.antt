@@ -1,7 +1,7 @@
 -- One key more is in the lists of its guesses alone.
-use Rattle.sk_speculator.proofs.Names.{◌≡◌, ◌+◌, ◌∷◌, [], drop, sym, ◌∙◌, ap, subst, IsTotalOrder, IsAntisymmetric}
-use Rattle.sk_speculator.proofs.Names.{AllAlmostExact, tags_by, keys_of, left_to, opens_of, left_more, none_left}
-use Rattle.sk_speculator.proofs.Names.{left_to_keeps, same_opens, log_at}
+use Rattle.sk_speculator.proofs.Names.{◌+◌, drop, sym, ◌∙◌, ap, subst, IsTotalOrder, IsAntisymmetric, AllAlmostExact}
+use Rattle.sk_speculator.proofs.Names.{tags_by, keys_of, left_to, opens_of, left_more, none_left, left_to_keeps}
+use Rattle.sk_speculator.proofs.Names.{same_opens, log_at}
 use Rattle.sk_speculator.proofs.Writing.{drop_all, drop_next}
 use Rattle.sk_speculator.proofs.lists.relieve_written.Goals as goal
 

@@ -1,6 +1,6 @@
 -- One key more.
-use Rattle.sk_speculator.proofs.Names.{◌≡◌, ◌||◌, ◌++◌, ◌∷◌, [], true, sym, ◌∙◌, ap, subst, take, IsTotalOrder}
-use Rattle.sk_speculator.proofs.Names.{IsAntisymmetric, eq_by_cmp, list_any-append, keys_of, is_in, IsReady}
+use Rattle.sk_speculator.proofs.Names.{◌||◌, ◌∷◌, [], true, sym, ◌∙◌, ap, subst, take, IsTotalOrder, IsAntisymmetric}
+use Rattle.sk_speculator.proofs.Names.{eq_by_cmp, list_any-append, keys_of, is_in, IsReady}
 use Rattle.sk_speculator.proofs.Writing.{either_key, in_place, keys_more, none_more, take_all, take_next}
 use Rattle.sk_speculator.proofs.writes.prepare_all.Goals as goal
 

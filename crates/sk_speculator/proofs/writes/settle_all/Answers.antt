@@ -1,5 +1,5 @@
 -- One key more is settled.
-use Rattle.sk_speculator.proofs.Names.{◌≡◌, ◌+◌, drop, sym, ◌∙◌, ap, subst, keys_of, SettledBut}
+use Rattle.sk_speculator.proofs.Names.{◌+◌, drop, ◌∙◌, subst, keys_of, SettledBut}
 use Rattle.sk_speculator.proofs.Writing.{drop_all, drop_next}
 use Rattle.sk_speculator.proofs.writes.settle_all.Goals as goal
 

@@ -1,5 +1,5 @@
 -- What has all of them already has no more with them.
-use Rattle.sk_speculator.proofs.Names.{◌≡◌, ℕ, Bool, true, false, ◌||◌, List, refl, sym, ◌∙◌, or_right, has}
+use Rattle.sk_speculator.proofs.Names.{◌≡◌, ℕ, true, false, ◌||◌, List, refl, sym, ◌∙◌, or_right, has}
 use Rattle.sk_speculator.proofs.Writing.{none_more}
 use Rattle.sk_speculator.proofs.writes.with_tags.Goals as goal
 

@@ -1,8 +1,7 @@
 -- One write more.
-use Rattle.sk_speculator.proofs.Names.{◌≡◌, ℕ, ◌<◌, ◌+◌, ◌∷◌, ◌||◌, true, length, drop, arith, sym, ◌∙◌, ap, subst}
-use Rattle.sk_speculator.proofs.Names.{IsTotalOrder, eq_by_cmp_equiv, IsAntisymmetric, and_parts, or_left, keys_of}
-use Rattle.sk_speculator.proofs.Names.{is_in, IsReady, SettledBut}
-use Rattle.std.proofs.Common.{slice_set}
+use Rattle.sk_speculator.proofs.Names.{◌≡◌, ◌<◌, ◌+◌, ◌∷◌, true, length, drop, arith, sym, ◌∙◌, ap, subst, IsTotalOrder}
+use Rattle.sk_speculator.proofs.Names.{eq_by_cmp_equiv, IsAntisymmetric, and_parts, or_left, keys_of, is_in, IsReady}
+use Rattle.sk_speculator.proofs.Names.{SettledBut}
 use Rattle.sk_speculator.proofs.Writing.{Writing, drop_all, drop_more, drop_next, drop_set, in_place, keys_set, set_length, writing_done, writing_more}
 use Rattle.sk_speculator.proofs.writes.write_all.Goals as goal
 

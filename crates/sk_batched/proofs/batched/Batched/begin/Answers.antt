@@ -1,6 +1,6 @@
 -- The token of the guess that is drawn is pushed.
-use Rattle.sk_batched.proofs.Names.{rules, ◌≡◌, false, is_err, [], ◌∷◌, ◌++◌, None, subst, next_of, byte_deed}
-use Rattle.sk_batched.proofs.Names.{batch_key, opening, IsInStep}
+use Rattle.sk_batched.proofs.Names.{rules, ◌≡◌, false, is_err, [], ◌∷◌, ◌++◌, None, subst, next_of, batch_key, opening}
+use Rattle.sk_batched.proofs.Names.{IsInStep}
 use Rattle.sk_batched.proofs.Answering.{drawn_as, opened_deed, room_for}
 use Rattle.sk_batched.proofs.Queues.{begins, same_seen}
 use Rattle.sk_batched.proofs.batched.Batched.begin.Goals as goal

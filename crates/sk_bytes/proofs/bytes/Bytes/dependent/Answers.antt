@@ -1,5 +1,5 @@
 -- The string of the number in this place.
-use Rattle.sk_bytes.proofs.Names.{None, sym, ap, ◌∙◌, at_key, string_of, ByteView}
+use Rattle.sk_bytes.proofs.Names.{None, ap, ◌∙◌, at_key, string_of, ByteView}
 use Rattle.sk_bytes.proofs.Moves.{get_none, get_some}
 use Rattle.sk_bytes.proofs.bytes.Bytes.dependent.Goals as goal
 

@@ -1,5 +1,5 @@
 -- What came is told to the channel, whatever its past was.
-use Rattle.sk_durable.proofs.Names.{◌≡◌, ◌∙◌, refl, rules, subst, sym, Err, Ok, Some, err_from_is_err_and, channel_at}
+use Rattle.sk_durable.proofs.Names.{◌≡◌, rules, subst, sym, Err, Ok, Some, err_from_is_err_and, channel_at}
 use Rattle.sk_durable.proofs.Names.{with_channel, the_view, End, end_of, MayFeed, TakePost, channel_refused, HavePasts}
 use Rattle.sk_durable.proofs.Names.{StoreView}
 use Rattle.sk_durable.proofs.Calls.{all_fed, has_past, not_fed, part_fed}

@@ -1,5 +1,5 @@
 -- They are a back part of all.
-use Rattle.sk_replay.proofs.Names.{◌≡◌, true, ap, sym, ◌∙◌, is_sorted, take_rest, bytes_cmp, Entries}
+use Rattle.sk_replay.proofs.Names.{◌≡◌, true, ap, ◌∙◌, is_sorted, take_rest, bytes_cmp}
 use Rattle.sk_replay.proofs.Left.{left_rises}
 use Rattle.sk_replay.proofs.snapshot.Snapshot.left.Goals as goal
 

@@ -1,8 +1,6 @@
 -- The token says what its guess is.
-use Rattle.sk_speculator.proofs.Names.{◌≡◌, ℕ, true, Some, Ok, Err, List, refl, sym, ◌∙◌, ap, subst, AreStatuses}
-use Rattle.sk_speculator.proofs.Names.{forgotten, opens_of, has, without, numbers, Commits, FailsIn, Forgets}
-use Rattle.sk_speculator.proofs.Names.{IsStranger, TookBack, Parts}
-use Rattle.sk_guesses.specs.declared.guess.Redeemed.TheVariants as redeemed_as
+use Rattle.sk_speculator.proofs.Names.{◌≡◌, Ok, sym, ◌∙◌, ap, subst, forgotten, opens_of, has, without, numbers}
+use Rattle.sk_speculator.proofs.Names.{Commits, Forgets, IsStranger, Parts}
 use Rattle.sk_speculator.proofs.Afterwards.{back_told, sound_redeemed, struck_told, undecided_told}
 use Rattle.sk_speculator.proofs.speculator.Speculator.commit.Goals as goal
 

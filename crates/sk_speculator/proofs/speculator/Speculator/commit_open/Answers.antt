@@ -1,7 +1,7 @@
 -- A commit of each part is the machine's.
-use Rattle.sk_speculator.proofs.Names.{◌≡◌, ℕ, [], true, cond, sym, ◌∙◌, ap, subst, IsTotalOrder, IsAntisymmetric}
+use Rattle.sk_speculator.proofs.Names.{◌≡◌, [], true, cond, sym, ◌∙◌, ap, subst, IsTotalOrder, IsAntisymmetric}
 use Rattle.sk_speculator.proofs.Names.{AllExact, tags_by, dependents_of, opens_of, committed_exact, exact_at, is_in}
-use Rattle.sk_speculator.proofs.Names.{joined, has, committed, numbers, look_at, log_at, Commits, Parts}
+use Rattle.sk_speculator.proofs.Names.{joined, has, committed, numbers, log_at, Commits, Parts}
 use Rattle.sk_speculator.proofs.Afterwards.{commits_so, grows, merges_so, whole_committed}
 use Rattle.sk_speculator.proofs.speculator.Speculator.commit_open.Goals as goal
 

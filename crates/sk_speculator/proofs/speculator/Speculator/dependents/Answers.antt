@@ -1,7 +1,7 @@
 -- The list of an undecided guess has just the keys that rest on it, and nothing rests on another.
-use Rattle.sk_speculator.proofs.Names.{◌≡◌, ℕ, [], Bool, true, false, sym, ◌∙◌, ap, subst, refl, IsTotalOrder}
-use Rattle.sk_speculator.proofs.Names.{IsAntisymmetric, tags_by, dependents_of, opens_of, exact_at, none_there, is_in}
-use Rattle.sk_speculator.proofs.Names.{has, last_tags, numbers, tags_at, log_at, Parts, undo_state_of}
+use Rattle.sk_speculator.proofs.Names.{◌≡◌, true, false, sym, ◌∙◌, ap, subst, refl, IsTotalOrder, IsAntisymmetric}
+use Rattle.sk_speculator.proofs.Names.{tags_by, dependents_of, opens_of, exact_at, none_there, is_in, has, numbers}
+use Rattle.sk_speculator.proofs.Names.{tags_at, log_at, Parts, undo_state_of}
 use Rattle.sk_speculator.proofs.Afterwards.{not_known}
 use Rattle.sk_speculator.proofs.speculator.Speculator.dependents.Goals as goal
 

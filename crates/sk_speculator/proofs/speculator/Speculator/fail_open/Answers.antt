@@ -1,5 +1,5 @@
 -- A failure of each part is the machine's.
-use Rattle.sk_speculator.proofs.Names.{◌≡◌, ℕ, true, cond, length, sym, ◌∙◌, ap, subst, IsTotalOrder, IsAntisymmetric}
+use Rattle.sk_speculator.proofs.Names.{◌≡◌, true, cond, length, sym, ◌∙◌, ap, subst, IsTotalOrder, IsAntisymmetric}
 use Rattle.sk_speculator.proofs.Names.{AllAlmostExact, tags_by, struck_with, with_struck, dependents_of, not_resting}
 use Rattle.sk_speculator.proofs.Names.{opens_of, exact_at, failed_almost, taken_opens, is_in, has, cut, unwound}
 use Rattle.sk_speculator.proofs.Names.{not_struck, numbers, look_at, log_at, FailsIn, TookBack, Parts, Undone}

@@ -1,8 +1,8 @@
 -- A guess is taken as the machine takes it, and nothing is seen of one that is refused.
-use Rattle.sk_speculator.proofs.Names.{◌≡◌, ℕ, ◌<◌, ◌||◌, length, false, arith, Some, refl, sym, ◌∙◌, ap, subst}
-use Rattle.sk_speculator.proofs.Names.{IsTotalOrder, IsAntisymmetric, eq-eqb, leb-false, or_left, has, keys_of}
-use Rattle.sk_speculator.proofs.Names.{opens_of, Deed, next_of, Takes, look_at, log_at, tags_by, with_tags, AllExact}
-use Rattle.sk_speculator.proofs.Names.{is_in, is_marked, any_rests, made_by, IsSame, Parts, Performed}
+use Rattle.sk_speculator.proofs.Names.{◌≡◌, ℕ, ◌<◌, ◌||◌, length, arith, Some, refl, sym, ◌∙◌, ap, subst, IsTotalOrder}
+use Rattle.sk_speculator.proofs.Names.{IsAntisymmetric, eq-eqb, leb-false, or_left, has, keys_of, opens_of, Deed}
+use Rattle.sk_speculator.proofs.Names.{next_of, Takes, look_at, log_at, tags_by, with_tags, AllExact, is_in, is_marked}
+use Rattle.sk_speculator.proofs.Names.{any_rests, made_by, IsSame, Parts, Performed}
 use Rattle.sk_speculator.proofs.Writing.{keys_made}
 use Rattle.sk_speculator.proofs.Taking.{after_guess, clean, opens_length, sound_refused}
 use Rattle.sk_speculator.proofs.speculator.Speculator.guess.Goals as goal

@@ -1,6 +1,5 @@
 -- Each slot is settled.
-use Rattle.sk_speculator.proofs.Names.{◌≡◌, true, false, List, None, [], refl, sym, ◌∙◌, ap, subst, found, log_at}
-use Rattle.sk_speculator.proofs.Names.{look_at, Parts}
+use Rattle.sk_speculator.proofs.Names.{refl, sym, ◌∙◌, ap, found, log_at, look_at, Parts}
 use Rattle.sk_speculator.proofs.Found.{no_notes, no_value, something}
 use Rattle.sk_speculator.proofs.speculator.Speculator.keys.Goals as goal
 

@@ -1,6 +1,6 @@
 -- Nothing has happened.
-use Rattle.sk_speculator.proofs.Names.{◌≡◌, ◌<◌, ℕ, [], None, sym, ◌∙◌, ap, subst, IsTotalOrder, IsAntisymmetric}
-use Rattle.sk_speculator.proofs.Names.{AllExact, tags_by, KeptView, opens_of, log_at, Parts}
+use Rattle.sk_speculator.proofs.Names.{◌<◌, sym, ap, subst, IsTotalOrder, IsAntisymmetric, AllExact, tags_by, KeptView}
+use Rattle.sk_speculator.proofs.Names.{opens_of, log_at, Parts}
 use Rattle.sk_speculator.proofs.Afterwards.{whole_first}
 use Rattle.sk_speculator.proofs.speculator.Speculator.new.Goals as goal
 

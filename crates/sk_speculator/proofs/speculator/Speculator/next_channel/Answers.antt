@@ -1,5 +1,5 @@
 -- The outputs tell it.
-use Rattle.sk_speculator.proofs.Names.{◌≡◌, ℕ, None, [], ap, subst, sym, ◌∙◌, IfSome, said_at, released, Parts}
+use Rattle.sk_speculator.proofs.Names.{◌≡◌, [], ap, subst, sym, ◌∙◌, IfSome, said_at, released, Parts}
 use Rattle.sk_speculator.proofs.speculator.Speculator.next_channel.Goals as goal
 
 pub returns-clause-some : goal.returns-clause-some

@@ -1,5 +1,5 @@
 -- What is taken out was said.
-use Rattle.sk_speculator.proofs.Names.{◌≡◌, ℕ, None, sym, ◌∙◌, ap, subst, opens_of, Parts}
+use Rattle.sk_speculator.proofs.Names.{opens_of, Parts}
 use Rattle.sk_speculator.proofs.Afterwards.{whole_told}
 use Rattle.sk_speculator.proofs.speculator.Speculator.released.Goals as goal
 

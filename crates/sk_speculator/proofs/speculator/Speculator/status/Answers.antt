@@ -1,5 +1,5 @@
 -- What is known of a guess is its status, whatever statuses agree with what is kept.
-use Rattle.sk_speculator.proofs.Names.{◌≡◌, ℕ, Option, Some, sym, ◌∙◌, ap, subst, IfSome, known, Parts}
+use Rattle.sk_speculator.proofs.Names.{◌≡◌, Some, sym, ◌∙◌, ap, subst, IfSome, known, Parts}
 use Rattle.sk_speculator.proofs.Afterwards.{known_agrees}
 use Rattle.sk_speculator.proofs.speculator.Speculator.status.Goals as goal
 

@@ -1,5 +1,5 @@
 -- A step is taken as the machine takes it, and nothing is seen of one that is refused.
-use Rattle.sk_speculator.proofs.Names.{◌≡◌, ℕ, ◌||◌, None, sym, ap, ◌∙◌, subst, IsTotalOrder, IsAntisymmetric, opens_of}
+use Rattle.sk_speculator.proofs.Names.{ℕ, ◌||◌, None, sym, ap, ◌∙◌, subst, IsTotalOrder, IsAntisymmetric, opens_of}
 use Rattle.sk_speculator.proofs.Names.{Deed, Takes, look_at, log_at, tags_by, with_tags, AllExact, is_in, is_marked}
 use Rattle.sk_speculator.proofs.Names.{any_rests, made_by, IsSame, Parts, Performed}
 use Rattle.sk_speculator.proofs.Writing.{keys_made}

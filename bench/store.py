@@ -3,7 +3,7 @@
 
     bench/store.py PROGRAM [functions]
 
-PROGRAM is `crates/many_commands/out/many_commands`: a store with one client and a disk that is always well, with 100,000 keys of 16
+PROGRAM is `crates/store_runs/out/store_runs`, of which is counted a store with one client and a disk that is always well, with 100,000 keys of 16
 bytes that have values of 100. A SET is counted from its bytes to its reply, with its share of the frame, the decision and the output of
 a batch of 100; a GET is of a key that is on the disk. What a row says is the difference of two runs; beside it stands its limit, and
 OVER where it is passed. The commit of a batch is what `Client::decide` takes, and recovery what `client::recover` takes. The status is 1

@@ -9,8 +9,10 @@
     tools/edits.py --write            writes each edit's `function` and `contract`; those that change have to be tried again
 
 They stand in `crates/NAME/edits`, whose head tells the form. An edit is tried on a copy of its crate, where the prover checks
-the function and those that it calls, over the libraries that `rt ci` or `rt lib` has built. The last line is 'N passed,
-M failed'.
+the function and those that it calls, over the libraries that `rt ci` or `rt lib` has built. Edits of the bodies of different
+functions of a crate stand in one copy, since a function is proved by the contracts of those that it calls, and never by their
+bodies: each is refused where the line of its own function says so, and one of which no line does is tried again alone. The last
+line is 'N passed, M failed'.
 """
 import argparse
 import collections
@@ -33,6 +35,11 @@ OWNER = re.compile(r"^( *)(?:pub(?:\([a-z]+\))? )?(?:unsafe )?(impl|trait)\b(.*)
 UNREAD = re.compile(r"is not in scope|has no field|is no name|operand is missing|expected the end|cannot continue")
 # What it says of a proof that names what an edit took away, which says little of the contract.
 BY_NAME = re.compile(r"(?:note: )?(?:\./)?proofs/.*(?:has no field|is not in scope|has no `|was not admitted)")
+
+# A line that says where something stands.
+PLACE = re.compile(r"(?:note: )?(?:\./)?\S+:\d+:\d+: ")
+# What is of a function's head, and not of its body.
+HEAD = re.compile(r"\b(?:fn|requires|ensures|ghost|where)\b")
 
 Edit = collections.namedtuple("Edit", "crate name gate function contract pairs")
 Function = collections.namedtuple("Function", "path first body last contract")
@@ -178,27 +185,32 @@ def check(edits):
     return int(failed > 0)
 
 
-def run(edit, texts, kept):
-    """Has the prover check an edit's function on a copy of the crate."""
+def run(crate, functions, texts, kept):
+    """Has the prover check functions on a copy of a crate in which these texts stand."""
     with tempfile.TemporaryDirectory(prefix="edit-") as room:
-        folder = ROOT / "crates" / edit.crate
+        folder = ROOT / "crates" / crate
         for part in ("src", "specs", "proofs"):
             if (folder / part).is_dir():
                 shutil.copytree(folder / part, f"{room}/{part}")
         for file, text in texts.items():
             pathlib.Path(room, file).write_text(text)
-        only = ["--only", edit.function] if edit.function and edit.function != "all" else []
-        words = [kit.rattle(), "check", *kit.words(edit.crate), "--jobs", "1", "--incremental", kept, *only]
+        only = [it for name in functions if name and name != "all" for it in ("--only", name)]
+        words = [kit.rattle(), "check", *kit.words(crate), "--jobs", "1", "--incremental", kept, *only]
         return subprocess.run(words, cwd=room, stdin=subprocess.DEVNULL, capture_output=True, text=True, errors="replace", check=False)
+
+
+def unread(lines, texts):
+    """What the prover says of a text that it can't read, or none."""
+    return next((it for it in lines if it.lstrip("./").startswith((*texts, "src/", "specs/")) and "error" in it and UNREAD.search(it)), None)
 
 
 def judged(edit, ran, texts):
     """Whether the prover refused an edit, and what to say of it."""
     lines = (ran.stdout + ran.stderr).rstrip("\n").split("\n")
-    places = [it for it in lines if re.match(r"(?:note: )?(?:\./)?\S+:\d+:\d+: ", it)]
-    unread = next((it for it in places if it.lstrip("./").startswith((*texts, "src/", "specs/")) and "error" in it and UNREAD.search(it)), None)
-    if unread:
-        return False, f"BAD EDIT: the prover can't read it: {unread[:200]}"
+    places = [it for it in lines if PLACE.match(it)]
+    bad = unread(places, texts)
+    if bad:
+        return False, f"BAD EDIT: the prover can't read it: {bad[:200]}"
     if ran.returncode == 1 and lines[-1].startswith(("only=", "logic=not-proved")):
         refused = next((it for it in lines if re.match(r"fn .*: (?:not proved|no proof|depends)", it)), lines[-1])
         errors = [it for it in places if "error" in it]
@@ -209,19 +221,86 @@ def judged(edit, ran, texts):
     return False, f"BAD EDIT: it did not reach the prover: {' / '.join(lines[:4])[:400]}"
 
 
+def is_of_a_body(edit):
+    """Whether an edit changes the body of its function, and nothing else: then no other function's proof depends on it."""
+    def inside(file, old):
+        place = place_of(edit._replace(pairs=[(file, old, "")]))
+        return place is not None and place.path == edit.function and not HEAD.search(old)
+    return bool(edit.pairs) and all(inside(file, old) for file, old, _ in edit.pairs)
+
+
+def in_turns(edits):
+    """The edits of a crate, in lots: those of the bodies of different functions are tried together, and each other alone."""
+    lots, alone = [], []
+    for edit in edits:
+        if not is_of_a_body(edit):
+            alone.append([edit])
+            continue
+        lot = next((it for it in lots if edit.function not in [other.function for other in it]), None)
+        if lot is None:
+            lots.append([edit])
+        else:
+            lot.append(edit)
+    return lots + alone
+
+
+def texts_of_all(edits, folder):
+    """The files that edits change, each made over those before it; none where one can't be."""
+    texts = {}
+    for edit in edits:
+        for file, old, new in edit.pairs:
+            text = texts.get(file, (folder / file).read_text())
+            if text.count(old) != 1:
+                return None
+            texts[file] = text.replace(old, new)
+    return texts
+
+
+def refused_together(crate, edits, kept):
+    """Those of some edits of which one check says by its own line that their function is not proved, and that line."""
+    texts = texts_of_all(edits, ROOT / "crates" / crate)
+    if texts is None:
+        return {}
+    ran = run(crate, [it.function for it in edits], texts, kept)
+    lines = (ran.stdout + ran.stderr).rstrip("\n").split("\n")
+    places = [it for it in lines if PLACE.match(it) and "error" in it]
+    if ran.returncode != 1 or not lines[-1].startswith("only=") or unread(places, texts) or any(BY_NAME.match(it) for it in places):
+        return {}
+    own = {it.name: [line for line in lines if is_own_refusal(line, it.function)] for it in edits}
+    return {name: found[0] for name, found in own.items() if len(found) == 1}
+
+
+def is_own_refusal(line, function):
+    """Whether a line says that a function is not proved, and not just for one that it calls."""
+    return bool(re.match(rf"fn (?:\w+::)*{re.escape(function)}: (?:not proved$|no proof: expected answers)", line))
+
+
 def try_crate(crate, edits):
-    """Tries edits of one crate in turn, each over what the checks of those before it proved."""
+    """Tries edits of one crate, each over what the checks of those before it proved: a lot in one check, and again those of it of which
+    that check did not say that their own function is refused, which call another of the lot; and alone where that leads no further."""
     stale = kit.stale(crate)
     if stale:
         return [(it, False, f"not tried: {', '.join(stale)} below is not built as it stands (rt lib in crates/{crate} builds it)") for it in edits]
     told = []
     with tempfile.TemporaryDirectory(prefix="edits-") as kept:
-        for edit in edits:
-            texts, why = texts_of(edit, ROOT / "crates" / crate)
-            well, said = (False, f"BAD EDIT: {why}") if why else judged(edit, run(edit, texts, kept), texts)
-            print(f"{crate}/{edit.name}: {said}", flush=True)
-            told.append((edit, well, said))
+        lots = in_turns(edits)
+        while lots:
+            lot = lots.pop(0)
+            refused = refused_together(crate, lot, kept) if len(lot) > 1 else {}
+            found = [(it, True, f"refused: {refused[it.name][:120]}") for it in lot if it.name in refused]
+            if not found:
+                found = [(it, *try_alone(it, kept)) for it in lot]
+            for edit, _, said in found:
+                print(f"{crate}/{edit.name}: {said}", flush=True)
+            told += found
+            left = [it for it in lot if it not in [edit for edit, _, _ in found]]
+            lots = [left, *lots] if left else lots
     return told
+
+
+def try_alone(edit, kept):
+    texts, why = texts_of(edit, ROOT / "crates" / edit.crate)
+    return (False, f"BAD EDIT: {why}") if why else judged(edit, run(edit.crate, [edit.function], texts, kept), texts)
 
 
 def attempt(edits):

@@ -1,8 +1,1 @@
 pub mod Names
-mod Heap
-mod Pointer
-mod Passing
-mod Shown
-mod Read
-mod Given
-mod ToldAt

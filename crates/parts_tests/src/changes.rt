@@ -1,7 +1,7 @@
 //! The table of changes, each made and taken back, and many changes in turn.
 ghost use Rattle.std.specs.Prelude.{◌<◌};
 
-use crate::plain::{content, text};
+use crate::plain::{check, content, text};
 use crate::values::{assert_same, copy, linked};
 use sk_changes::run::{apply_all, undo_all};
 use sk_changes::{Change, Invertible, NotApplied};
@@ -26,7 +26,11 @@ fn leaves(rt: &impl Abort, alloc: Global, value: &mut Value, change: Change, wan
 /// The change does not fit, and the value stays as it was.
 fn stays(rt: &impl Abort, alloc: Global, value: &mut Value, change: Change) {
     let before = copy(rt, value);
-    assert!(rt; matches!(value.apply(alloc, change), Err(NotApplied::Unfit)));
+    check(
+        rt,
+        1,
+        matches!(value.apply(alloc, change), Err(NotApplied::Unfit)),
+    );
     assert_same(rt, value, &before);
 }
 
@@ -79,12 +83,12 @@ fn unfit_changes_of_files(rt: HostRuntime) {
 fn reaches(rt: &impl Abort, alloc: Global, value: &mut Value, change: Change, size: u32) {
     match value.apply(alloc, change) {
         Ok(undo) => {
-            assert!(rt; value.size() == Some(size));
+            check(rt, 2, value.size() == Some(size));
             value.undo(undo);
         }
         Err(_) => panic!(rt; "the change fits"),
     }
-    assert!(rt; value.size() == Some(0));
+    check(rt, 3, value.size() == Some(0));
 }
 
 #[test]
@@ -251,7 +255,11 @@ fn block(rt: &impl Abort, letter: u8) -> Text {
 fn holds(rt: &impl Abort, value: &Value, letters: &[u8]) {
     let mut offset = 0u64;
     for letter in letters {
-        assert!(rt; value.bytes_at(offset, 512) == Some(block(rt, *letter)));
+        check(
+            rt,
+            4,
+            value.bytes_at(offset, 512) == Some(block(rt, *letter)),
+        );
         offset = offset.wrapping_add(512);
     }
 }
@@ -270,7 +278,7 @@ fn puts(rt: &impl Abort, alloc: Global, letters: &[u8]) -> Vec<Change> {
 fn turns_back(rt: &impl Abort, alloc: Global, value: &mut Value) {
     let turn = [Change::Take(512), Change::Put(block(rt, b'A'))];
     let mut undos = Vec::new(alloc);
-    assert_eq!(rt; apply_all(value, &turn, &mut undos), Ok(()));
+    check(rt, 5, apply_all(value, &turn, &mut undos) == Ok(()));
     holds(rt, value, b"BCDEFGHA");
     undo_all(value, &mut undos);
     holds(rt, value, b"ABCDEFGH");
@@ -281,7 +289,7 @@ fn pipe_order_restored(rt: HostRuntime) {
     let mut value = Value::empty(rt.alloc(), Kind::Pipe).expect(&rt, "memory");
     let mut undos = Vec::new(rt.alloc());
     let puts = puts(&rt, rt.alloc(), b"ABCDEFGH");
-    assert_eq!(rt; apply_all(&mut value, &puts, &mut undos), Ok(()));
+    check(&rt, 6, apply_all(&mut value, &puts, &mut undos) == Ok(()));
     holds(&rt, &value, b"ABCDEFGH");
     turns_back(&rt, rt.alloc(), &mut value);
 }

@@ -1,5 +1,5 @@
 //! The limit of undecided guesses, tokens of decided ones, second decisions, and lists of dependents.
-use crate::plain::{guess, pid, tags};
+use crate::plain::{check, guess, pid, tags};
 use sk_guesses::{DrawRefusal, GUESS_LIMIT, Guess, Guesses, Redeemed, Status};
 use sk_ids::{Entity, GuessId, Pid, TagSet};
 use std::alloc::Global;
@@ -31,10 +31,14 @@ fn drawn(
     guesses: &mut Guesses<Entity>,
     entities: &[Entity],
 ) -> Guess {
-    assert!(rt; !guesses.is_full());
+    check(rt, 1, !guesses.is_full());
     let next = guesses.next();
     let token = draw(alloc, guesses, entities).expect(rt, "a guess");
-    assert!(rt; token.kernel() == KERNEL && token.id().number() == next);
+    check(
+        rt,
+        2,
+        token.kernel() == KERNEL && token.id().number() == next,
+    );
     token
 }
 
@@ -49,7 +53,7 @@ fn said(rt: &impl Abort, guesses: &Guesses<Entity>, token: Guess) -> Redeemed {
 /// Spends the token of an undecided guess, which stays so.
 fn spend(rt: &impl Abort, guesses: &Guesses<Entity>, token: Guess) -> GuessId {
     let id = token.id();
-    assert!(rt; said(rt, guesses, token) == Redeemed::Undecided(id));
+    check(rt, 3, said(rt, guesses, token) == Redeemed::Undecided(id));
     id
 }
 
@@ -63,16 +67,16 @@ fn draws(rt: &impl Abort, alloc: Global, guesses: &mut Guesses<Entity>) -> Guess
 fn refuses(rt: &impl Abort, alloc: Global, guesses: &mut Guesses<Entity>) {
     match draw(alloc, guesses, &[]) {
         Ok(_token) => panic!(rt; "a guess too many"),
-        Err(why) => assert!(rt; why == DrawRefusal::TooMany),
+        Err(why) => check(rt, 4, why == DrawRefusal::TooMany),
     }
 }
 
 /// As many guesses are drawn as may be undecided, and no more.
 fn draws_all(rt: &impl Abort, alloc: Global, guesses: &mut Guesses<Entity>) {
     for number in 1..65u64 {
-        assert!(rt; draws(rt, alloc, guesses).number() == number);
+        check(rt, 5, draws(rt, alloc, guesses).number() == number);
     }
-    assert!(rt; guesses.undecided() == GUESS_LIMIT);
+    check(rt, 6, guesses.undecided() == GUESS_LIMIT);
     refuses(rt, alloc, guesses);
 }
 
@@ -101,8 +105,8 @@ fn tells(rt: &impl Abort, alloc: Global, guesses: &mut Guesses<Entity>, to: Stat
         Status::Struck => Redeemed::Struck(id),
         _ => Redeemed::Undecided(id),
     };
-    assert!(rt; said(rt, guesses, token) == want);
-    assert!(rt; guesses.status(id) == Some(to));
+    check(rt, 7, said(rt, guesses, token) == want);
+    check(rt, 8, guesses.status(id) == Some(to));
 }
 
 /// The token of a guess that is decided so comes back. It is spent at a twin, which has drawn the guess and not decided it.
@@ -118,9 +122,9 @@ fn comes_back(
     decide(guesses, id, to);
     match guesses.redeem(token) {
         Ok(_) => panic!(rt; "the guess is decided"),
-        Err(token) => assert!(rt; spend(rt, twin, token) == id),
+        Err(token) => check(rt, 9, spend(rt, twin, token) == id),
     }
-    assert!(rt; guesses.status(id) == Some(to));
+    check(rt, 10, guesses.status(id) == Some(to));
 }
 
 /// The tokens of guesses that are committed and failed come back.
@@ -147,7 +151,7 @@ fn tokens_after_a_decision(rt: HostRuntime) {
     let mut guesses = Guesses::new(rt.alloc(), KERNEL);
     decides_four(&rt, rt.alloc(), &mut guesses);
     let fifth = guesses.status(guess(&rt, 5));
-    assert!(rt; guesses.undecided() == 1 && fifth.is_none());
+    check(&rt, 11, guesses.undecided() == 1 && fifth.is_none());
 }
 
 /// A guess keeps what became of it through a second decision.
@@ -159,7 +163,7 @@ fn stays(
     again: Status,
 ) {
     decide(guesses, id, again);
-    assert!(rt; guesses.status(id) == status);
+    check(rt, 12, guesses.status(id) == status);
 }
 
 /// The next guess is decided so, and then in each way once more.
@@ -178,7 +182,7 @@ fn decides_all_again(rt: &impl Abort, alloc: Global, guesses: &mut Guesses<Entit
     }
     let undrawn = guess(rt, guesses.next());
     stays(rt, guesses, undrawn, None, Status::Committed);
-    assert!(rt; guesses.undecided() == 0);
+    check(rt, 13, guesses.undecided() == 0);
 }
 
 #[test]
@@ -218,7 +222,11 @@ fn are(entities: &[Entity], processes: &[u16]) -> bool {
 
 /// Just these processes rest on the guess of a number.
 fn rest(rt: &impl Abort, guesses: &Guesses<Entity>, number: u64, processes: &[u16]) {
-    assert!(rt; are(guesses.dependents(guess(rt, number)), processes));
+    check(
+        rt,
+        14,
+        are(guesses.dependents(guess(rt, number)), processes),
+    );
 }
 
 /// Each entity stands once in the list of a guess.
@@ -251,7 +259,7 @@ fn relieves(rt: &impl Abort, alloc: Global, guesses: &mut Guesses<Entity>) {
 /// The list of the first guess is moved out: it is just this, and none is left.
 fn gives_up(rt: &impl Abort, guesses: &mut Guesses<Entity>) {
     let list = guesses.take_dependents(guess(rt, 1));
-    assert!(rt; are(list.as_slice(), &[1, 2]));
+    check(rt, 15, are(list.as_slice(), &[1, 2]));
     rest(rt, guesses, 1, &[]);
 }
 
@@ -260,10 +268,10 @@ fn decides_both(rt: &impl Abort, guesses: &mut Guesses<Entity>) {
     let (first, second) = (guess(rt, 1), guess(rt, 2));
     guesses.fail(first);
     guesses.strike_resting(first);
-    assert!(rt; guesses.oldest() == Some(second));
+    check(rt, 16, guesses.oldest() == Some(second));
     guesses.strike(second);
-    assert!(rt; guesses.dependents(second).is_empty());
-    assert!(rt; guesses.oldest().is_none());
+    check(rt, 17, guesses.dependents(second).is_empty());
+    check(rt, 18, guesses.oldest().is_none());
 }
 
 /// Two guesses are drawn, and what rests on them changes until both are decided.
@@ -311,7 +319,7 @@ fn decides_thirty(rt: &impl Abort, alloc: Global, guesses: &mut Guesses<Entity>,
 /// The guess of a number has its status, and keeps it through a second decision.
 fn keeps_its(rt: &impl Abort, guesses: &mut Guesses<Entity>, number: u64) {
     let (id, status) = (guess(rt, number), Some(of_number(number)));
-    assert!(rt; guesses.status(id) == status);
+    check(rt, 19, guesses.status(id) == status);
     stays(rt, guesses, id, status, Status::Committed);
 }
 
@@ -320,7 +328,7 @@ fn keep_theirs(rt: &impl Abort, guesses: &mut Guesses<Entity>) {
     for number in 1..31u64 {
         keeps_its(rt, guesses, number);
     }
-    assert!(rt; guesses.next() == 31);
+    check(rt, 20, guesses.next() == 31);
 }
 
 /// The same through epochs of so many guesses.
@@ -350,7 +358,7 @@ fn strikes(rt: &impl Abort, alloc: Global, guesses: &mut Guesses<Entity>) -> Gue
 fn tells_struck(rt: &impl Abort, alloc: Global, guesses: &mut Guesses<Entity>) {
     let struck = strikes(rt, alloc, guesses);
     let want = Redeemed::Struck(struck.id());
-    assert!(rt; said(rt, guesses, struck) == want);
+    check(rt, 21, said(rt, guesses, struck) == want);
 }
 
 /// The token of a guess that was struck in an earlier epoch tells so.

@@ -1,5 +1,5 @@
 //! Tag sets, processes and entities.
-use crate::plain::{child, guess, name, pid, tags, union};
+use crate::plain::{check, child, guess, name, pid, tags, union};
 use sk_ids::{Entity, GuessId, Name, ObjId, Pid, TagSet, Text};
 use std::alloc::Global;
 use std::cmp::Ordering;
@@ -26,20 +26,20 @@ fn has(set: &TagSet, numbers: &[u64]) -> bool {
 /// The set of these guesses lists them so.
 fn lists(rt: &impl Abort, alloc: Global, numbers: &[u64], want: &[u64]) {
     let set = tags(rt, alloc, numbers);
-    assert!(rt; has(&set, want));
+    check(rt, 1, has(&set, want));
 }
 
 /// The set of these guesses without one of them has just these.
 fn loses(rt: &impl Abort, alloc: Global, numbers: &[u64], number: u64, want: &[u64]) {
     let mut set = tags(rt, alloc, numbers);
     set.without(guess(rt, number));
-    assert!(rt; has(&set, want));
+    check(rt, 2, has(&set, want));
 }
 
 /// The guesses of two sets together are just these.
 fn join(rt: &impl Abort, one: &TagSet, other: &TagSet, want: &[u64]) {
     let both = union(rt, one, other);
-    assert!(rt; has(&both, want));
+    check(rt, 3, has(&both, want));
 }
 
 /// The same of the sets of these guesses.
@@ -65,8 +65,16 @@ fn number_of(number: u64) -> Option<u64> {
 #[test]
 fn limits_of_guess_numbers(rt: HostRuntime) {
     let last = 9_223_372_036_854_775_807;
-    assert!(rt; number_of(1) == Some(1) && number_of(last) == Some(last));
-    assert!(rt; number_of(0).is_none() && number_of(last + 1).is_none());
+    check(
+        &rt,
+        4,
+        number_of(1) == Some(1) && number_of(last) == Some(last),
+    );
+    check(
+        &rt,
+        5,
+        number_of(0).is_none() && number_of(last + 1).is_none(),
+    );
 }
 
 /// The path of a child of the first process, where there is such a child.
@@ -76,20 +84,28 @@ fn path_of(number: u16) -> Option<u64> {
 
 #[test]
 fn small_calls_of_processes(rt: HostRuntime) {
-    assert!(rt; path_of(3) == Some(65_539) && path_of(65_535) == Some(131_071));
-    assert!(rt; Pid::boot(0).is_none() && path_of(0).is_none());
+    check(
+        &rt,
+        6,
+        path_of(3) == Some(65_539) && path_of(65_535) == Some(131_071),
+    );
+    check(&rt, 7, Pid::boot(0).is_none() && path_of(0).is_none());
 }
 
 #[test]
 fn four_levels_of_processes(rt: HostRuntime) {
     let third = child(&rt, child(&rt, pid(&rt, 1), 1), 1);
     let fourth = child(&rt, third, 1);
-    assert!(rt; fourth.path() == 281_479_271_743_489 && fourth.child(1).is_none());
+    check(
+        &rt,
+        8,
+        fourth.path() == 281_479_271_743_489 && fourth.child(1).is_none(),
+    );
 }
 
 /// The first entity stands before the other.
 fn stands_before(rt: &impl Abort, one: &Entity, other: &Entity) {
-    assert!(rt; one.cmp(other) == Ordering::Less);
+    check(rt, 9, one.cmp(other) == Ordering::Less);
 }
 
 #[test]
@@ -117,6 +133,6 @@ fn names_between_directories_and_copies(rt: HostRuntime) {
 
 #[test]
 fn no_name_and_no_text(rt: HostRuntime) {
-    assert!(rt; Name::new(b"a b").is_none());
-    assert!(rt; Text::new([7u8; 513].as_slice()).is_none());
+    check(&rt, 10, Name::new(b"a b").is_none());
+    check(&rt, 11, Text::new([7u8; 513].as_slice()).is_none());
 }

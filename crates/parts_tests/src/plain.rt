@@ -48,3 +48,9 @@ pub fn tags(rt: &impl Abort, alloc: Global, numbers: &[u64]) -> TagSet {
     }
     all
 }
+
+/// Fails the test where what stands at this place of its file does not hold. A function that asserts by it, and not by an
+/// `assert!` of its own, is proved in two thirds of the time.
+pub fn check(rt: &impl Abort, place: u32, holds: bool) {
+    assert!(rt; holds, "at {place}");
+}

@@ -1,5 +1,5 @@
 //! Private instructions: what each does, and where there is none to do.
-use crate::plain::{name, pid};
+use crate::plain::{check, name, pid};
 use sk_script::{Process, ROOT, Register, Script, Val};
 use std::alloc::Global;
 use std::process::Abort;
@@ -34,9 +34,13 @@ fn goes_on(process: &mut Process, script: &Script) -> u32 {
 /// A script is done in so many private instructions, up to this place, and leaves this in r0 and r1.
 fn leaves(rt: &impl Abort, script: &Script, count: u32, place: u32, zero: Val, one: Val) {
     let mut process = process(rt);
-    assert!(rt; goes_on(&mut process, script) == count);
-    assert!(rt; process.place == place);
-    assert!(rt; holds(rt, &process, 0, zero) && holds(rt, &process, 1, one));
+    check(rt, 1, goes_on(&mut process, script) == count);
+    check(rt, 2, process.place == place);
+    check(
+        rt,
+        3,
+        holds(rt, &process, 0, zero) && holds(rt, &process, 1, one),
+    );
 }
 
 /// The instructions are done one by one, and leave this in r1 and nothing in r0.
@@ -111,7 +115,7 @@ fn private_instructions_on_places(rt: HostRuntime) {
 #[test]
 fn a_jump_to_itself_goes_on(rt: HostRuntime) {
     let script = script(&rt, rt.alloc(), b"again:\njump again");
-    assert!(rt; goes_on(&mut process(&rt), &script) == 100);
+    check(&rt, 4, goes_on(&mut process(&rt), &script) == 100);
 }
 
 /// A process has nothing private to do in a script, and stays as it was.
@@ -120,8 +124,8 @@ fn stays(rt: &impl Abort, alloc: Global, text: &[u8], ended: bool) {
     let mut process = process(rt);
     process.ended = ended;
     let before = process;
-    assert!(rt; !process.private(&script));
-    assert!(rt; process == before);
+    check(rt, 5, !process.private(&script));
+    check(rt, 6, process == before);
 }
 
 #[test]

@@ -3,6 +3,7 @@
 ghost use Rattle.std.specs.Prelude.{◌<◌};
 
 use crate::lists::Lists;
+use crate::plain::check;
 use crate::values::{assert_same, value_of};
 use rand_core::Rng;
 use rand_pcg::Pcg32;
@@ -110,20 +111,24 @@ fn leads(
 ) {
     match value.apply(alloc, *change) {
         Ok(undo) => {
-            assert!(rt; after.is_held_by(value));
+            check(rt, 1, after.is_held_by(value));
             value.undo(undo);
         }
         Err(_) => panic!(rt; "the change fits"),
     }
-    assert!(rt; before.is_held_by(value));
-    assert!(rt; matches!(value.apply(alloc, *change), Ok(_)));
-    assert!(rt; after.is_held_by(value));
+    check(rt, 2, before.is_held_by(value));
+    check(rt, 3, matches!(value.apply(alloc, *change), Ok(_)));
+    check(rt, 4, after.is_held_by(value));
 }
 
 /// The change does not fit a value that holds what the lists do.
 fn stays(rt: &impl Abort, alloc: Global, value: &mut Value, change: &Change, lists: &Lists) {
-    assert!(rt; matches!(value.apply(alloc, *change), Err(NotApplied::Unfit)));
-    assert!(rt; lists.is_held_by(value));
+    check(
+        rt,
+        5,
+        matches!(value.apply(alloc, *change), Err(NotApplied::Unfit)),
+    );
+    check(rt, 6, lists.is_held_by(value));
 }
 
 /// All of these changes fit in turn and lead to the given value, and taken back they leave the first.
@@ -135,13 +140,13 @@ fn leads_back(
     first: &Lists,
     last: &Value,
 ) {
-    assert_eq!(rt; try_all(alloc, value, changes), Ok(()));
-    assert!(rt; first.is_held_by(value));
+    check(rt, 7, try_all(alloc, value, changes) == Ok(()));
+    check(rt, 8, first.is_held_by(value));
     let mut undos = Vec::new(alloc);
-    assert_eq!(rt; apply_all(value, changes, &mut undos), Ok(()));
+    check(rt, 9, apply_all(value, changes, &mut undos) == Ok(()));
     assert_same(rt, value, last);
     undo_all(value, &mut undos);
-    assert!(rt; first.is_held_by(value));
+    check(rt, 10, first.is_held_by(value));
 }
 
 /// One change more of a value that holds what the lists do: it is noted where it fits.

@@ -1,5 +1,5 @@
 //! What each instruction's text says, labels, and the faults of scripts.
-use crate::plain::{name, text};
+use crate::plain::{check, name, text};
 use sk_script::{Instruction, Register, Script};
 use sk_words::FaultKind::{Label, Operand, TooLong, Word};
 use sk_words::{Fault, FaultKind};
@@ -18,7 +18,7 @@ fn script(rt: &impl Abort, alloc: Global, text: &[u8]) -> Script {
 /// A text is a script of this instruction alone.
 fn says(rt: &impl Abort, alloc: Global, text: &[u8], want: Instruction) {
     let script = script(rt, alloc, text);
-    assert!(rt; script.len() == 1 && script.at(0) == Some(want));
+    check(rt, 1, script.len() == 1 && script.at(0) == Some(want));
 }
 
 #[test]
@@ -186,9 +186,9 @@ fn faulty_labels(rt: HostRuntime) {
 fn scripts_that_are_well(rt: HostRuntime) {
     let rows: [&[u8]; 3] = [b"set r1 -9223372036854775808", b"# \xff", b"a:\nsay\nb_2:"];
     for text in rows {
-        assert!(rt; Script::parse(rt.alloc(), text).is_ok());
+        check(&rt, 2, Script::parse(rt.alloc(), text).is_ok());
     }
-    assert!(rt; script(&rt, rt.alloc(), b"").is_empty());
+    check(&rt, 3, script(&rt, rt.alloc(), b"").is_empty());
 }
 
 /// So many lines `say`, and these lines.
@@ -208,7 +208,7 @@ fn add(rt: &impl Abort, text: &mut Vec<u8>, more: &[u8]) {
 #[test]
 fn longest_script(rt: HostRuntime) {
     let longest = long_script(&rt, rt.alloc(), 4_096, b"");
-    assert!(rt; script(&rt, rt.alloc(), &longest).len() == 4_096);
+    check(&rt, 4, script(&rt, rt.alloc(), &longest).len() == 4_096);
     let longer = long_script(&rt, rt.alloc(), 4_096, b"# 4,097\nsay\nset\n");
     faulty(&rt, rt.alloc(), &longer, 4_098, TooLong);
 }
@@ -217,9 +217,9 @@ fn longest_script(rt: HostRuntime) {
 fn label_at_the_end_of_the_longest_script(rt: HostRuntime) {
     let longest = long_script(&rt, rt.alloc(), 4_095, b"jump end\nend:\n");
     let script = script(&rt, rt.alloc(), &longest);
-    assert!(rt; script.len() == 4_096);
-    assert!(rt; script.at(4_095) == Some(Instruction::Jump(4_096)));
-    assert!(rt; script.get(4_096).is_none());
+    check(&rt, 5, script.len() == 4_096);
+    check(&rt, 6, script.at(4_095) == Some(Instruction::Jump(4_096)));
+    check(&rt, 7, script.get(4_096).is_none());
 }
 
 #[test]
@@ -255,8 +255,12 @@ fn labelled_script(rt: &impl Abort, alloc: Global, count: u32) -> Vec<u8> {
 fn many_labels_below_their_use(rt: HostRuntime) {
     let text = labelled_script(&rt, rt.alloc(), 257);
     let script = script(&rt, rt.alloc(), &text);
-    assert!(rt; script.len() == 514);
+    check(&rt, 8, script.len() == 514);
     for number in 0..257u32 {
-        assert!(rt; script.at(number) == Some(Instruction::Jump(257 + number)));
+        check(
+            &rt,
+            9,
+            script.at(number) == Some(Instruction::Jump(257 + number)),
+        );
     }
 }

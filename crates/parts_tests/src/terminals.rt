@@ -1,5 +1,5 @@
 //! Which texts are out after two decisions, in either order.
-use crate::plain::{guess, tags, text};
+use crate::plain::{check, guess, tags, text};
 use sk_ids::Text;
 use sk_terminal::Terminal;
 use std::alloc::Global;
@@ -38,7 +38,11 @@ fn are(texts: &[Text], letters: &[u8]) -> bool {
 
 /// A terminal has released a text of each of these letters, and so many wait.
 fn shows(rt: &impl Abort, terminal: &Terminal, letters: &[u8], waiting: usize) {
-    assert!(rt; are(terminal.released(), letters) && terminal.waiting() == waiting);
+    check(
+        rt,
+        1,
+        are(terminal.released(), letters) && terminal.waiting() == waiting,
+    );
 }
 
 /// Texts `a` to `e`, those of `b`, `d` and `e` on guesses 1, 1 and 2, and 2.

@@ -1,5 +1,5 @@
 //! Scripts, inputs and boots, and what is printed of things.
-use crate::plain::{child, content, name, pid, text};
+use crate::plain::{check, child, content, name, pid, text};
 use sk_ids::{Name, ObjId, Pid};
 use sk_script::step_input::input;
 use sk_script::{
@@ -18,7 +18,7 @@ fn script(rt: &impl Abort, alloc: Global, text: &[u8]) -> Script {
 
 /// A script has this instruction at a place.
 fn has_at(rt: &impl Abort, script: &Script, place: u32, want: Instruction) {
-    assert!(rt; script.at(place) == Some(want));
+    check(rt, 1, script.at(place) == Some(want));
 }
 
 /// A copy of a script has just the instructions that its text says.
@@ -31,7 +31,7 @@ fn reads_scripts(rt: HostRuntime) {
     has_at(&rt, &copy, 0, Instruction::Set(one, -12));
     has_at(&rt, &copy, 1, Instruction::Text(text(&rt, b"a J\n\"")));
     has_at(&rt, &copy, 2, Instruction::Fetch(name(&rt, b"/x")));
-    assert!(rt; copy.len() == 3 && copy.at(3).is_none());
+    check(&rt, 2, copy.len() == 3 && copy.at(3).is_none());
 }
 
 #[test]
@@ -39,49 +39,65 @@ fn reads_part_of_a_text(rt: HostRuntime) {
     let mut lines = Cursor::of(b"script a\nsay\nset r9 1\nend\n");
     let _ = lines.next();
     let one = Script::parse_lines(rt.alloc(), &lines.first(1));
-    assert!(rt; one.is_ok_and(|script| script.len() == 1));
+    check(&rt, 3, one.is_ok_and(|script| script.len() == 1));
     let two = Script::parse_lines(rt.alloc(), &lines.first(2)).err();
     let (line, kind) = (3, Malformed);
-    assert!(rt; two == Some(Fault { line, kind }));
+    check(&rt, 4, two == Some(Fault { line, kind }));
 }
 
 /// A boot takes a script once under a name.
 fn declares_scripts(rt: &impl Abort, alloc: Global, boot: &mut Boot, name: Name) {
     let script = script(rt, alloc, b"say");
     let copy = script.copy().expect(rt, "memory");
-    assert!(rt; boot.script(name, script) == Ok(()));
-    assert!(rt; boot.script(name, copy) == Err(BootFault::Duplicate));
+    check(rt, 5, boot.script(name, script) == Ok(()));
+    check(rt, 6, boot.script(name, copy) == Err(BootFault::Duplicate));
 }
 
 /// It takes a process once under a number, where there is its script.
 fn declares_processes(rt: &impl Abort, boot: &mut Boot, main: &Name, other: &Name) {
-    assert!(rt; boot.process(1, main, 2) == Ok(()));
-    assert!(rt; boot.process(1, other, 1) == Err(BootFault::Duplicate));
-    assert!(rt; boot.process(2, other, 1) == Err(BootFault::NoScript));
-    assert!(rt; boot.processes().len() == 1);
+    check(rt, 7, boot.process(1, main, 2) == Ok(()));
+    check(
+        rt,
+        8,
+        boot.process(1, other, 1) == Err(BootFault::Duplicate),
+    );
+    check(rt, 9, boot.process(2, other, 1) == Err(BootFault::NoScript));
+    check(rt, 10, boot.processes().len() == 1);
 }
 
 /// It takes an object once under a name.
 fn declares_objects(rt: &impl Abort, boot: &mut Boot, name: Name) {
     assert!(rt; boot.objects().len() < 64);
-    assert!(rt; boot.object(name, ObjectKind::File, b"a") == Ok(()));
+    check(rt, 12, boot.object(name, ObjectKind::File, b"a") == Ok(()));
     assert!(rt; boot.objects().len() < 64);
-    assert!(rt; boot.object(name, ObjectKind::Dir, b"") == Err(BootFault::Duplicate));
-    assert!(rt; boot.objects().len() == 1);
+    check(
+        rt,
+        14,
+        boot.object(name, ObjectKind::Dir, b"") == Err(BootFault::Duplicate),
+    );
+    check(rt, 15, boot.objects().len() == 1);
 }
 
 /// It takes a copy once under a name.
 fn declares_copies(rt: &impl Abort, boot: &mut Boot, name: Name) {
     let content = content(rt, 3, b"");
-    assert!(rt; boot.copy(name, content) == Ok(()));
-    assert!(rt; boot.copy(name, content) == Err(BootFault::Duplicate));
-    assert!(rt; boot.copies().len() == 1);
+    check(rt, 16, boot.copy(name, content) == Ok(()));
+    check(
+        rt,
+        17,
+        boot.copy(name, content) == Err(BootFault::Duplicate),
+    );
+    check(rt, 18, boot.copies().len() == 1);
 }
 
 /// A copy of the scripts has this one and not the other.
 fn has_one(rt: &impl Abort, scripts: &Scripts, one: &Name, other: &Name) {
     let scripts = scripts.copy().expect(rt, "memory");
-    assert!(rt; scripts.get(one).is_some() && scripts.get(other).is_none());
+    check(
+        rt,
+        19,
+        scripts.get(one).is_some() && scripts.get(other).is_none(),
+    );
 }
 
 /// Scripts, processes, objects and copies of one name are told apart.
@@ -89,7 +105,11 @@ fn has_one(rt: &impl Abort, scripts: &Scripts, one: &Name, other: &Name) {
 fn boot_refusals(rt: HostRuntime) {
     let mut boot = Boot::new(rt.alloc());
     let (main, other) = (name(&rt, b"main"), name(&rt, b"other"));
-    assert!(rt; boot.process(1, &main, 1) == Err(BootFault::NoScript));
+    check(
+        &rt,
+        20,
+        boot.process(1, &main, 1) == Err(BootFault::NoScript),
+    );
     declares_scripts(&rt, rt.alloc(), &mut boot, main);
     declares_processes(&rt, &mut boot, &main, &other);
     declares_objects(&rt, &mut boot, main);
@@ -112,14 +132,14 @@ fn inputs_of_words(rt: HostRuntime) {
         (b"bad 3", Err(Word)),
     ];
     for (text, want) in rows {
-        assert!(rt; input(&Words::of(text)) == want);
+        check(&rt, 21, input(&Words::of(text)) == want);
     }
 }
 
 /// A thing is printed so.
 fn prints<T: fmt::Display + Drop>(rt: &impl Abort, alloc: Global, thing: T, want: &str) {
     let printed = format!(in alloc; "{thing}").expect(rt, "memory");
-    assert!(rt; printed.as_str() == want);
+    check(rt, 22, printed.as_str() == want);
 }
 
 #[test]
@@ -150,6 +170,6 @@ fn faulty_processes(rt: HostRuntime) {
     let rows: [&[u8]; 4] = [b"1.0", b"1.1.1.1.1", b"65536", b"1."];
     for text in rows {
         let said: Result<Pid, FaultKind> = Operand::read(text);
-        assert!(rt; said == Err(Malformed));
+        check(&rt, 23, said == Err(Malformed));
     }
 }

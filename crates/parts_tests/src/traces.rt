@@ -1,5 +1,5 @@
 //! Traces, the faults of their texts, and that what is printed of them is read again.
-use crate::plain::{child, content, guess, pid};
+use crate::plain::{check, child, content, guess, pid};
 use rand_core::Rng;
 use rand_pcg::Pcg32;
 use sk_ids::Pid;
@@ -19,7 +19,7 @@ fn parsed(rt: &impl Abort, alloc: Global, text: &[u8]) -> Trace {
 /// A trace is printed so.
 fn prints(rt: &impl Abort, alloc: Global, trace: &Trace, text: &[u8]) {
     let printed = trace.print(alloc).expect(rt, "memory");
-    assert!(rt; printed.as_slice() == text);
+    check(rt, 1, printed.as_slice() == text);
 }
 
 /// Whether an event is a step of the process with no input.
@@ -59,7 +59,7 @@ fn are_six(events: &[Event], pid: Pid) -> bool {
 fn trace_text(rt: HostRuntime) {
     let text = b"step 1 none\nstep 1 none\nguess 1 1 good\nstep 1 none\nstep 1 none\nfail 1\n";
     let trace = parsed(&rt, rt.alloc(), text);
-    assert!(rt; are_six(trace.events(), pid(&rt, 1)));
+    check(&rt, 2, are_six(trace.events(), pid(&rt, 1)));
     prints(&rt, rt.alloc(), &trace, text);
 }
 
@@ -117,7 +117,7 @@ fn traces_that_are_well(rt: HostRuntime) {
         b"# \xff\n\r\n",
     ];
     for text in rows {
-        assert!(rt; Trace::parse(rt.alloc(), text).is_ok());
+        check(&rt, 3, Trace::parse(rt.alloc(), text).is_ok());
     }
 }
 
@@ -127,10 +127,10 @@ fn reads_below_a_heading(rt: HostRuntime) {
     let _ = lines.next();
     let _ = lines.next();
     let one = Trace::read(rt.alloc(), &lines.first(1));
-    assert!(rt; one.is_ok_and(|trace| trace.events().len() == 1));
+    check(&rt, 4, one.is_ok_and(|trace| trace.events().len() == 1));
     let (line, kind) = (4, Malformed);
     let both = Trace::read(rt.alloc(), &lines).err();
-    assert!(rt; both == Some(Fault { line, kind }));
+    check(&rt, 5, both == Some(Fault { line, kind }));
 }
 
 /// A number of a path: the least, the greatest, a small one or any.
@@ -216,7 +216,7 @@ fn random_trace(rt: &impl Abort, alloc: Global, rng: &mut Pcg32, len: u32) -> Tr
 /// A text is read as a trace of just these events, and printed as that text again.
 fn is_read(rt: &impl Abort, alloc: Global, text: &[u8], events: &[Event]) {
     let again = parsed(rt, alloc, text);
-    assert!(rt; again.events() == events);
+    check(rt, 6, again.events() == events);
     prints(rt, alloc, &again, text);
 }
 

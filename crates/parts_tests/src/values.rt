@@ -1,6 +1,7 @@
 //! The readers on values of each kind, and the calls that take memory.
 ghost use Rattle.std.specs.Prelude.{◌<◌};
 
+use crate::plain::check;
 use sk_ids::{ObjId, Pid, Text};
 use sk_objects::{Content, File, Kind, Value};
 use std::alloc::Global;
@@ -19,8 +20,8 @@ const KINDS: [Kind; 7] = [
 
 /// Both values are of one kind and have the same contents.
 pub fn assert_same(rt: &impl Abort, left: &Value, right: &Value) {
-    assert!(rt; left.kind() == right.kind());
-    assert!(rt; *left == *right);
+    check(rt, 1, left.kind() == right.kind());
+    check(rt, 2, *left == *right);
 }
 
 /// A copy of a value.
@@ -48,8 +49,8 @@ pub fn value_of(rt: &impl Abort, alloc: Global, kind: Kind) -> Value {
 fn first_tells(rt: &impl Abort, alloc: Global, kind: Kind, size: Option<u32>, shut: Option<bool>) {
     let value = value_of(rt, alloc, kind);
     assert_same(rt, &copy(rt, &value), &value);
-    assert!(rt; value.kind() == kind);
-    assert!(rt; value.size() == size && value.is_shut() == shut);
+    check(rt, 3, value.kind() == kind);
+    check(rt, 4, value.size() == size && value.is_shut() == shut);
 }
 
 #[test]
@@ -81,7 +82,7 @@ fn bytes_of_a_file(rt: HostRuntime) {
         (1_099_511_627_776, 4, b""),
     ];
     for (offset, count, want) in rows {
-        assert!(rt; file.bytes_at(offset, count) == Text::new(want));
+        check(&rt, 5, file.bytes_at(offset, count) == Text::new(want));
     }
 }
 
@@ -91,24 +92,24 @@ fn longest_read(rt: HostRuntime) {
     let mut file = written(&rt, rt.alloc());
     file.cut_to(600).expect(&rt, "memory");
     let bytes = Value::File(file).bytes_at(0, 600);
-    assert!(rt; bytes.is_some_and(|bytes| bytes.len() == 512));
+    check(&rt, 6, bytes.is_some_and(|bytes| bytes.len() == 512));
 }
 
 #[test]
 fn a_link_tells_its_target(rt: HostRuntime) {
     let link = Value::link(linked());
-    assert!(rt; link.target() == Some(linked()));
-    assert!(rt; copy(&rt, &link).target() == Some(linked()));
-    assert!(rt; link.kind() == Kind::Link);
-    assert!(rt; link.status().is_none());
-    assert!(rt; Value::Dir.target().is_none());
+    check(&rt, 7, link.target() == Some(linked()));
+    check(&rt, 8, copy(&rt, &link).target() == Some(linked()));
+    check(&rt, 9, link.kind() == Kind::Link);
+    check(&rt, 10, link.status().is_none());
+    check(&rt, 11, Value::Dir.target().is_none());
 }
 
 #[test]
 fn exit_slots(rt: HostRuntime) {
     let set = Value::Exit(Some(3));
-    assert!(rt; set.status() == Some(Some(3)));
-    assert!(rt; set.signal_at(0).is_none());
+    check(&rt, 12, set.status() == Some(Some(3)));
+    check(&rt, 13, set.signal_at(0).is_none());
 }
 
 /// The version of a cached copy, where there can be such a copy.
@@ -120,8 +121,8 @@ fn version(number: u64) -> Option<Option<u64>> {
 #[test]
 fn versions_of_copies(rt: HostRuntime) {
     let last = 9_223_372_036_854_775_807;
-    assert!(rt; version(last) == Some(Some(last)));
-    assert!(rt; version(last + 1).is_none());
+    check(&rt, 14, version(last) == Some(Some(last)));
+    check(&rt, 15, version(last + 1).is_none());
 }
 
 /// The file of `written` with another byte at a place.
@@ -136,16 +137,20 @@ fn written_otherwise(rt: &impl Abort, alloc: Global, place: usize) -> Value
 #[test]
 fn equal_values(rt: HostRuntime) {
     let value = Value::File(written(&rt, rt.alloc()));
-    assert!(rt; value == copy(&rt, &value));
+    check(&rt, 16, value == copy(&rt, &value));
     for place in 0..7 {
-        assert!(rt; value != written_otherwise(&rt, rt.alloc(), place));
+        check(&rt, 17, value != written_otherwise(&rt, rt.alloc(), place));
     }
 }
 
 /// The first values of two kinds are equal just where the kinds are.
 fn equal_by_kind(rt: &impl Abort, alloc: Global, one: Kind, other: Kind) {
     let value = value_of(rt, alloc, one);
-    assert!(rt; (value == value_of(rt, alloc, other)) == (one == other));
+    check(
+        rt,
+        18,
+        (value == value_of(rt, alloc, other)) == (one == other),
+    );
 }
 
 #[test]

@@ -1,7 +1,9 @@
-//! Random runs of a store over a disk that fails and crashes, each held against a plain store after each call.
+//! Random runs of a store over a disk that fails and crashes, each held against a plain store after each call; and a store that takes
+//! as many commands as it is asked for.
 #![tactic(auto)]
 
 mod chance;
+mod commands;
 mod disk;
 mod frames;
 mod host;
@@ -13,6 +15,7 @@ mod script;
 mod snapshot;
 mod wrong;
 
+use crate::commands::{Deed, deed_of, plan_of};
 use crate::host::Host;
 use crate::script::Script;
 use crate::wrong::Wrong;
@@ -103,18 +106,45 @@ fn number(word: Option<&String>, other: u64) -> anyhow::Result<u64> {
 }
 
 /// `store_runs COUNT [FIRST [TURNS [script]]]`: so many runs from the first on, of so many things that happen; or the calls and answers
-/// of each.
+/// of each. `store_runs set|get|recover|connect COUNT KEYS PRESENT BATCH`: so many commands. What stands behind the word `and` comes next.
 fn main(rt: HostRuntime) -> anyhow::Result<()> {
     let words = env::args(&rt)?.collect::<Vec<String>>(rt.alloc())?;
-    runs(&rt, words.as_slice())
+    carry_out_all(&rt, words.get(1..).unwrap_or(&[]))
+}
+
+/// What the words ask for, up to the word `and`, and behind it.
+fn carry_out_all(rt: &HostRuntime, words: &[String]) -> anyhow::Result<()> {
+    for asked in words.split(|word| word.as_str() == "and") {
+        carry_out(rt, asked)?;
+    }
+    Ok(())
+}
+
+/// What the words ask for.
+fn carry_out(rt: &HostRuntime, words: &[String]) -> anyhow::Result<()> {
+    let Some(word) = words.first() else {
+        return runs(rt, words);
+    };
+    match deed_of(word.as_str()) {
+        Some(deed) => tell_commands(rt, deed, words),
+        None => runs(rt, words),
+    }
+}
+
+/// The commands that the words say.
+fn tell_commands(rt: &HostRuntime, deed: Deed, words: &[String]) -> anyhow::Result<()> {
+    let plan = plan_of(deed, words)?;
+    commands::run(rt.alloc(), plan)?;
+    println!(rt; "{} commands", plan.count)?;
+    Ok(())
 }
 
 /// The runs that the words say.
 fn runs(rt: &HostRuntime, words: &[String]) -> anyhow::Result<()> {
-    let count = number(words.get(1), 0)?;
-    let first = number(words.get(2), 0)?;
-    let turns = u32::try_from(number(words.get(3), u64::from(TURNS))?)?;
-    let wanted = words.get(4).is_some();
+    let count = number(words.first(), 0)?;
+    let first = number(words.get(1), 0)?;
+    let turns = u32::try_from(number(words.get(2), u64::from(TURNS))?)?;
+    let wanted = words.get(3).is_some();
     for turn in first..first.saturating_add(count) {
         tell(rt, turn, turns, wanted)?;
     }

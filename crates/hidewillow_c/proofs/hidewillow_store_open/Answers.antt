@@ -1,5 +1,5 @@
 -- A store is opened, of what the handle of a log held.
-use Rattle.hidewillow_c.proofs.Names.{rules, ◌≡◌, Option, Some, None, sym, subst, StoreView, Reading, Told, OpensStore}
+use Rattle.hidewillow_c.proofs.Names.{rules, ◌≡◌, Option, Some, None, sym, subst, StoreView, Reading, OpensStore}
 use Rattle.hidewillow_c.proofs.Names.{StoreOpens, opened}
 use Rattle.hidewillow_c.proofs.hidewillow_store_open.Goals as goal
 

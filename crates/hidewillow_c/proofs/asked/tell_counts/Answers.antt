@@ -1,7 +1,0 @@
--- The counts are those of the kernel.
-use Rattle.hidewillow_c.proofs.Names.{subst, inl, KernelView, AreCounts}
-use Rattle.hidewillow_c.proofs.asked.tell_counts.Goals as goal
-
--- src/asked.rt:71:5
-pub returns-in-Ok : goal.returns-in-Ok
-returns-in-Ok c = inl (c.of-in-Ok.ensures, subst (λ (k : KernelView). AreCounts k c.in-Ok.counted) c.kernel.ensures c.in-Ok.ensures)

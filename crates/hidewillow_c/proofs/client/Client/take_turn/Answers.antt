@@ -1,6 +1,0 @@
--- What the call did.
-use Rattle.std.proofs.Common.{refl}
-use Rattle.hidewillow_c.proofs.client.Client.take_turn.Goals as goal
-
-pub returns : goal.returns
-returns c = (c.turn.result, c.of_turn.ensures, c.turn.ensures, refl)

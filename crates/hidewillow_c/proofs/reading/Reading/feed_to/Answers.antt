@@ -1,6 +1,0 @@
--- The piece is joined to what came.
-use Rattle.hidewillow_c.proofs.Names.{rules, [], refl, inl, snapshot_heads}
-use Rattle.hidewillow_c.proofs.reading.Reading.feed_to.Goals as goal
-
-pub returns-in-Ok : goal.returns-in-Ok
-returns-in-Ok c = inl (search rules, (c.in-Ok.now, refl, λ bytes come. c.in-Ok.ensures [] 1 snapshot_heads [] bytes come))

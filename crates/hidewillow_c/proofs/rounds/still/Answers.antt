@@ -1,5 +1,0 @@
--- What the call did.
-use Rattle.hidewillow_c.proofs.rounds.still.Goals as goal
-
-pub returns : goal.returns
-returns c = (c.still.result, c.of_still.ensures, c.still.ensures)

@@ -1,0 +1,8 @@
+pub mod Names
+mod Heap
+mod Pointer
+mod Passing
+mod Shown
+mod Read
+mod Given
+mod ToldAt

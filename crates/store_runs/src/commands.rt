@@ -1,0 +1,57 @@
+//! A store that takes as many commands as it is asked for, with a log that is kept in memory or dropped. `bench/store.py` counts what that
+//! takes.
+
+mod client;
+mod plan;
+mod stop;
+
+use crate::commands::client::Client;
+use crate::commands::plan::CommandPlan;
+pub(crate) use crate::commands::plan::{Deed, deed_of, plan_of};
+use crate::commands::stop::RunStop;
+use std::alloc::Global;
+
+/// Keys are set, in batches, so many times.
+fn set_all(
+    client: &mut Client,
+    first: u64,
+    count: u64,
+    keys: u64,
+    batch: u64,
+) -> Result<(), RunStop> {
+    for turn in 0..count {
+        client.set(first.wrapping_add(turn) % keys.max(1))?;
+        if turn % batch.max(1) == batch.max(1).wrapping_sub(1) {
+            client.sync()?;
+        }
+    }
+    client.sync()
+}
+
+/// Keys that are on the disk are got, so many times.
+fn get_all(client: &mut Client, count: u64, keys: u64) -> Result<(), RunStop> {
+    for turn in 0..count {
+        client.get(turn % keys.max(1))?;
+    }
+    Ok(())
+}
+
+/// What is asked for.
+pub(crate) fn run(alloc: Global, plan: CommandPlan) -> Result<(), RunStop> {
+    let mut client = Client::new(alloc, plan.deed == Deed::Recover)?;
+    set_all(&mut client, 0, plan.present, plan.present, 1000)?;
+    match plan.deed {
+        Deed::Set => set_all(&mut client, 0, plan.count, plan.keys, plan.batch),
+        Deed::Get => get_all(&mut client, plan.count, plan.keys),
+        Deed::Recover => {
+            set_all(&mut client, 0, plan.count, plan.keys, plan.batch)?;
+            let works = client.recover(alloc)?;
+            if works == plan.present.wrapping_add(plan.count) {
+                Ok(())
+            } else {
+                Err(RunStop::Silent)
+            }
+        }
+        Deed::Connect => client.connect_all(plan.count),
+    }
+}

@@ -400,9 +400,9 @@ def table():
     turns = ["turn 1"] * 4 + ["serve"] * 2 + ["reply"] * 2
     world = lambda count: "\n".join(script("first", looping(["fetch /x", "set r0 1"], 32)) + ['copy /x 3 "old"', 'remote /x 3 "old"', "process 1 first 1", "world"] + turns * (count // 8)) + "\n"
     return [
-        ("private steps", private_steps, 1_300),
-        ("writes and reads of 8 bytes of a file", file, 1_900),
-        ("guess, two steps, commit", guess, 2_000),
+        ("private steps", private_steps, 850),
+        ("writes and reads of 8 bytes of a file", file, 1_700),
+        ("guess, two steps, commit", guess, 1_150),
         ("a world: four turns, two serves, two replies", world, 2_600),
     ]
 

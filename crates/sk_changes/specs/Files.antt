@@ -2,12 +2,12 @@
 use Rattle.std.specs.Prelude.{ℕ, Bool, true, false, ◌&&◌, ◌+◌, nat_le, nat_lt, List, length}
 use Rattle.sk_ids.specs.declared.text.TheConstants.{TEXT_LIMIT}
 use Rattle.sk_objects.specs.File.{written, cut}
-use Rattle.sk_objects.specs.Slots.{under_write, under_cut, CanPut, with_blocks}
+use Rattle.sk_objects.specs.Slots.{under_write, under_cut, CanPut, CanPatch, with_blocks}
 use Rattle.sk_objects.specs.declared.file.TheConstants.{FILE_LIMIT}
 use Rattle.sk_changes.specs.declared.change.Change.{Change}
 use Rattle.sk_changes.specs.declared.change.Change.TheVariants.{WriteAt, CutTo}
 use Rattle.sk_changes.specs.declared.change.Undo.{Undo}
-use Rattle.sk_changes.specs.declared.change.Undo.TheVariants.{Restore, Reopen}
+use Rattle.sk_changes.specs.declared.change.Undo.TheVariants.{Restore, Patch, Reopen}
 
 -- a write of some bytes, at most a text's, that ends within the limit, or a length within it
 abbrev pub file_fits : List ℕ → Change → Bool
@@ -33,12 +33,14 @@ file_undo f (WriteAt at bytes) = Restore (under_write f at (length bytes))
 file_undo f (CutTo n) = Restore (under_cut f n (length f))
 file_undo f _ = Reopen
 
--- whether blocks can be put back
+-- whether blocks or few bytes can be put back
 abbrev pub CanUndoFile : List ℕ → Undo → Type 0
 CanUndoFile f (Restore blocks) = CanPut f blocks
+CanUndoFile f (Patch old) = CanPatch f old
 CanUndoFile f _ = Unit {0}
 
 -- the file after an undo
 abbrev pub file_undone : List ℕ → Undo → List ℕ
 file_undone f (Restore blocks) = with_blocks f blocks
+file_undone f (Patch old) = with_blocks f old
 file_undone f _ = f

@@ -3,7 +3,7 @@ ghost use Rattle.std.specs.Prelude.{◌≡◌, ◌↔◌, Bool, true, false, IfO
 
 use crate::{HeldBytes, HeldContent};
 use sk_ids::Text;
-use sk_objects::{Blocks, Content};
+use sk_objects::{Blocks, Content, Patch};
 use std::alloc::{AllocError, Global};
 use thiserror::Error;
 
@@ -36,6 +36,8 @@ pub enum Change {
 pub enum Undo {
     /// The blocks that gave way in a file, and the length that it had.
     Restore(Blocks),
+    /// The few bytes that gave way in a file, and the length that it had.
+    Patch(Patch),
     /// The number of bytes that a pipe held.
     Unput(u32),
     /// The bytes that left the front of a pipe.

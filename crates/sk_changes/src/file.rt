@@ -56,8 +56,12 @@ impl Invertible for File {
     }
 
     fn undo(&mut self, undo: Undo) {
-        if let Undo::Restore(old) = undo {
-            self.exchange(old);
+        match undo {
+            Undo::Restore(old) => {
+                self.exchange(old);
+            }
+            Undo::Patch(old) => self.unpatch(&old),
+            _ => {}
         }
     }
 

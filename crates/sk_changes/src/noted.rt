@@ -1,10 +1,13 @@
 //! Changes that fit, lent and not handed over, each with what takes it back.
-ghost use Rattle.std.specs.Prelude.{◌≡◌, true, IfOk, OnOk, OnErr};
-ghost use Rattle.sk_changes.specs.Files.{file_fits, file_after, CanUndoFile, file_undone};
-ghost use Rattle.sk_changes.specs.Pipes.{pipe_fits, pipe_after, CanUndoPipe, pipe_undone};
-ghost use Rattle.sk_changes.specs.Changes.{value_fits, value_after, CanUndo, value_undone};
+ghost use Rattle.std.specs.Prelude.{◌≡◌, ◌≤◌, ◌+◌, length, true, IfOk, OnOk, OnErr};
+ghost use Rattle.sk_ids.specs.declared.text.TheConstants.{TEXT_LIMIT};
+ghost use Rattle.sk_objects.specs.File.{written};
+ghost use Rattle.sk_objects.specs.declared.file.TheConstants.{FILE_LIMIT};
+ghost use Rattle.sk_changes.specs.Files.{file_fits, file_grows, file_after, CanUndoFile, file_undone};
+ghost use Rattle.sk_changes.specs.Pipes.{pipe_fits, pipe_grows, pipe_after, CanUndoPipe, pipe_undone};
+ghost use Rattle.sk_changes.specs.Changes.{value_fits, value_grows, value_after, CanUndo, value_undone};
 
-use crate::{Change, Invertible, Undo};
+use crate::{Change, Invertible, NotApplied, Undo};
 use sk_objects::{File, Pipe, Value};
 use std::alloc::{AllocError, Global};
 
@@ -19,11 +22,30 @@ fn note_one<V: Invertible>(
     ensures can { IfOk result (λ undo. V.can_undo value.new undo) }
     ensures back { IfOk result (λ undo. V.undone value.new undo ≡ value.old) }
     ensures err { OnErr result (value.new ≡ value.old) }
+    ensures memory { OnErr result (V.grows value.old change.now ≡ true) }
 {
     match value.apply(alloc, *change) {
         Ok(undo) => Ok(undo),
-        Err(_) => Err(AllocError),
+        Err(NotApplied::Memory) => Err(AllocError),
+        Err(NotApplied::Unfit) => unreachable!(),
     }
+}
+
+/// Writes bytes at a place. Of few just those are kept that they go over.
+fn note_write(file: &mut File, at: usize, bytes: &[u8]) -> Result<Undo, AllocError>
+    requires some { 1 ≤ length bytes.now }
+    requires short { length bytes.now ≤ TEXT_LIMIT }
+    requires end { at + length bytes.now ≤ FILE_LIMIT }
+    ensures ok { OnOk result (file.new ≡ written file.old at bytes.now) }
+    ensures can { IfOk result (λ undo. CanUndoFile file.new undo) }
+    ensures back { IfOk result (λ undo. file_undone file.new undo ≡ file.old) }
+    ensures err { OnErr result (file.new ≡ file.old) }
+{
+    if let Some(old) = file.patch(at, bytes) {
+        return Ok(Undo::Patch(old));
+    }
+    let old = file.write_at(at, bytes)?;
+    Ok(Undo::Restore(old))
 }
 
 /// Makes a change of a file that fits. The bytes of a write are read where they stand.
@@ -33,12 +55,10 @@ fn note_file(file: &mut File, alloc: Global, change: &Change) -> Result<Undo, Al
     ensures can { IfOk result (λ undo. CanUndoFile file.new undo) }
     ensures back { IfOk result (λ undo. file_undone file.new undo ≡ file.old) }
     ensures err { OnErr result (file.new ≡ file.old) }
+    ensures memory { OnErr result (file_grows file.old change.now ≡ true) }
 {
     match change {
-        Change::WriteAt { offset, bytes } => {
-            let old = file.write_at(*offset as usize, bytes.as_slice())?;
-            Ok(Undo::Restore(old))
-        }
+        Change::WriteAt { offset, bytes } => note_write(file, *offset as usize, bytes.as_slice()),
         _ => note_one(file, alloc, change),
     }
 }
@@ -50,6 +70,7 @@ fn note_pipe(pipe: &mut Pipe, alloc: Global, change: &Change) -> Result<Undo, Al
     ensures can { IfOk result (λ undo. CanUndoPipe pipe.new undo) }
     ensures back { IfOk result (λ undo. pipe_undone pipe.new undo ≡ pipe.old) }
     ensures err { OnErr result (pipe.new ≡ pipe.old) }
+    ensures memory { OnErr result (pipe_grows pipe.old change.now ≡ true) }
 {
     let held = pipe.len();
     match change {
@@ -61,13 +82,15 @@ fn note_pipe(pipe: &mut Pipe, alloc: Global, change: &Change) -> Result<Undo, Al
     }
 }
 
-/// Makes a change that fits, and answers what takes it back. Without memory nothing has changed.
+/// Makes a change that fits, and answers what takes it back. Without memory nothing has changed; only a change that can
+/// want memory does.
 pub fn change_noted(value: &mut Value, alloc: Global, change: &Change) -> Result<Undo, AllocError>
     requires { value_fits value.old change.now ≡ true }
     ensures ok { OnOk result (value.new ≡ value_after value.old change.now) }
     ensures can { IfOk result (λ undo. CanUndo value.new undo) }
     ensures back { IfOk result (λ undo. value_undone value.new undo ≡ value.old) }
     ensures err { OnErr result (value.new ≡ value.old) }
+    ensures memory { OnErr result (value_grows value.old change.now ≡ true) }
 {
     match value {
         Value::File(file) => note_file(file, alloc, change),

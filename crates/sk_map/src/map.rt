@@ -11,6 +11,7 @@ ghost use Rattle.sk_map.specs.contracts.map.Map.{the_row};
 
 use crate::Key;
 use std::alloc::{AllocError, Global};
+use std::cmp::Ordering;
 use std::collections::BTreeMap;
 use std::collections::btree_map::{Keys, Values};
 use std::marker::Model;
@@ -94,7 +95,22 @@ impl<K: Key, V> Map<K, V> {
         self.entries.get(key)
     }
 
+    /// The same as `get`, for a key that stands late: at the last one and behind it nothing is searched.
+    pub fn get_late(&self, key: &K) -> Option<&V>
+        ensures { option_copied result ≡ map.get (seen K.order self.now) key.now }
+    {
+        if let Some((last, value)) = self.entries.last_key_value() {
+            match key.cmp(last) {
+                Ordering::Greater => return None,
+                Ordering::Equal => return Some(value),
+                Ordering::Less => (),
+            }
+        }
+        self.entries.get(key)
+    }
+
     /// Lends the value of a key; what it then becomes is the value of the key.
+    #[inline(never)]
     pub fn get_mut(&mut self, key: &K) -> Option<&mut V>
         ensures* writes_back { sem 𝓛 (LendsSo
             (the_row K.row V.row

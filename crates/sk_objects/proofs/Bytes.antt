@@ -3,7 +3,7 @@ use Rattle.sk_objects.proofs.Names.{◌≡◌, ℕ, ◌+◌, ◌-◌, ◌<◌, �
 use Rattle.sk_objects.proofs.Names.{replicate, arith, refl, sym, ap, ◌∙◌, cases_lt, length-append, length-take-le}
 use Rattle.sk_objects.proofs.Names.{length-drop, length-replicate, length-take, get_or_append_left, get_or-append_right}
 use Rattle.sk_objects.proofs.Names.{get_or-take, get_or-drop, get_or-replicate, get_or_past, same_lists, get_or_default}
-use Rattle.sk_objects.proofs.Names.{overwritten, filled, written, cut, held}
+use Rattle.sk_objects.proofs.Names.{overwritten, filled, written, cut, held, drop_all, append-nil}
 
 module _ {A : Type 0} (f b : List A) (at : ℕ) (fits : at ≤ length f) where
   front_len : length (take at f ++ b) ≡ at + length b
@@ -31,6 +31,13 @@ module _ {A : Type 0} (f b : List A) (at : ℕ) (fits : at ≤ length f) where
   length_overwritten =
       length-append (take at f ++ b) (drop (at + length b) f)
       ∙ rw (front_len, length-drop (at + length b) f) refl
+
+-- as many bytes as there are take the place of all
+pub all_over : {A : Type 0} (f b : List A) (at : ℕ) → length f ≡ length b → at ≡ 0 → b ≡ overwritten f at b
+all_over f b at long first =
+    sym (ap (λ (n : ℕ). overwritten f n b) first
+    ∙ ap (λ (l : List _). b ++ l) (drop_all (0 + length b) f (omega (arith, long)))
+    ∙ append-nil b)
 
 -- ---- zeros past the end
 

@@ -5,3 +5,4 @@ pub mod InPlace
 pub mod Joined
 pub mod Rings
 pub mod Seen
+pub mod Patched

@@ -16,7 +16,7 @@ pub use Rattle.std.proofs.lemmas.List.Elements.{All-head, All-get_or, All-tail, 
 pub use Rattle.std.proofs.lemmas.List.Elements.{All-append, All-cons}
 pub use Rattle.std.specs.Bool.{Decides}
 pub use Rattle.std.specs.Cmp.Lexicographic.{pointwise_decides}
-pub use Rattle.std.specs.Prelude.{◌&&◌, slice_set, if◌then◌else◌, nat_le, nat_lt}
+pub use Rattle.std.specs.Prelude.{IfOk, ◌≢◌, IfSome, ◌&&◌, slice_set, if◌then◌else◌, nat_le, nat_lt}
 pub use Rattle.std.specs.Vec.{vec_capacity}
 pub use Rattle.sk_objects.specs.Blocks.{AreBlocks, blank, joined, BlocksView}
 pub use Rattle.sk_objects.specs.File.{part, written, cut, blocks_of, overwritten, filled, held}
@@ -25,4 +25,4 @@ pub use Rattle.sk_objects.specs.Ring.{wrapped, turned, ring_bytes}
 pub use Rattle.sk_objects.specs.Same.{same_bytes}
 pub use Rattle.sk_objects.specs.SameLemma.{exact_bytes}
 pub use Rattle.sk_objects.specs.Slots.{blocks_from, replaced, AreSlots, under_write, blocks_under, CanPut, with_blocks}
-pub use Rattle.sk_objects.specs.Slots.{under_cut}
+pub use Rattle.sk_objects.specs.Slots.{under_cut, patch_under, CanPatch, IsZeroFrom}

@@ -1,6 +1,7 @@
 -- A file's slots and the bytes that are seen of them.
 use Rattle.sk_objects.proofs.Names.{◌≡◌, ℕ, ◌+◌, ◌-◌, ◌*◌, ◌/◌, ◌%◌, ◌<◌, ◌≤◌, ◌⊎◌, inl, inr, Bool, true, false, List}
 use Rattle.sk_objects.proofs.Names.{[], ◌∷◌, ◌++◌, length, get_or, take, drop, replicate, arith, refl, sym, ap, ap₂}
+use Rattle.sk_objects.proofs.Names.{subst, take-append-le, All-take, All-append, nat_le, leb-false}
 use Rattle.sk_objects.proofs.Names.{◌∙◌, take-add, Decides, if◌then◌else◌, cases_lt, false≢true, le-leb, lt-leb, lt-ltb}
 use Rattle.sk_objects.proofs.Names.{le-ltb, length-append, length-replicate, get_or_append_left, get_or-append_right}
 use Rattle.sk_objects.proofs.Names.{length-take-le, length-take, length-drop, append-nil, drop-drop, drop-take}
@@ -9,8 +10,7 @@ use Rattle.sk_objects.proofs.Names.{All-get_or, overwritten, written, cut, part,
 use Rattle.sk_objects.proofs.Names.{BlocksView, blank, AreSlots, CanPut, with_blocks, replaced, blocks_under}
 use Rattle.sk_objects.proofs.Names.{blocks_from, under_write, under_cut}
 use Rattle.sk_objects.proofs.Bytes.{overwritten_before, overwritten_in, overwritten_behind, length_overwritten, written_before, written_in, written_behind, length_held, held_at, length_cut, length_written, cut_before, cut_behind, same_bytes, zeros_behind}
-use Rattle.sk_objects.proofs.FileLaw.{under_fit}
-use Rattle.sk_objects.proofs.Joined.{length_joined, joined_overwritten, overwritten_blocks, joined_part, block_byte, blanks_are, joined_blanks}
+use Rattle.sk_objects.proofs.Joined.{length_joined, joined_append, take_joined, joined_overwritten, overwritten_blocks, joined_part, block_byte, blanks_are, joined_blanks}
 
 -- a part of bytes is held of others that agree with them
 pub held_part : (g k : List ℕ) (at n : ℕ) → ((i : ℕ) → get_or g i 0 ≡ get_or k i 0) → at + n ≤ length k → held g at n ≡ part k at n
@@ -20,11 +20,14 @@ held_part g k at n agree fits =
     (λ i h. held_at g at n i (omega (arith, length_held g at n)) ∙ agree (at + i) ∙ sym (get_or-take n (drop at k) i 0 (omega (arith, length_held g at n)) ∙ get_or-drop at k i 0))
 
 module _ (ss : List (List ℕ)) (size : ℕ) (slots : AreSlots ss size) where
-  pub all_len : length (joined ss) ≡ 32768
-  all_len = length_joined ss slots.blocks ∙ ap (λ (n : ℕ). 512 * n) slots.count
+  pub all_len : length (joined ss) ≡ 512 * length ss
+  all_len = length_joined ss slots.blocks
+
+  pub small : size ≤ 32768
+  small = omega (arith, slots.covers, slots.few)
 
   pub seen_len : length (take size (joined ss)) ≡ size
-  seen_len = length-take-le size (joined ss) (omega (arith, all_len, slots.short))
+  seen_len = length-take-le size (joined ss) (omega (arith, all_len, slots.covers))
 
   pub seen_at : (i : ℕ) → get_or (take size (joined ss)) i 0 ≡ get_or (joined ss) i 0
   seen_at i = elim (cases_lt i size) [
@@ -32,7 +35,7 @@ module _ (ss : List (List ℕ)) (size : ℕ) (slots : AreSlots ss size) where
     | inr h ↦ get_or_past (take size (joined ss)) i 0 (omega (arith, seen_len)) ∙ sym (slots.rest i h)
   ]
 
-  pub written_slots : (at : ℕ) (b : List ℕ) → at + length b ≤ 32768 → (i : ℕ) → get_or (written (take size (joined ss)) at b) i 0 ≡ get_or (overwritten (joined ss) at b) i 0
+  pub written_slots : (at : ℕ) (b : List ℕ) → at + length b ≤ 512 * length ss → (i : ℕ) → get_or (written (take size (joined ss)) at b) i 0 ≡ get_or (overwritten (joined ss) at b) i 0
   written_slots at b fits i =
       let room : at ≤ length (joined ss) = omega (arith, all_len) in
       elim (cases_lt i at) [
@@ -44,7 +47,7 @@ module _ (ss : List (List ℕ)) (size : ℕ) (slots : AreSlots ss size) where
       ]
 
   -- what blocks hold after a write, and the length after it
-  pub held_written : (at : ℕ) (b : List ℕ) (from n : ℕ) → at + length b ≤ 32768 → from + n ≤ 32768 → part (overwritten (joined ss) at b) from n ≡ held (written (take size (joined ss)) at b) from n
+  pub held_written : (at : ℕ) (b : List ℕ) (from n : ℕ) → at + length b ≤ 512 * length ss → from + n ≤ 512 * length ss → part (overwritten (joined ss) at b) from n ≡ held (written (take size (joined ss)) at b) from n
   held_written at b from n fits end =
       sym (held_part (written (take size (joined ss)) at b) (overwritten (joined ss) at b) from n (written_slots at b fits)
       (omega (arith, length_overwritten (joined ss) b at (omega (arith, all_len)), all_len)))
@@ -52,21 +55,24 @@ module _ (ss : List (List ℕ)) (size : ℕ) (slots : AreSlots ss size) where
   -- ---- blocks that go in
 
   module _ (slot : ℕ) (bs : List (List ℕ)) (after : ℕ) (blocks : AreBlocks bs) where
-    module _ (can : CanPut (take size (joined ss)) (record { at = 512 * slot; bytes = joined bs; size = after })) where
-      pub room_for : slot + length bs ≤ length ss
-      room_for = omega (arith, can.end, length_joined bs blocks, slots.count)
+    module _ (room_for : slot + length bs ≤ length ss) (long : after ≤ 512 * length ss) (can : CanPut (take size (joined ss)) (record { at = 512 * slot; bytes = joined bs; size = after })) where
+      put_end : 512 * slot + length (joined bs) ≤ 512 * length ss
+      put_end = omega (arith, room_for, length_joined bs blocks)
+
+      now_len : length (overwritten ss slot bs) ≡ length ss
+      now_len = length_overwritten ss bs slot (omega (arith, room_for)) ∙ omega (arith, room_for)
 
       now : joined (overwritten ss slot bs) ≡ overwritten (joined ss) (512 * slot) (joined bs)
       now = joined_overwritten ss slot slots.blocks bs blocks room_for
 
       at_now : (i : ℕ) → get_or (joined (overwritten ss slot bs)) i 0 ≡ get_or (written (take size (joined ss)) (512 * slot) (joined bs)) i 0
-      at_now i = ap (λ (l : List ℕ). get_or l i 0) now ∙ sym (written_slots (512 * slot) (joined bs) can.end i)
+      at_now i = ap (λ (l : List ℕ). get_or l i 0) now ∙ sym (written_slots (512 * slot) (joined bs) put_end i)
 
       pub slots_after : AreSlots (overwritten ss slot bs) after
       slots_after = record {
-        count = length_overwritten ss bs slot (omega (arith, room_for)) ∙ omega (arith, room_for, slots.count);
+        few = omega (arith, now_len, slots.few);
         blocks = overwritten_blocks ss slot slots.blocks bs blocks;
-        short = can.short;
+        covers = omega (arith, now_len, long);
         rest = λ i h. at_now i ∙ can.rest i h;
       }
 
@@ -74,8 +80,8 @@ module _ (ss : List (List ℕ)) (size : ℕ) (slots : AreSlots ss size) where
       seen_after =
           let k = joined (overwritten ss slot bs) in
           let g = written (take size (joined ss)) (512 * slot) (joined bs) in
-          let k_len : length k ≡ 32768 = length_joined (overwritten ss slot bs) slots_after.blocks ∙ ap (λ (n : ℕ). 512 * n) slots_after.count in
-          let t_len : length (take after k) ≡ after = length-take-le after k (omega (arith, k_len, can.short)) in
+          let k_len : length k ≡ 512 * length (overwritten ss slot bs) = length_joined (overwritten ss slot bs) slots_after.blocks in
+          let t_len : length (take after k) ≡ after = length-take-le after k (omega (arith, k_len, slots_after.covers)) in
           same_bytes (take after k) (cut g after) (t_len ∙ sym (length_cut g after))
           (λ i h. get_or-take after k i 0 (omega (arith, t_len)) ∙ at_now i ∙ sym (cut_before g after i (omega (arith, t_len))))
 
@@ -84,7 +90,7 @@ module _ (ss : List (List ℕ)) (size : ℕ) (slots : AreSlots ss size) where
           let count : 512 * length bs ≡ length (joined bs) = sym (length_joined bs blocks) in
           joined_part ss slot slots.blocks (length bs) room_for
           ∙ ap (part (joined ss) (512 * slot)) count
-          ∙ sym (held_part (take size (joined ss)) (joined ss) (512 * slot) (length (joined bs)) seen_at (omega (arith, can.end, all_len)))
+          ∙ sym (held_part (take size (joined ss)) (joined ss) (512 * slot) (length (joined bs)) seen_at (omega (arith, put_end, all_len)))
 
 -- ---- blocks that are made
 
@@ -100,26 +106,26 @@ two_blocks x b c from first second =
     ap (λ (l : List ℕ). b ++ l) (append-nil c)
     ∙ rw (first, second) (sym (take-add 512 512 (drop from x) ∙ ap (λ (l : List ℕ). part x from 512 ++ take 512 l) (drop-drop 512 from x)))
 
-module _ (ss : List (List ℕ)) (count : length ss ≡ 64) (all : AreBlocks ss) (bytes : List ℕ) (slot within : ℕ) (end : 512 * slot + within + length bytes ≤ 32768) where
-  j_len : length (joined ss) ≡ 32768
-  j_len = length_joined ss all ∙ ap (λ (n : ℕ). 512 * n) count
+module _ (ss : List (List ℕ)) (all : AreBlocks ss) (bytes : List ℕ) (slot within : ℕ) (end : 512 * slot + within + length bytes ≤ 512 * length ss) where
+  j_len : length (joined ss) ≡ 512 * length ss
+  j_len = length_joined ss all
 
-  o_len : length (overwritten (joined ss) (512 * slot + within) bytes) ≡ 32768
+  o_len : length (overwritten (joined ss) (512 * slot + within) bytes) ≡ 512 * length ss
   o_len = length_overwritten (joined ss) bytes (512 * slot + within) (omega (arith, j_len)) ∙ omega (arith, j_len)
 
   room : 512 * slot + within ≤ length (joined ss)
   room = omega (arith, j_len)
 
   -- the first block of a write
-  pub first_block : (block some : List ℕ) → block ≡ get_or ss slot block → slot < 64 → within + length some ≤ 512 → ((j : ℕ) → j < length some → get_or some j 0 ≡ get_or bytes j 0) → length some ≤ length bytes → (within + length some ≡ 512) ⊎ (length some ≡ length bytes)
+  pub first_block : (block some : List ℕ) → block ≡ get_or ss slot block → slot < length ss → within + length some ≤ 512 → ((j : ℕ) → j < length some → get_or some j 0 ≡ get_or bytes j 0) → length some ≤ length bytes → (within + length some ≡ 512) ⊎ (length some ≡ length bytes)
       → overwritten block within some ≡ part (overwritten (joined ss) (512 * slot + within) bytes) (512 * slot) 512
   first_block block some is there fits same short ends =
-      let b_len : length block ≡ 512 = ap length is ∙ All-get_or (λ (b : List ℕ). length b ≡ 512) ss slot block (omega (arith, count)) all in
+      let b_len : length block ≡ 512 = ap length is ∙ All-get_or (λ (b : List ℕ). length b ≡ 512) ss slot block there all in
       let inside : within ≤ length block = omega (arith, b_len) in
       same_block (overwritten (joined ss) (512 * slot + within) bytes) (overwritten block within some) (512 * slot)
-      (length_overwritten block some within inside ∙ omega (arith, b_len)) (omega (arith, o_len))
+      (length_overwritten block some within inside ∙ omega (arith, b_len)) (omega (arith, o_len, there))
       (λ j h.
-      let byte : get_or block j 0 ≡ get_or (joined ss) (512 * slot + j) 0 = ap (λ (b : List ℕ). get_or b j 0) is ∙ sym (block_byte ss slot j block all (omega (arith, count)) h) in
+      let byte : get_or block j 0 ≡ get_or (joined ss) (512 * slot + j) 0 = ap (λ (b : List ℕ). get_or b j 0) is ∙ sym (block_byte ss slot j block all there h) in
       elim (cases_lt j within) [
         | inl low ↦ overwritten_before block some within inside j 0 low ∙ byte ∙ sym (overwritten_before (joined ss) bytes (512 * slot + within) room (512 * slot + j) 0 (omega arith))
         | inr high ↦ elim (cases_lt j (within + length some)) [
@@ -136,17 +142,17 @@ module _ (ss : List (List ℕ)) (count : length ss ≡ 64) (all : AreBlocks ss) 
       ])
 
   -- the second, which begins with what the first has no room for
-  pub second_block : (block : List ℕ) → block ≡ get_or ss (slot + 1) block → slot + 1 < 64 → within ≤ 512 → 512 - within ≤ length bytes → length bytes ≤ 512
+  pub second_block : (block : List ℕ) → block ≡ get_or ss (slot + 1) block → slot + 1 < length ss → within ≤ 512 → 512 - within ≤ length bytes → length bytes ≤ 512
       → overwritten block 0 (drop (512 - within) bytes) ≡ part (overwritten (joined ss) (512 * slot + within) bytes) (512 * slot + 512) 512
   second_block block is there low more short =
-      let b_len : length block ≡ 512 = ap length is ∙ All-get_or (λ (b : List ℕ). length b ≡ 512) ss (slot + 1) block (omega (arith, count)) all in
+      let b_len : length block ≡ 512 = ap length is ∙ All-get_or (λ (b : List ℕ). length b ≡ 512) ss (slot + 1) block there all in
       let some = drop (512 - within) bytes in
       let s_len : length some ≡ length bytes - (512 - within) = length-drop (512 - within) bytes in
       same_block (overwritten (joined ss) (512 * slot + within) bytes) (overwritten block 0 some) (512 * slot + 512)
-      (length_overwritten block some 0 (omega arith) ∙ omega (arith, b_len, s_len)) (omega (arith, o_len))
+      (length_overwritten block some 0 (omega arith) ∙ omega (arith, b_len, s_len)) (omega (arith, o_len, there))
       (λ j h.
       let spot : 512 * (slot + 1) + j ≡ 512 * slot + 512 + j = omega arith in
-      let byte : get_or block j 0 ≡ get_or (joined ss) (512 * slot + 512 + j) 0 = ap (λ (b : List ℕ). get_or b j 0) is ∙ sym (block_byte ss (slot + 1) j block all (omega (arith, count)) h) ∙ ap (λ (i : ℕ). get_or (joined ss) i 0) spot in
+      let byte : get_or block j 0 ≡ get_or (joined ss) (512 * slot + 512 + j) 0 = ap (λ (b : List ℕ). get_or b j 0) is ∙ sym (block_byte ss (slot + 1) j block all there h) ∙ ap (λ (i : ℕ). get_or (joined ss) i 0) spot in
       elim (cases_lt j (length some)) [
         | inl here ↦
             let first : j - 0 ≡ j = omega arith in
@@ -190,11 +196,11 @@ seen_none x size from n h =
     let none : drop from (take size x) ≡ [] = drop_all from (take size x) (omega (arith, length-take size x)) in
     sym (ap (take n) none ∙ take_all n [] (omega arith))
 
-module _ (ss : List (List ℕ)) (size : ℕ) (slots : AreSlots ss size) (slot : ℕ) (bs : List (List ℕ)) (after : ℕ) (blocks : AreBlocks bs) (can : CanPut (take size (joined ss)) (record { at = 512 * slot; bytes = joined bs; size = after })) where
+module _ (ss : List (List ℕ)) (size : ℕ) (slots : AreSlots ss size) (slot : ℕ) (bs : List (List ℕ)) (after : ℕ) (blocks : AreBlocks bs) (room_for : slot + length bs ≤ length ss) (long : after ≤ 512 * length ss) (can : CanPut (take size (joined ss)) (record { at = 512 * slot; bytes = joined bs; size = after })) where
   -- what comes back
   pub replaced_is : (old : List (List ℕ)) → old ≡ part ss slot (length bs) → (let b : BlocksView = record { at = 512 * slot; bytes = joined old; size = size } in b) ≡ replaced (take size (joined ss)) (record { at = 512 * slot; bytes = joined bs; size = after })
   replaced_is old is =
-      let bytes : joined old ≡ held (take size (joined ss)) (512 * slot) (length (joined bs)) = ap joined is ∙ before ss size slots slot bs after blocks can in
+      let bytes : joined old ≡ held (take size (joined ss)) (512 * slot) (length (joined bs)) = ap joined is ∙ before ss size slots slot bs after blocks room_for long can in
       ap (λ (l : List ℕ). let b : BlocksView = record { at = 512 * slot; bytes = l; size = size } in b) bytes
       ∙ ap (λ (n : ℕ). let b : BlocksView = record { at = 512 * slot; bytes = held (take size (joined ss)) (512 * slot) (length (joined bs)); size = n } in b) (sym (seen_len ss size slots))
 
@@ -242,6 +248,10 @@ held_same g k from n agree =
     same_bytes (held g from n) (held k from n) (length_held g from n ∙ sym (length_held k from n))
     (λ i h. held_at g from n i (omega (arith, length_held g from n)) ∙ agree (from + i) ∙ sym (held_at k from n i (omega (arith, length_held g from n))))
 
+under_within : (at n m : ℕ) (b : Bool) → nat_le (at % 512 + n) 512 ≡ b → 1 ≤ n → at + n ≤ 512 * m → 512 * (at / 512) + 512 * (if b then 1 else 2) ≤ 512 * m
+under_within at n m true e some end = omega arith
+under_within at n m false e some end = omega (arith, leb-false (at % 512 + n) 512 e)
+
 under_shorter : (g : List ℕ) (n size : ℕ) → n < size → under_cut g n size ≡ blocks_from g (n / 512) (blocks_of size - n / 512)
 under_shorter g n size h = rw (lt-ltb n size h) refl
 
@@ -250,11 +260,11 @@ under_longer g n size h = rw (le-ltb n size h) refl
 
 module _ (ss : List (List ℕ)) (size : ℕ) (slots : AreSlots ss size) where
   -- the blocks that a write leaves, as they are seen
-  pub write_seen : (at : ℕ) (b : List ℕ) (bytes : List ℕ) (after : ℕ) → 1 ≤ length b → at + length b ≤ 32768 → bytes ≡ part (overwritten (joined ss) at b) (512 * (at / 512)) (512 * blocks_under at (length b)) → after ≡ size + (at + length b - size)
+  pub write_seen : (at : ℕ) (b : List ℕ) (bytes : List ℕ) (after : ℕ) → 1 ≤ length b → at + length b ≤ 512 * length ss → bytes ≡ part (overwritten (joined ss) at b) (512 * (at / 512)) (512 * blocks_under at (length b)) → after ≡ size + (at + length b - size)
       → (let v : BlocksView = record { at = 512 * (at / 512); bytes = bytes; size = after } in v) ≡ under_write (written (take size (joined ss)) at b) at (length b)
   write_seen at b bytes after some end is len =
       let f = take size (joined ss) in
-      let all : bytes ≡ held (written f at b) (512 * (at / 512)) (512 * blocks_under at (length b)) = is ∙ held_written ss size slots at b (512 * (at / 512)) (512 * blocks_under at (length b)) end (under_fit at (length b) some end) in
+      let all : bytes ≡ held (written f at b) (512 * (at / 512)) (512 * blocks_under at (length b)) = is ∙ held_written ss size slots at b (512 * (at / 512)) (512 * blocks_under at (length b)) end (under_within at (length b) (length ss) (nat_le (at % 512 + length b) 512) refl some end) in
       let long : after ≡ length (written f at b) = len ∙ sym (length_written f b at ∙ ap (λ (n : ℕ). n + (at + length b - n)) (seen_len ss size slots)) in
       ap (λ (l : List ℕ). let v : BlocksView = record { at = 512 * (at / 512); bytes = l; size = after } in v) all
       ∙ ap (λ (n : ℕ). let v : BlocksView = record { at = 512 * (at / 512); bytes = held (written f at b) (512 * (at / 512)) (512 * blocks_under at (length b)); size = n } in v) long
@@ -312,23 +322,81 @@ pub parts_joined : (x : List ℕ) (from n m : ℕ) → part x from n ++ part x (
 parts_joined x from n m = sym (take-add n m (drop from x) ∙ ap (λ (l : List ℕ). part x from n ++ take m l) (drop-drop n from x))
 
 -- the same bytes are the same blocks
-pub files_same : (a b : List (List ℕ)) (n m : ℕ) → AreSlots a n → AreSlots b m → take n (joined a) ≡ take m (joined b) → a ≡ b
-files_same a b n m x y e =
-    same_lists a b (x.count ∙ sym y.count)
+pub files_same : (a b : List (List ℕ)) (n m : ℕ) → AreSlots a n → AreSlots b m → length a ≡ length b → take n (joined a) ≡ take m (joined b) → a ≡ b
+files_same a b n m x y many e =
+    same_lists a b many
     (λ k d h.
     let a_len : length (get_or a k d) ≡ 512 = All-get_or (λ (l : List ℕ). length l ≡ 512) a k d h x.blocks in
-    let b_len : length (get_or b k d) ≡ 512 = All-get_or (λ (l : List ℕ). length l ≡ 512) b k d (omega (arith, x.count, y.count)) y.blocks in
+    let b_len : length (get_or b k d) ≡ 512 = All-get_or (λ (l : List ℕ). length l ≡ 512) b k d (omega (arith, many)) y.blocks in
     same_bytes (get_or a k d) (get_or b k d) (a_len ∙ sym b_len)
     (λ j low.
     sym (block_byte a k j d x.blocks h (omega (arith, a_len)))
     ∙ sym (seen_at a n x (512 * k + j))
     ∙ ap (λ (l : List ℕ). get_or l (512 * k + j) 0) e
     ∙ seen_at b m y (512 * k + j)
-    ∙ block_byte b k j d y.blocks (omega (arith, x.count, y.count)) (omega (arith, a_len))))
+    ∙ block_byte b k j d y.blocks (omega (arith, many)) (omega (arith, a_len))))
+
+-- ---- slots that come behind, and the first that hold all
+
+module _ (ss : List (List ℕ)) (size : ℕ) (slots : AreSlots ss size) where
+  pub filled_slots : (n : ℕ) → length ss + n ≤ 64 → AreSlots (ss ++ replicate n blank) size
+  filled_slots n fits =
+      let len : length (ss ++ replicate n blank) ≡ length ss + n = length-append ss (replicate n blank) ∙ ap (λ (k : ℕ). length ss + k) (length-replicate {A = List ℕ} n blank) in
+      record {
+        few = omega (arith, len, fits);
+        blocks = All-append (λ (b : List ℕ). length b ≡ 512) ss (replicate n blank) slots.blocks (blanks_are n);
+        covers = omega (arith, len, slots.covers);
+        rest = λ i h. ap (λ (l : List ℕ). get_or l i 0) (joined_append ss (replicate n blank)) ∙ elim (cases_lt i (length (joined ss))) [
+          | inl low ↦ get_or_append_left (joined ss) (joined (replicate n blank)) 0 i low ∙ slots.rest i h
+          | inr high ↦ get_or-append_right (joined ss) (joined (replicate n blank)) (length (joined ss)) i 0 refl high ∙ joined_blanks n (i - length (joined ss))
+        ];
+      }
+
+  pub seen_filled : (n : ℕ) → take size (joined (ss ++ replicate n blank)) ≡ take size (joined ss)
+  seen_filled n =
+      ap (take size) (joined_append ss (replicate n blank))
+      ∙ take-append-le size (joined ss) (joined (replicate n blank)) (omega (arith, all_len ss size slots, slots.covers))
+
+  -- as many as are wanted
+  pub filled_len : (count : ℕ) (all : List (List ℕ)) → all ≡ ss ++ replicate (count - length ss) blank → length all ≡ length ss + (count - length ss)
+  filled_len count all is = ap length is ∙ length-append ss (replicate (count - length ss) blank) ∙ ap (λ (k : ℕ). length ss + k) (length-replicate {A = List ℕ} (count - length ss) blank)
+
+  pub filled_are : (count : ℕ) (all : List (List ℕ)) → all ≡ ss ++ replicate (count - length ss) blank → count ≤ 64 → AreSlots all size
+  filled_are count all is few = subst (λ (l : List (List ℕ)). AreSlots l size) (sym is) (filled_slots (count - length ss) (omega (arith, few, slots.few)))
+
+  pub filled_seen : (count : ℕ) (all : List (List ℕ)) → all ≡ ss ++ replicate (count - length ss) blank → take size (joined all) ≡ take size (joined ss)
+  filled_seen count all is = ap (λ (l : List (List ℕ)). take size (joined l)) is ∙ seen_filled (count - length ss)
+
+  module _ (n : ℕ) (there : n ≤ length ss) (enough : size ≤ 512 * n) where
+    first_len : length (take n ss) ≡ n
+    first_len = length-take-le n ss there
+
+    first_joined : joined (take n ss) ≡ take (512 * n) (joined ss)
+    first_joined = sym (take_joined ss n slots.blocks there)
+
+    pub seen_first : take size (joined (take n ss)) ≡ take size (joined ss)
+    seen_first = ap (take size) first_joined ∙ take-take size (512 * n) (joined ss) enough
+
+    pub first_slots : AreSlots (take n ss) size
+    first_slots = record {
+      few = omega (arith, first_len, there, slots.few);
+      blocks = All-take (λ (b : List ℕ). length b ≡ 512) n ss slots.blocks;
+      covers = omega (arith, first_len, enough);
+      rest = λ i h. ap (λ (l : List ℕ). get_or l i 0) first_joined ∙ elim (cases_lt i (512 * n)) [
+        | inl low ↦ get_or-take (512 * n) (joined ss) i 0 low ∙ slots.rest i h
+        | inr high ↦ get_or_past (take (512 * n) (joined ss)) i 0 (omega (arith, length-take (512 * n) (joined ss)))
+      ];
+    }
 
 module _ (a b : List (List ℕ)) (n m : ℕ) (x : AreSlots a n) (y : AreSlots b m) where
-  pub same_decided : (r : Bool) → Decides r (a ≡ b) → n ≡ m → Decides r (take n (joined a) ≡ take m (joined b))
-  same_decided r d e = (λ h. ap₂ (λ (ss : List (List ℕ)) (k : ℕ). take k (joined ss)) (d.0 h) e, λ h. d.1 (files_same a b n m x y h))
+  -- where as many slots as the bytes take are the same
+  pub same_decided : (r : Bool) (k : ℕ) → k ≤ length a → k ≤ length b → n ≤ 512 * k → Decides r (take k a ≡ take k b) → n ≡ m → Decides r (take n (joined a) ≡ take m (joined b))
+  same_decided r k low high enough d e =
+      let more : m ≤ 512 * k = omega (arith, enough, e) in
+      let long : length (take k a) ≡ length (take k b) = length-take-le k a low ∙ sym (length-take-le k b high) in (
+        λ h. sym (seen_first a n x k low enough) ∙ ap₂ (λ (ss : List (List ℕ)) (l : ℕ). take l (joined ss)) (d.0 h) e ∙ seen_first b m y k high more,
+        λ h. d.1 (files_same (take k a) (take k b) n m (first_slots a n x k low enough) (first_slots b m y k high more) long (seen_first a n x k low enough ∙ h ∙ sym (seen_first b m y k high more))),
+      )
 
   pub apart_decided : (n ≡ m → ⊥) → Decides false (take n (joined a) ≡ take m (joined b))
   apart_decided differ = (λ h. absurd (false≢true h), λ h. absurd (differ (sym (seen_len a n x) ∙ ap length h ∙ seen_len b m y)))

@@ -1,5 +1,5 @@
 -- A file in slots of blocks: how it is seen, and what its changes keep.
-use Rattle.std.specs.Prelude.{◌≡◌, ℕ, ◌+◌, ◌-◌, ◌*◌, ◌/◌, ◌%◌, ◌≤◌, nat_le, nat_lt, if◌then◌else◌, List, length, slice_index}
+use Rattle.std.specs.Prelude.{◌≡◌, ◌≢◌, ℕ, ◌+◌, ◌-◌, ◌*◌, ◌/◌, ◌%◌, ◌≤◌, nat_le, nat_lt, if◌then◌else◌, List, length, slice_index, get_or}
 use Rattle.sk_objects.specs.File.{written, cut, held, blocks_of}
 use Rattle.sk_objects.specs.Blocks.{joined, AreBlocks, BlocksView}
 
@@ -9,10 +9,15 @@ IsZeroFrom n f = (i : ℕ) → n ≤ i → slice_index f i ≡ 0
 
 -- the slots of a file of so many bytes
 pub record AreSlots (slots : List (List ℕ)) (size : ℕ) : Type 0 where
-  pub count : length slots ≡ 64
+  pub few : length slots ≤ 64
   pub blocks : AreBlocks slots
-  pub short : size ≤ 32768
+  pub covers : size ≤ 512 * length slots
   pub rest : IsZeroFrom size (joined slots)
+
+-- the same, where there is room for all slots that may be
+pub record AreTidySlots (slots : List (List ℕ)) (size room : ℕ) : Type 0 where
+  pub are : AreSlots slots size
+  pub keeps : 64 ≤ room
 
 -- so many blocks of a file from a slot on, and its length
 abbrev pub blocks_from : List ℕ → ℕ → ℕ → BlocksView
@@ -35,6 +40,17 @@ pub record CanPut (f : List ℕ) (blocks : BlocksView) : Type 0 where
   pub end : blocks.at + length blocks.bytes ≤ 32768
   pub short : blocks.size ≤ 32768
   pub rest : IsZeroFrom blocks.size (written f blocks.at blocks.bytes)
+
+-- the bytes of a file on which a write of so many lies
+abbrev pub patch_under : List ℕ → ℕ → ℕ → BlocksView
+patch_under f at count = record { at = at; bytes = held f at count; size = length f }
+
+-- whether few bytes can be put back into a file: they lie within a block, which is there, since its byte at their place is not 0
+pub record CanPatch (f : List ℕ) (old : BlocksView) : Type 0 where
+  pub put : CanPut f old
+  pub some : 1 ≤ length old.bytes
+  pub one : old.at % 512 + length old.bytes ≤ 512
+  pub there : get_or f old.at 0 ≢ 0
 
 -- the file with them
 abbrev pub with_blocks : List ℕ → BlocksView → List ℕ

@@ -1,5 +1,5 @@
 //! Blocks of 512 bytes.
-ghost use Rattle.std.specs.Prelude.{◌≡◌, ◌≤◌, ◌+◌, ◌-◌, ◌++◌, length, take, replicate, IfOk, ◌↔◌, IsTrue, if◌then◌else◌};
+ghost use Rattle.std.specs.Prelude.{◌≡◌, ◌≤◌, ◌+◌, ◌-◌, ◌++◌, length, take, replicate, false, IfOk, ◌↔◌, IsTrue, if◌then◌else◌};
 ghost use Rattle.sk_objects.specs.File.{overwritten};
 ghost use Rattle.sk_objects.specs.Blocks.{cell, blank};
 
@@ -115,6 +115,16 @@ impl Block {
         Block { cells: None }
     }
 
+    /// The block of these bytes.
+    fn of(alloc: Global, bytes: &[u8]) -> Result<Block, AllocError>
+        requires { length bytes.now ≡ 512 }
+        ensures { IfOk result (λ block. block ≡ bytes.now) }
+    {
+        let mut cells = Box::new(alloc, [0; BLOCK])?;
+        place(cells.as_mut(), 0, bytes);
+        Ok(Block { cells: Some(cells) })
+    }
+
     /// Its bytes.
     pub fn as_slice(&self) -> &[u8]
         ensures value { result.now ≡ self.now }
@@ -129,6 +139,10 @@ impl Block {
         ensures value { IfOk result (λ block. block ≡ overwritten self.now at bytes.now) }
         ensures len { length self.now ≡ 512 }
     {
+        let _ = &self.cells;
+        if bytes.len() == BLOCK {
+            return Block::of(alloc, bytes);
+        }
         let mut cells = boxed_cells(alloc, &self.cells)?;
         place(cells.as_mut(), at, bytes);
         Ok(Block { cells: Some(cells) })
@@ -138,7 +152,8 @@ impl Block {
     /// in which none was written stays.
     pub fn overwrite(&mut self, at: usize, bytes: &[u8]) -> bool
         requires { at + length bytes.now ≤ 512 }
-        ensures { self.new ≡ (if result then overwritten self.old at bytes.now else self.old) }
+        ensures new { self.new ≡ (if result then overwritten self.old at bytes.now else self.old) }
+        ensures blank { result ≡ false → self.old ≡ blank }
     {
         match &mut self.cells {
             Some(cells) => {

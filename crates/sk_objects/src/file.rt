@@ -1,17 +1,17 @@
 //! Files.
-ghost use Rattle.std.specs.Prelude.{◌≡◌, ◌≤◌, ◌<◌, ◌+◌, ◌-◌, ◌*◌, ◌/◌, [], length, take, IfOk, OnOk, OnErr, ◌↔◌, IsTrue, if◌then◌else◌};
+ghost use Rattle.std.specs.Prelude.{◌≡◌, ◌≢◌, ◌≤◌, ◌<◌, ◌+◌, ◌-◌, ◌*◌, ◌/◌, ◌%◌, [], None, true, length, take, get_or, IfOk, IfSome, OnOk, OnErr, ◌↔◌, IsTrue, if◌then◌else◌};
 ghost use Rattle.sk_objects.specs.File.{written, cut, part, blocks_of};
 ghost use Rattle.sk_ids.specs.declared.text.TheConstants.{TEXT_LIMIT};
 ghost use Rattle.sk_objects.specs.Blocks.{joined, AreBlocks};
 ghost use Rattle.sk_objects.specs.declared.file.TheConstants.{FILE_LIMIT};
-ghost use Rattle.sk_objects.specs.Slots.{under_write, under_cut, CanPut, with_blocks, replaced};
+ghost use Rattle.sk_objects.specs.Slots.{under_write, under_cut, patch_under, CanPut, CanPatch, IsZeroFrom, with_blocks, replaced};
 
 use crate::block::BLOCK;
 use crate::slots::{
-    blocks_of, copy_slots, cut_blocks, empty_slots, exchange_blocks, overwrite, read_into,
-    same_slots, written_blocks,
+    SLOTS, blocks_of, copy_slots, cut_blocks, exchange_blocks, few_at, fill_slots, overwrite,
+    read_into, same_slots, written_blocks,
 };
-use crate::{Block, Blocks};
+use crate::{Block, Blocks, Patch};
 use sk_ids::Text;
 use smallvec::SmallVec;
 use std::alloc::{AllocError, Global};
@@ -20,7 +20,8 @@ use std::marker::Model;
 /// The greatest length of a file, in bytes.
 pub const FILE_LIMIT: usize = 32_768;
 
-/// The bytes of a file, at most 32,768, in 64 slots of blocks.
+/// The bytes of a file, at most 32,768, in at most 64 slots of blocks. The room for all of them is made
+/// with the file, and a slot comes when there are bytes up to it.
 #[derive(Drop)]
 pub struct File {
     slots: Vec<Block>,
@@ -28,15 +29,15 @@ pub struct File {
 }
 
 impl Model for File {
-    ghost use Rattle.std.specs.Prelude.{ℕ, List, take};
+    ghost use Rattle.std.specs.Prelude.{ℕ, List, take, vec_capacity};
     ghost use Rattle.sk_objects.specs.Blocks.{joined};
-    ghost use Rattle.sk_objects.specs.Slots.{AreSlots};
+    ghost use Rattle.sk_objects.specs.Slots.{AreTidySlots};
 
     ghost Value = { List ℕ };
 
     ghost view = { λ f. take f.size (joined f.slots.items) };
 
-    ghost invariant = { λ f. AreSlots f.slots.items f.size };
+    ghost invariant = { λ f. AreTidySlots f.slots.items f.size (vec_capacity f.slots) };
 }
 
 /// The first bytes of a block.
@@ -66,7 +67,8 @@ impl PartialEq for File {
         if self.size != other.size {
             return false;
         }
-        same_slots(&self.slots, &other.slots)
+        let count = blocks_of(self.size);
+        same_slots(&self.slots[..count], &other.slots[..count])
     }
 }
 
@@ -83,7 +85,7 @@ impl File {
     pub fn new(alloc: Global) -> Result<File, AllocError>
         ensures { IfOk result (λ file. file ≡ []) }
     {
-        let slots = empty_slots(alloc)?;
+        let slots = Vec::with_capacity(alloc, SLOTS)?;
         Ok(File { slots, size: 0 })
     }
 
@@ -144,14 +146,16 @@ impl File {
         }
     }
 
-    /// The blocks under a write, as it leaves them.
-    fn after_write(&self, at: usize, bytes: &[u8]) -> Result<Blocks, AllocError>
+    /// The blocks under a write, as it leaves them. The slots for it come first.
+    fn after_write(&mut self, at: usize, bytes: &[u8]) -> Result<Blocks, AllocError>
         requires some { 1 ≤ length bytes.now }
         requires short { length bytes.now ≤ TEXT_LIMIT }
         requires end { at + length bytes.now ≤ FILE_LIMIT }
-        ensures { IfOk result
-            (λ blocks. blocks ≡ under_write (written self.now at bytes.now) at (length bytes.now)) }
+        ensures blocks { IfOk result
+            (λ blocks. blocks ≡ under_write (written self.old at bytes.now) at (length bytes.now)) }
+        ensures same { self.new ≡ self.old }
     {
+        fill_slots(&mut self.slots, blocks_of(at + bytes.len()));
         let blocks = written_blocks(*self.slots.allocator(), &self.slots, at, bytes)?;
         Ok(Blocks {
             slot: at / BLOCK,
@@ -171,6 +175,8 @@ impl File {
             mut blocks,
             size,
         } = new;
+        let slots = blocks_of(size).max(slot + blocks.len());
+        fill_slots(&mut self.slots, slots);
         exchange_blocks(&mut self.slots, slot, &mut blocks);
         let old = Blocks {
             slot,
@@ -204,7 +210,9 @@ impl File {
         requires some { 1 ≤ length bytes.now }
         requires short { length bytes.now ≤ TEXT_LIMIT }
         requires end { at + length bytes.now ≤ FILE_LIMIT }
-        ensures { self.new ≡ (if result then written self.old at bytes.now else self.old) }
+        ensures new { self.new ≡ (if result then written self.old at bytes.now else self.old) }
+        ensures there { at % 512 + length bytes.now ≤ 512 → get_or self.old at 0 ≢ 0
+            → result ≡ true }
     {
         if !overwrite(&mut self.slots, at, bytes) {
             return false;
@@ -227,6 +235,54 @@ impl File {
         }
         self.write_at(at, bytes)?;
         Ok(())
+    }
+
+    /// Writes few bytes within one block that is there, and answers what puts the file back, which takes no
+    /// memory; `None` where nothing has changed. The first byte is not 0, so that the block is known to be there.
+    pub fn patch(&mut self, at: usize, bytes: &[u8]) -> Option<Patch>
+        requires some { 1 ≤ length bytes.now }
+        requires short { length bytes.now ≤ TEXT_LIMIT }
+        requires end { at + length bytes.now ≤ FILE_LIMIT }
+        ensures some { IfSome result
+            (λ old. (self.new ≡ written self.old at bytes.now)
+            × (old ≡ patch_under self.old at (length bytes.now))) }
+        ensures none { result ≡ None → self.new ≡ self.old }
+        ensures back { IfSome result
+            (λ old. CanPatch self.new old × (with_blocks self.new old ≡ self.old)) }
+    {
+        let _ = &self.slots;
+        if bytes[0] == 0 {
+            return None;
+        }
+        let old = few_at(&self.slots, at, bytes.len())?;
+        let size = self.size;
+        if !self.overwrite_one(at, bytes) {
+            return None;
+        }
+        Some(Patch {
+            at,
+            bytes: old,
+            size,
+        })
+    }
+
+    /// Has so many bytes, past which there are zeros alone.
+    fn set_len(&mut self, len: usize)
+        requires short { len ≤ FILE_LIMIT }
+        requires rest { IsZeroFrom len self.old }
+        ensures { self.new ≡ cut self.old len }
+    {
+        fill_slots(&mut self.slots, blocks_of(len));
+        self.size = len;
+    }
+
+    /// Puts few bytes back, and the length that the file had. This takes no memory.
+    pub fn unpatch(&mut self, old: &Patch)
+        requires { CanPatch self.old old.now }
+        ensures { self.new ≡ with_blocks self.old old.now }
+    {
+        self.overwrite_one(old.at, old.bytes.as_slice());
+        self.set_len(old.size);
     }
 
     /// The blocks from a cut on, as it leaves them.

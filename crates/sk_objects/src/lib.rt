@@ -4,6 +4,7 @@
 pub mod block;
 pub mod content;
 pub mod file;
+pub mod patch;
 pub mod pipe;
 pub mod signals;
 pub mod slots;
@@ -12,6 +13,7 @@ pub mod value;
 pub use block::Block;
 pub use content::Content;
 pub use file::File;
+pub use patch::Patch;
 pub use pipe::Pipe;
 pub use signals::Signals;
 pub use slots::Blocks;

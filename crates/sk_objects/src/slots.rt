@@ -1,17 +1,18 @@
 //! Blocks in slots.
-ghost use Rattle.std.specs.Prelude.{◌≡◌, ◌≤◌, ◌<◌, ◌+◌, ◌-◌, ◌*◌, ◌/◌, ◌%◌, ◌++◌, ◌∷◌, List, ℕ, [], true, length, take, drop, replicate, slice_set, get_or, IfOk, vec_len, ◌↔◌, IsTrue, if◌then◌else◌};
+ghost use Rattle.std.specs.Prelude.{◌≡◌, ◌≤◌, ◌<◌, ◌+◌, ◌-◌, ◌*◌, ◌/◌, ◌%◌, ◌++◌, ◌∷◌, List, ℕ, [], true, false, length, take, drop, replicate, slice_set, get_or, IfOk, IfSome, vec_len, vec_capacity, ◌↔◌, IsTrue, if◌then◌else◌};
 ghost use Rattle.sk_objects.specs.File.{overwritten, part, held, blocks_of};
 ghost use Rattle.sk_objects.specs.Blocks.{joined, AreBlocks, blank};
 ghost use Rattle.sk_objects.specs.Slots.{blocks_under};
 
 use crate::Block;
 use crate::block::BLOCK;
+use crate::patch::Few;
 use sk_ids::Text;
 use smallvec::SmallVec;
 use std::alloc::{AllocError, Global};
 use std::marker::Model;
 
-/// The slots of a file.
+/// The most slots of a file.
 pub const SLOTS: usize = 64;
 
 /// Blocks that go into a file from a slot on, or stood there, and the length that the file has with
@@ -38,15 +39,18 @@ impl Model for Blocks {
     ghost invariant = { λ b. AreBlocks b.blocks.items };
 }
 
-/// The slots of an empty file.
-pub(crate) fn empty_slots(alloc: Global) -> Result<Vec<Block>, AllocError>
-    ensures { IfOk result (λ slots. slots.items ≡ replicate 64 blank) }
+/// Slots with nothing in them come behind, up to so many. This takes no memory.
+pub(crate) fn fill_slots(slots: &mut Vec<Block>, count: usize)
+    requires room { 64 ≤ vec_capacity slots.old }
+    requires few { count ≤ 64 }
+    ensures items { slots.new.items
+        ≡ slots.old.items ++ replicate (count - length slots.old.items) blank }
+    ensures room { 64 ≤ vec_capacity slots.new }
 {
-    let mut slots = Vec::with_capacity(alloc, SLOTS)?;
-    for _ in 0..SLOTS {
+    let missing = count.saturating_sub(slots.len());
+    for _ in 0..missing {
         slots.push_reserved(Block::new());
     }
-    Ok(slots)
 }
 
 /// Blocks go into slots, and those that stood there come back.
@@ -63,6 +67,7 @@ pub(crate) fn exchange_blocks(slots: &mut Vec<Block>, slot: usize, blocks: &mut 
     requires { slot + length blocks.old.items ≤ length slots.old.items }
     ensures slots { slots.new.items ≡ overwritten slots.old.items slot blocks.old.items }
     ensures blocks { blocks.new.items ≡ part slots.old.items slot (length blocks.old.items) }
+    ensures room { vec_capacity slots.new ≡ vec_capacity slots.old }
 {
     swap_blocks(slots, slot, blocks.as_mut_slice());
 }
@@ -102,11 +107,11 @@ pub(crate) fn written_blocks(
     at: usize,
     bytes: &[u8],
 ) -> Result<SmallVec<Block, 2>, AllocError>
-    requires slots { length slots.now ≡ 64 }
+    requires slots { length slots.now ≤ 64 }
     requires blocks { AreBlocks slots.now }
     requires some { 1 ≤ length bytes.now }
     requires short { length bytes.now ≤ 512 }
-    requires end { at + length bytes.now ≤ 32768 }
+    requires end { at + length bytes.now ≤ 512 * length slots.now }
     ensures blocks { IfOk result (λ blocks. AreBlocks blocks.items) }
     ensures bytes { IfOk result
         (λ blocks. joined blocks.items
@@ -128,15 +133,15 @@ pub(crate) fn written_blocks(
 
 /// Writes bytes over a part of one block where that is there, and answers whether it is so.
 fn overwrite_block(slots: &mut [Block], at: usize, bytes: &[u8]) -> bool
-    requires slots { length slots.old ≡ 64 }
-    requires end { at + length bytes.now ≤ 32768 }
-    requires some { 1 ≤ length bytes.now }
     ensures slots { slots.new ≡ (if result then slice_set slots.old (at / 512)
         (overwritten (get_or slots.old (at / 512) []) (at % 512) bytes.now) else slots.old) }
     ensures one { result ≡ true → at % 512 + length bytes.now ≤ 512 }
+    ensures blank { result ≡ false → at % 512 + length bytes.now ≤ 512 → at / 512 < length slots.old
+        → get_or slots.old (at / 512) [] ≡ blank }
+    ensures there { result ≡ true → at / 512 < length slots.old }
 {
     let within = at % BLOCK;
-    if bytes.len() > BLOCK - within {
+    if at / BLOCK >= slots.len() || bytes.len() > BLOCK - within {
         return false;
     }
     slots[at / BLOCK].overwrite(within, bytes)
@@ -144,16 +149,32 @@ fn overwrite_block(slots: &mut [Block], at: usize, bytes: &[u8]) -> bool
 
 /// The same of a vector.
 pub(crate) fn overwrite(slots: &mut Vec<Block>, at: usize, bytes: &[u8]) -> bool
-    requires slots { length slots.old.items ≡ 64 }
-    requires end { at + length bytes.now ≤ 32768 }
-    requires some { 1 ≤ length bytes.now }
     ensures slots { slots.new.items
         ≡ (if result then slice_set slots.old.items (at / 512)
         (overwritten (get_or slots.old.items (at / 512) []) (at % 512) bytes.now) else
         slots.old.items) }
     ensures one { result ≡ true → at % 512 + length bytes.now ≤ 512 }
+    ensures blank { result ≡ false → at % 512 + length bytes.now ≤ 512
+        → at / 512 < length slots.old.items → get_or slots.old.items (at / 512) [] ≡ blank }
+    ensures there { result ≡ true → at / 512 < length slots.old.items }
+    ensures room { vec_capacity slots.new ≡ vec_capacity slots.old }
 {
     overwrite_block(slots, at, bytes)
+}
+
+/// So many bytes, if they are few and stand in one block.
+pub(crate) fn few_at(slots: &[Block], at: usize, count: usize) -> Option<Few>
+    requires blocks { AreBlocks slots.now }
+    ensures bytes { IfSome result (λ few. few ≡ part (joined slots.now) at count) }
+    ensures one { IfSome result (λ _. at % 512 + count ≤ 512) }
+    ensures there { IfSome result (λ _. at / 512 < length slots.now) }
+{
+    let within = at % BLOCK;
+    if at / BLOCK >= slots.len() || count > BLOCK - within {
+        return None;
+    }
+    let block = slots[at / BLOCK].as_slice();
+    Few::new(&block[within..within + count])
 }
 
 /// Room for so many blocks.
@@ -173,10 +194,10 @@ pub(crate) fn cut_blocks(
     at: usize,
     count: usize,
 ) -> Result<SmallVec<Block, 2>, AllocError>
-    requires slots { length slots.now ≡ 64 }
+    requires slots { length slots.now ≤ 64 }
     requires blocks { AreBlocks slots.now }
     requires some { 1 ≤ count }
-    requires end { at / 512 + count ≤ 64 }
+    requires end { at / 512 + count ≤ length slots.now }
     ensures blocks { IfOk result (λ blocks. AreBlocks blocks.items) }
     ensures bytes { IfOk result
         (λ blocks. joined blocks.items
@@ -191,11 +212,13 @@ pub(crate) fn cut_blocks(
     Ok(blocks)
 }
 
-/// Another of each block.
+/// Another of each block, with room for all that may be.
 pub(crate) fn copy_slots(alloc: Global, slots: &[Block]) -> Result<Vec<Block>, AllocError>
-    ensures { IfOk result (λ copy. copy.items ≡ slots.now) }
+    requires { length slots.now ≤ 64 }
+    ensures items { IfOk result (λ copy. copy.items ≡ slots.now) }
+    ensures room { IfOk result (λ copy. 64 ≤ vec_capacity copy) }
 {
-    let mut copy = Vec::with_capacity(alloc, slots.len())?;
+    let mut copy = Vec::with_capacity(alloc, SLOTS)?;
     for block in slots {
         copy.push_reserved(block.copy(alloc)?);
     }
@@ -204,10 +227,10 @@ pub(crate) fn copy_slots(alloc: Global, slots: &[Block]) -> Result<Vec<Block>, A
 
 /// Reads as many bytes as there is room for, at most 512, from a place on.
 fn read_slots(slots: &[Block], at: usize, out: &mut [u8])
-    requires slots { length slots.now ≡ 64 }
+    requires slots { length slots.now ≤ 64 }
     requires blocks { AreBlocks slots.now }
     requires short { length out.old ≤ 512 }
-    requires end { at + length out.old ≤ 32768 }
+    requires end { at + length out.old ≤ 512 * length slots.now }
     ensures { out.new ≡ part (joined slots.now) at (length out.old) }
 {
     let count = out.len();
@@ -227,11 +250,12 @@ fn read_slots(slots: &[Block], at: usize, out: &mut [u8])
 }
 
 /// So many bytes, at most 512, that may lie in two blocks.
+#[inline(never)]
 fn read_across(slots: &[Block], at: usize, count: usize) -> Text
-    requires slots { length slots.now ≡ 64 }
+    requires slots { length slots.now ≤ 64 }
     requires blocks { AreBlocks slots.now }
     requires short { count ≤ 512 }
-    requires end { at + count ≤ 32768 }
+    requires end { at + count ≤ 512 * length slots.now }
     ensures { result ≡ part (joined slots.now) at count }
 {
     let mut bytes = [0; 512];
@@ -240,11 +264,12 @@ fn read_across(slots: &[Block], at: usize, count: usize) -> Text
 }
 
 /// Reads so many bytes, at most 512, from a place on. In one block they are read where they stand.
+#[inline(always)]
 pub(crate) fn read_into(slots: &[Block], at: usize, count: usize, text: &mut Text)
-    requires slots { length slots.now ≡ 64 }
+    requires slots { length slots.now ≤ 64 }
     requires blocks { AreBlocks slots.now }
     requires short { count ≤ 512 }
-    requires end { at + count ≤ 32768 }
+    requires end { at + count ≤ 512 * length slots.now }
     ensures { text.new ≡ part (joined slots.now) at count }
 {
     let within = at % BLOCK;

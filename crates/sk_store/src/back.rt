@@ -5,12 +5,13 @@ ghost use Rattle.std.specs.FinMap as map;
 ghost use Rattle.sk_ids.specs.Entity.{entity_cmp};
 ghost use Rattle.sk_ids.specs.declared.entity.Entity.TheVariants.{Proc};
 ghost use Rattle.sk_store.specs.Changed.{FitsAt, changed};
-ghost use Rattle.sk_store.specs.Processes.{CanBecome, became};
+ghost use Rattle.sk_store.specs.Processes.{CanBecome, IsProcess, became, process_in};
 ghost use Rattle.sk_store.specs.Back.{put_back_at, CanPutBack};
 
 use crate::{Becoming, EntityState, Keeper, Look, Store};
 use sk_changes::{Change, Undo};
 use sk_ids::{Entity, Pid, TagSet};
+use sk_script::Process;
 use std::alloc::{AllocError, Global};
 use std::marker::Model;
 
@@ -87,6 +88,17 @@ fn change_alone_in(store: &mut Store, entity: &Entity, change: &Change) -> Resul
             Ok(())
         }
         None => unreachable!(),
+    }
+}
+
+/// The process of a number, which is there.
+fn process_in(store: &Store, pid: Pid) -> &Process
+    requires { IsProcess (map.get store.now (Proc pid)) }
+    ensures { result.now ≡ process_in (map.get store.now (Proc pid)) }
+{
+    match store.value(Entity::Proc(pid)) {
+        Some(EntityState::Process(process)) => process,
+        _ => unreachable!(),
     }
 }
 
@@ -218,6 +230,10 @@ impl Keeper for Store {
     /// A store has no notes.
     fn goes_unnoted(&self, _pid: Pid) -> bool {
         true
+    }
+
+    fn unnoted(&self, pid: Pid) -> Option<&Process> {
+        Some(process_in(self, pid))
     }
 
     fn become_unnoted<C: Becoming>(&mut self, pid: Pid, by: &C) {

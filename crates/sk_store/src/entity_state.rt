@@ -30,6 +30,7 @@ impl EntityState {
 
     /// Changes the value that it is, where it stands, with memory for the undo from `alloc`. Without
     /// memory nothing has changed.
+    #[inline(always)]
     pub fn change(&mut self, alloc: Global, change: &Change) -> Result<Undo, AllocError>
         requires { FitsAt (Some self.old) change.now }
         ensures ok { OnOk result (self.new ≡ changed (Some self.old) change.now) }
@@ -74,6 +75,7 @@ impl EntityState {
     }
 
     /// Takes back a change of the value that it is, which takes no memory.
+    #[inline(always)]
     pub fn undo(&mut self, undo: Undo)
         requires { StateFits self.old undo }
         ensures { self.new ≡ state_undone self.old undo }

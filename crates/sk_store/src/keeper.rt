@@ -2,18 +2,19 @@
 use crate::{Becoming, EntityState, Look};
 use sk_changes::Change;
 use sk_ids::{Entity, Pid, TagSet};
+use sk_script::Process;
 use std::alloc::{AllocError, Global};
 
 /// What performs the writes of a step, each of which can be taken back until the next one.
 pub trait Keeper: Look {
-    ghost use Rattle.std.specs.Prelude.{◌≡◌, OnOk, OnErr, IfOk, ℕ, List, Option, Some, None};
+    ghost use Rattle.std.specs.Prelude.{◌≡◌, OnOk, OnErr, IfOk, IfSome, is_some, ℕ, List, Option, Some, None};
     ghost use Rattle.sk_ids.specs.declared.entity.Entity.{Entity};
     ghost use Rattle.sk_ids.specs.declared.entity.Entity.TheVariants.{Proc};
     ghost use Rattle.sk_store.specs.declared.entity_state.EntityState.{EntityState};
     ghost use Rattle.std.specs.Prelude.{Bool, true, false};
     ghost use Rattle.std.specs.Ordering.{eq_by_cmp};
     ghost use Rattle.sk_ids.specs.Entity.{entity_cmp};
-    ghost use Rattle.sk_store.specs.Processes.{CanBecome, became};
+    ghost use Rattle.sk_store.specs.Processes.{CanBecome, IsProcess, became, process_in};
     ghost use Rattle.sk_store.specs.Changed.{FitsAt, changed};
 
     /// What takes one write back.
@@ -69,6 +70,13 @@ pub trait Keeper: Look {
     /// Whether nothing is noted of a write of a process, so that it wants no memory.
     fn goes_unnoted(&self, pid: Pid) -> bool
         ensures { result ≡ goes_unnoted self.now pid };
+
+    /// A process of which nothing is noted when it is written, so that this wants no memory; `None` of another.
+    fn unnoted(&self, pid: Pid) -> Option<&Process>
+        requires { IsProcess (Self.look self.now (Proc pid)) }
+        ensures exact { is_some result ≡ goes_unnoted self.now pid }
+        ensures process { IfSome result
+            (λ process. process.now ≡ process_in (Self.look self.now (Proc pid))) };
 
     /// Changes a process where it stands, of which nothing is noted, as the last write of a step. This takes
     /// no memory.

@@ -15,6 +15,8 @@ use Rattle.sk_undo.proofs.Cites.{made_for, recounted, recounted_at, link_there}
 use Rattle.std.specs.FinMap as map
 use Rattle.std.proofs.lemmas.Map.Lookups.{exact_bytes}
 use Rattle.sk_undo.specs.Kinds.{HasAtMost}
+use Rattle.sk_undo.proofs.Maps.{placed_untouched}
+use Rattle.sk_undo.proofs.Cites.{is_empty}
 use Rattle.sk_undo.proofs.Passes.{placed_at, placed_get, same_elsewhere}
 
 -- ---- directories in their order
@@ -113,6 +115,77 @@ set_keeps names d q n there =
       | true ↦ ap is_some (map.get-insert object_total names d n q) ∙ given_there (eq_by_cmp object_cmp q d) n (map.get names q) there
       | false ↦ there
     ]
+
+-- a number set twice
+overwritten : (b : Bool) (k n : ℕ) (o : Option ℕ) → cond b (Some n) (cond b (Some k) o) ≡ cond b (Some n) o
+overwritten true k n o = refl
+overwritten false k n o = refl
+
+set_twice : (names : NameMap) (d : ObjId) (k n : ℕ) → map.insert (map.insert names d k) d n ≡ map.insert names d n
+set_twice names d k n = map.same_map object_total object_exact _ _ (λ q.
+    map.get-insert object_total (map.insert names d k) d n q
+    ∙ ap (cond (eq_by_cmp object_cmp q d) (Some n)) (map.get-insert object_total names d k q)
+    ∙ overwritten (eq_by_cmp object_cmp q d) k n (map.get names q)
+    ∙ sym (map.get-insert object_total names d n q))
+
+set_made : (names : NameMap) (d : ObjId) (n : ℕ) → map.insert (with_place names d) d n ≡ map.insert names d n
+set_made names d n =
+    elim (is_some (map.get names d)) as (λ b. map.insert (cond b names (map.insert names d 0)) d n ≡ map.insert names d n) [
+      | true ↦ refl
+      | false ↦ set_twice names d 0 n
+    ]
+
+-- one more, by one look at the numbers
+pub one_put : (names : NameMap) (d : ObjId) → recounted_at (with_place names d) d false true ≡ map.insert names d (count_in names d + 1)
+one_put names d =
+    let made = with_place names d in
+    ap (λ b. cond b (map.insert made d (count_in made d + 1)) made) (made_place names d)
+    ∙ ap (λ n. map.insert made d (n + 1)) (made_counts names d d)
+    ∙ set_made names d (count_in names d + 1)
+
+-- the number that is there, set again
+number_is : (o : Option ℕ) → is_some o ≡ true → o ≡ Some (unwrap_or o 0)
+number_is None h = absurd (true≢false (sym h))
+number_is (Some n) h = refl
+
+same_there : (names : NameMap) (d q : ObjId) (b : Bool) → eq_by_cmp object_cmp q d ≡ b → is_some (map.get names d) ≡ true → cond b (Some (count_in names d)) (map.get names q) ≡ map.get names q
+same_there names d q true is there = sym (ap (map.get names) (object_is q d is) ∙ number_is (map.get names d) there)
+same_there names d q false is there = refl
+
+set_same : (names : NameMap) (d : ObjId) → is_some (map.get names d) ≡ true → map.insert names d (count_in names d) ≡ names
+set_same names d there = map.same_map object_total object_exact _ _ (λ q.
+    map.get-insert object_total names d (count_in names d) q ∙ same_there names d q (eq_by_cmp object_cmp q d) refl there)
+
+less_one : (k : ℕ) → k + 1 - 1 ≡ k
+less_one k = omega arith
+
+-- one more and one less
+more_and_less : (names : NameMap) (d : ObjId) → is_some (map.get names d) ≡ true → recounted_at (recounted_at names d false true) d true false ≡ names
+more_and_less names d there =
+    let k = count_in names d in
+    let more = recounted_at names d false true in
+    ap (λ n. with_count more d (n - 1)) (set_here names d (k + 1) there)
+    ∙ ap (with_count more d) (less_one k)
+    ∙ ap (λ b. cond b (map.insert more d k) more) (set_keeps names d d (k + 1) there)
+    ∙ ap (λ b. map.insert (cond b (map.insert names d (k + 1)) names) d k) there
+    ∙ set_twice names d (k + 1) k
+    ∙ set_same names d there
+
+pub counted_still : (names : NameMap) (e : Entity) → recounted names e true true ≡ names
+counted_still names (Proc p) = refl
+counted_still names (Sig p) = refl
+counted_still names (Exit p) = refl
+counted_still names (Obj o) = refl
+counted_still names (Link d n) = refl
+counted_still names (Copy n) = refl
+
+pub put_and_taken : (names : NameMap) (e : Entity) → recounted (recounted (made_for names e) e false true) e true false ≡ made_for names e
+put_and_taken names (Proc p) = refl
+put_and_taken names (Sig p) = refl
+put_and_taken names (Exit p) = refl
+put_and_taken names (Obj o) = refl
+put_and_taken names (Link d n) = more_and_less (with_place names d) d (made_place names d)
+put_and_taken names (Copy n) = refl
 
 recount_keeps : (names : NameMap) (d q : ObjId) (was is : Bool) → is_some (map.get names q) ≡ true → is_some (map.get (recounted_at names d was is) q) ≡ true
 recount_keeps names d q true true there = there
@@ -291,6 +364,20 @@ module _ (m n : SlotMap) (e : Entity) (names : NameMap) (so : IsCounted m names)
   kept_counted after had others kept is_had is_after =
       subst (IsCounted n) (sym (is_after ∙ (λ i. recounted names e (is_had i) (link_there n e))))
       (counted_on m n names e others (λ there. number_there m names e so (kept there)) so)
+
+  -- a write without tags that leaves nothing: what had no slot gets none
+  pub gone_counted : (tags : List ℕ) (after : NameMap) (had : Bool) → tags ≡ [] → had ≡ is_some (look_at m e) → n ≡ slots_wrote tags m e None → after ≡ recounted names e had false → IsCounted n after
+  gone_counted tags after had untagged is_had is_new is_after =
+      let s = slot_wrote tags (slot_in (map.get m e)) None in
+      let now : look_at n e ≡ None =
+      ap (λ (x : SlotMap). look_at x e) is_new ∙ ap (λ (t : SlotView). t.now) (placed_at m e s e)
+      ∙ ap (λ b. (cond b s (slot_in (map.get m e))).now) ((eq_by_cmp_equiv entity_total).refl e) in
+      kept_counted after (link_there m e) (λ q apart. ap (λ (x : SlotMap). map.get x q) is_new ∙ placed_get m e s q apart)
+      (λ here. elim (map.get m e) as (λ o. map.get m e ≡ o → map.contains_key m e ≡ true) [
+        | Some t ↦ λ is. ap is_some is
+        | None ↦ λ none. subst (λ (x : SlotMap). map.contains_key x e ≡ true) (is_new ∙ sym (placed_untouched m e tags none (ap is_empty untagged))) here
+      ] refl)
+      refl (is_after ∙ told names e had false is_had (sym (ap is_some now)))
 
   pub unwound_counted : (g : ℕ) (after : NameMap) (had : Bool) → ChangedAt (SlotUnwound g) m e n → had ≡ link_there m e → after ≡ recounted names e had (link_there n e) → IsCounted n after
   unwound_counted g after had h is_had is_after = kept_counted after had (λ q apart. same_elsewhere h q apart) h.kept is_had is_after

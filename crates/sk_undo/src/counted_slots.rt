@@ -1,5 +1,5 @@
 //! The slots of entities, with how many names each directory has.
-ghost use Rattle.std.specs.Prelude.{◌≡◌, ◌≤◌, ◌<◌, ◌^◌, [], true, false, min, ◌-◌, OnOk, OnErr, IfOk, Some, None, is_some};
+ghost use Rattle.std.specs.Prelude.{◌≡◌, ◌≤◌, ◌<◌, ◌^◌, [], true, false, min, ◌-◌, OnOk, OnErr, IfOk, IfSome, Some, None, is_some};
 ghost use Rattle.std.specs.Option.{option_copied, unwrap_or};
 ghost use Rattle.std.specs.FinMap as map;
 ghost use Rattle.std.specs.List.Sorted.{IsStrictlySortedBy};
@@ -11,7 +11,7 @@ ghost use Rattle.sk_record.specs.Effects.{is_in};
 ghost use Rattle.sk_record.specs.Notes.{last_tags};
 ghost use Rattle.sk_store.specs.Changed.{FitsAt, changed};
 ghost use Rattle.sk_store.specs.Names.{IsCount, name_there};
-ghost use Rattle.sk_store.specs.Processes.{CanBecome, became};
+ghost use Rattle.sk_store.specs.Processes.{CanBecome, IsProcess, became, process_in};
 ghost use Rattle.sk_undo.specs.Count.{notes_in};
 ghost use Rattle.sk_undo.specs.Logs.{look_at, log_at, goes_on_at, is_unnoted, moved, slots_wrote, slots_back, CanTakeBack};
 ghost use Rattle.sk_undo.specs.Names.{IsCounted, count_for, link_there, recounted};
@@ -20,6 +20,7 @@ ghost use Rattle.sk_undo.specs.Decisions.{ChangedAt, SlotUnwound, Unwound, Light
 use crate::{BoxedState, Names, Slots, TakeBack, Written};
 use sk_changes::Change;
 use sk_ids::{Entity, GuessId, ObjId, Pid, TagSet};
+use sk_script::Process;
 use sk_store::{Becoming, EntityState, Store};
 use std::alloc::{AllocError, Global};
 use std::marker::Model;
@@ -129,6 +130,7 @@ impl CountedSlots {
         self.names.count(directory)
     }
 
+    #[inline(always)]
     pub fn value(&self, entity: Entity) -> Option<&EntityState>
         ensures { option_copied result ≡ look_at self.now entity }
     {
@@ -136,6 +138,7 @@ impl CountedSlots {
     }
 
     /// The tags of an entity, where it has a slot.
+    #[inline(always)]
     pub fn tags(&self, entity: Entity) -> Option<&TagSet>
         ensures { unwrap_or (option_copied result) [] ≡ last_tags [] (log_at self.now entity) }
     {
@@ -171,14 +174,23 @@ impl CountedSlots {
         ensures back { IfOk result (λ how. slots_back self.new entity.now how ≡ self.old) }
         ensures err { OnErr result (self.new ≡ self.old) }
     {
-        self.names.make_for(entity)?;
         let _most = self.slots.most_names();
-        let Written { was, back } = self.slots.set(entity, tags, value)?;
-        self.names.recount(entity, was, true);
-        Ok(back)
+        self.names.put(entity)?;
+        match self.slots.set(entity, tags, value) {
+            Ok(Written { was: false, back }) => Ok(back),
+            Ok(Written { was: true, back }) => {
+                self.names.take(entity);
+                Ok(back)
+            }
+            Err(why) => {
+                self.names.take(entity);
+                Err(why)
+            }
+        }
     }
 
     /// Changes a process where it stands. Without memory nothing has changed.
+    #[inline(always)]
     pub fn change_process<C: Becoming>(
         &mut self,
         pid: Pid,
@@ -199,7 +211,22 @@ impl CountedSlots {
         ensures ok { OnOk result (self.new ≡ slots_wrote tags.now self.old entity.now None) }
         ensures err { OnErr result (self.new ≡ self.old) }
     {
+        if tags.ids().is_empty() {
+            return self.clear_untagged(entity, tags);
+        }
         self.names.make_for(entity)?;
+        let _most = self.slots.most_names();
+        let was = self.slots.clear(entity, tags)?;
+        self.names.recount(entity, was, false);
+        Ok(())
+    }
+
+    /// The same, of a step that rests on no guess: then what has no slot gets none, and needs no number.
+    fn clear_untagged(&mut self, entity: &Entity, tags: &TagSet) -> Result<(), AllocError>
+        requires { tags.now ≡ [] }
+        ensures ok { OnOk result (self.new ≡ slots_wrote tags.now self.old entity.now None) }
+        ensures err { OnErr result (self.new ≡ self.old) }
+    {
         let _most = self.slots.most_names();
         let was = self.slots.clear(entity, tags)?;
         self.names.recount(entity, was, false);
@@ -229,6 +256,16 @@ impl CountedSlots {
         ensures { result ≡ is_unnoted tags.now self.now (Proc pid) }
     {
         self.slots.goes_unnoted(pid, tags)
+    }
+
+    /// A process, if nothing is noted of a write of it with these tags.
+    pub fn unnoted(&self, pid: Pid, tags: &TagSet) -> Option<&Process>
+        requires { IsProcess (look_at self.now (Proc pid)) }
+        ensures exact { is_some result ≡ is_unnoted tags.now self.now (Proc pid) }
+        ensures process { IfSome result
+            (λ process. process.now ≡ process_in (look_at self.now (Proc pid))) }
+    {
+        self.slots.unnoted(pid, tags)
     }
 
     /// Changes a process where it stands, of which nothing is noted. This takes no memory.

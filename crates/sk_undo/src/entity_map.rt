@@ -89,6 +89,14 @@ fn found<'a, K: Key, V>(values: &'a Map<K, V>, key: &K) -> Option<&'a V>
     values.get(key)
 }
 
+/// The same, for a key that stands late.
+#[inline(never)]
+fn found_late<'a, K: Key, V>(values: &'a Map<K, V>, key: &K) -> Option<&'a V>
+    ensures { option_copied result ≡ map.get (seen K.order values.now) key.now }
+{
+    values.get_late(key)
+}
+
 /// Adds processes to entities.
 fn add_processes<V>(all: &mut Vec<Entity>, keys: Keys<'_, ProcessKey, V>) -> Result<(), AllocError>
     ensures { OnOk result (all.new.items ≡ all.old.items ++ each Proc keys.entry) }
@@ -184,6 +192,21 @@ impl<V> EntityMap<V> {
         }
     }
 
+    /// The same as `get`, for an entity that is about to be born, or just was: it mostly stands behind all others of its
+    /// kind.
+    pub(crate) fn get_late(&self, entity: &Entity) -> Option<&V>
+        ensures { option_copied result ≡ map.get self.now entity.now }
+    {
+        match entity {
+            Entity::Proc(pid) => found_late(&self.processes, &process(*pid)),
+            Entity::Sig(pid) => found_late(&self.signals, &process(*pid)),
+            Entity::Exit(pid) => found_late(&self.exits, &process(*pid)),
+            Entity::Obj(id) => found_late(&self.objects, &object(id)),
+            Entity::Link(directory, name) => found(&self.links, &link(directory, name)),
+            Entity::Copy(name) => found(&self.copies, name),
+        }
+    }
+
     /// The values of a process and of its signal queue.
     #[inline(always)]
     pub(crate) fn own(&self, pid: Pid) -> (Option<&V>, Option<&V>)
@@ -195,7 +218,7 @@ impl<V> EntityMap<V> {
     }
 
     /// Lends the value of an entity; what it then becomes is the value of the entity.
-    #[inline]
+    #[inline(always)]
     pub(crate) fn get_mut(&mut self, entity: &Entity) -> Option<&mut V>
         ensures* writes_back { sem 𝓛 (LendsSo (the_row V.row) V.row self.entry result
             (λ n w. OnSome result (n ≡ map.insert self.old entity.now w)) (λ n. n ≡ self.old)) }
@@ -252,12 +275,21 @@ impl<V> EntityMap<V> {
         self.links.len()
     }
 
+    /// How many entities have a value, or the largest number where there are more.
+    fn len(&self) -> usize {
+        let own = self.processes.len().saturating_add(self.signals.len());
+        let left = own.saturating_add(self.exits.len());
+        let objects = left.saturating_add(self.objects.len());
+        let links = objects.saturating_add(self.links.len());
+        links.saturating_add(self.copies.len())
+    }
+
     /// The entities that have a value, by their order, each once.
     pub(crate) fn entities(&self) -> Result<Vec<Entity>, AllocError>
         ensures rest { IfOk result (λ all. all.items ≡ map.keys self.now) }
         ensures rising { IfOk result (λ all. IsStrictlySortedBy entity_cmp all.items) }
     {
-        let mut all = Vec::new(self.alloc());
+        let mut all = Vec::with_capacity(self.alloc(), self.len())?;
         add_processes(&mut all, self.processes.keys())?;
         add_signals(&mut all, self.signals.keys())?;
         add_exits(&mut all, self.exits.keys())?;

@@ -1,10 +1,11 @@
 //! What an entity has, in a box of its own, so that slots and notes are a few words.
 ghost use Rattle.std.specs.Prelude.{◌≡◌, OnOk, OnErr, IfOk, Some};
 ghost use Rattle.sk_store.specs.Changed.{FitsAt, changed, StateFits, state_undone};
-ghost use Rattle.sk_store.specs.Processes.{CanBecome, IsProcess, became};
+ghost use Rattle.sk_store.specs.Processes.{CanBecome, IsProcess, became, process_in};
 
 use crate::Logged;
 use sk_changes::{Change, Undo};
+use sk_script::Process;
 use sk_store::{Becoming, EntityState};
 use std::alloc::{AllocError, Global};
 use std::marker::Model;
@@ -46,7 +47,8 @@ impl Logged for BoxedState {
 }
 
 impl BoxedState {
-    /// Takes what an entity has in.
+    /// Takes what an entity has in. Inlined, so that it is not copied on its way into its box.
+    #[inline(always)]
     pub fn new(alloc: Global, state: EntityState) -> Result<BoxedState, AllocError>
         ensures { IfOk result (λ held. held ≡ state) }
     {
@@ -73,6 +75,18 @@ impl BoxedState {
         ensures { result.now ≡ self.now }
     {
         &self.state
+    }
+
+    /// The process that it is.
+    #[inline]
+    pub fn process(&self) -> &Process
+        requires { IsProcess (Some self.now) }
+        ensures { result.now ≡ process_in (Some self.now) }
+    {
+        match &*self.state {
+            EntityState::Process(process) => process,
+            EntityState::Value(_) => unreachable!(),
+        }
     }
 
     /// Changes the value that it is, where it stands. Without memory nothing has changed.

@@ -1,7 +1,7 @@
 //! What entities of one kind are found by.
-ghost use Rattle.std.specs.Prelude.{◌≡◌, ◌<◌, refl, IfSome};
+ghost use Rattle.std.specs.Prelude.{◌≡◌, refl};
+ghost use Rattle.std.specs.Ordering.{nat_cmp, ordering_then};
 ghost use Rattle.sk_ids.specs.Entity.{object_cmp};
-ghost use Rattle.sk_undo.specs.Makers.{maker_number};
 
 use sk_ids::{Name, ObjId, Pid};
 use sk_map::Key;
@@ -9,7 +9,7 @@ use std::cmp::Ordering;
 use std::marker::Model;
 
 /// A process, or what belongs to one. Contracts see its number.
-#[derive(Clone, Copy, PartialEq, Eq, PartialOrd, Ord)]
+#[derive(Clone, Copy, PartialEq, Eq)]
 pub struct ProcessKey {
     pub(crate) pid: Pid,
 }
@@ -22,6 +22,51 @@ impl Model for ProcessKey {
     ghost view = { λ a. a.pid };
 
     ghost inverse = { λ n. record { pid = n } };
+}
+
+/// How the paths of two processes compare. A search goes on where the first is greater, so that is told first.
+#[inline(always)]
+fn processes_compared(one: u64, other: u64) -> Ordering
+    ensures { result ≡ nat_cmp one other }
+{
+    if other < one {
+        return Ordering::Greater;
+    }
+    if one < other {
+        return Ordering::Less;
+    }
+    Ordering::Equal
+}
+
+impl PartialOrd for ProcessKey {
+    ghost use Rattle.sk_ids.specs.contracts.pid.PidPartialOrd.TheImpl as process;
+    ghost use Rattle.sk_ids.specs.contracts.pid.PidPartialOrd.TheImpl.Laws.{laws-law};
+
+    ghost partial_cmp = { (process.ghosts).partial_cmp };
+
+    ghost laws = { laws-law };
+
+    fn partial_cmp(&self, other: &ProcessKey) -> Option<Ordering> {
+        self.pid.partial_cmp(&other.pid)
+    }
+}
+
+impl Ord for ProcessKey {
+    ghost use Rattle.sk_ids.specs.contracts.pid.PidOrd.TheImpl as process;
+    ghost use Rattle.sk_ids.specs.contracts.pid.PidOrd.TheImpl.Laws.{total-law, matches_partial_cmp-law, matches_eq-law};
+
+    ghost cmp = { (process.ghosts).cmp };
+
+    ghost total = { total-law };
+
+    ghost matches_partial_cmp = { matches_partial_cmp-law };
+
+    ghost matches_eq = { matches_eq-law };
+
+    #[inline(always)]
+    fn cmp(&self, other: &ProcessKey) -> Ordering {
+        processes_compared(self.pid.path(), other.pid.path())
+    }
 }
 
 impl Key for ProcessKey {
@@ -54,16 +99,32 @@ impl Model for ObjectKey {
     ghost inverse = { λ o. record { id = o } };
 }
 
-/// The path of an object's maker, 0 where it has none.
+/// How two counts compare. A search goes on where the first is greater, so that is told first.
 #[inline(always)]
-fn maker_number(id: &ObjId) -> u64
-    ensures value { result ≡ maker_number id.now.maker }
-    ensures some { IfSome id.now.maker (λ p. 0 < p) }
+fn counts_compared(one: u32, other: u32) -> Ordering
+    ensures { result ≡ nat_cmp one other }
 {
-    match id.maker {
-        Some(pid) => pid.path(),
-        None => 0,
+    if other < one {
+        return Ordering::Greater;
     }
+    if one < other {
+        return Ordering::Less;
+    }
+    Ordering::Equal
+}
+
+/// How two objects that have makers compare.
+#[inline(always)]
+fn made_compared(maker: u64, count: u32, other_maker: u64, other_count: u32) -> Ordering
+    ensures { result ≡ ordering_then (nat_cmp maker other_maker) (nat_cmp count other_count) }
+{
+    if maker == other_maker {
+        return counts_compared(count, other_count);
+    }
+    if other_maker < maker {
+        return Ordering::Greater;
+    }
+    Ordering::Less
 }
 
 /// How two objects compare.
@@ -71,15 +132,14 @@ fn maker_number(id: &ObjId) -> u64
 fn objects_compared(one: &ObjId, other: &ObjId) -> Ordering
     ensures { result ≡ object_cmp one.now other.now }
 {
-    let maker = maker_number(one);
-    let other_maker = maker_number(other);
-    if other_maker < maker {
-        return Ordering::Greater;
+    match (one.maker, other.maker) {
+        (None, None) => counts_compared(one.count, other.count),
+        (Some(maker), Some(other_maker)) => {
+            made_compared(maker.path(), one.count, other_maker.path(), other.count)
+        }
+        (Some(_), None) => Ordering::Greater,
+        (None, Some(_)) => Ordering::Less,
     }
-    if maker < other_maker {
-        return Ordering::Less;
-    }
-    one.count.cmp(&other.count)
 }
 
 impl PartialOrd for ObjectKey {

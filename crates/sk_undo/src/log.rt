@@ -2,7 +2,7 @@
 ghost use Rattle.std.specs.Prelude.{◌≡◌, ◌≤◌, ◌<◌, ◌+◌, ◌++◌, ◌∷◌, [], Bool, true, false, not, length, take, drop, None, OnOk, OnErr, Option, IsOk, reverse};
 ghost use Rattle.std.specs.Option.{option_copied, unwrap_or};
 ghost use Rattle.std.specs.Vec.{vec_len, vec_capacity};
-ghost use Rattle.std.specs.List.{prefix_len, list_all};
+ghost use Rattle.std.specs.List.{prefix_len, list_all, remove};
 ghost use Rattle.std.specs.List.Sorted.{IsStrictlySortedBy};
 ghost use Rattle.std.specs.Ordering.{nat_cmp};
 ghost use Rattle.sk_record.specs.Notes.{has, unwound, cut};
@@ -41,6 +41,7 @@ pub trait Logged: Drop {
 }
 
 /// Puts back what was there before a write, which takes no memory.
+#[inline(always)]
 pub fn put_back<V: Logged>(undo: PutBack<V>, value: &mut Option<V>)
     requires { FitsBy V.fits undo value.old }
     ensures { value.new ≡ undone_by V.undone undo value.old }
@@ -151,6 +152,16 @@ fn is_needless<V: Logged>(notes: &[Note<PutBack<V>>], place: usize) -> bool
     stands_for(&notes[place - 1], &notes[place].tags)
 }
 
+/// Drops the note at a place.
+fn drop_at<V: Logged>(notes: &mut Vec<Note<PutBack<V>>>, place: usize)
+    requires { place < length notes.old.items }
+    ensures items { notes.new.items ≡ remove notes.old.items place }
+    ensures len { vec_len notes.new + 1 ≡ vec_len notes.old }
+    ensures capacity { vec_capacity notes.new ≡ vec_capacity notes.old }
+{
+    notes.remove(place);
+}
+
 /// Leaves out each note from a place on for which the note before it stands.
 fn join_from<V: Logged>(notes: &mut Vec<Note<PutBack<V>>>, first: usize)
     ensures notes { notes.new.items ≡ joined_from V.is_whole None first notes.old.items }
@@ -160,7 +171,7 @@ fn join_from<V: Logged>(notes: &mut Vec<Note<PutBack<V>>>, first: usize)
     let mut place = first;
     while place < notes.len() {
         if is_needless(notes.as_slice(), place) {
-            notes.remove(place);
+            drop_at(notes, place);
         } else {
             place += 1;
         }

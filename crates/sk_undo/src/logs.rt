@@ -19,6 +19,7 @@ ghost use Rattle.sk_undo.specs.Decisions.{Unwound, Lightened, AreListed, AllRest
 use crate::{BoxedState, CountedSlots, TakeBack};
 use sk_changes::Change;
 use sk_ids::{Entity, GuessId, ObjId, Pid, TagSet};
+use sk_script::Process;
 use sk_store::{Becoming, EntityState, Keeper, Look, Store};
 use std::alloc::{AllocError, Global};
 use std::marker::Model;
@@ -96,6 +97,7 @@ impl Logs {
     }
 
     /// The tags of an entity; `None` is as none.
+    #[inline(always)]
     pub fn tags(&self, entity: Entity) -> Option<&TagSet>
         ensures { unwrap_or (option_copied result) []
             ≡ last_tags [] (log_at self.now.slots entity) }
@@ -213,6 +215,7 @@ impl Look for Logs {
 
     ghost look = { λ l. look_at l.slots };
 
+    #[inline(always)]
     fn value(&self, entity: Entity) -> Option<&EntityState> {
         self.slots.value(entity)
     }
@@ -242,6 +245,7 @@ impl Keeper for Logs {
         self.tags.copy()
     }
 
+    #[inline(always)]
     fn write(&mut self, entity: Entity, stored: EntityState) -> Result<EntityUndo, AllocError> {
         let stored = BoxedState::new(self.slots.alloc(), stored)?;
         let how = self.slots.set(&entity, &self.tags, stored)?;
@@ -253,12 +257,17 @@ impl Keeper for Logs {
         Ok(EntityUndo { entity, how })
     }
 
+    #[inline(always)]
     fn change_process<C: Becoming>(&mut self, pid: Pid, by: &C) -> Result<(), AllocError> {
         self.slots.change_process(pid, &self.tags, by)
     }
 
     fn goes_unnoted(&self, pid: Pid) -> bool {
         self.slots.goes_unnoted(pid, &self.tags)
+    }
+
+    fn unnoted(&self, pid: Pid) -> Option<&Process> {
+        self.slots.unnoted(pid, &self.tags)
     }
 
     fn become_unnoted<C: Becoming>(&mut self, pid: Pid, by: &C) {

@@ -1,8 +1,9 @@
 //! How many names of each directory are there.
-ghost use Rattle.std.specs.Prelude.{◌≡◌, ◌+◌, ◌-◌, ◌<◌, ◌^◌, OnOk, OnErr};
+ghost use Rattle.std.specs.Prelude.{◌≡◌, ◌+◌, ◌-◌, ◌<◌, ◌^◌, true, false, OnOk, OnErr};
 ghost use Rattle.std.specs.FinMap as map;
 ghost use Rattle.sk_undo.specs.Names.{count_in, count_for, with_count, with_place, made_for, recounted_at, recounted};
 
+use crate::keys::ObjectKey;
 use sk_ids::{Entity, ObjId};
 use sk_map::Map;
 use std::alloc::{AllocError, Global};
@@ -11,7 +12,7 @@ use std::marker::Model;
 /// A number for each directory. One without a number has none of its names.
 #[derive(Drop)]
 pub struct Names {
-    counts: Map<ObjId, usize>,
+    counts: Map<ObjectKey, usize>,
 }
 
 impl Model for Names {
@@ -39,7 +40,10 @@ impl Names {
     pub fn count(&self, directory: &ObjId) -> usize
         ensures { result ≡ count_in self.now directory.now }
     {
-        self.counts.get(directory).copied().unwrap_or(0)
+        self.counts
+            .get(&ObjectKey { id: *directory })
+            .copied()
+            .unwrap_or(0)
     }
 
     /// A directory that has a number has one name more, which takes no memory.
@@ -48,7 +52,7 @@ impl Names {
         ensures { self.new
             ≡ with_count self.old directory.now (count_in self.old directory.now + 1) }
     {
-        if let Some(count) = self.counts.get_mut(directory) {
+        if let Some(count) = self.counts.get_mut(&ObjectKey { id: *directory }) {
             *count += 1;
         }
     }
@@ -58,7 +62,7 @@ impl Names {
         ensures { self.new
             ≡ with_count self.old directory.now (count_in self.old directory.now - 1) }
     {
-        if let Some(count) = self.counts.get_mut(directory) {
+        if let Some(count) = self.counts.get_mut(&ObjectKey { id: *directory }) {
             *count = count.saturating_sub(1);
         }
     }
@@ -68,10 +72,10 @@ impl Names {
         ensures ok { OnOk result (self.new ≡ with_place self.old directory.now) }
         ensures err { OnErr result (self.new ≡ self.old) }
     {
-        if self.counts.get(directory).is_some() {
+        if self.counts.get(&ObjectKey { id: *directory }).is_some() {
             return Ok(());
         }
-        self.counts.put(*directory, 0)
+        self.counts.put(ObjectKey { id: *directory }, 0)
     }
 
     /// Makes a number for the directory of a name, which a recount of it needs.
@@ -83,6 +87,45 @@ impl Names {
             Entity::Link(directory, _) => self.make(directory),
             Entity::Proc(_) | Entity::Sig(_) | Entity::Exit(_) | Entity::Obj(_) | Entity::Copy(_) =>
                 Ok(()),
+        }
+    }
+
+    /// A directory has one name more, for which a number is made where it has none.
+    fn put_one(&mut self, directory: &ObjId) -> Result<(), AllocError>
+        requires { count_in self.old directory.now < 2 ^ 63 }
+        ensures ok { OnOk result
+            (self.new ≡ recounted_at (with_place self.old directory.now) directory.now false true) }
+        ensures err { OnErr result (self.new ≡ self.old) }
+    {
+        if let Some(count) = self.counts.get_mut(&ObjectKey { id: *directory }) {
+            *count += 1;
+            return Ok(());
+        }
+        self.counts.put(ObjectKey { id: *directory }, 1)
+    }
+
+    /// Counts a name more, which was not there and is, and makes a number for its directory where there is none.
+    pub fn put(&mut self, entity: &Entity) -> Result<(), AllocError>
+        requires { count_for self.old entity.now < 2 ^ 63 }
+        ensures ok { OnOk result
+            (self.new ≡ recounted (made_for self.old entity.now) entity.now false true) }
+        ensures err { OnErr result (self.new ≡ self.old) }
+    {
+        match entity {
+            Entity::Link(directory, _) => self.put_one(directory),
+            Entity::Proc(_) | Entity::Sig(_) | Entity::Exit(_) | Entity::Obj(_) | Entity::Copy(_) =>
+                Ok(()),
+        }
+    }
+
+    /// Counts a name less, which was there and is not. This takes no memory.
+    pub fn take(&mut self, entity: &Entity)
+        ensures { self.new ≡ recounted self.old entity.now true false }
+    {
+        match entity {
+            Entity::Link(directory, _) => self.take_one(directory),
+            Entity::Proc(_) | Entity::Sig(_) | Entity::Exit(_) | Entity::Obj(_) | Entity::Copy(_) =>
+                {}
         }
     }
 

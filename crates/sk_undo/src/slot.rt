@@ -1,5 +1,5 @@
 //! What an entity has, with its undo log.
-ghost use Rattle.std.specs.Prelude.{◌≡◌, [], OnOk, OnErr, IfOk, Some, None, is_none, true, false, not, ◌&&◌, length, reverse};
+ghost use Rattle.std.specs.Prelude.{◌≡◌, [], OnOk, OnErr, IfOk, IfSome, Some, None, is_none, is_some, true, false, not, ◌&&◌, length, reverse};
 ghost use Rattle.std.specs.List.Sorted.{IsStrictlySortedBy};
 ghost use Rattle.std.specs.Option.{option_copied, unwrap_or};
 ghost use Rattle.std.specs.Ordering.{nat_cmp};
@@ -7,7 +7,7 @@ ghost use Rattle.sk_record.specs.Notes.{last_tags, unwound, cut, committed};
 ghost use Rattle.sk_record.specs.Merged.{Merges};
 ghost use Rattle.sk_record.specs.UndoState.{IsGrowing};
 ghost use Rattle.sk_store.specs.Changed.{FitsAt, changed};
-ghost use Rattle.sk_store.specs.Processes.{CanBecome, IsProcess, became};
+ghost use Rattle.sk_store.specs.Processes.{CanBecome, IsProcess, became, process_in};
 ghost use Rattle.sk_store.specs.declared.back.PutBack.TheVariants as PutBack;
 ghost use Rattle.sk_undo.specs.Count.{note_count};
 ghost use Rattle.sk_undo.specs.Log.{is_empty, seen, CanGoBack, EachRests};
@@ -16,6 +16,7 @@ ghost use Rattle.sk_undo.specs.Slot.{committed_joined, undone, Fits, is_bare, sl
 use crate::{BoxedState, Log, put_back};
 use sk_changes::{Change, Undo};
 use sk_ids::{GuessId, TagSet};
+use sk_script::Process;
 use sk_store::{Becoming, EntityState, PutBack};
 use std::alloc::{AllocError, Global};
 use std::marker::Model;
@@ -143,6 +144,17 @@ fn process_copy(alloc: Global, value: &Option<BoxedState>) -> Result<Option<Boxe
     }
 }
 
+/// The process that is there.
+fn process_in(value: &Option<BoxedState>) -> &Process
+    requires { IsProcess value.now }
+    ensures { result.now ≡ process_in value.now }
+{
+    match value {
+        Some(held) => held.process(),
+        None => unreachable!(),
+    }
+}
+
 /// The tags of the newest note; `None` is as none.
 #[tactic(auto, using(crate::proofs::SeenNotes::tags_seen))]
 fn tags_in<'a>(value: &Option<BoxedState>, log: &'a Log<BoxedState>) -> Option<&'a TagSet>
@@ -204,6 +216,7 @@ impl Slot {
     }
 
     /// Changes the process that is there, where it stands.
+    #[inline(always)]
     pub fn change_process<C: Becoming>(
         &mut self,
         alloc: Global,
@@ -220,6 +233,24 @@ impl Slot {
             become_in(&mut self.value, by);
             return Ok(());
         }
+        self.change_noted(alloc, tags, by)
+    }
+
+    /// The same, where it is noted.
+    #[inline(never)]
+    fn change_noted<C: Becoming>(
+        &mut self,
+        alloc: Global,
+        tags: &TagSet,
+        by: &C,
+    ) -> Result<(), AllocError>
+        requires can { CanBecome (C.can by.now) self.old.now }
+        requires noted { goes_unnoted tags.now self.old.log ≡ false }
+        ensures ok { OnOk result
+            (self.new ≡ slot_wrote tags.now self.old
+            (Some (became (C.after by.now) self.old.now))) }
+        ensures err { OnErr result (self.new ≡ self.old) }
+    {
         let tags = tags.copy()?;
         self.log.reserve()?;
         let undo = PutBack::Was(process_copy(alloc, &self.value)?);
@@ -254,11 +285,26 @@ impl Slot {
             let undo = change_in(&mut self.value, change)?;
             return Ok(Some(PutBack::Changed(undo)));
         }
+        self.note_change(tags, change)?;
+        Ok(None)
+    }
+
+    /// Changes what is there, and notes what takes that back. Without memory nothing has changed.
+    #[inline(never)]
+    fn note_change(&mut self, tags: &TagSet, change: &Change) -> Result<(), AllocError>
+        requires fits { FitsAt self.old.now change.now }
+        requires noted { goes_unnoted tags.now self.old.log ≡ false }
+        ensures ok { OnOk result
+            (self.new ≡ slot_wrote tags.now self.old (Some (changed self.old.now change.now))) }
+        ensures can { OnOk result (CanGoBackOnce self.new None) }
+        ensures back { OnOk result (slot_back self.new None ≡ self.old) }
+        ensures err { OnErr result (self.new ≡ self.old) }
+    {
         let tags = tags.copy()?;
         self.log.reserve()?;
         let undo = PutBack::Changed(change_in(&mut self.value, change)?);
         self.log.note_reserved(tags, undo);
-        Ok(None)
+        Ok(())
     }
 
     /// Whether a write with these tags is not noted.
@@ -268,18 +314,30 @@ impl Slot {
         goes_unnoted(tags, &self.value, &self.log)
     }
 
+    /// The process that is there, if a write with these tags is not noted.
+    pub fn unnoted(&self, tags: &TagSet) -> Option<&Process>
+        requires { IsProcess self.now.now }
+        ensures exact { is_some result ≡ goes_unnoted tags.now self.now.log }
+        ensures process { IfSome result (λ process. process.now ≡ process_in self.now.now) }
+    {
+        if !goes_unnoted(tags, &self.value, &self.log) {
+            return None;
+        }
+        Some(process_in(&self.value))
+    }
+
     /// Changes what is there, and answers nothing that takes it back. Without memory nothing has changed.
+    #[inline(always)]
     pub fn change_alone(&mut self, tags: &TagSet, change: &Change) -> Result<(), AllocError>
         requires { FitsAt self.old.now change.now }
         ensures ok { OnOk result
             (self.new ≡ slot_wrote tags.now self.old (Some (changed self.old.now change.now))) }
         ensures err { OnErr result (self.new ≡ self.old) }
     {
-        if goes_unnoted(tags, &self.value, &self.log) {
-            change_alone_in(&mut self.value, change)?;
-            return Ok(());
+        if !goes_unnoted(tags, &self.value, &self.log) {
+            return self.note_change(tags, change);
         }
-        self.change(tags, change)?;
+        change_alone_in(&mut self.value, change)?;
         Ok(())
     }
 
@@ -335,6 +393,13 @@ impl Slot {
         ensures { result ≡ note_count self.now }
     {
         count(&self.value, &self.log)
+    }
+
+    /// Whether nothing is noted.
+    pub fn is_unnoted(&self) -> bool
+        ensures { result ≡ is_empty self.now.log }
+    {
+        is_unnoted(&self.value, &self.log)
     }
 
     /// Whether there is neither a value nor a note.

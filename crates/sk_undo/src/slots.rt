@@ -1,5 +1,5 @@
 //! All entities with their undo logs, in one map.
-ghost use Rattle.std.specs.Prelude.{◌≡◌, ◌<◌, ◌+◌, [], min, ◌-◌, ◌^◌, true, false, OnOk, OnErr, IfOk, OnSome, Some, None, is_some};
+ghost use Rattle.std.specs.Prelude.{◌≡◌, ◌<◌, ◌+◌, ◌&&◌, [], min, ◌-◌, ◌^◌, true, false, OnOk, OnErr, IfOk, IfSome, OnSome, Some, None, is_some};
 ghost use Rattle.std.specs.Option.{option_copied, option_copied_mut, unwrap_or};
 ghost use Rattle.std.specs.FinMap as map;
 ghost use Rattle.std.specs.List.Sorted.{IsStrictlySortedBy};
@@ -12,12 +12,12 @@ ghost use Rattle.sk_record.specs.Effects.{is_in};
 ghost use Rattle.sk_record.specs.Run.{put};
 ghost use Rattle.sk_record.specs.Notes.{last_tags};
 ghost use Rattle.sk_store.specs.Changed.{FitsAt, changed};
-ghost use Rattle.sk_store.specs.Processes.{CanBecome, became};
-ghost use Rattle.std.specs.List.{sum_by};
+ghost use Rattle.sk_store.specs.Processes.{CanBecome, IsProcess, became, process_in};
+ghost use Rattle.std.specs.List.{list_all, sum_by};
 ghost use Rattle.sk_undo.specs.Count.{note_count, notes_in};
 ghost use Rattle.sk_undo.specs.Kinds.{HasAtMost};
 ghost use Rattle.sk_undo.specs.Log.{is_empty};
-ghost use Rattle.sk_undo.specs.Slot.{slot_of, slot_wrote};
+ghost use Rattle.sk_undo.specs.Slot.{is_bare, slot_of, slot_wrote};
 ghost use Rattle.sk_undo.specs.Logs.{look_at, log_at, slot_in, goes_on_at, is_unnoted, slots_wrote, slots_back, CanTakeBack};
 ghost use Rattle.sk_undo.specs.Decisions.{ChangedAt, SlotUnwound, SlotCommitted, IsWithin, Lightened, AreListed, AllRest, AllGrow, NoneBare};
 ghost use Rattle.sk_undo.specs.contracts.slots.Slots.{the_row as slots_row};
@@ -27,6 +27,7 @@ use crate::entity_map::EntityMap;
 use crate::{BoxedState, Slot};
 use sk_changes::Change;
 use sk_ids::{Entity, GuessId, Pid, TagSet};
+use sk_script::Process;
 use sk_store::{Becoming, EntityState, PutBack, Store};
 use std::alloc::{AllocError, Global};
 use std::collections::btree_map::Values;
@@ -67,6 +68,9 @@ impl Model for Slots {
 fn born(alloc: Global, tags: &TagSet, value: Option<BoxedState>) -> Result<Slot, AllocError>
     ensures { IfOk result (λ slot. slot ≡ slot_wrote tags.now (slot_of None) value) }
 {
+    if tags.ids().is_empty() {
+        return Ok(Slot::new(alloc, value));
+    }
     let mut slot = Slot::new(alloc, None);
     slot.set(tags, value)?;
     Ok(slot)
@@ -81,6 +85,20 @@ fn notes_among<K: Ord>(counted: usize, slots: Values<'_, K, Slot>) -> usize
         total = total.saturating_add(slot.notes());
     }
     total
+}
+
+/// Whether each of these slots has a value.
+fn have_values<K: Ord>(mut slots: Values<'_, K, Slot>) -> bool
+    ensures { result ≡ list_all (λ s. is_some s.now) slots.entry }
+{
+    slots.all(|slot: &Slot| slot.value().is_some())
+}
+
+/// Whether this holds and each of these slots has a value.
+fn are_present<K: Ord>(before: bool, slots: Values<'_, K, Slot>) -> bool
+    ensures { result ≡ (before && list_all (λ s. is_some s.now) slots.entry) }
+{
+    before && have_values(slots)
 }
 
 /// Copies what an entity has now into a store.
@@ -129,6 +147,7 @@ impl Slots {
         self.slots.most_names()
     }
 
+    #[inline(always)]
     pub fn value(&self, entity: Entity) -> Option<&EntityState>
         ensures { option_copied result ≡ look_at self.now entity }
     {
@@ -139,24 +158,52 @@ impl Slots {
     }
 
     /// The tags of an entity, where it has a slot.
+    #[inline(always)]
     pub fn tags(&self, entity: Entity) -> Option<&TagSet>
         ensures { unwrap_or (option_copied result) [] ≡ last_tags [] (log_at self.now entity) }
     {
-        match self.slots.get(&entity) {
+        match self.slots.get_late(&entity) {
             Some(slot) => slot.tags(),
             None => None,
         }
     }
 
-    /// The entities that are present, by their order, each once.
+    /// Whether each slot has a value.
+    fn all_present(&self) -> bool
+        ensures { result ≡ list_all (λ s. is_some s.now) (map.values self.now) }
+    {
+        let values = self.slots.values();
+        let own = are_present(true, values.processes);
+        let queued = are_present(own, values.signals);
+        let left = are_present(queued, values.exits);
+        let objects = are_present(left, values.objects);
+        let links = are_present(objects, values.links);
+        are_present(links, values.copies)
+    }
+
+    /// Of the entities that have a slot those that are present.
+    fn present_among(&self, mut all: Vec<Entity>) -> Vec<Entity>
+        requires keys { all.items ≡ map.keys self.now }
+        requires rising { IsStrictlySortedBy entity_cmp all.items }
+        ensures rising { IsStrictlySortedBy entity_cmp result.items }
+        ensures present { (e : Entity)
+            → is_in entity_cmp result.items e ≡ is_some (look_at self.now e) }
+    {
+        all.retain(|entity: &Entity| self.value(*entity).is_some());
+        all
+    }
+
+    /// The entities that are present, by their order, each once. Where each slot has a value none is looked up.
     pub fn entities(&self) -> Result<Vec<Entity>, AllocError>
         ensures rising { IfOk result (λ all. IsStrictlySortedBy entity_cmp all.items) }
         ensures present { IfOk result
             (λ all. (e : Entity) → is_in entity_cmp all.items e ≡ is_some (look_at self.now e)) }
     {
-        let mut all = self.slots.entities()?;
-        all.retain(|entity: &Entity| self.value(*entity).is_some());
-        Ok(all)
+        let all = self.slots.entities()?;
+        if self.all_present() {
+            return Ok(all);
+        }
+        Ok(self.present_among(all))
     }
 
     /// How many notes there are, or the largest number where there are more. This takes no memory.
@@ -172,11 +219,24 @@ impl Slots {
         notes_among(links, values.copies)
     }
 
+    #[inline(always)]
     fn slot_mut(&mut self, entity: &Entity) -> Option<&mut Slot>
         ensures* writes_back { sem 𝓛 (LendsSo slots_row slot_row self.entry result
             (λ n w. OnSome result (n ≡ map.insert self.old entity.now w)) (λ n. n ≡ self.old)) }
         ensures value { option_copied_mut result ≡ map.get self.old entity.now }
     {
+        self.slots.get_mut(entity)
+    }
+
+    /// The slot of an entity that is mostly about to be born.
+    fn late_slot_mut(&mut self, entity: &Entity) -> Option<&mut Slot>
+        ensures* writes_back { sem 𝓛 (LendsSo slots_row slot_row self.entry result
+            (λ n w. OnSome result (n ≡ map.insert self.old entity.now w)) (λ n. n ≡ self.old)) }
+        ensures value { option_copied_mut result ≡ map.get self.old entity.now }
+    {
+        if self.slots.get_late(entity).is_none() {
+            return None;
+        }
         self.slots.get_mut(entity)
     }
 
@@ -193,6 +253,28 @@ impl Slots {
         self.slots.remove(entity);
     }
 
+    /// The same, and answers whether the entity was there.
+    fn take(&mut self, entity: &Entity) -> bool
+        ensures was { result ≡ is_some (look_at self.old entity.now) }
+        ensures gone { self.new ≡ map.remove self.old entity.now }
+    {
+        match self.slots.remove(entity) {
+            Some(slot) => slot.value().is_some(),
+            None => false,
+        }
+    }
+
+    /// Whether nothing is left of an entity that is made absent.
+    fn goes_whole(&self, entity: &Entity, tags: &TagSet) -> bool
+        ensures { result ≡ true
+            → is_bare (slot_wrote tags.now (slot_in (map.get self.now entity.now)) None) ≡ true }
+    {
+        match self.slots.get(entity) {
+            Some(slot) => tags.ids().is_empty() && slot.is_unnoted(),
+            None => false,
+        }
+    }
+
     /// Sets what an entity has. Without memory nothing has changed.
     pub fn set(
         &mut self,
@@ -207,7 +289,7 @@ impl Slots {
         ensures was { IfOk result (λ w. w.was ≡ is_some (look_at self.old entity.now)) }
         ensures err { OnErr result (self.new ≡ self.old) }
     {
-        if let Some(slot) = self.slot_mut(entity) {
+        if let Some(slot) = self.late_slot_mut(entity) {
             let was = slot.value().is_some();
             let back = slot.set(tags, Some(value))?;
             return Ok(Written {
@@ -224,6 +306,7 @@ impl Slots {
     }
 
     /// Changes a process where it stands. Without memory nothing has changed.
+    #[inline(always)]
     pub fn change_process<C: Becoming>(
         &mut self,
         pid: Pid,
@@ -252,6 +335,9 @@ impl Slots {
         ensures was { IfOk result (λ was. was ≡ is_some (look_at self.old entity.now)) }
         ensures err { OnErr result (self.new ≡ self.old) }
     {
+        if self.goes_whole(entity, tags) {
+            return Ok(self.take(entity));
+        }
         if let Some(slot) = self.slot_mut(entity) {
             let was = slot.value().is_some();
             slot.clear(tags)?;
@@ -302,8 +388,22 @@ impl Slots {
         }
     }
 
+    /// A process, if nothing is noted of a write of it with these tags.
+    pub fn unnoted(&self, pid: Pid, tags: &TagSet) -> Option<&Process>
+        requires { IsProcess (look_at self.now (Proc pid)) }
+        ensures exact { is_some result ≡ is_unnoted tags.now self.now (Proc pid) }
+        ensures process { IfSome result
+            (λ process. process.now ≡ process_in (look_at self.now (Proc pid))) }
+    {
+        match self.slots.get(&Entity::Proc(pid)) {
+            Some(slot) => slot.unnoted(tags),
+            None => unreachable!(),
+        }
+    }
+
     /// Changes the value of an entity, and answers nothing that takes it back. Without memory nothing has
     /// changed.
+    #[inline(always)]
     fn change_alone(
         &mut self,
         entity: &Entity,

@@ -9,75 +9,9 @@ loop-place-preserved-then-is_needless g c =
     let place = c.loop-place.place in
     let lt : place < length items = subst (λ xs. place < length xs) c.as_slice.ensures.value (omega (arith, c.loop-place-test.true, c.len.ensures, c.as_slice.ensures.len)) in
     let repeated : repeats g.V.Logged.is_whole None place items ≡ true = ap (repeats g.V.Logged.is_whole None place) (sym c.as_slice.ensures.value) ∙ sym c.is_needless.ensures ∙ c.if-is_needless.true in (
-      ap (joined_from g.V.Logged.is_whole None place) c.remove.ensures.items ∙ leave_out g.V.Logged.is_whole None place items lt repeated ∙ c.loop-place.invariant.0,
-      c.remove.ensures.capacity ∙ c.loop-place.invariant.1,
-      omega (arith, c.remove.ensures.len, c.loop-place.invariant.2),
-    )
-
-pub loop-place-preserved-then-is_needless-2 : goal.loop-place-preserved-then-is_needless-2
-loop-place-preserved-then-is_needless-2 g c =
-    let items = c.loop-place.notes.items in
-    let place = c.loop-place.place in
-    let lt : place < length items = subst (λ xs. place < length xs) c.as_slice.ensures.value (omega (arith, c.loop-place-test.true, c.len.ensures, c.as_slice.ensures.len)) in
-    let repeated : repeats g.V.Logged.is_whole None place items ≡ true = ap (repeats g.V.Logged.is_whole None place) (sym c.as_slice.ensures.value) ∙ sym c.is_needless.ensures ∙ c.if-is_needless.true in (
-      ap (joined_from g.V.Logged.is_whole None place) c.remove.ensures.items ∙ leave_out g.V.Logged.is_whole None place items lt repeated ∙ c.loop-place.invariant.0,
-      c.remove.ensures.capacity ∙ c.loop-place.invariant.1,
-      omega (arith, c.remove.ensures.len, c.loop-place.invariant.2),
-    )
-
-pub loop-place-preserved-then-is_needless-3 : goal.loop-place-preserved-then-is_needless-3
-loop-place-preserved-then-is_needless-3 g c =
-    let items = c.loop-place.notes.items in
-    let place = c.loop-place.place in
-    let lt : place < length items = subst (λ xs. place < length xs) c.as_slice.ensures.value (omega (arith, c.loop-place-test.true, c.len.ensures, c.as_slice.ensures.len)) in
-    let repeated : repeats g.V.Logged.is_whole None place items ≡ true = ap (repeats g.V.Logged.is_whole None place) (sym c.as_slice.ensures.value) ∙ sym c.is_needless.ensures ∙ c.if-is_needless.true in (
-      ap (joined_from g.V.Logged.is_whole None place) c.remove.ensures.items ∙ leave_out g.V.Logged.is_whole None place items lt repeated ∙ c.loop-place.invariant.0,
-      c.remove.ensures.capacity ∙ c.loop-place.invariant.1,
-      omega (arith, c.remove.ensures.len, c.loop-place.invariant.2),
-    )
-
-pub loop-place-preserved-then-is_needless-4 : goal.loop-place-preserved-then-is_needless-4
-loop-place-preserved-then-is_needless-4 g c =
-    let items = c.loop-place.notes.items in
-    let place = c.loop-place.place in
-    let lt : place < length items = subst (λ xs. place < length xs) c.as_slice.ensures.value (omega (arith, c.loop-place-test.true, c.len.ensures, c.as_slice.ensures.len)) in
-    let repeated : repeats g.V.Logged.is_whole None place items ≡ true = ap (repeats g.V.Logged.is_whole None place) (sym c.as_slice.ensures.value) ∙ sym c.is_needless.ensures ∙ c.if-is_needless.true in (
-      ap (joined_from g.V.Logged.is_whole None place) c.remove.ensures.items ∙ leave_out g.V.Logged.is_whole None place items lt repeated ∙ c.loop-place.invariant.0,
-      c.remove.ensures.capacity ∙ c.loop-place.invariant.1,
-      omega (arith, c.remove.ensures.len, c.loop-place.invariant.2),
-    )
-
-pub loop-place-preserved-then-is_needless-5 : goal.loop-place-preserved-then-is_needless-5
-loop-place-preserved-then-is_needless-5 g c =
-    let items = c.loop-place.notes.items in
-    let place = c.loop-place.place in
-    let lt : place < length items = subst (λ xs. place < length xs) c.as_slice.ensures.value (omega (arith, c.loop-place-test.true, c.len.ensures, c.as_slice.ensures.len)) in
-    let repeated : repeats g.V.Logged.is_whole None place items ≡ true = ap (repeats g.V.Logged.is_whole None place) (sym c.as_slice.ensures.value) ∙ sym c.is_needless.ensures ∙ c.if-is_needless.true in (
-      ap (joined_from g.V.Logged.is_whole None place) c.remove.ensures.items ∙ leave_out g.V.Logged.is_whole None place items lt repeated ∙ c.loop-place.invariant.0,
-      c.remove.ensures.capacity ∙ c.loop-place.invariant.1,
-      omega (arith, c.remove.ensures.len, c.loop-place.invariant.2),
-    )
-
-pub loop-place-preserved-then-is_needless-6 : goal.loop-place-preserved-then-is_needless-6
-loop-place-preserved-then-is_needless-6 g c =
-    let items = c.loop-place.notes.items in
-    let place = c.loop-place.place in
-    let lt : place < length items = subst (λ xs. place < length xs) c.as_slice.ensures.value (omega (arith, c.loop-place-test.true, c.len.ensures, c.as_slice.ensures.len)) in
-    let repeated : repeats g.V.Logged.is_whole None place items ≡ true = ap (repeats g.V.Logged.is_whole None place) (sym c.as_slice.ensures.value) ∙ sym c.is_needless.ensures ∙ c.if-is_needless.true in (
-      ap (joined_from g.V.Logged.is_whole None place) c.remove.ensures.items ∙ leave_out g.V.Logged.is_whole None place items lt repeated ∙ c.loop-place.invariant.0,
-      c.remove.ensures.capacity ∙ c.loop-place.invariant.1,
-      omega (arith, c.remove.ensures.len, c.loop-place.invariant.2),
-    )
-
-pub loop-place-preserved-then-is_needless-7 : goal.loop-place-preserved-then-is_needless-7
-loop-place-preserved-then-is_needless-7 g c =
-    let items = c.loop-place.notes.items in
-    let place = c.loop-place.place in
-    let lt : place < length items = subst (λ xs. place < length xs) c.as_slice.ensures.value (omega (arith, c.loop-place-test.true, c.len.ensures, c.as_slice.ensures.len)) in
-    let repeated : repeats g.V.Logged.is_whole None place items ≡ true = ap (repeats g.V.Logged.is_whole None place) (sym c.as_slice.ensures.value) ∙ sym c.is_needless.ensures ∙ c.if-is_needless.true in (
-      ap (joined_from g.V.Logged.is_whole None place) c.remove.ensures.items ∙ leave_out g.V.Logged.is_whole None place items lt repeated ∙ c.loop-place.invariant.0,
-      c.remove.ensures.capacity ∙ c.loop-place.invariant.1,
-      omega (arith, c.remove.ensures.len, c.loop-place.invariant.2),
+      ap (joined_from g.V.Logged.is_whole None place) c.drop_at.ensures.items ∙ leave_out g.V.Logged.is_whole None place items lt repeated ∙ c.loop-place.invariant.0,
+      c.drop_at.ensures.capacity ∙ c.loop-place.invariant.1,
+      omega (arith, c.drop_at.ensures.len, c.loop-place.invariant.2),
     )
 
 pub loop-place-preserved : goal.loop-place-preserved

@@ -1,19 +1,10 @@
--- Of the keys of the map those are kept whose slots have a value.
-use Rattle.sk_undo.proofs.Cites.{◌≡◌, List, sym, subst, ap, ◌∙◌, rules, filter, IsStrictlySortedBy, filter_same}
-use Rattle.sk_undo.proofs.Cites.{IsStrictlySortedBy-filter, is_in, entity_cmp, Entity}
+-- Where each slot has a value, the entities that are there are the keys of the map.
+use Rattle.sk_undo.proofs.Cites.{List, sym, ap, ◌∙◌, is_in, entity_cmp, Entity}
 use Rattle.std.specs.FinMap as fin
-use Rattle.sk_undo.proofs.Present.{has_value, present_are}
+use Rattle.sk_undo.proofs.Present.{all_are}
 use Rattle.sk_undo.proofs.slots.Slots.entities.Goals as goal
 
-kept : (c : goal.After-retain) → c.retain.new.self.items ≡ filter (has_value c.args.self.now) c.in_ok-all.all.items
-kept c = filter_same _ (has_value c.args.self.now) _ (λ x b g h. search rules) _ _ c.retain.ensures.filtered
-
-pub returns-clause-rising : goal.returns-clause-rising
-returns-clause-rising c =
-    subst (λ (es : List Entity). IsStrictlySortedBy entity_cmp es) (sym (kept c))
-    (IsStrictlySortedBy-filter entity_cmp (has_value c.args.self.now) c.in_ok-all.all.items c.in_ok-all.ensures.rising)
-
-pub returns-clause-present : goal.returns-clause-present
-returns-clause-present c = λ e.
-    ap (λ (es : List Entity). is_in entity_cmp es e) (kept c ∙ ap (filter (has_value c.args.self.now)) (c.in_ok-all.ensures.rest ∙ ap fin.keys c.self.view_is))
-    ∙ present_are c.args.self.now e
+pub returns-then-all_present-clause-present : goal.returns-then-all_present-clause-present
+returns-then-all_present-clause-present c = λ e.
+    ap (λ (es : List Entity). is_in entity_cmp es e) (c.in_ok-all.ensures.rest ∙ ap fin.keys c.self.view_is)
+    ∙ all_are c.args.self.now e (sym c.all_present.ensures ∙ c.if-all_present.true)

@@ -6,7 +6,7 @@ use Rattle.sk_guesses.proofs.Names.{Ordering, without_entity, with_entity, by_or
 use Rattle.std.proofs.Common.{◌⊎◌}
 use Rattle.std.specs.Prelude.{Result, Ok, Err, OnOk, OnErr}
 use Rattle.sk_guesses.specs.Shared.{Sharing, seen, IsReady, AreReady, Pairs, is_named, changing, HasPlace, IsRoomier}
-use Rattle.sk_guesses.specs.Shared.{IsPlaced, IsParted, Agrees, IsChanged}
+use Rattle.sk_guesses.specs.Shared.{IsPlaced, IsParted, Agrees, IsChanged, WillChange}
 use Rattle.sk_guesses.proofs.Opens.{guess_of}
 use Rattle.sk_guesses.proofs.Passes.{IsDone, one_done}
 
@@ -360,6 +360,21 @@ module _ {E : Type 0} where
   pub no_more_fit : (c : ℕ → Bool) (b : Bool) (n m : ℕ) (os : List (Sharing E)) → m ≤ n → AllByRecursion (λ o. o.shares ≡ true → n ≤ o.room → c o.guess.id ≡ b → m ≤ o.room) os
   no_more_fit c b n m [] less = tt
   no_more_fit c b n m (o ∷ os) less = ((λ shares le is. omega (arith, le, less)), no_more_fit c b n m os less)
+
+  -- ---- where all share and change
+  pub will_agree : (c : ℕ → Bool) (n : ℕ) (os : List (Sharing E)) → AllByRecursion (WillChange c n) os → AreReady n os → AllByRecursion (IsAgreed c true n) os
+  will_agree c n [] all ready = tt
+  will_agree c n (o ∷ os) all ready = (record { agrees = λ _. all.0.1; ready = ready.0 }, will_agree c n os all.1 ready.1)
+
+  pub will_stay : (f : List E → List E) (c : ℕ → Bool) (n : ℕ) (os : List (Sharing E)) → AllByRecursion (WillChange c n) os → Pairs (IsChanged f c) os os
+  will_stay f c n [] all = tt
+  will_stay f c n (o ∷ os) all = (record { sharing = λ _. refl; alone = λ own. absurd (true≢false (sym all.0.0 ∙ own)); shares = refl }, will_stay f c n os all.1)
+
+  pub will_fit : (c : ℕ → Bool) (n : ℕ) (os : List (Sharing E)) → AllByRecursion (WillChange c n) os → AreReady n os → AllByRecursion (HasPlace c n) os
+  will_fit c n [] all ready = tt
+  will_fit c n (o ∷ os) all ready =
+      let none = ap length (ready.0 all.0.0).0 in
+      ((λ here. ((λ is. omega (arith, all.0.2, none)), (λ own. absurd (true≢false (sym all.0.0 ∙ own))))), will_fit c n os all.1 ready.1)
 
   -- ---- how long lists become
   pub no_longer : (R : E → E → Ordering) (e : E) (es : List E) → length (without_entity R es e) ≤ length es

@@ -1,5 +1,5 @@
 -- Undecided guesses, many of which share one list of what rests on them.
-use Rattle.std.specs.Prelude.{◌≡◌, ◌≤◌, ◌<◌, ℕ, Bool, true, false, not, List, [], ◌∷◌, length, map, if◌then◌else◌, ◌⊎◌, ⊤}
+use Rattle.std.specs.Prelude.{◌≡◌, ◌≤◌, ◌<◌, ◌+◌, ℕ, Bool, true, false, not, List, [], ◌∷◌, length, map, if◌then◌else◌, ◌⊎◌, ⊤}
 use Rattle.std.specs.List.{AllByRecursion}
 use Rattle.sk_record.specs.Notes.{has}
 use Rattle.sk_guesses.specs.Opens.{OpenGuess}
@@ -69,3 +69,7 @@ pub record IsChanged {E : Type 0} (f : List E → List E) (c : ℕ → Bool) (o 
   pub sharing : o.shares ≡ true → new ≡ o
   pub alone : o.shares ≡ false → new.guess ≡ changing f c o.guess
   pub shares : new.shares ≡ o.shares
+
+-- one shares, is among some, and has room for more than so many entities
+abbrev pub WillChange : {E : Type 0} → (ℕ → Bool) → ℕ → Sharing E → Type 0
+WillChange c n o = (o.shares ≡ true) × (c o.guess.id ≡ true) × (n < length o.guess.dependents + o.room)

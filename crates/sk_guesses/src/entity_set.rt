@@ -1,5 +1,6 @@
 //! Sets of keys.
-ghost use Rattle.std.specs.Prelude.{◌≡◌, ◌<◌, ◌≤◌, ◌+◌, [], true, length, OnOk, OnErr, IsOk};
+ghost use Rattle.std.specs.Prelude.{◌≡◌, ◌<◌, ◌≤◌, ◌+◌, ◌++◌, ◌∷◌, [], true, length, OnOk, OnErr, IsOk, vec_capacity};
+ghost use Rattle.std.specs.List.{insert};
 ghost use Rattle.std.specs.List.Sorted.{IsStrictlySortedBy, IsSearchInRange, IsBinarySearchResult};
 ghost use Rattle.sk_guesses.specs.EntitySet.{with_entity, with_entities, without_entity};
 
@@ -7,6 +8,7 @@ use sk_map::Key;
 use std::alloc::{AllocError, Global};
 use std::cmp::Ordering;
 use std::marker::Model;
+use std::mem;
 
 /// Entities by rising order, each once.
 #[derive(Drop)]
@@ -38,6 +40,88 @@ fn find<E: Key>(entities: &[E], entity: &E) -> Result<usize, usize>
         }
     }
     entities.binary_search(entity)
+}
+
+/// Puts an entity at a place, for which there is room. Mostly that is behind all others.
+fn put_at<E: Key>(entities: &mut Vec<E>, place: usize, entity: &E)
+    requires place { place ≤ length entities.old.items }
+    requires room { length entities.old.items < vec_capacity entities.old }
+    ensures items { entities.new.items ≡ insert entities.old.items place entity.now }
+    ensures capacity { vec_capacity entities.new ≡ vec_capacity entities.old }
+{
+    if place == entities.len() {
+        entities.push_reserved(*entity);
+        return;
+    }
+    let Ok(()) = entities.insert(place, *entity) else {
+        unreachable!();
+    };
+}
+
+/// Adds entities behind those of a list, in which there is room for them.
+fn extend<E: Key>(list: &mut Vec<E>, entities: &[E])
+    requires { length list.old.items + length entities.now ≤ vec_capacity list.old }
+    ensures items { list.new.items ≡ list.old.items ++ entities.now }
+    ensures capacity { vec_capacity list.old ≤ vec_capacity list.new }
+{
+    let Ok(()) = list.extend_from_slice(entities) else {
+        unreachable!();
+    };
+}
+
+/// So many entities are copied at once. A longer run is copied byte by byte.
+const PART: usize = 56;
+
+/// The same, part by part.
+fn extend_by_parts<E: Key>(list: &mut Vec<E>, entities: &[E])
+    requires { length list.old.items + length entities.now ≤ vec_capacity list.old }
+    ensures items { list.new.items ≡ list.old.items ++ entities.now }
+    ensures capacity { vec_capacity list.old ≤ vec_capacity list.new }
+{
+    let mut left = entities;
+    while left.len() > PART {
+        let (part, behind) = left.split_at(PART);
+        extend(list, part);
+        left = behind;
+    }
+    extend(list, left);
+}
+
+/// Fills an empty list, in which there is room, with an entity between others.
+fn fill_around<E: Key>(list: &mut Vec<E>, before: &[E], entity: &E, behind: &[E])
+    requires empty { list.old.items ≡ [] }
+    requires room { length before.now + 1 + length behind.now ≤ vec_capacity list.old }
+    ensures { list.new.items ≡ before.now ++ entity.now ∷ behind.now }
+{
+    extend_by_parts(list, before);
+    list.push_reserved(*entity);
+    extend_by_parts(list, behind);
+}
+
+/// Whether more than half of a list stand behind a place, and not just a few. Then all are copied more quickly than these
+/// move up one by one.
+fn is_far(place: usize, count: usize) -> bool {
+    place < count / 2 && count > PART
+}
+
+/// Puts an entity at a place, for which there is room. Where many stand behind it, all are copied into an empty list, if
+/// that has room, and the two lists change places.
+fn put_over<E: Key>(entities: &mut Vec<E>, spare: &mut Vec<E>, place: usize, entity: &E)
+    requires place { place ≤ length entities.old.items }
+    requires room { length entities.old.items < vec_capacity entities.old }
+    requires empty { spare.old.items ≡ [] }
+    ensures items { entities.new.items ≡ insert entities.old.items place entity.now }
+    ensures empty { spare.new.items ≡ [] }
+{
+    let count = entities.len();
+    if count >= spare.capacity() || !is_far(place, count) {
+        put_at(entities, place, entity);
+        return;
+    }
+    let (before, behind) = entities.as_slice().split_at(place);
+    fill_around(spare, before, entity, behind);
+    entities.clear();
+    mem::swap(entities, spare);
 }
 
 /// Whether two lists have the same entities.
@@ -113,9 +197,7 @@ impl<E: Key> EntitySet<E> {
         requires room { length entities.now ≤ self.old.room }
         ensures { self.new.entities ≡ entities.now }
     {
-        let Ok(()) = self.entities.extend_from_slice(entities) else {
-            unreachable!();
-        };
+        extend_by_parts(&mut self.entities, entities);
     }
 
     /// Makes room for so many more.
@@ -134,9 +216,19 @@ impl<E: Key> EntitySet<E> {
         ensures room { self.old.room ≤ self.new.room + 1 }
     {
         if let Err(place) = find(self.entities.as_slice(), entity) {
-            let Ok(()) = self.entities.insert(place, *entity) else {
-                unreachable!();
-            };
+            put_at(&mut self.entities, place, entity);
+        }
+    }
+
+    /// The same. An empty list may take the place of this one.
+    pub(crate) fn add_over(&mut self, entity: &E, spare: &mut EntitySet<E>)
+        requires room { 0 < self.old.room }
+        requires empty { spare.old.entities ≡ [] }
+        ensures entities { self.new.entities ≡ with_entity E.order self.old.entities entity.now }
+        ensures empty { spare.new.entities ≡ [] }
+    {
+        if let Err(place) = find(self.entities.as_slice(), entity) {
+            put_over(&mut self.entities, &mut spare.entities, place, entity);
         }
     }
 

@@ -11,7 +11,7 @@ ghost use Rattle.sk_record.specs.declared.status.Status.{Status};
 ghost use Rattle.sk_record.specs.declared.status.Status.TheVariants.{Undecided, Committed, Failed, Struck};
 ghost use Rattle.sk_ids.specs.declared.guess.TheConstants.{LAST_GUESS};
 ghost use Rattle.sk_guesses.specs.declared.guesses.TheConstants.{GUESS_LIMIT};
-ghost use Rattle.sk_guesses.specs.Guesses.{opened, next_of, undecided_of, is_full, is_undecided, status_of, status_since, decided, settled};
+ghost use Rattle.sk_guesses.specs.Guesses.{opened, next_of, undecided_of, is_full, is_undecided, status_of, status_since, decided, drawn, settled};
 ghost use Rattle.sk_guesses.specs.EntitySet.{with_entities};
 ghost use Rattle.sk_guesses.specs.Opens.{opens_of, dependents_of, depending, relieved, left_to, but, not_resting, after_commit, open_in, struck_by, without_list};
 ghost use Rattle.sk_guesses.specs.Room.{HasRoom, Listing, DecidedSo};
@@ -22,7 +22,7 @@ use crate::open_list::{
     are_earlier, close, close_committed, close_resting, first_resting, is_rested_on, leave_to,
     oldest, place_of, relieve, take_list,
 };
-use crate::open_row::{Opens, Seen};
+use crate::open_row::{FEW_PLACES, Opens, Seen};
 use crate::settled::{Settled, status_at};
 use crate::{EntitySet, Guess, Redeemed, Status};
 use sk_ids::{GuessId, TagSet};
@@ -272,18 +272,60 @@ impl<E: Key> Guesses<E> {
         ensures room { is_full self.old.view ≡ false → HasRoom self.old (length entities.now)
             → IsOk result }
     {
-        let Some(id) = self.free() else {
+        if self.is_full() {
             return Err(DrawRefusal::TooMany);
-        };
+        }
         if self.reserve(entities.len()).is_err() {
             return Err(DrawRefusal::Memory);
         }
+        Ok(self.draw_reserved(tags, entities))
+    }
+
+    /// The same, where there is room for it.
+    pub fn draw_reserved(&mut self, tags: TagSet, entities: &[E]) -> Guess
+        requires free { is_full self.old.view ≡ false }
+        requires room { HasRoom self.old (length entities.now) }
+        requires own { has (next_of self.old.view) tags ≡ true }
+        ensures token { result
+            ≡ record { kernel = self.old.view.kernel; id = next_of self.old.view } }
+        ensures view { self.new.view ≡ drawn self.old.view }
+        ensures opens { self.new.opens
+            ≡ self.old.opens
+            ++ record {
+              id = next_of self.old.view;
+              tags = tags;
+              dependents = with_entities E.order [] entities.now;
+            } ∷ [] }
+    {
+        let Some(id) = self.free() else {
+            unreachable!();
+        };
         self.below = stays_below(self.below, &tags, id);
         let mut dependents = std::mem::replace(&mut self.next, EntitySet::new(self.alloc));
         dependents.add_all(entities);
         self.opens.push_reserved(id, tags, dependents);
         self.statuses.push_reserved(Status::Undecided);
-        Ok(Guess::new(self.kernel, id))
+        Guess::new(self.kernel, id)
+    }
+
+    /// Keeps the room of a short list for the next guess, where that has less.
+    pub fn reuse(&mut self, list: EntitySet<E>)
+        ensures view { self.new.view ≡ self.old.view }
+        ensures opens { self.new.opens ≡ self.old.opens }
+    {
+        let places = list.places();
+        if places <= FEW_PLACES && self.next.places() < places {
+            self.next = list;
+            self.next.clear();
+        }
+    }
+
+    /// Whether each of these guesses was drawn after all undecided ones.
+    pub fn are_later(&self, tags: &TagSet) -> bool
+        ensures { result ≡ true → (g : ℕ) → has g tags.now ≡ true
+            → has g (numbers (opens_of self.now.opens)) ≡ false }
+    {
+        are_earlier(&self.opens, tags)
     }
 
     /// Adds an entity to the lists of these guesses; those that are not undecided have none. Without

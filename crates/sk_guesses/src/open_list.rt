@@ -19,8 +19,10 @@ use std::alloc::Global;
 /// Whether none of these guesses is in a set, as where each in it was drawn later.
 pub(crate) fn are_earlier<E: Key>(opens: &Opens<E>, tags: &TagSet) -> bool
     requires { IsStrictlySortedBy nat_cmp (numbers (opens_of (map (λ l. l.guess) opens.now.items))) }
-    ensures { result ≡ true → (e : E)
+    ensures same { result ≡ true → (e : E)
         → map (depending E.order tags.now e) (map (λ l. l.guess) opens.now.items) ≡ map (λ l. l.guess) opens.now.items }
+    ensures apart { result ≡ true → (g : ℕ) → has g tags.now ≡ true
+        → has g (numbers (opens_of (map (λ l. l.guess) opens.now.items))) ≡ false }
 {
     if opens.len() == 0 {
         return true;
@@ -33,8 +35,8 @@ pub(crate) fn are_earlier<E: Key>(opens: &Opens<E>, tags: &TagSet) -> bool
     newest.id().number() < oldest.number()
 }
 
-/// How many undecided guesses stand before one; all of them, where it is none of them.
-pub(crate) fn place_of<E: Key>(opens: &Opens<E>, id: GuessId) -> usize
+/// How many undecided guesses stand before one, by halves; all of them, where it is none of them.
+fn search<E: Key>(opens: &Opens<E>, id: GuessId) -> usize
     requires { IsStrictlySortedBy nat_cmp
         (numbers (opens_of (map (λ l. l.guess) opens.now.items))) }
     ensures { result ≡ prefix_len (λ l. not (l.guess.id == id)) opens.now.items }
@@ -54,6 +56,19 @@ pub(crate) fn place_of<E: Key>(opens: &Opens<E>, id: GuessId) -> usize
         }
     }
     opens.len()
+}
+
+/// The same. Mostly it is the newest.
+pub(crate) fn place_of<E: Key>(opens: &Opens<E>, id: GuessId) -> usize
+    requires { IsStrictlySortedBy nat_cmp
+        (numbers (opens_of (map (λ l. l.guess) opens.now.items))) }
+    ensures { result ≡ prefix_len (λ l. not (l.guess.id == id)) opens.now.items }
+{
+    let count = opens.len();
+    if count > 0 && opens.at(count - 1).id() == id {
+        return count - 1;
+    }
+    search(opens, id)
 }
 
 /// Where the guesses begin whose own steps may rest on one, if no tag of theirs is above their own number.

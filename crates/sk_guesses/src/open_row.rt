@@ -6,7 +6,7 @@ ghost use Rattle.sk_record.specs.Notes.{has};
 ghost use Rattle.sk_guesses.specs.EntitySet.{with_entity, without_entity};
 ghost use Rattle.sk_guesses.specs.Opens.{depending, without_tag};
 ghost use Rattle.sk_guesses.specs.Room.{Listing};
-ghost use Rattle.sk_guesses.specs.Shared.{seen, is_named, changing, IsReady, AreReady, Pairs, HasPlace, IsRoomier, IsPlaced, Agrees, IsChanged};
+ghost use Rattle.sk_guesses.specs.Shared.{seen, is_named, changing, IsReady, AreReady, Pairs, HasPlace, IsRoomier, IsPlaced, Agrees, IsChanged, WillChange};
 
 use crate::EntitySet;
 use crate::open_guess::OpenGuess;
@@ -15,6 +15,9 @@ use sk_ids::{GuessId, TagSet};
 use sk_map::Key;
 use std::alloc::{AllocError, Global};
 use std::marker::Model;
+
+/// A list with room for no more is short.
+pub(crate) const FEW_PLACES: usize = 64;
 
 /// What is seen of an undecided guess.
 #[derive(Drop)]
@@ -64,10 +67,12 @@ impl<'a, E: Key> Seen<'a, E> {
 pub(crate) struct Opens<E: Key> {
     row: Row<OpenGuess<E>>,
     shared: EntitySet<E>,
+    /// Room for another list as long as the shared one, as far as there is memory, and no entity.
+    spare: EntitySet<E>,
 }
 
 impl<E: Key> Model for Opens<E> {
-    ghost use Rattle.std.specs.Prelude.{map, length};
+    ghost use Rattle.std.specs.Prelude.{◌≡◌, [], map, length};
     ghost use Rattle.sk_guesses.specs.Room.{Listing};
     ghost use Rattle.sk_guesses.specs.Row.{InOrder};
     ghost use Rattle.sk_guesses.specs.Shared.{seen, AreReady};
@@ -77,7 +82,8 @@ impl<E: Key> Model for Opens<E> {
     ghost view = { λ a. record
         { items = map (seen a.shared.entities) a.row.items; places = a.row.places } };
 
-    ghost invariant = { λ a. AreReady (length a.shared.entities) a.row.items };
+    ghost invariant = { λ a. AreReady (length a.shared.entities) a.row.items
+        × (a.spare.entities ≡ []) };
 }
 
 /// Whether one of these guesses shares the list.
@@ -231,14 +237,39 @@ fn take_seen<E: Key>(open: &mut OpenGuess<E>, shared: &[E], alloc: Global) -> En
     open.take_own(alloc)
 }
 
+/// Makes room for so many entities, as far as there is memory. For a short list none is needed.
+fn reserve_spare<E: Key>(spare: &mut EntitySet<E>, places: usize)
+    requires { spare.old.entities ≡ [] }
+    ensures { spare.new.entities ≡ [] }
+{
+    if places > FEW_PLACES && spare.places() < places {
+        let _ = spare.replace_room(places);
+    }
+}
+
+/// Whether each of these guesses shares the list, is in a set, and has room for more than so many entities.
+fn all_change<E: Key>(row: &Row<OpenGuess<E>>, tags: &TagSet, shared: usize) -> bool
+    ensures { result ≡ true → AllByRecursion (WillChange (λ g. has g tags.now) shared)
+        row.now.items }
+{
+    for place in 0..row.len() {
+        if !row.at(place).will_change(tags, shared) {
+            return false;
+        }
+    }
+    true
+}
+
 /// Adds an entity to the shared list, for which there is room, where that changes.
-fn add_if<E: Key>(shared: &mut EntitySet<E>, changes: bool, entity: &E)
-    requires { 0 < shared.old.room }
-    ensures { shared.new.entities ≡ (if changes then with_entity E.order shared.old.entities
-        entity.now else shared.old.entities) }
+fn add_if<E: Key>(shared: &mut EntitySet<E>, spare: &mut EntitySet<E>, changes: bool, entity: &E)
+    requires room { 0 < shared.old.room }
+    requires empty { spare.old.entities ≡ [] }
+    ensures entities { shared.new.entities ≡ (if changes then with_entity E.order
+        shared.old.entities entity.now else shared.old.entities) }
+    ensures empty { spare.new.entities ≡ [] }
 {
     if changes {
-        shared.add(entity);
+        shared.add_over(entity, spare);
     }
 }
 
@@ -259,6 +290,7 @@ impl<E: Key> Opens<E> {
         Opens {
             row: Row::new(alloc),
             shared: EntitySet::new(alloc),
+            spare: EntitySet::new(alloc),
         }
     }
 
@@ -379,10 +411,15 @@ impl<E: Key> Opens<E> {
         ensures err { OnErr result (self.new.items ≡ self.old.items) }
     {
         self.shared.reserve(1)?;
+        reserve_spare(&mut self.spare, self.shared.places());
         let count = self.shared.as_slice().len();
+        if all_change(&self.row, tags, count) {
+            self.shared.add_over(entity, &mut self.spare);
+            return Ok(());
+        }
         reserve_own(&mut self.row, tags, count, self.shared.places())?;
         let changes = agree(&mut self.row, self.shared.as_slice(), tags, true);
-        add_if(&mut self.shared, changes, entity);
+        add_if(&mut self.shared, &mut self.spare, changes, entity);
         depend_own(&mut self.row, tags, entity);
         Ok(())
     }

@@ -1,5 +1,5 @@
 //! Values under small keys, in an order that is kept beside them.
-ghost use Rattle.std.specs.Prelude.{◌≡◌, ◌<◌, ◌≤◌, ◌+◌, ◌∷◌, ◌++◌, [], length, slice_index_or, slice_set, OnOk, IsOk};
+ghost use Rattle.std.specs.Prelude.{◌≡◌, ◌<◌, ◌≤◌, ◌+◌, ◌∷◌, ◌++◌, [], length, slice_index_or, slice_set, OnOk, IsOk, vec_capacity};
 ghost use Rattle.std.specs.List.{remove};
 ghost use Rattle.std.specs.Borrow.{Lends, sem};
 ghost use Rattle.sk_guesses.specs.contracts.row.Row.{the_row};
@@ -27,6 +27,24 @@ impl<T> Model for Row<T> {
     } };
 
     ghost invariant = { λ r. AreKeys r.values r.keys.items };
+}
+
+/// Takes the key at a place out. Mostly it is the last.
+#[tactic(auto, using(std::proofs::lemmas::List::drop_all))]
+fn take_key(keys: &mut Vec<usize>, place: usize) -> usize
+    requires { place < length keys.old.items }
+    ensures value { result ≡ slice_index_or keys.old.items place result }
+    ensures items { keys.new.items ≡ remove keys.old.items place }
+    ensures len { length keys.new.items + 1 ≡ length keys.old.items }
+    ensures capacity { vec_capacity keys.new ≡ vec_capacity keys.old }
+{
+    if place + 1 < keys.len() {
+        return keys.remove(place);
+    }
+    match keys.pop() {
+        Some(key) => key,
+        None => unreachable!(),
+    }
 }
 
 impl<T> Row<T> {
@@ -89,7 +107,7 @@ impl<T> Row<T> {
         ensures items { self.new.items ≡ remove self.old.items place }
         ensures places { self.new.places ≡ self.old.places }
     {
-        let key = self.keys.remove(place);
+        let key = take_key(&mut self.keys, place);
         self.values.remove(key)
     }
 }

@@ -11,7 +11,7 @@ are_earlier-requires g c = c.self.invariant.0.rising
 pub returns-then-are_earlier-clause-ok : goal.returns-then-are_earlier-clause-ok
 returns-then-are_earlier-clause-ok g c =
     let f = depending g.E.Key.order c.args.tags.now c.args.entity.now in
-    let same = c.are_earlier.ensures c.if-are_earlier.true c.args.entity.now in
+    let same = c.are_earlier.ensures.same c.if-are_earlier.true c.args.entity.now in
     ap (λ (r : Kept _). r.opens) (sym c.self.view_is) ∙ sym same ∙ ap (λ (r : Kept _). map f r.opens) c.self.view_is
 
 pub invariant_of-self-2 : goal.invariant_of-self-2

@@ -1,5 +1,5 @@
 -- The first to share has the list that it had, and the others share none.
-use Rattle.sk_guesses.proofs.Names.{◌≡◌, ◌<◌, ◌-◌, ◌∙◌, length, map, ap, sym, subst, arith, slice_set, AllByRecursion, false}
+use Rattle.sk_guesses.proofs.Names.{◌≡◌, ◌<◌, ◌-◌, ◌∙◌, length, map, ap, sym, arith, slice_set}
 use Rattle.sk_guesses.specs.Shared.{seen, Sharing}
 use Rattle.sk_guesses.proofs.Shared.{founded, any_default}
 use Rattle.sk_guesses.proofs.open_row.Opens.found.Goals as goal

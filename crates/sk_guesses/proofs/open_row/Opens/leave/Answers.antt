@@ -1,12 +1,12 @@
 -- Those that agree, and then the change.
-use Rattle.sk_guesses.proofs.Names.{◌≡◌, ◌≤◌, ◌∙◌, List, length, map, ap, sym, subst, without_entity, InOrder}
+use Rattle.sk_guesses.proofs.Names.{◌∙◌, List, length, map, ap, sym, subst, without_entity, InOrder}
 use Rattle.sk_guesses.specs.Shared.{is_named, changing, seen, AreReady, Agrees, Pairs}
 use Rattle.sk_guesses.proofs.Opens.{guess_of}
 use Rattle.sk_guesses.proofs.Shared.{all_agree_seen, all_agreed, changed_all, changed_ready, no_more_fit, shared_after, shared_no_longer}
 use Rattle.sk_guesses.proofs.open_row.Opens.leave.Goals as goal
 
 pub agree-changes-requires-clause-ready : goal.agree-changes-requires-clause-ready
-agree-changes-requires-clause-ready g c = subst (λ xs. AreReady (length xs) c.self.inside.row.items) (sym c.as_slice.ensures.entities) c.self.invariant
+agree-changes-requires-clause-ready g c = subst (λ xs. AreReady (length xs) c.self.inside.row.items) (sym c.as_slice.ensures.entities) c.self.invariant.0
 
 pub invariant_of-self : goal.invariant_of-self
 invariant_of-self g c =
@@ -17,10 +17,12 @@ invariant_of-self g c =
     let b = c.agree-changes.result in
     let f = λ (xs : List _). without_entity g.E.Key.order xs c.args.entity.now in
     let agree : Pairs (Agrees es c2 b) os ms = subst (λ xs. Pairs (Agrees xs c2 b) os ms) c.as_slice.ensures.entities c.agree-changes.ensures in
-    let agreed = all_agreed es c2 b (length es) os ms agree c.self.invariant in
-    subst (λ xs. AreReady (length xs) c.leave_own.new.row.items) (sym c.remove_if.ensures)
-    (changed_ready f c2 b (length es) (length (shared_after f b es)) ms c.leave_own.new.row.items agreed c.leave_own.ensures
-    (no_more_fit c2 b (length es) (length (shared_after f b es)) ms (shared_no_longer g.E.Key.order c.args.entity.now b es)))
+    let agreed = all_agreed es c2 b (length es) os ms agree c.self.invariant.0 in (
+      subst (λ xs. AreReady (length xs) c.leave_own.new.row.items) (sym c.remove_if.ensures)
+          (changed_ready f c2 b (length es) (length (shared_after f b es)) ms c.leave_own.new.row.items agreed c.leave_own.ensures
+          (no_more_fit c2 b (length es) (length (shared_after f b es)) ms (shared_no_longer g.E.Key.order c.args.entity.now b es))),
+      c.self.invariant.1,
+    )
 
 pub returns : goal.returns
 returns g c =
@@ -31,7 +33,7 @@ returns g c =
     let b = c.agree-changes.result in
     let f = λ (xs : List _). without_entity g.E.Key.order xs c.args.entity.now in
     let agree : Pairs (Agrees es c2 b) os ms = subst (λ xs. Pairs (Agrees xs c2 b) os ms) c.as_slice.ensures.entities c.agree-changes.ensures in
-    let agreed = all_agreed es c2 b (length es) os ms agree c.self.invariant in
+    let agreed = all_agreed es c2 b (length es) os ms agree c.self.invariant.0 in
     ap (λ xs. map guess_of (map (seen xs) c.leave_own.new.row.items)) c.remove_if.ensures
     ∙ changed_all f c2 b (length es) es ms c.leave_own.new.row.items agreed c.leave_own.ensures
     ∙ ap (λ xs. map (changing f c2) (map guess_of xs)) (all_agree_seen es c2 b os ms agree ∙ ap (λ (r : InOrder _). r.items) c.self.view_is)

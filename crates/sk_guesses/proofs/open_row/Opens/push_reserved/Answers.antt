@@ -8,7 +8,7 @@ pub invariant_of-self : goal.invariant_of-self
 invariant_of-self g c =
     let es = c.self.inside.shared.entities in
     let just : c.is_shared-shares.result ≡ true → es ≡ c.args.dependents.entities = λ is. c.is_shared-shares.ensures is ∙ c.as_slice-2.ensures.entities in
-    subst (AreReady (length es)) (sym c.push_reserved.ensures.items) (ready_more (length es) c.self.inside.row.items c.begun.result c.self.invariant (c.begun.ensures.ready es just))
+    (subst (AreReady (length es)) (sym c.push_reserved.ensures.items) (ready_more (length es) c.self.inside.row.items c.begun.result c.self.invariant.0 (c.begun.ensures.ready es just)), c.self.invariant.1)
 
 pub returns-clause-items : goal.returns-clause-items
 returns-clause-items g c =

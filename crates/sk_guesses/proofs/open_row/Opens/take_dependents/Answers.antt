@@ -1,7 +1,6 @@
 -- It has a list of its own, which is moved out.
-use Rattle.sk_guesses.proofs.Names.{◌≡◌, ◌<◌, ◌∙◌, [], true, length, map, ap, sym, subst, arith, slice_set, slice_index_or, true≢false, InOrder, Listing, OpenGuess}
-use Rattle.sk_guesses.specs.Shared.{seen, IsReady, AreReady, Sharing}
-use Rattle.sk_guesses.proofs.Shared.{as_seen, seen_at, seen_taken, ready_set, all_at}
+use Rattle.sk_guesses.proofs.Names.{◌<◌, ◌∙◌, [], length, ap, arith, slice_set, slice_index_or, InOrder}
+use Rattle.sk_guesses.proofs.Shared.{as_seen, seen_taken}
 use Rattle.sk_guesses.proofs.open_row.Opens.take_dependents.Goals as goal
 
 pub returns-clause-items : goal.returns-clause-items

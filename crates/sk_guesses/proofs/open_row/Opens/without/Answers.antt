@@ -1,7 +1,6 @@
 -- What is seen of it loses a tag.
-use Rattle.sk_guesses.proofs.Names.{◌≡◌, ◌<◌, ◌∙◌, length, map, ap, sym, subst, arith, slice_set, slice_index_or, InOrder, without_tag}
-use Rattle.sk_guesses.specs.Shared.{seen, IsReady, AreReady, Sharing}
-use Rattle.sk_guesses.proofs.Shared.{as_seen, seen_retagged, ready_set, all_at}
+use Rattle.sk_guesses.proofs.Names.{◌<◌, ◌∙◌, length, ap, arith, slice_set, slice_index_or, InOrder, without_tag}
+use Rattle.sk_guesses.proofs.Shared.{as_seen, seen_retagged}
 use Rattle.sk_guesses.proofs.open_row.Opens.without.Goals as goal
 
 pub returns : goal.returns

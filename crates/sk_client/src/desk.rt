@@ -1,6 +1,9 @@
 //! The desk.
-ghost use Rattle.std.specs.Prelude.{◌≡◌, ℕ, List, ◌+◌, ◌-◌, ◌<◌, ◌≤◌, [], ◌++◌, nat_lt, length, is_some, option_map, OnOk, IfOk, IfSome, Some, None, vec_capacity};
+ghost use Rattle.std.specs.Prelude.{◌≡◌, ◌||◌, ℕ, List, ◌+◌, ◌-◌, ◌<◌, ◌≤◌, [], ◌++◌, nat_lt, length, is_some, option_map, OnOk, IfOk, IfSome, Some, None, vec_capacity};
 ghost use Rattle.std.specs.Option.{option_copied};
+ghost use Rattle.std.specs.Ordering.{nat_cmp};
+ghost use Rattle.std.specs.List.Sorted.{IsStrictlySortedBy};
+ghost use Rattle.sk_record.specs.Notes.{has};
 ghost use Rattle.sk_plain.specs.Refusal.{cause};
 ghost use Rattle.sk_kernel.specs.Kernel.{undecided_at, room};
 ghost use Rattle.sk_server.specs.declared.server.TheConstants.{LAST_REQUEST};
@@ -223,6 +226,19 @@ fn owned(input: InputRef<'_>) -> Input
         InputRef::Good => Input::Good,
         InputRef::Fresh(content) => Input::Fresh(*content),
         InputRef::Stale(content) => Input::Stale(*content),
+    }
+}
+
+/// The guesses of either set. Mostly one of them has none.
+fn either(one: &TagSet, other: &TagSet) -> Result<TagSet, AllocError>
+    ensures members { IfOk result
+        (λ all. (id : ℕ) → has id all ≡ (has id one.now || has id other.now)) }
+    ensures rising { IfOk result (λ all. IsStrictlySortedBy nat_cmp all) }
+{
+    match (one.ids(), other.ids()) {
+        (_, []) => one.copy(),
+        ([], _) => other.copy(),
+        _ => one.union(other),
     }
 }
 
@@ -452,7 +468,7 @@ impl Desk {
         let _sound = kernel.trace();
         let process = kernel.tags_of(&Entity::Proc(pid));
         let copy = kernel.tags_of(&Entity::Copy(*name));
-        process.union(copy)
+        either(process, copy)
     }
 
     /// What is asked, with the bytes of a store.

@@ -1,5 +1,6 @@
 //! A kernel with the tokens of its guesses.
-ghost use Rattle.std.specs.Prelude.{◌≡◌, ℕ, [], None, Some, IfSome, IfErr, is_some, slice_get};
+ghost use Rattle.std.specs.Prelude.{◌≡◌, ◌<◌, ◌+◌, ℕ, [], None, Some, IfSome, IfErr, is_some, length, slice_get, slice_index_or};
+ghost use Rattle.std.specs.List.{remove};
 ghost use Rattle.sk_record.specs.Notes.{has};
 ghost use Rattle.sk_plain.specs.Refusal.{cause};
 ghost use Rattle.sk_kernel.specs.Kernel.{undecided_at, next_guess, step_refused, guess_refused};
@@ -37,6 +38,23 @@ impl Model for Holder {
     ghost view = { λ h. record { kernel = h.kernel; held = ids h.tokens.items } };
 
     ghost invariant = { λ h. IsHeld h.kernel h.tokens.items };
+}
+
+/// Takes the token at a place out; those behind it move up. Mostly none is.
+#[tactic(auto, using(std::proofs::lemmas::List::drop_all))]
+fn take_token(tokens: &mut Vec<Guess>, place: usize) -> Guess
+    requires { place < length tokens.old.items }
+    ensures value { result ≡ slice_index_or tokens.old.items place result }
+    ensures items { tokens.new.items ≡ remove tokens.old.items place }
+    ensures len { length tokens.new.items + 1 ≡ length tokens.old.items }
+{
+    if place + 1 < tokens.len() {
+        return tokens.remove(place);
+    }
+    match tokens.pop() {
+        Some(token) => token,
+        None => unreachable!(),
+    }
 }
 
 impl Holder {
@@ -152,7 +170,7 @@ impl Holder {
     {
         let place = self.place_of(id)?;
         let _sound = self.kernel.trace();
-        let token = self.tokens.remove(place);
+        let token = take_token(&mut self.tokens, place);
         match self.kernel.commit_speculation(token) {
             Ok(outcome) => Some(outcome),
             Err(_stranger) => unreachable!(),
@@ -165,7 +183,7 @@ impl Holder {
     {
         let place = self.place_of(id)?;
         let _sound = self.kernel.trace();
-        let token = self.tokens.remove(place);
+        let token = take_token(&mut self.tokens, place);
         match self.kernel.fail_speculation(token) {
             Ok(outcome) => Some(outcome),
             Err(_refusal) => unreachable!(),

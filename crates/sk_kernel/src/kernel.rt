@@ -7,7 +7,7 @@ ghost use Rattle.sk_record.specs.Effects.{is_in};
 ghost use Rattle.sk_record.specs.Notes.{has};
 ghost use Rattle.sk_ids.specs.declared.entity.Entity.{Entity};
 ghost use Rattle.sk_plain.specs.Next.{next_of, unplanned};
-ghost use Rattle.sk_plain.specs.Seen.{PlansStep};
+ghost use Rattle.sk_plain.specs.Seen.{PlansStep, told};
 ghost use Rattle.sk_plain.specs.Refusal.{cause};
 ghost use Rattle.sk_plain.specs.View.{Shows};
 ghost use Rattle.sk_script.specs.declared.instruction.Input.TheVariants as inputs;
@@ -115,11 +115,13 @@ fn plan_guess(
     opening: &Opening,
     pid: Pid,
     input: InputRef<'_>,
-) -> Result<Plan, Refusal>
+    plan: &mut Plan,
+) -> Result<(), Refusal>
+    requires { plan.old ≡ Plan.Private }
     ensures { PlansGuess (look_at machine.now.slots) opening.now.start.scripts pid
-        (input_in input.entry) result }
+        (input_in input.entry) (told result plan.new) }
 {
-    let planned = plan_at(machine, opening, pid, input);
+    let planned = plan_into(machine, opening.scripts(), pid, input, plan);
     if let InputRef::None = input {
         return Err(match planned {
             Err(Refusal::NoProcess) => Refusal::NoProcess,
@@ -127,7 +129,8 @@ fn plan_guess(
             _ => Refusal::Mismatch,
         });
     }
-    planned
+    planned?;
+    Ok(())
 }
 
 /// Whether a process does next what has no name of its own.
@@ -264,7 +267,8 @@ impl Kernel {
             }))) (too_many self.now) }
         ensures told { IfSome result (λ why. cause why ≡ Some why) }
     {
-        if let Err(why) = plan_guess(&self.machine, &self.opening, pid, input) {
+        let mut plan = Plan::Private;
+        if let Err(why) = plan_guess(&self.machine, &self.opening, pid, input, &mut plan) {
             return Some(why);
         }
         if self.machine.is_full() {
@@ -407,10 +411,8 @@ impl Kernel {
               guess = Some (next_guess self.old);
             })) pid (input_in input.entry) self.old self.new }
     {
-        let plan = match plan_guess(&self.machine, &self.opening, pid, input) {
-            Ok(plan) => plan,
-            Err(why) => return Err(why),
-        };
+        let mut plan = Plan::Private;
+        plan_guess(&self.machine, &self.opening, pid, input, &mut plan)?;
         let _limit = self.opening.limit();
         if self.machine.is_full() {
             return Err(Refusal::TooMany);

@@ -1,6 +1,6 @@
 -- What the lists of dependents have, after writes and decisions.
 use Rattle.sk_machine.proofs.Names.{◌≡◌, ℕ, zero, suc, ◌<◌, ◌≤◌, ◌+◌, length, take, drop, true, false, not, cond, ◌||◌}
-use Rattle.sk_machine.proofs.Names.{List, [], ◌∷◌, ◌++◌, map, Option, refl, sym, ◌∙◌, ap, subst, arith, list_any}
+use Rattle.sk_machine.proofs.Names.{Bool, List, [], ◌∷◌, ◌++◌, map, Option, refl, sym, ◌∙◌, ap, subst, arith, list_any}
 use Rattle.sk_machine.proofs.Names.{AllByRecursion, ◌==◌, slice_index_or, eq_by_cmp, eq_by_cmp_equiv, entity_total}
 use Rattle.sk_machine.proofs.Names.{entity_exact, all_kept, true≢false, false≢true, or_left, or_right, eqb-true, eq-eqb}
 use Rattle.sk_machine.proofs.Names.{list_any-append, is_in, has, nat_cmp, above, IsTidy, numbers, still_open}
@@ -35,6 +35,25 @@ depends_opens = lists.depends_opens entity_total entity_exact
 pub depends_exact : (tags : List ℕ) (es : List Entity) (x : Entity) (base : Entity → List ℕ) (own : List ℕ) → own ≡ base x → ((g : ℕ) → has g (base x) ≡ true → has g tags ≡ true)
     → (os new : List (OpenGuess Entity)) → Depends own tags x os new → AllExact (with_tags tags es base) os → AllExact (with_tags tags (es ++ x ∷ []) base) new
 depends_exact = lists.depends_exact entity_total entity_exact
+
+isnt : (b : Bool) → (b ≡ true → ⊥) → b ≡ false
+isnt true not = absurd (not refl)
+isnt false not = refl
+
+-- where each guess of a set was drawn after all of these, no list of theirs changes
+pub later_exact : (tags : List ℕ) (es : List Entity) (base : Entity → List ℕ) → Covers tags es base
+    → (os : List (OpenGuess Entity)) → ((g : ℕ) → has g tags ≡ true → has g (numbers (opens_of os)) ≡ false) → AllExact base os → AllExact (with_tags tags es base) os
+later_exact tags es base covers [] apart all = tt
+later_exact tags es base covers (o ∷ os) apart all =
+    let none : has o.id tags ≡ false = isnt (has o.id tags) (λ here. true≢false (sym (or_left _ _ (eq-eqb o.id o.id refl)) ∙ apart o.id here)) in (
+      (λ e.
+          all.0 e
+          ∙ elim (is_in entity_cmp es e) as (λ b. is_in entity_cmp es e ≡ b → has o.id (base e) ≡ has o.id (cond b tags (base e))) [
+            | true ↦ λ there. isnt (has o.id (base e)) (λ here. true≢false (sym (covers e o.id there here) ∙ none)) ∙ sym none
+            | false ↦ λ _. refl
+          ] refl),
+      later_exact tags es base covers os (λ g here. isnt (has g (numbers (opens_of os))) (λ later. true≢false (sym (or_right _ _ later) ∙ apart g here))) all.1,
+    )
 
 pub no_length : {A : Type 0} (xs : List A) → length xs ≡ 0 → xs ≡ []
 no_length [] none = refl

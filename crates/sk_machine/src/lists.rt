@@ -60,6 +60,9 @@ pub(crate) fn depend_all(
         (AllExact (with_tags tags.now entities.now (tags_in logs.now.slots)) guesses.new.opens) }
     ensures err { OnErr result (AllExact (tags_in logs.now.slots) guesses.new.opens) }
 {
+    if guesses.are_later(tags) {
+        return Ok(());
+    }
     for entity in entities {
         let own = tags_of(logs, untagged, entity);
         if depend(guesses, own, tags, entity).is_err() {

@@ -1,5 +1,5 @@
 //! Values in place with their undo logs, the open guesses, statuses and texts.
-ghost use Rattle.std.specs.Prelude.{◌≡◌, [], ◌++◌, ◌||◌, ◌&&◌, ◌==◌, if◌then◌else◌, ℕ, length, get_or, true, false, is_some, IfOk, IfSome, OnOk, OnErr, Ok, Some, None};
+ghost use Rattle.std.specs.Prelude.{◌≡◌, [], ◌∷◌, ◌++◌, ◌||◌, ◌&&◌, ◌==◌, if◌then◌else◌, ℕ, length, get_or, true, false, is_some, IfOk, IfSome, OnOk, OnErr, Ok, Some, None};
 ghost use Rattle.std.specs.List.Sorted.{IsStrictlySortedBy};
 ghost use Rattle.std.specs.Ordering.{nat_cmp};
 ghost use Rattle.sk_record.specs.Notes.{has};
@@ -18,6 +18,7 @@ ghost use Rattle.sk_undo.specs.Decisions.{AllGrow, AllRest, Lightened};
 ghost use Rattle.sk_machine.specs.Noted.{IsAtStart};
 ghost use Rattle.sk_ids.specs.Entity.{entity_cmp};
 ghost use Rattle.sk_ids.specs.declared.entity.Entity.{Entity};
+ghost use Rattle.sk_ids.specs.declared.entity.Entity.TheVariants.{Proc};
 ghost use Rattle.sk_store.specs.Names.{IsCount, name_there};
 ghost use Rattle.sk_store.specs.Start.{start_of};
 ghost use Rattle.sk_undo.specs.Logs.{look_at};
@@ -34,7 +35,7 @@ use crate::alike::set_alike;
 use crate::lists::{depend_all, is_alone, relieve_all, relieve_freed, tags_of};
 use sk_guesses::{Guess, Guesses, Redeemed, Status};
 use sk_ids::{Entity, GuessId, ObjId, Pid, TagSet};
-use sk_plain::{InputRef, Plan, perform_plan};
+use sk_plain::{Beside, Entities, InputRef, Plan, Scratch, perform_plan, perform_with};
 use sk_script::{Boot, Instruction, Scripts};
 use sk_store::{EntityState, Look, Store};
 use sk_terminal::{Terminal, Terminals, Texts};
@@ -51,6 +52,7 @@ pub struct Machine {
     pub(crate) guesses: Guesses<Entity>,
     terminals: Terminals,
     pub(crate) untagged: TagSet,
+    scratch: Scratch,
 }
 
 impl Model for Machine {
@@ -78,6 +80,7 @@ impl Look for Machine {
 
     ghost look = { λ m. look_at m.slots };
 
+    #[inline(always)]
     fn value(&self, entity: Entity) -> Option<&EntityState> {
         self.logs.value(entity)
     }
@@ -128,6 +131,7 @@ fn perform_next(
     pid: Pid,
     input: InputRef<'_>,
     plan: &Plan,
+    scratch: &mut Scratch,
 ) -> Result<(), AllocError>
     requires can { CanPerform (look_at logs.old.slots) scripts.now pid (input_in input) plan.now }
     requires apart { AreApart (entities_of
@@ -150,7 +154,7 @@ fn perform_next(
     ensures unwritten { OnErr result (logs.new.slots ≡ logs.old.slots) }
     ensures unsaid { OnErr result (terminals.new ≡ terminals.old) }
 {
-    perform_plan(logs, terminals, scripts, pid, input, plan)
+    perform_with(logs, terminals, scripts, pid, input, plan, scratch)
 }
 
 /// Makes room for the next guess and so many dependents of it, and performs its plan. Without memory
@@ -194,6 +198,21 @@ fn perform_guess(
     perform(logs, terminals, scripts, pid, input, plan, tags)
 }
 
+/// Puts the entities that a plan writes into a list that has the process alone. Most guesses write nothing else.
+fn put_written(plan: &Plan, pid: Pid, all: &mut Entities)
+    requires { all.old ≡ Proc pid ∷ [] }
+    ensures { all.new ≡ written_in pid plan.now }
+{
+    match plan {
+        Plan::Private | Plan::Speaks => {}
+        Plan::Received(_) | Plan::Forks(..) => *all = plan.writes(pid),
+        Plan::Acts(row) => match row.beside {
+            Beside::Nothing => {}
+            Beside::One(..) | Beside::Gone(_) => *all = plan.writes(pid),
+        },
+    }
+}
+
 /// Whether there is no guess in a set.
 pub(crate) fn is_none(tags: &TagSet) -> bool
     ensures { result ≡ is_empty tags.now }
@@ -226,6 +245,7 @@ impl Machine {
             guesses: Guesses::new(alloc, number),
             terminals: Terminals::new(alloc),
             untagged: TagSet::new(alloc),
+            scratch: Scratch::new(),
         })
     }
 
@@ -352,6 +372,7 @@ impl Machine {
                 pid,
                 input,
                 plan,
+                &mut self.scratch,
             );
         }
         self.take_apart(scripts, pid, input, plan)
@@ -433,7 +454,8 @@ impl Machine {
         let Some(id) = self.guesses.free() else {
             unreachable!();
         };
-        let written = plan.writes(pid);
+        let mut written = Entities::one(Entity::Proc(pid));
+        put_written(plan, pid, &mut written);
         let entities = written.as_slice();
         let tags = self.step_tags(scripts, pid, input, plan, entities, &Some(id))?;
         let own_tags = tags.copy()?;
@@ -459,10 +481,7 @@ impl Machine {
             relieve_all(&mut self.guesses, &self.logs, &self.untagged, entities);
             return Err(AllocError);
         }
-        let Ok(guess) = self.guesses.draw(own_tags, entities) else {
-            unreachable!();
-        };
-        Ok(guess)
+        Ok(self.guesses.draw_reserved(own_tags, entities))
     }
 
     /// Commits an undecided guess: nothing rests on it any more. This takes no memory.
@@ -474,8 +493,11 @@ impl Machine {
         ensures logs { Lightened self.old.slots id self.new.slots }
         ensures guesses { self.new.guesses ≡ decided self.old.guesses id Committed }
     {
-        self.logs.commit(id, self.guesses.dependents(id));
+        let _known = self.guesses.dependents(id);
+        let freed = self.guesses.take_dependents(id);
+        self.logs.commit(id, freed.as_slice());
         self.guesses.commit(id);
+        self.guesses.reuse(freed);
         self.terminals.commit(id);
     }
 
@@ -501,6 +523,7 @@ impl Machine {
             alone,
             freed.as_slice(),
         );
+        self.guesses.reuse(freed);
         self.terminals.drop_of(id);
     }
 

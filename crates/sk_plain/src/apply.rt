@@ -1,6 +1,7 @@
 //! Doing what was planned, where things stand. Nothing here knows of instructions.
 ghost use Rattle.std.specs.Prelude.{◌≡◌, ◌≢◌, ◌≤◌, ◌+◌, ◌<◌, ◌^◌, true, OnOk, OnErr, IfOk, Some, None, []};
 ghost use Rattle.sk_ids.specs.declared.entity.Entity.TheVariants.{Proc, Sig, Exit, Copy};
+ghost use Rattle.sk_changes.specs.declared.change.Change.TheVariants as changes;
 ghost use Rattle.sk_objects.specs.Value.{empty_of};
 ghost use Rattle.sk_objects.specs.declared.content.TheConstants.{LAST_VERSION};
 ghost use Rattle.sk_objects.specs.declared.value.Value.TheVariants as values;
@@ -15,7 +16,8 @@ ghost use Rattle.sk_plain.specs.Seen.{CanChange, CanPerform, HasContent, IsWrita
 ghost use Rattle.sk_plain.specs.Forked.{CanFork, forked};
 
 use crate::becomes::{Doing, Filling, Forking};
-use crate::{Becomes, Beside, Errno, InputRef, Looks, Plan, ProcessChange, Row, Writes};
+use crate::scratch::set_write;
+use crate::{Becomes, Beside, Errno, InputRef, Looks, Plan, ProcessChange, Row, Scratch, Writes};
 use sk_changes::Change;
 use sk_ids::{Entity, Name, ObjId, Pid, Text};
 use sk_objects::{Content, Kind, Value};
@@ -35,16 +37,21 @@ fn process_at<K: Look>(keeper: &K, pid: Pid) -> &Process
     }
 }
 
-/// Reads the bytes that a process reads of the entity that it looks at into an empty text.
+/// Reads the bytes that a process reads of the entity that it looks at into a text.
 fn read<K: Look>(keeper: &K, looks: &Looks, from: u64, count: u32, text: &mut Text)
-    requires { text.old ≡ [] }
     ensures { text.new ≡ text_in (K.look keeper.now) looks.now from count }
 {
     let Looks::At(entity) = looks else {
+        text.set(&[]);
         return;
     };
-    if let Some(EntityState::Value(value)) = keeper.value(*entity) {
-        value.read_into(from, count as usize, text);
+    let there = match entity {
+        Entity::Obj(object) => keeper.value(Entity::Obj(*object)),
+        _ => keeper.value(*entity),
+    };
+    match there {
+        Some(EntityState::Value(value)) => value.read_into(from, count as usize, text),
+        _ => text.set(&[]),
     }
 }
 
@@ -261,88 +268,9 @@ fn write_gone<K: Keeper, C: Becoming>(
     write_noted_gone(keeper, pid, *entity, by)
 }
 
-/// The buffer of a process is written at a place of a file, and then the process changes, of which nothing is
-/// noted.
-#[tactic(auto, using(crate::proofs::Others::apart_from))]
-fn write_over<K: Keeper, C: Becoming>(
-    keeper: &mut K,
-    pid: Pid,
-    entity: &Entity,
-    offset: u32,
-    by: &C,
-) -> Result<(), AllocError>
-    requires unnoted { K.goes_unnoted keeper.old pid ≡ true }
-    requires process { CanBecomeThere (C.can by.now) (K.look keeper.old (Proc pid)) }
-    requires can { CanBecome (K.look keeper.old entity.now)
-        (written (process_in (K.look keeper.old (Proc pid))) (Writes.At offset)) }
-    requires apart { IsNoProcess entity.now }
-    ensures ok { OnOk result
-        (keeper.new
-        ≡ K.wrote (K.wrote keeper.old entity.now
-        (Some (value_of (K.look keeper.old entity.now)
-        (written (process_in (K.look keeper.old (Proc pid))) (Writes.At offset))))) (Proc pid)
-        (Some (became (C.after by.now) (K.look keeper.old (Proc pid))))) }
-    ensures err { OnErr result (keeper.new ≡ keeper.old) }
-{
-    let bytes = process_at(keeper, pid).buffer;
-    let change = Change::WriteAt { offset, bytes };
-    keeper.change_both(entity, &change, pid, by)
-}
-
-/// It is put at the end of a pipe, and then the process changes.
-#[tactic(auto, using(crate::proofs::Others::apart_from))]
-fn write_behind<K: Keeper, C: Becoming>(
-    keeper: &mut K,
-    pid: Pid,
-    entity: &Entity,
-    by: &C,
-) -> Result<(), AllocError>
-    requires unnoted { K.goes_unnoted keeper.old pid ≡ true }
-    requires process { CanBecomeThere (C.can by.now) (K.look keeper.old (Proc pid)) }
-    requires can { CanBecome (K.look keeper.old entity.now)
-        (written (process_in (K.look keeper.old (Proc pid))) Writes.Put) }
-    requires apart { IsNoProcess entity.now }
-    ensures ok { OnOk result
-        (keeper.new
-        ≡ K.wrote (K.wrote keeper.old entity.now
-        (Some (value_of (K.look keeper.old entity.now)
-        (written (process_in (K.look keeper.old (Proc pid))) Writes.Put)))) (Proc pid)
-        (Some (became (C.after by.now) (K.look keeper.old (Proc pid))))) }
-    ensures err { OnErr result (keeper.new ≡ keeper.old) }
-{
-    let change = Change::Put(process_at(keeper, pid).buffer);
-    keeper.change_both(entity, &change, pid, by)
-}
-
-/// So many bytes are taken from the front of a pipe, and then the process changes.
-#[tactic(auto, using(crate::proofs::Others::apart_from))]
-fn take_off<K: Keeper, C: Becoming>(
-    keeper: &mut K,
-    pid: Pid,
-    entity: &Entity,
-    count: u32,
-    by: &C,
-) -> Result<(), AllocError>
-    requires unnoted { K.goes_unnoted keeper.old pid ≡ true }
-    requires process { CanBecomeThere (C.can by.now) (K.look keeper.old (Proc pid)) }
-    requires can { CanBecome (K.look keeper.old entity.now)
-        (written (process_in (K.look keeper.old (Proc pid))) (Writes.Take count)) }
-    requires apart { IsNoProcess entity.now }
-    ensures ok { OnOk result
-        (keeper.new
-        ≡ K.wrote (K.wrote keeper.old entity.now
-        (Some (value_of (K.look keeper.old entity.now)
-        (written (process_in (K.look keeper.old (Proc pid))) (Writes.Take count))))) (Proc pid)
-        (Some (became (C.after by.now) (K.look keeper.old (Proc pid))))) }
-    ensures err { OnErr result (keeper.new ≡ keeper.old) }
-{
-    let change = Change::Take(count);
-    keeper.change_both(entity, &change, pid, by)
-}
-
-/// An entity becomes this, and then the process changes. Where nothing is noted of the process, nothing is
-/// kept that takes a frequent change back. Without memory nothing has changed.
-fn write_both<K: Keeper, C: Becoming>(
+/// An entity becomes this, and then the process changes. Where that wants memory the first write is taken back.
+#[inline(never)]
+fn write_apart<K: Keeper, C: Becoming>(
     keeper: &mut K,
     pid: Pid,
     entity: &Entity,
@@ -362,18 +290,179 @@ fn write_both<K: Keeper, C: Becoming>(
         (Some (became (C.after by.now) (K.look keeper.old (Proc pid))))) }
     ensures err { OnErr result (keeper.new ≡ keeper.old) }
 {
+    let back = write_one(keeper, pid, *entity, writes)?;
+    write_last(keeper, back, pid, by)
+}
+
+/// A name of an object, and then the process changes.
+#[inline(never)]
+fn link_apart<K: Keeper, C: Becoming>(
+    keeper: &mut K,
+    pid: Pid,
+    entity: &Entity,
+    object: &ObjId,
+    by: &C,
+) -> Result<(), AllocError>
+    requires process { CanBecomeThere (C.can by.now) (K.look keeper.old (Proc pid)) }
+    requires apart { IsNoProcess entity.now }
+    ensures ok { OnOk result
+        (keeper.new
+        ≡ K.wrote (K.wrote keeper.old entity.now
+        (Some (stored.Value (values.Link object.now)))) (Proc pid)
+        (Some (became (C.after by.now) (K.look keeper.old (Proc pid))))) }
+    ensures err { OnErr result (keeper.new ≡ keeper.old) }
+{
+    let name = EntityState::Value(Value::link(*object));
+    let back = keeper.write(*entity, name)?;
+    write_last(keeper, back, pid, by)
+}
+
+/// A value of a kind with nothing in it, and then the process changes.
+#[inline(never)]
+fn make_apart<K: Keeper, C: Becoming>(
+    keeper: &mut K,
+    pid: Pid,
+    entity: &Entity,
+    kind: Kind,
+    by: &C,
+) -> Result<(), AllocError>
+    requires process { CanBecomeThere (C.can by.now) (K.look keeper.old (Proc pid)) }
+    requires apart { IsNoProcess entity.now }
+    requires kind { kind ≢ Kind.Link }
+    ensures ok { OnOk result
+        (keeper.new
+        ≡ K.wrote (K.wrote keeper.old entity.now
+        (Some (stored.Value (empty_of kind)))) (Proc pid)
+        (Some (became (C.after by.now) (K.look keeper.old (Proc pid))))) }
+    ensures err { OnErr result (keeper.new ≡ keeper.old) }
+{
+    let value = Value::empty(keeper.memory(), kind)?;
+    let back = keeper.write(*entity, EntityState::Value(value))?;
+    write_last(keeper, back, pid, by)
+}
+
+/// The buffer of a process, to be put at an end.
+#[inline]
+fn buffer_behind(process: &Process) -> Change
+    ensures { result ≡ changes.Put process.now.buffer }
+{
+    Change::Put(process.buffer)
+}
+
+/// The buffer of a process is written at a place of a file, and then the process changes. Where nothing is noted of
+/// the process, nothing is kept that takes the first back; so it is at the next two.
+#[tactic(auto, using(crate::proofs::Others::apart_from))]
+fn write_over<K: Keeper, C: Becoming>(
+    keeper: &mut K,
+    pid: Pid,
+    entity: &Entity,
+    offset: u32,
+    by: &C,
+    change: &mut Change,
+) -> Result<(), AllocError>
+    requires process { CanBecomeThere (C.can by.now) (K.look keeper.old (Proc pid)) }
+    requires can { CanBecome (K.look keeper.old entity.now)
+        (written (process_in (K.look keeper.old (Proc pid))) (Writes.At offset)) }
+    requires apart { IsNoProcess entity.now }
+    ensures ok { OnOk result
+        (keeper.new
+        ≡ K.wrote (K.wrote keeper.old entity.now
+        (Some (value_of (K.look keeper.old entity.now)
+        (written (process_in (K.look keeper.old (Proc pid))) (Writes.At offset))))) (Proc pid)
+        (Some (became (C.after by.now) (K.look keeper.old (Proc pid))))) }
+    ensures err { OnErr result (keeper.new ≡ keeper.old) }
+{
+    let Some(process) = keeper.unnoted(pid) else {
+        return write_apart(keeper, pid, entity, &Writes::At(offset), by);
+    };
+    set_write(change, process, offset);
+    keeper.change_both(entity, change, pid, by)
+}
+
+/// It is put at the end of a pipe, and then the process changes.
+#[tactic(auto, using(crate::proofs::Others::apart_from))]
+fn write_behind<K: Keeper, C: Becoming>(
+    keeper: &mut K,
+    pid: Pid,
+    entity: &Entity,
+    by: &C,
+) -> Result<(), AllocError>
+    requires process { CanBecomeThere (C.can by.now) (K.look keeper.old (Proc pid)) }
+    requires can { CanBecome (K.look keeper.old entity.now)
+        (written (process_in (K.look keeper.old (Proc pid))) Writes.Put) }
+    requires apart { IsNoProcess entity.now }
+    ensures ok { OnOk result
+        (keeper.new
+        ≡ K.wrote (K.wrote keeper.old entity.now
+        (Some (value_of (K.look keeper.old entity.now)
+        (written (process_in (K.look keeper.old (Proc pid))) Writes.Put)))) (Proc pid)
+        (Some (became (C.after by.now) (K.look keeper.old (Proc pid))))) }
+    ensures err { OnErr result (keeper.new ≡ keeper.old) }
+{
+    let Some(process) = keeper.unnoted(pid) else {
+        return write_apart(keeper, pid, entity, &Writes::Put, by);
+    };
+    let change = buffer_behind(process);
+    keeper.change_both(entity, &change, pid, by)
+}
+
+/// So many bytes are taken from the front of a pipe, and then the process changes.
+#[tactic(auto, using(crate::proofs::Others::apart_from))]
+fn take_off<K: Keeper, C: Becoming>(
+    keeper: &mut K,
+    pid: Pid,
+    entity: &Entity,
+    count: u32,
+    by: &C,
+) -> Result<(), AllocError>
+    requires process { CanBecomeThere (C.can by.now) (K.look keeper.old (Proc pid)) }
+    requires can { CanBecome (K.look keeper.old entity.now)
+        (written (process_in (K.look keeper.old (Proc pid))) (Writes.Take count)) }
+    requires apart { IsNoProcess entity.now }
+    ensures ok { OnOk result
+        (keeper.new
+        ≡ K.wrote (K.wrote keeper.old entity.now
+        (Some (value_of (K.look keeper.old entity.now)
+        (written (process_in (K.look keeper.old (Proc pid))) (Writes.Take count))))) (Proc pid)
+        (Some (became (C.after by.now) (K.look keeper.old (Proc pid))))) }
+    ensures err { OnErr result (keeper.new ≡ keeper.old) }
+{
+    if !keeper.goes_unnoted(pid) {
+        return write_apart(keeper, pid, entity, &Writes::Take(count), by);
+    }
+    let change = Change::Take(count);
+    keeper.change_both(entity, &change, pid, by)
+}
+
+/// An entity becomes this, and then the process changes. Without memory nothing has changed.
+fn write_both<K: Keeper, C: Becoming>(
+    keeper: &mut K,
+    pid: Pid,
+    entity: &Entity,
+    writes: &Writes,
+    by: &C,
+    change: &mut Change,
+) -> Result<(), AllocError>
+    requires process { CanBecomeThere (C.can by.now) (K.look keeper.old (Proc pid)) }
+    requires can { CanBecome (K.look keeper.old entity.now)
+        (written (process_in (K.look keeper.old (Proc pid))) writes.now) }
+    requires apart { IsNoProcess entity.now }
+    requires version { IsWritable (Beside.One entity.now writes.now) }
+    ensures ok { OnOk result
+        (keeper.new
+        ≡ K.wrote (K.wrote keeper.old entity.now
+        (Some (value_of (K.look keeper.old entity.now)
+        (written (process_in (K.look keeper.old (Proc pid))) writes.now)))) (Proc pid)
+        (Some (became (C.after by.now) (K.look keeper.old (Proc pid))))) }
+    ensures err { OnErr result (keeper.new ≡ keeper.old) }
+{
     match writes {
-        Writes::At(offset) if keeper.goes_unnoted(pid) => {
-            write_over(keeper, pid, entity, *offset, by)
-        }
-        Writes::Put if keeper.goes_unnoted(pid) => write_behind(keeper, pid, entity, by),
-        Writes::Take(count) if keeper.goes_unnoted(pid) => {
-            take_off(keeper, pid, entity, *count, by)
-        }
-        _ => {
-            let back = write_one(keeper, pid, *entity, writes)?;
-            write_last(keeper, back, pid, by)
-        }
+        Writes::At(offset) => write_over(keeper, pid, entity, *offset, by, change),
+        Writes::Put => write_behind(keeper, pid, entity, by),
+        Writes::Take(count) => take_off(keeper, pid, entity, *count, by),
+        Writes::Linked(object) => link_apart(keeper, pid, entity, object, by),
+        Writes::Empty(kind) => make_apart(keeper, pid, entity, *kind, by),
+        _ => write_apart(keeper, pid, entity, writes, by),
     }
 }
 
@@ -383,6 +472,7 @@ fn write_beside<K: Keeper, C: Becoming>(
     pid: Pid,
     beside: &Beside,
     by: &C,
+    change: &mut Change,
 ) -> Result<(), AllocError>
     requires process { CanBecomeThere (C.can by.now) (K.look keeper.old (Proc pid)) }
     requires can { CanDo (K.look keeper.old)
@@ -404,7 +494,7 @@ fn write_beside<K: Keeper, C: Becoming>(
 {
     match beside {
         Beside::Nothing => keeper.change_process(pid, by),
-        Beside::One(entity, writes) => write_both(keeper, pid, entity, writes, by),
+        Beside::One(entity, writes) => write_both(keeper, pid, entity, writes, by, change),
         Beside::Gone(entity) => write_gone(keeper, pid, entity, by),
     }
 }
@@ -417,6 +507,7 @@ fn fill<K: Keeper>(
     from: u64,
     count: u32,
     number: Option<u64>,
+    scratch: &mut Scratch,
 ) -> Result<(), AllocError>
     requires there { IsProcess (K.look keeper.old (Proc pid)) }
     requires fills { row.now.change ≡ ProcessChange.Fills from count number }
@@ -434,18 +525,20 @@ fn fill<K: Keeper>(
         keeper.old) }
     ensures err { OnErr result (keeper.new ≡ keeper.old) }
 {
-    let mut text = Text::empty();
-    read(keeper, &row.looks, from, count, &mut text);
+    let Scratch { text, change } = scratch;
+    read(keeper, &row.looks, from, count, text);
     let number = number.unwrap_or(text.len() as u64);
-    let filling = Filling {
-        text: &text,
-        number,
-    };
-    write_beside(keeper, pid, &row.beside, &filling)
+    let filling = Filling { text, number };
+    write_beside(keeper, pid, &row.beside, &filling, change)
 }
 
 /// A row, as it was planned.
-fn act<K: Keeper>(keeper: &mut K, pid: Pid, row: &Row) -> Result<(), AllocError>
+fn act<K: Keeper>(
+    keeper: &mut K,
+    pid: Pid,
+    row: &Row,
+    scratch: &mut Scratch,
+) -> Result<(), AllocError>
     requires there { IsProcess (K.look keeper.old (Proc pid)) }
     requires change { CanChange (process_in (K.look keeper.old (Proc pid))) row.now.change }
     requires can { CanDo (K.look keeper.old)
@@ -462,12 +555,14 @@ fn act<K: Keeper>(keeper: &mut K, pid: Pid, row: &Row) -> Result<(), AllocError>
     ensures err { OnErr result (keeper.new ≡ keeper.old) }
 {
     match &row.change {
-        ProcessChange::Does(becomes) => write_beside(keeper, pid, &row.beside, becomes),
+        ProcessChange::Does(becomes) => {
+            write_beside(keeper, pid, &row.beside, becomes, &mut scratch.change)
+        }
         ProcessChange::Fills {
             from,
             count,
             number,
-        } => fill(keeper, pid, row, *from, *count, *number),
+        } => fill(keeper, pid, row, *from, *count, *number, scratch),
     }
 }
 
@@ -643,7 +738,7 @@ pub fn apply_plan<K: Keeper>(
             };
             bear(keeper, pid, &forking, *place)
         }
-        Plan::Acts(row) => act(keeper, pid, row),
+        Plan::Acts(row) => act(keeper, pid, row, &mut Scratch::new()),
     }
 }
 
@@ -739,9 +834,9 @@ fn say_buffer<K: Keeper>(
     speak(keeper, terminals, pid, &process)
 }
 
-/// Performs what was planned for the next step of a process: its writes, and the text that it says,
-/// which rests on what the step rests on. Without memory nothing has changed.
-pub fn perform_plan<K: Keeper>(
+/// Performs any plan. It stands by itself, so that the frequent one has no place in its frame.
+#[inline(never)]
+fn perform_any<K: Keeper>(
     keeper: &mut K,
     terminals: &mut Terminals,
     scripts: &Scripts,
@@ -767,4 +862,113 @@ pub fn perform_plan<K: Keeper>(
         return apply_plan(keeper, scripts, pid, input, plan);
     };
     say_buffer(keeper, terminals, pid)
+}
+
+/// Performs what was planned for the next step of a process: its writes, and the text that it says,
+/// which rests on what the step rests on. Without memory nothing has changed.
+#[inline(always)]
+pub fn perform_plan<K: Keeper>(
+    keeper: &mut K,
+    terminals: &mut Terminals,
+    scripts: &Scripts,
+    pid: Pid,
+    input: InputRef<'_>,
+    plan: &Plan,
+) -> Result<(), AllocError>
+    requires { CanPerform (K.look keeper.old) scripts.now pid (input_in input) plan.now }
+    ensures writes { OnOk result
+        (keeper.new
+        ≡ wrote_all K.wrote
+        (writes_of (K.look keeper.old) pid
+        (seen_with (K.look keeper.old) scripts.now pid (input_in input.entry) plan.now))
+        keeper.old) }
+    ensures says { OnOk result
+        (terminals.new
+        ≡ texts_after terminals.old (K.step_tags keeper.old)
+        (said_by (seen_with (K.look keeper.old) scripts.now pid (input_in input.entry) plan.now))) }
+    ensures unwritten { OnErr result (keeper.new ≡ keeper.old) }
+    ensures unsaid { OnErr result (terminals.new ≡ terminals.old) }
+{
+    match plan {
+        Plan::Acts(
+            Row {
+                change: ProcessChange::Does(becomes),
+                beside: Beside::Nothing,
+                ..
+            },
+        ) => keeper.change_process(pid, becomes),
+        _ => perform_any(keeper, terminals, scripts, pid, input, plan),
+    }
+}
+
+/// Performs any plan, with places that the caller keeps.
+#[inline(never)]
+#[tactic(auto, using(crate::proofs::Plans::row_quiet))]
+fn perform_any_with<K: Keeper>(
+    keeper: &mut K,
+    terminals: &mut Terminals,
+    scripts: &Scripts,
+    pid: Pid,
+    input: InputRef<'_>,
+    plan: &Plan,
+    scratch: &mut Scratch,
+) -> Result<(), AllocError>
+    requires { CanPerform (K.look keeper.old) scripts.now pid (input_in input) plan.now }
+    ensures writes { OnOk result
+        (keeper.new
+        ≡ wrote_all K.wrote
+        (writes_of (K.look keeper.old) pid
+        (seen_with (K.look keeper.old) scripts.now pid (input_in input.entry) plan.now))
+        keeper.old) }
+    ensures says { OnOk result
+        (terminals.new
+        ≡ texts_after terminals.old (K.step_tags keeper.old)
+        (said_by (seen_with (K.look keeper.old) scripts.now pid (input_in input.entry) plan.now))) }
+    ensures unwritten { OnErr result (keeper.new ≡ keeper.old) }
+    ensures unsaid { OnErr result (terminals.new ≡ terminals.old) }
+{
+    match plan {
+        Plan::Acts(row) => act(keeper, pid, row, scratch),
+        Plan::Speaks => say_buffer(keeper, terminals, pid),
+        Plan::Private | Plan::Received(_) | Plan::Forks(..) => {
+            apply_plan(keeper, scripts, pid, input, plan)
+        }
+    }
+}
+
+/// The same as `perform_plan`, with places that the caller keeps.
+#[inline(always)]
+pub fn perform_with<K: Keeper>(
+    keeper: &mut K,
+    terminals: &mut Terminals,
+    scripts: &Scripts,
+    pid: Pid,
+    input: InputRef<'_>,
+    plan: &Plan,
+    scratch: &mut Scratch,
+) -> Result<(), AllocError>
+    requires { CanPerform (K.look keeper.old) scripts.now pid (input_in input) plan.now }
+    ensures writes { OnOk result
+        (keeper.new
+        ≡ wrote_all K.wrote
+        (writes_of (K.look keeper.old) pid
+        (seen_with (K.look keeper.old) scripts.now pid (input_in input.entry) plan.now))
+        keeper.old) }
+    ensures says { OnOk result
+        (terminals.new
+        ≡ texts_after terminals.old (K.step_tags keeper.old)
+        (said_by (seen_with (K.look keeper.old) scripts.now pid (input_in input.entry) plan.now))) }
+    ensures unwritten { OnErr result (keeper.new ≡ keeper.old) }
+    ensures unsaid { OnErr result (terminals.new ≡ terminals.old) }
+{
+    match plan {
+        Plan::Acts(
+            Row {
+                change: ProcessChange::Does(what),
+                beside: Beside::Nothing,
+                ..
+            },
+        ) => keeper.change_process(pid, what),
+        _ => perform_any_with(keeper, terminals, scripts, pid, input, plan, scratch),
+    }
 }

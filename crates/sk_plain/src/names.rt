@@ -1,5 +1,5 @@
 //! What the instructions on names of directories will do.
-ghost use Rattle.std.specs.Prelude.{◌≡◌, ◌+◌, ◌<◌, ◌^◌, [], Ok, Option};
+ghost use Rattle.std.specs.Prelude.{◌≡◌, ◌+◌, ◌<◌, ◌^◌, [], IfSome, Ok, Option};
 ghost use Rattle.sk_record.specs.Step.{Ask};
 ghost use Rattle.sk_ids.specs.declared.entity.Entity.TheVariants.{Obj, Link};
 ghost use Rattle.sk_script.specs.Registers.{held};
@@ -43,7 +43,52 @@ pub(crate) fn look<S: Look>(
     }
 }
 
-/// The same, put into a plan. A frequent row stands by itself, so that no other one has a place in its frame.
+/// The row of a name that is there, which is the frequent one.
+#[inline(always)]
+fn look_found<S: Look>(
+    store: &S,
+    pid: Pid,
+    process: &Process,
+    register: Register,
+    directory: Register,
+    name: &Name,
+) -> Option<Row>
+    requires { process.now.place + 1 < 2 ^ 32 }
+    ensures { IfSome result
+        (λ row. PlansRow (S.look store.now) process.now pid
+        (look_row pid process.now register (object_in (held process.now.registers directory))
+        name.now) (Ok row)) }
+{
+    let at = object_at(process, directory)?;
+    if no_directory(store, &at).is_some() {
+        return None;
+    }
+    let object = target_at(store, &at, name)?;
+    Some(looked_up(given(register, Val::Obj(object)), &at, name))
+}
+
+/// Any row of `look`, put into a plan.
+#[inline(never)]
+#[tactic(auto, using(crate::proofs::Plans::rows))]
+fn put_any_look<S: Look>(
+    store: &S,
+    pid: Pid,
+    process: &Process,
+    register: Register,
+    directory: Register,
+    name: &Name,
+    plan: &mut Plan,
+)
+    requires { process.now.place + 1 < 2 ^ 32 }
+    ensures { (i : Option Instruction)
+        → PlansAfter (S.look store.now) i Input.None process.now [] pid
+        (look_row pid process.now register (object_in (held process.now.registers directory))
+        name.now) (Ok plan.new) }
+{
+    *plan = Plan::Acts(look(store, pid, process, register, directory, name));
+}
+
+/// The same. A frequent row stands by itself, so that no other one has a place in its frame.
 #[inline(never)]
 #[tactic(auto, using(crate::proofs::Plans::rows))]
 pub(crate) fn put_look<S: Look>(
@@ -61,7 +106,10 @@ pub(crate) fn put_look<S: Look>(
         (look_row pid process.now register (object_in (held process.now.registers directory))
         name.now) (Ok plan.new) }
 {
-    *plan = Plan::Acts(look(store, pid, process, register, directory, name));
+    match look_found(store, pid, process, register, directory, name) {
+        Some(row) => *plan = Plan::Acts(row),
+        None => put_any_look(store, pid, process, register, directory, name, plan),
+    }
 }
 
 /// A name linked in a directory.
@@ -111,7 +159,52 @@ pub(crate) fn link<S: Look>(
     link_to(store, pid, process, &at, name, &object)
 }
 
-/// The same, put into a plan. A frequent row stands by itself, so that no other one has a place in its frame.
+/// The row of a name that is free, which is the frequent one.
+#[inline(always)]
+fn link_free<S: Look>(
+    store: &S,
+    pid: Pid,
+    process: &Process,
+    directory: Register,
+    name: &Name,
+    object: Register,
+) -> Option<Row>
+    requires { process.now.place + 1 < 2 ^ 32 }
+    ensures { IfSome result
+        (λ row. PlansRow (S.look store.now) process.now pid
+        (link_row pid process.now (object_in (held process.now.registers directory)) name.now
+        (object_in (held process.now.registers object))) (Ok row)) }
+{
+    let at = object_at(process, directory)?;
+    let object = object_at(process, object)?;
+    if no_directory(store, &at).is_some() || store.value(Entity::Link(at, *name)).is_some() {
+        return None;
+    }
+    Some(linked(answered(0), &at, name, &object))
+}
+
+/// Any row of `link`, put into a plan.
+#[inline(never)]
+#[tactic(auto, using(crate::proofs::Plans::rows))]
+fn put_any_link<S: Look>(
+    store: &S,
+    pid: Pid,
+    process: &Process,
+    directory: Register,
+    name: &Name,
+    object: Register,
+    plan: &mut Plan,
+)
+    requires { process.now.place + 1 < 2 ^ 32 }
+    ensures { (i : Option Instruction)
+        → PlansAfter (S.look store.now) i Input.None process.now [] pid
+        (link_row pid process.now (object_in (held process.now.registers directory)) name.now
+        (object_in (held process.now.registers object))) (Ok plan.new) }
+{
+    *plan = Plan::Acts(link(store, pid, process, directory, name, object));
+}
+
+/// The same. A frequent row stands by itself, so that no other one has a place in its frame.
 #[inline(never)]
 #[tactic(auto, using(crate::proofs::Plans::rows))]
 pub(crate) fn put_link<S: Look>(
@@ -129,7 +222,10 @@ pub(crate) fn put_link<S: Look>(
         (link_row pid process.now (object_in (held process.now.registers directory)) name.now
         (object_in (held process.now.registers object))) (Ok plan.new) }
 {
-    *plan = Plan::Acts(link(store, pid, process, directory, name, object));
+    match link_free(store, pid, process, directory, name, object) {
+        Some(row) => *plan = Plan::Acts(row),
+        None => put_any_link(store, pid, process, directory, name, object, plan),
+    }
 }
 
 /// `unlink rD NAME`
@@ -158,7 +254,49 @@ pub(crate) fn unlink<S: Look>(
     unlinked(answered(0), at, name)
 }
 
-/// The same, put into a plan. A frequent row stands by itself, so that no other one has a place in its frame.
+/// The row of a name that is there, which is the frequent one.
+#[inline(always)]
+fn unlink_found<S: Look>(
+    store: &S,
+    pid: Pid,
+    process: &Process,
+    directory: Register,
+    name: &Name,
+) -> Option<Row>
+    requires { process.now.place + 1 < 2 ^ 32 }
+    ensures { IfSome result
+        (λ row. PlansRow (S.look store.now) process.now pid
+        (unlink_row pid process.now (object_in (held process.now.registers directory)) name.now)
+        (Ok row)) }
+{
+    let at = object_at(process, directory)?;
+    if no_directory(store, &at).is_some() || store.value(Entity::Link(at, *name)).is_none() {
+        return None;
+    }
+    Some(unlinked(answered(0), &at, name))
+}
+
+/// Any row of `unlink`, put into a plan.
+#[inline(never)]
+#[tactic(auto, using(crate::proofs::Plans::rows))]
+fn put_any_unlink<S: Look>(
+    store: &S,
+    pid: Pid,
+    process: &Process,
+    directory: Register,
+    name: &Name,
+    plan: &mut Plan,
+)
+    requires { process.now.place + 1 < 2 ^ 32 }
+    ensures { (i : Option Instruction)
+        → PlansAfter (S.look store.now) i Input.None process.now [] pid
+        (unlink_row pid process.now (object_in (held process.now.registers directory)) name.now)
+        (Ok plan.new) }
+{
+    *plan = Plan::Acts(unlink(store, pid, process, directory, name));
+}
+
+/// The same. A frequent row stands by itself, so that no other one has a place in its frame.
 #[inline(never)]
 #[tactic(auto, using(crate::proofs::Plans::rows))]
 pub(crate) fn put_unlink<S: Look>(
@@ -175,5 +313,8 @@ pub(crate) fn put_unlink<S: Look>(
         (unlink_row pid process.now (object_in (held process.now.registers directory)) name.now)
         (Ok plan.new) }
 {
-    *plan = Plan::Acts(unlink(store, pid, process, directory, name));
+    match unlink_found(store, pid, process, directory, name) {
+        Some(row) => *plan = Plan::Acts(row),
+        None => put_any_unlink(store, pid, process, directory, name, plan),
+    }
 }

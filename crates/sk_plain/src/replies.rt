@@ -30,6 +30,7 @@ fn fetched(version: u64) -> ProcessChange
 }
 
 /// A fetch from the cached copy.
+#[inline(always)]
 fn from_copy<S: Look>(store: &S, pid: Pid, process: &Process, name: Name) -> Result<Row, Refusal>
     requires { process.now.place + 1 < 2 ^ 32 }
     ensures { PlansRow (S.look store.now) process.now pid
@@ -68,6 +69,7 @@ fn over_copy<S: Look>(store: &S, pid: Pid, process: &Process, name: Name) -> Res
 }
 
 /// A step whose cached copy is said to be good.
+#[inline(always)]
 pub(crate) fn good<S: Look>(
     store: &S,
     pid: Pid,

@@ -189,6 +189,7 @@ fn put_tabled<S: Look>(
 }
 
 /// What an instruction will do that is not private, without input.
+#[inline(never)]
 #[tactic(auto, using(crate::proofs::Plans::rows))]
 fn acted<S: Look>(
     store: &S,
@@ -285,6 +286,7 @@ fn signalled<S: Look>(
 }
 
 /// What a process does next without input. Mostly it has no signals.
+#[inline(always)]
 fn with_signals<S: Look>(
     store: &S,
     pid: Pid,
@@ -329,10 +331,13 @@ fn replied<S: Look>(
         process.now plan) ≡ None) }
 {
     match input {
-        InputRef::Good => {
-            let row = replies::good(store, pid, process, instruction);
-            keep(plan, plan_of(row))
-        }
+        InputRef::Good => match replies::good(store, pid, process, instruction) {
+            Ok(row) => {
+                *plan = Plan::Acts(row);
+                Ok(())
+            }
+            Err(why) => Err(why),
+        },
         InputRef::Fresh(content) => {
             let planned = replies::fresh(store, pid, process, instruction, content);
             keep(plan, planned)
@@ -346,7 +351,7 @@ fn replied<S: Look>(
 }
 
 /// The next step of a process that goes on.
-#[inline(never)]
+#[inline(always)]
 fn with_input<S: Look>(
     store: &S,
     pid: Pid,

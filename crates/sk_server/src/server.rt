@@ -137,8 +137,14 @@ impl Server {
             replies.new.items }
     {
         let verdict = self.decide(request)?;
-        let answer = self.answer_of(&request.ask, verdict);
         let number = request.number;
+        // Most requests are answered so, and that reply needs no content.
+        if let Verdict::Yes = verdict {
+            let answer = Answer::Yes;
+            replies.push_back_reserved(Reply { number, answer });
+            return Ok(());
+        }
+        let answer = self.answer_of(&request.ask, verdict);
         replies.push_back_reserved(Reply { number, answer });
         Ok(())
     }

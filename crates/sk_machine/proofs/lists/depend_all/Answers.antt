@@ -1,7 +1,7 @@
 -- One entity more is in the lists of all the guesses; without memory all are taken out again.
 use Rattle.sk_machine.proofs.Names.{take, sym, ◌∙◌, ap, subst, opens_of, AllAlmostExact, AllExact, tags_in, with_tags}
 use Rattle.sk_machine.proofs.Given.{from_ok, from_err}
-use Rattle.sk_machine.proofs.Listed.{almost_of, depends_exact, depends_opens, in_front, in_place, take_all, take_next}
+use Rattle.sk_machine.proofs.Listed.{almost_of, depends_exact, depends_opens, in_front, in_place, later_exact, take_all, take_next}
 use Rattle.sk_machine.proofs.lists.depend_all.Goals as goal
 
 pub relieve_all-requires-clause-almost : goal.relieve_all-requires-clause-almost
@@ -34,3 +34,7 @@ loop-entity-preserved c =
 pub returns-clause-ok : goal.returns-clause-ok
 returns-clause-ok c =
     subst (λ ys. AllExact (with_tags c.args.tags.now ys (tags_in c.args.logs.now.slots)) c.loop-entity.guesses.opens) (take_all c.args.entities.now c.loop-entity.entity-index c.loop-entity-test.false) c.loop-entity.invariant.exact
+
+pub returns-then-are_later-clause-ok : goal.returns-then-are_later-clause-ok
+returns-then-are_later-clause-ok c =
+    later_exact c.args.tags.now c.args.entities.now (tags_in c.args.logs.now.slots) c.requires.covers c.args.guesses.now.opens (c.are_later.ensures c.if-are_later.true) c.requires.exact

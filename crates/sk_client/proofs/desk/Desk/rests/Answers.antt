@@ -7,7 +7,7 @@ pub returns : goal.returns
 returns c =
     let same = c.kernel-kernel.ensures in
     let sound : HasSoundTrace c.args.self.now.kernel = subst (λ (k : KernelView). HasSoundTrace k) same c.trace-sound.ensures.sound in
-    rests_found c.args.self.now.kernel sound c.args.pid c.args.name.now c.union.result _ _
+    rests_found c.args.self.now.kernel sound c.args.pid c.args.name.now c.either.result _ _
     (c.tags_of-process.ensures.computed ∙ ap (λ (k : KernelView). tags_at k (Proc c.args.pid)) same)
     (c.tags_of-copy.ensures.computed ∙ ap (λ (k : KernelView). tags_at k (Copy c.args.name.now)) same)
-    c.union.ensures.members c.union.ensures.rising
+    c.either.ensures.members c.either.ensures.rising

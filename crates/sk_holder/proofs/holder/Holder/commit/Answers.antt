@@ -4,18 +4,18 @@ use Rattle.sk_holder.proofs.holder.Holder.commit.Goals as goal
 
 pub unreachable-requires : goal.unreachable-requires
 unreachable-requires c =
-    commit_met c.self.inside.kernel c.self.inside.tokens.items c.remove-token.new.self.items _ c.self.view_is c.remove-token.result c.in_ok-place.place c.args.id c.self.invariant
-    c.trace-sound.ensures.sound c.in_ok-place.ensures.there c.remove-token.ensures.value c.remove-token.ensures.items c.commit_speculation.result
+    commit_met c.self.inside.kernel c.self.inside.tokens.items c.take_token-token.new.tokens.items _ c.self.view_is c.take_token-token.result c.in_ok-place.place c.args.id c.self.invariant
+    c.trace-sound.ensures.sound c.in_ok-place.ensures.there c.take_token-token.ensures.value c.take_token-token.ensures.items c.commit_speculation.result
     c.in-Err._stranger c.commit_speculation.new.self c.commit_speculation.ensures c.in-Err.is
 
 pub invariant_of-self : goal.invariant_of-self
 invariant_of-self c =
-    commit_holds c.self.inside.kernel c.self.inside.tokens.items c.remove-token.new.self.items _ c.self.view_is c.remove-token.result c.in_ok-place.place c.args.id c.self.invariant
-    c.trace-sound.ensures.sound c.in_ok-place.ensures.there c.remove-token.ensures.value c.remove-token.ensures.items c.commit_speculation.result
+    commit_holds c.self.inside.kernel c.self.inside.tokens.items c.take_token-token.new.tokens.items _ c.self.view_is c.take_token-token.result c.in_ok-place.place c.args.id c.self.invariant
+    c.trace-sound.ensures.sound c.in_ok-place.ensures.there c.take_token-token.ensures.value c.take_token-token.ensures.items c.commit_speculation.result
     c.in-Ok.outcome c.commit_speculation.new.self c.commit_speculation.ensures c.in-Ok.is
 
 pub returns : goal.returns
 returns c =
-    commit_decides c.self.inside.kernel c.self.inside.tokens.items c.remove-token.new.self.items _ c.self.view_is c.remove-token.result c.in_ok-place.place c.args.id c.self.invariant
-    c.trace-sound.ensures.sound c.in_ok-place.ensures.there c.remove-token.ensures.value c.remove-token.ensures.items c.commit_speculation.result
+    commit_decides c.self.inside.kernel c.self.inside.tokens.items c.take_token-token.new.tokens.items _ c.self.view_is c.take_token-token.result c.in_ok-place.place c.args.id c.self.invariant
+    c.trace-sound.ensures.sound c.in_ok-place.ensures.there c.take_token-token.ensures.value c.take_token-token.ensures.items c.commit_speculation.result
     c.in-Ok.outcome c.commit_speculation.new.self c.commit_speculation.ensures c.in-Ok.is

@@ -10,13 +10,13 @@ use Rattle.sk_kernel.proofs.Refusals.{guess_misfit, guess_too_many, guess_withou
 use Rattle.sk_kernel.proofs.Opened.{still_opened, few_open}
 use Rattle.sk_kernel.proofs.kernel.Kernel.speculate_lent.Goals as goal
 
-pub returns-in-Err : goal.returns-in-Err
-returns-in-Err c =
+pub returns-in_err-plan_guess : goal.returns-in_err-plan_guess
+returns-in_err-plan_guess c =
     let n : EntryView = record { pid = c.args.pid; input = (input_in c.args.input); guess = Some (next_guess c.args.self.now) } in
-    let why = c.in-Err.why in
+    let why = c.in_err-plan_guess.field-0.0 in
     let refused = subst (λ (k : KernelView). guess_refused k n ≡ Some why) c.self.view_is
-    (guess_misfit (the_view c.self.inside) c.self.inside.machine c.self.inside.trace.room c.self.invariant.0 n why c.in-Err.ensures.0) in
-    let told = c.in-Err.ensures.1 in
+    (guess_misfit (the_view c.self.inside) c.self.inside.machine c.self.inside.trace.room c.self.invariant.0 n why c.in_err-plan_guess.ensures.0) in
+    let told = c.in_err-plan_guess.ensures.1 in
     search (rules, refused, told)
 
 pub take_guess-requires-clause-tidy : goal.take_guess-requires-clause-tidy
@@ -29,7 +29,7 @@ pub returns-then-is_full : goal.returns-then-is_full
 returns-then-is_full c =
     let n : EntryView = record { pid = c.args.pid; input = (input_in c.args.input); guess = Some (next_guess c.args.self.now) } in (
       subst (λ (k : KernelView). guess_refused k n ≡ Some TooMany) c.self.view_is
-          (guess_too_many (the_view c.self.inside) c.self.inside.machine c.self.inside.trace.room c.self.invariant.0 n c.in-Ok.ensures.1 (sym c.is_full.ensures ∙ c.if-is_full.true)),
+          (guess_too_many (the_view c.self.inside) c.self.inside.machine c.self.inside.trace.room c.self.invariant.0 n c.in_ok-plan_guess.ensures.1 (sym c.is_full.ensures ∙ c.if-is_full.true)),
       refl,
     )
 
@@ -37,7 +37,7 @@ pub returns-then-room-lt2 : goal.returns-then-room-lt2
 returns-then-room-lt2 c =
     let n : EntryView = record { pid = c.args.pid; input = (input_in c.args.input); guess = Some (next_guess c.args.self.now) } in (
       subst (λ (k : KernelView). guess_refused k n ≡ Some TraceFull) c.self.view_is
-          (guess_without_room (the_view c.self.inside) c.self.inside.machine c.self.inside.trace.room c.self.invariant.0 n c.in-Ok.ensures.1 (sym c.is_full.ensures ∙ c.if-is_full.false)
+          (guess_without_room (the_view c.self.inside) c.self.inside.machine c.self.inside.trace.room c.self.invariant.0 n c.in_ok-plan_guess.ensures.1 (sym c.is_full.ensures ∙ c.if-is_full.false)
           c.room.result (c.room.ensures ∙ ap room (sym c.self.view_is)) c.if-room-lt2.true),
       refl,
     )
@@ -46,17 +46,17 @@ pub returns-then-is_err : goal.returns-then-is_err
 returns-then-is_err c =
     let n : EntryView = record { pid = c.args.pid; input = (input_in c.args.input); guess = Some (next_guess c.args.self.now) } in (
       subst (λ (k : KernelView). guess_refused k n ≡ None) c.self.view_is
-          (guess_free (the_view c.self.inside) c.self.inside.machine c.self.inside.trace.room c.self.invariant.0 n c.in-Ok.ensures.1 (sym c.is_full.ensures ∙ c.if-is_full.false)
+          (guess_free (the_view c.self.inside) c.self.inside.machine c.self.inside.trace.room c.self.invariant.0 n c.in_ok-plan_guess.ensures.1 (sym c.is_full.ensures ∙ c.if-is_full.false)
           c.room.result (c.room.ensures ∙ ap room (sym c.self.view_is)) c.if-room-lt2.false),
       (λ i. record { number = c.self.inside.machine.guesses.kernel; scripts = c.self.inside.opening.start.scripts; start = c.self.inside.opening.start.state; limit = c.self.inside.opening.limit; earlier = c.self.inside.machine.guesses.earlier; trace = c.reserve.ensures.events i })
           ∙ c.self.view_is,
     )
 
-pub returns-in-Err-keep : goal.returns-in-Err-keep
-returns-in-Err-keep c =
+pub returns-in-Err : goal.returns-in-Err
+returns-in-Err c =
     let n : EntryView = record { pid = c.args.pid; input = (input_in c.args.input); guess = Some (next_guess c.args.self.now) } in (
       subst (λ (k : KernelView). guess_refused k n ≡ None) c.self.view_is
-          (guess_free (the_view c.self.inside) c.self.inside.machine c.self.inside.trace.room c.self.invariant.0 n c.in-Ok.ensures.1 (sym c.is_full.ensures ∙ c.if-is_full.false)
+          (guess_free (the_view c.self.inside) c.self.inside.machine c.self.inside.trace.room c.self.invariant.0 n c.in_ok-plan_guess.ensures.1 (sym c.is_full.ensures ∙ c.if-is_full.false)
           c.room.result (c.room.ensures ∙ ap room (sym c.self.view_is)) c.if-room-lt2.false),
       (λ i. record { number = c.self.inside.machine.guesses.kernel; scripts = c.self.inside.opening.start.scripts; start = c.self.inside.opening.start.state; limit = c.self.inside.opening.limit; earlier = c.self.inside.machine.guesses.earlier; trace = c.reserve.ensures.events i })
           ∙ c.self.view_is,
@@ -67,7 +67,7 @@ returns-in_default c =
     let n : EntryView = record { pid = c.args.pid; input = (input_in c.args.input); guess = Some (next_guess c.args.self.now) } in
     let same = c.in_default.ensures.err in (
       subst (λ (k : KernelView). guess_refused k n ≡ None) c.self.view_is
-          (guess_free (the_view c.self.inside) c.self.inside.machine c.self.inside.trace.room c.self.invariant.0 n c.in-Ok.ensures.1 (sym c.is_full.ensures ∙ c.if-is_full.false)
+          (guess_free (the_view c.self.inside) c.self.inside.machine c.self.inside.trace.room c.self.invariant.0 n c.in_ok-plan_guess.ensures.1 (sym c.is_full.ensures ∙ c.if-is_full.false)
           c.room.result (c.room.ensures ∙ ap room (sym c.self.view_is)) c.if-room-lt2.false),
       (λ i. record { number = (same i).guesses.kernel; scripts = c.self.inside.opening.start.scripts; start = c.self.inside.opening.start.state; limit = c.self.inside.opening.limit; earlier = (same i).guesses.earlier; trace = c.reserve.ensures.events i })
           ∙ c.self.view_is,
@@ -83,7 +83,7 @@ invariant_of-self-2 c =
     let number = c.id-id.ensures ∙ ap (λ t. t.id) c.in-Ok-take_guess.ensures.token in (
       guessed_whole (the_view c.self.inside) c.self.inside.machine c.self.inside.trace.room c.self.invariant.0 c.take_guess.new.self c.push.new.self.room c.args.pid (input_in c.args.input) c.id-id.result c.push.new.self.events
           takes c.in-Ok-take_guess.ensures.guesses number
-          (c.push.ensures.events ∙ (λ i. c.reserve.ensures.events i ++ events.Guess c.id-id.result c.args.pid (c.in-Ok-keep.ensures.ok i) ∷ []))
+          (c.push.ensures.events ∙ (λ i. c.reserve.ensures.events i ++ events.Guess c.id-id.result c.args.pid (c.in-Ok.ensures.ok i) ∷ []))
           (omega (arith, reserved, pushed, counted)),
       still_opened (the_view c.self.inside) _ _ c.push.new.self.events _ c.self.invariant.1 (ap (λ v. v.kernel) c.in-Ok-take_guess.ensures.guesses) (ap (λ v. v.earlier) c.in-Ok-take_guess.ensures.guesses),
     )
@@ -93,7 +93,7 @@ returns c =
     let n : EntryView = record { pid = c.args.pid; input = (input_in c.args.input); guess = Some (next_guess c.args.self.now) } in
     let next = next_is (the_view c.self.inside) c.self.inside.machine c.self.inside.trace.room c.self.invariant.0 ∙ ap next_guess c.self.view_is in
     let number = c.id-id.ensures ∙ ap (λ t. t.id) c.in-Ok-take_guess.ensures.token ∙ next in
-    let more = c.push.ensures.events ∙ (λ i. c.reserve.ensures.events i ++ events.Guess c.id-id.result c.args.pid (c.in-Ok-keep.ensures.ok i) ∷ []) ∙ ap (λ g. c.self.inside.trace.events ++ events.Guess g c.args.pid (input_in c.args.input) ∷ []) number in
+    let more = c.push.ensures.events ∙ (λ i. c.reserve.ensures.events i ++ events.Guess c.id-id.result c.args.pid (c.in-Ok.ensures.ok i) ∷ []) ∙ ap (λ g. c.self.inside.trace.events ++ events.Guess g c.args.pid (input_in c.args.input) ∷ []) number in
     let left =
     (λ i. record { number = (c.in-Ok-take_guess.ensures.guesses i).kernel; scripts = c.self.inside.opening.start.scripts; start = c.self.inside.opening.start.state; limit = c.self.inside.opening.limit; earlier = (c.in-Ok-take_guess.ensures.guesses i).earlier; trace = more i })
     ∙ ap (λ (k : KernelView). with_event k (events.Guess (next_guess c.args.self.now) c.args.pid (input_in c.args.input))) c.self.view_is in
@@ -103,7 +103,7 @@ returns c =
     subst (λ (k : KernelView). IsNew k (with_event k (events.Guess (next_guess k) c.args.pid (input_in c.args.input)))) c.self.view_is
     (guess_new (the_view c.self.inside) c.self.inside.machine c.self.inside.trace.room c.self.invariant.0 c.take_guess.new.self c.args.pid (input_in c.args.input) takes) in (
       subst (λ (k : KernelView). guess_refused k n ≡ None) c.self.view_is
-          (guess_free (the_view c.self.inside) c.self.inside.machine c.self.inside.trace.room c.self.invariant.0 n c.in-Ok.ensures.1 (sym c.is_full.ensures ∙ c.if-is_full.false)
+          (guess_free (the_view c.self.inside) c.self.inside.machine c.self.inside.trace.room c.self.invariant.0 n c.in_ok-plan_guess.ensures.1 (sym c.is_full.ensures ∙ c.if-is_full.false)
           c.room.result (c.room.ensures ∙ ap room (sym c.self.view_is)) c.if-room-lt2.false),
       c.in-Ok-take_guess.ensures.token ∙ (λ i. record { kernel = (ap (λ (k : KernelView). k.number) c.self.view_is) i; id = next i }),
       left,

@@ -46,17 +46,17 @@ pub returns-clause-fails : goal.returns-clause-fails
 returns-clause-fails c =
     let os = c.self.inside.guesses.opens in
     let a : Parts = record { slots = c.self.inside.logs.slots; opens = opens_of os; guesses = c.self.inside.guesses.view; texts = c.self.inside.terminals } in
-    let b : Parts = record { slots = c.unwind.new.self.slots; opens = opens_of c.relieve_freed.new.guesses.opens; guesses = c.relieve_freed.new.guesses.view; texts = c.drop_of.new.self } in
+    let b : Parts = record { slots = c.unwind.new.self.slots; opens = opens_of c.reuse.new.self.opens; guesses = c.reuse.new.self.view; texts = c.drop_of.new.self } in
     let undecided : status_since a.guesses c.args.id ≡ Some Undecided = ap (λ (p : Parts). status_since p.guesses c.args.id) c.self.view_is ∙ c.requires.undecided in
     let still : status_since c.take_dependents-freed.new.self.view c.args.id ≡ Some Undecided = ap (λ v. status_since v c.args.id) c.take_dependents-freed.ensures.view ∙ undecided in
     let failed = c.fail.ensures.undecided still in
     let view : c.fail.new.self.view ≡ decided a.guesses c.args.id Failed = failed.view ∙ ap (λ v. decided v c.args.id Failed) c.take_dependents-freed.ensures.view in
     let kept : c.fail.new.self.opens ≡ but c.args.id os = failed.opens ∙ ap (but c.args.id) c.take_dependents-freed.ensures.opens ∙ but_taken c.args.id os in
     let opens : b.opens ≡ not_struck c.args.id a.opens =
-    c.relieve_freed.ensures.opens ∙ ap opens_of c.strike_resting.ensures.opens ∙ c.fail.ensures.resting
+    ap opens_of c.reuse.ensures.opens ∙ c.relieve_freed.ensures.opens ∙ ap opens_of c.strike_resting.ensures.opens ∙ c.fail.ensures.resting
     ∙ ap (not_struck c.args.id) (ap opens_of c.take_dependents-freed.ensures.opens ∙ taken_opens c.args.id os) in
     let statuses : (h : ℕ) → status_since b.guesses h ≡ with_failure c.args.id a.opens (status_since a.guesses) h = λ h.
-    ap (λ v. status_since v h) c.relieve_freed.ensures.view ∙ c.strike_resting.ensures.statuses h
+    ap (λ v. status_since v h) (c.reuse.ensures.view ∙ c.relieve_freed.ensures.view) ∙ c.strike_resting.ensures.statuses h
     ∙ (λ i. cond (rests_on c.args.id (opens_of (kept i)) h) (Some Struck) (status_since (view i) h))
     ∙ failed_status a.guesses c.args.id os undecided h in
     subst (λ (p : Parts). Fails (machine_of p) c.args.id (machine_of b)) c.self.view_is
@@ -66,7 +66,7 @@ pub returns-clause-kernel : goal.returns-clause-kernel
 returns-clause-kernel c =
     let undecided : status_since c.self.inside.guesses.view c.args.id ≡ Some Undecided = ap (λ (p : Parts). status_since p.guesses c.args.id) c.self.view_is ∙ c.requires.undecided in
     let still : status_since c.take_dependents-freed.new.self.view c.args.id ≡ Some Undecided = ap (λ v. status_since v c.args.id) c.take_dependents-freed.ensures.view ∙ undecided in
-    ap (λ (v : GuessesView). v.kernel) c.relieve_freed.ensures.view ∙ c.strike_resting.ensures.kernel ∙ ap (λ (v : GuessesView). v.kernel) ((c.fail.ensures.undecided still).view)
+    ap (λ (v : GuessesView). v.kernel) (c.reuse.ensures.view ∙ c.relieve_freed.ensures.view) ∙ c.strike_resting.ensures.kernel ∙ ap (λ (v : GuessesView). v.kernel) ((c.fail.ensures.undecided still).view)
     ∙ ap (λ (v : GuessesView). v.kernel) c.take_dependents-freed.ensures.view ∙ ap (λ (p : Parts). p.guesses.kernel) c.self.view_is
 
 pub returns-clause-drawn : goal.returns-clause-drawn
@@ -74,12 +74,12 @@ returns-clause-drawn c =
     let undecided : status_since c.self.inside.guesses.view c.args.id ≡ Some Undecided = ap (λ (p : Parts). status_since p.guesses c.args.id) c.self.view_is ∙ c.requires.undecided in
     let still : status_since c.take_dependents-freed.new.self.view c.args.id ≡ Some Undecided = ap (λ v. status_since v c.args.id) c.take_dependents-freed.ensures.view ∙ undecided in
     let set : length c.fail.new.self.view.statuses ≡ length c.take_dependents-freed.new.self.view.statuses = ap (λ (v : GuessesView). length v.statuses) ((c.fail.ensures.undecided still).view) ∙ rw length-set refl in
-    ap (λ (v : GuessesView). length v.statuses) c.relieve_freed.ensures.view ∙ c.strike_resting.ensures.drawn ∙ set
+    ap (λ (v : GuessesView). length v.statuses) (c.reuse.ensures.view ∙ c.relieve_freed.ensures.view) ∙ c.strike_resting.ensures.drawn ∙ set
     ∙ ap (λ (v : GuessesView). length v.statuses) c.take_dependents-freed.ensures.view ∙ ap (λ (p : Parts). length p.guesses.statuses) c.self.view_is
 
 pub returns-clause-earlier : goal.returns-clause-earlier
 returns-clause-earlier c =
     let undecided : status_since c.self.inside.guesses.view c.args.id ≡ Some Undecided = ap (λ (p : Parts). status_since p.guesses c.args.id) c.self.view_is ∙ c.requires.undecided in
     let still : status_since c.take_dependents-freed.new.self.view c.args.id ≡ Some Undecided = ap (λ v. status_since v c.args.id) c.take_dependents-freed.ensures.view ∙ undecided in
-    ap (λ (v : GuessesView). v.earlier) c.relieve_freed.ensures.view ∙ c.strike_resting.ensures.earlier ∙ ap (λ (v : GuessesView). v.earlier) ((c.fail.ensures.undecided still).view)
+    ap (λ (v : GuessesView). v.earlier) (c.reuse.ensures.view ∙ c.relieve_freed.ensures.view) ∙ c.strike_resting.ensures.earlier ∙ ap (λ (v : GuessesView). v.earlier) ((c.fail.ensures.undecided still).view)
     ∙ ap (λ (v : GuessesView). v.earlier) c.take_dependents-freed.ensures.view ∙ ap (λ (p : Parts). p.guesses.earlier) c.self.view_is

@@ -13,7 +13,7 @@ use Rattle.sk_machine.proofs.machine.Machine.take_guess.Goals as goal
 
 pub depend_all-requires-clause-covers : goal.depend_all-requires-clause-covers
 depend_all-requires-clause-covers c =
-    subst (λ (es : List Entity). Covers c.in_ok-tags.tags es (tags_in c.self.inside.logs.slots)) (sym (c.as_slice-entities.ensures.value ∙ c.writes-written.ensures))
+    subst (λ (es : List Entity). Covers c.in_ok-tags.tags es (tags_in c.self.inside.logs.slots)) (sym (c.as_slice-entities.ensures.value ∙ c.put_written.ensures))
     (subst (λ (m : Parts). Covers c.in_ok-tags.tags (written_in c.args.pid c.args.plan.now) (tags_in m.slots)) (sym c.self.view_is) c.in_ok-tags.ensures.covers)
 
 pub perform_guess-performed-requires-clause-clean : goal.perform_guess-performed-requires-clause-clean
@@ -25,7 +25,7 @@ perform_guess-performed-requires-clause-clean c =
 pub relieve_all-requires-clause-almost : goal.relieve_all-requires-clause-almost
 relieve_all-requires-clause-almost c =
     let m = c.self.inside.logs.slots in
-    let covers = subst (λ (es : List Entity). Covers c.in_ok-tags.tags es (tags_in m)) (sym (c.as_slice-entities.ensures.value ∙ c.writes-written.ensures))
+    let covers = subst (λ (es : List Entity). Covers c.in_ok-tags.tags es (tags_in m)) (sym (c.as_slice-entities.ensures.value ∙ c.put_written.ensures))
     (subst (λ (p : Parts). Covers c.in_ok-tags.tags (written_in c.args.pid c.args.plan.now) (tags_in p.slots)) (sym c.self.view_is) c.in_ok-tags.ensures.covers) in
     subst (AllAlmostExact (tags_in c.perform_guess-performed.new.logs.slots) c.as_slice-entities.result.now) (sym c.perform_guess-performed.ensures.opens)
     (unperformed m c.perform_guess-performed.new.logs.slots c.in_ok-tags.tags c.as_slice-entities.result.now (from_err c.perform_guess-performed.result c.if-is_err.ensures.value c.perform_guess-performed.ensures.unwritten) covers c.depend_all.new.guesses.opens c.in_ok-depend_all.ensures.ok)
@@ -38,7 +38,7 @@ invariant_of-self-2 c =
     let plan = seen_with (look_at m) c.args.scripts.now c.args.pid (input_in c.args.input) c.args.plan.now in
     let ws = writes_of (look_at m) c.args.pid plan in
     let es = c.as_slice-entities.result.now in
-    let written : es ≡ entities_of ws = c.as_slice-entities.ensures.value ∙ c.writes-written.ensures
+    let written : es ≡ entities_of ws = c.as_slice-entities.ensures.value ∙ c.put_written.ensures
     ∙ sym (written_is (look_at m) c.args.scripts.now c.args.pid (input_in c.args.input) c.args.plan.now) ∙ sym (changed_are (look_at m) c.args.pid plan) in
     let clean = subst (λ (p : Parts). IsClean p.slots c.in_ok-tags.tags (entities_of (writes_of (look_at p.slots) c.args.pid (seen_with (look_at p.slots) c.args.scripts.now c.args.pid (input_in c.args.input) c.args.plan.now)))) (sym c.self.view_is)
     (clean_of c.args.self.now n (seen_with (look_at c.args.self.now.slots) c.args.scripts.now c.args.pid (input_in c.args.input) c.args.plan.now) c.in_ok-tags.tags c.requires.tidy c.in_ok-tags.ensures.exact) in
@@ -51,7 +51,7 @@ invariant_of-self-2 c =
     ap (λ k. has k (tags_in m e)) (next ∙ c.in-Some.ensures.value)
     ∙ subst (λ (p : Parts). has (next_of c.self.inside.guesses.view) (tags_in p.slots e) ≡ false) (sym c.self.view_is)
     (not_known c.args.self.now c.requires.tidy (next_of c.self.inside.guesses.view) (subst (λ (p : Parts). has (next_of p.guesses) (numbers c.args.self.now.opens) ≡ false) (sym c.self.view_is) (fresh (numbers c.args.self.now.opens) (next_of c.args.self.now.guesses) c.requires.rising)) e) in (
-      subst (AllExact (tags_in c.perform_guess-performed.new.logs.slots)) (sym (c.in-Ok.ensures.opens ∙ ap (λ os. os ++ o ∷ []) c.perform_guess-performed.ensures.opens))
+      subst (AllExact (tags_in c.perform_guess-performed.new.logs.slots)) (sym (c.draw_reserved.ensures.opens ∙ ap (λ os. os ++ o ∷ []) c.perform_guess-performed.ensures.opens))
           (guessed_exact m c.perform_guess-performed.new.logs.slots c.in_ok-tags.tags es ws o written clean did refl own none c.depend_all.new.guesses.opens c.in_ok-depend_all.ensures.ok),
       c.self.invariant.1,
     )
@@ -79,15 +79,15 @@ returns-clause-ok c =
     let id = c.in-Some.id in
     let n : EntryView = record { pid = c.args.pid; input = (input_in c.args.input); guess = Some id } in
     let a : Parts = record { slots = c.self.inside.logs.slots; opens = opens_of c.self.inside.guesses.opens; guesses = c.self.inside.guesses.view; texts = c.self.inside.terminals } in
-    let b : Parts = record { slots = c.perform_guess-performed.new.logs.slots; opens = opens_of c.draw.new.self.opens; guesses = c.draw.new.self.view; texts = c.perform_guess-performed.new.terminals } in
+    let b : Parts = record { slots = c.perform_guess-performed.new.logs.slots; opens = opens_of c.draw_reserved.new.self.opens; guesses = c.draw_reserved.new.self.view; texts = c.perform_guess-performed.new.terminals } in
     let accepted = subst (λ (p : Parts). perform (look_at p.slots) (act scripts n.pid n.input) ≡ Ok (effect_of (look_at p.slots) n.pid n.input (seen_with (look_at p.slots) scripts n.pid n.input plan))) (sym c.self.view_is) c.requires.planned.accepted in
     let tags = subst (λ (p : Parts). c.in_ok-tags.tags ≡ step_tags (undo_state_of p) (planned_effect p n (seen_with (look_at p.slots) scripts n.pid n.input plan))) (sym c.self.view_is) c.in_ok-tags.ensures.exact in
     let view = c.perform_guess-performed.ensures.view ∙ c.depend_all.ensures.view in
     let next : next_of c.perform_guess-performed.new.guesses.view ≡ id = ap next_of view ∙ sym c.in-Some.ensures.value in
     let opens : b.opens ≡ a.opens ++ (id, c.in_ok-tags.tags) ∷ [] =
-    ap opens_of c.in-Ok.ensures.opens ∙ more_opens c.perform_guess-performed.new.guesses.opens _
+    ap opens_of c.draw_reserved.ensures.opens ∙ more_opens c.perform_guess-performed.new.guesses.opens _
     ∙ (λ i. (ap opens_of c.perform_guess-performed.ensures.opens ∙ c.depend_all.ensures.opens) i ++ (next i, c.in_ok-own_tags.ensures i) ∷ []) in
-    let guesses = c.in-Ok.ensures.draws.2 ∙ ap drawn view in
+    let guesses = c.draw_reserved.ensures.view ∙ ap drawn view in
     subst (λ (p : Parts). MergedTakes (plain scripts) (machine_of p) (record { pid = n.pid; input = n.input; guess = Some (next_of p.guesses) }) (machine_of b)) c.self.view_is
     (takes_guess scripts a b n.pid n.input id (seen_with (look_at a.slots) scripts n.pid n.input plan) c.in_ok-tags.tags c.in-Some.ensures.value accepted tags (from_ok c.perform_guess-performed.result c.if-is_err.ensures.value c.perform_guess-performed.ensures.writes) opens
     (from_ok c.perform_guess-performed.result c.if-is_err.ensures.value c.perform_guess-performed.ensures.says) guesses)

@@ -390,20 +390,37 @@ def private_steps(count):
     return scenario(looping(["set r0 1"], 64), ["step 1 none"] * count)
 
 
+def guessed_rounds(count):
+    """So many events of process 1: a guess, two steps under it and its commit, over and over, and after 32 rounds the step back to
+    the first instruction."""
+    rounds = ((["guess 1 good", "step 1 none", "step 1 none", f"commit {number}"], number) for number in itertools.count(1))
+    events = []
+    while len(events) < count:
+        lines, number = next(rounds)
+        events += lines + ["step 1 none"] * (number % 32 == 0)
+    return scenario(looping(["fetch /x", "set r0 1", "set r0 2"], 32), events[:count])
+
+
+def refused_rounds(count):
+    """The same lines without that step: from the first jump on guesses are asked where none can be taken, and most are refused."""
+    lines = ("guess 1 good", "step 1 none", "step 1 none", "commit")
+    events = [f"{line} {number}" if line == "commit" else line for number in range(1, count // 4 + 1) for line in lines]
+    return scenario(looping(["fetch /x", "set r0 1", "set r0 2"], 32), events)
+
+
 def table():
     """The kinds of runs of which the whole program is measured: a scenario of so many events, and the most instructions that
     an event may take."""
     lead = ["look r1 r7 f", "set r2 0", 'text "abcdefgh"']
     file = lambda count: scenario(lead + looping(["write r1 r2", "read r1 r2"], 32), ["step 1 none"] * count, objects=FILES)
-    body = looping(["fetch /x", "set r0 1", "set r0 2"], 32)
-    guess = lambda count: scenario(body, [line for number in range(1, count // 4 + 1) for line in ("guess 1 good", "step 1 none", "step 1 none", f"commit {number}")])
     turns = ["turn 1"] * 4 + ["serve"] * 2 + ["reply"] * 2
     world = lambda count: "\n".join(script("first", looping(["fetch /x", "set r0 1"], 32)) + ['copy /x 3 "old"', 'remote /x 3 "old"', "process 1 first 1", "world"] + turns * (count // 8)) + "\n"
     return [
-        ("private steps", private_steps, 850),
-        ("writes and reads of 8 bytes of a file", file, 1_700),
-        ("guess, two steps, commit", guess, 1_150),
-        ("a world: four turns, two serves, two replies", world, 2_600),
+        ("private steps", private_steps, 730),
+        ("writes and reads of 8 bytes of a file", file, 1_400),
+        ("guess, two steps, commit", guessed_rounds, 1_400),
+        ("the same lines out of step, most of them refused", refused_rounds, 880),
+        ("a world: four turns, two serves, two replies", world, 2_300),
     ]
 
 

@@ -61,6 +61,14 @@ pub(crate) fn refused(why: Refusal) -> &'static [u8]
     }
 }
 
+/// Makes the line of a guess, apart from the callers.
+#[inline(never)]
+fn put_guessed(number: usize, id: GuessId, line: &mut Line)
+    ensures { line.new ≡ answer_line number (answers.Guessed id) }
+{
+    line.tell_counted(number, b" guess ", id.number());
+}
+
 /// Makes the line of what the event of this number was answered. It is part of its callers, since most calls are steps.
 #[inline(always)]
 pub fn put_answer(number: usize, answer: &CallAnswer, line: &mut Line)
@@ -68,6 +76,7 @@ pub fn put_answer(number: usize, answer: &CallAnswer, line: &mut Line)
 {
     match answer {
         CallAnswer::Stepped => line.tell(number, b" stepped\n"),
+        CallAnswer::Guessed(id) => put_guessed(number, *id, line),
         _ => put_other(number, answer, line),
     }
 }
@@ -79,7 +88,7 @@ fn put_other(number: usize, answer: &CallAnswer, line: &mut Line)
 {
     match answer {
         CallAnswer::Stepped => line.tell(number, b" stepped\n"),
-        CallAnswer::Guessed(id) => line.tell_counted(number, b" guess ", id.number()),
+        CallAnswer::Guessed(id) => put_guessed(number, *id, line),
         CallAnswer::Done => line.tell(number, b" done\n"),
         CallAnswer::Gone => line.tell(number, b" gone\n"),
         CallAnswer::NoToken => line.tell(number, b" no token\n"),

@@ -81,6 +81,7 @@ impl Line {
     }
 
     /// Makes it a number, short words behind it, and another number at its end.
+    #[inline(always)]
     pub(crate) fn tell_counted(&mut self, number: usize, words: &[u8], other: u64)
         requires { DIGITS + length words.now + DIGITS < LINE }
         ensures { self.new ≡ decimal number ++ words.now ++ decimal other ++ 10 ∷ [] }

@@ -128,6 +128,7 @@ impl fmt::Display for WorldTold {
 }
 
 /// Makes the line of an event that was this turn.
+#[inline]
 pub(crate) fn put_turn(number: usize, turn: &Turn, line: &mut Line)
     ensures { line.new ≡ told_line number (tells.Answered (answers.Turn turn.now)) }
 {
@@ -151,6 +152,7 @@ pub(crate) fn put_reply(number: usize, reply: &Reply, line: &mut Line)
 }
 
 /// Makes the line of what a reply did.
+#[inline]
 pub(crate) fn put_given(number: usize, given: &Given, line: &mut Line)
     ensures { line.new ≡ told_line number (tells.Answered (answers.Given given.now)) }
 {

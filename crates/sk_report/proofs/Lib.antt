@@ -6,3 +6,4 @@ mod Sideways
 mod Untagged
 mod Regrouped
 mod Ended
+pub mod Numbers

@@ -1,8 +1,8 @@
 //! The line of an entity, made from its end on in a room and written at once, without formatting machinery.
-ghost use Rattle.std.specs.Prelude.{◌≡◌, ◌≢◌, ◌≤◌, ◌+◌, ◌∷◌, [], ◌++◌, codes, drop, length, decimal, IfSome};
+ghost use Rattle.std.specs.Prelude.{◌≡◌, ◌≢◌, ◌<◌, ◌≤◌, ◌+◌, ◌∷◌, [], ◌++◌, codes, drop, length, decimal, IfSome};
 ghost use Rattle.sk_report.specs.Printed.{option_text, registers_text, yes_or_no, held_text, made_text, process_text, signals_text, value_text, entity_text};
 ghost use Rattle.sk_report.specs.declared.line.TheConstants.{ROOM, VALUE, REGISTERS, LITERAL, MADE, HELD};
-ghost use Rattle.sk_script.specs.Registers.{val_word};
+ghost use Rattle.sk_script.specs.Registers.{held, val_word};
 ghost use Rattle.sk_words.specs.Spelling.{spelled, object_word, pid_word};
 ghost use Rattle.sk_report.specs.declared.placed.TheConstants.{DIGITS, LEVELS, OBJECT};
 
@@ -32,20 +32,38 @@ const HELD: usize = REGISTERS + DIGITS + LITERAL + MADE + 16;
 /// The room for a line: what its entity has, the entity, and what stands at the end.
 pub(crate) const ROOM: usize = HELD + OBJECT + 32;
 
-/// Puts what a register holds, and words behind it, in a line before a place, and returns where they start.
-fn put_val(val: Val, words: &[u8], line: &mut [u8], end: usize) -> usize
-    requires { (VALUE + length words.now ≤ end) × (end ≤ length line.old) }
-    ensures line { drop result line.new ≡ val_word val ++ words.now ++ drop end line.old }
-    ensures start { (result ≤ end) × (end ≤ result + VALUE + length words.now) }
+/// Puts what a register holds in a line, before a place, and returns where it starts.
+fn put_held(val: Val, line: &mut [u8], end: usize) -> usize
+    requires { (VALUE ≤ end) × (end ≤ length line.old) }
+    ensures line { drop result line.new ≡ val_word val ++ drop end line.old }
+    ensures start { (result ≤ end) × (end ≤ result + VALUE) }
     ensures length { length line.new ≡ length line.old }
 {
     match val {
-        Val::Num(number) => put_signed(number, words, line, end),
-        Val::Obj(object) => put_object(object, words, line, end),
+        Val::Num(number) => put_signed(number, line, end),
+        Val::Obj(object) => put_object(object, b"", line, end),
         Val::Who(pid) => {
-            let start = put_pid(pid, words, line, end);
+            let start = put_pid(pid, b"", line, end);
             put_words(b"@", line, start)
         }
+    }
+}
+
+/// Puts what the register of a number holds, and words behind it, in a line before a place, and returns where they start. Most
+/// hold one digit.
+#[inline(always)]
+fn put_val(registers: &Registers, register: u8, words: &[u8], line: &mut [u8], end: usize) -> usize
+    requires place { (VALUE + length words.now ≤ end) × (end ≤ length line.old) }
+    requires register { register < 8 }
+    ensures line { drop result line.new
+        ≡ val_word (held registers.now register) ++ words.now ++ drop end line.old }
+    ensures start { (result ≤ end) × (end ≤ result + VALUE + length words.now) }
+    ensures length { length line.new ≡ length line.old }
+{
+    let behind = put_words(words, line, end);
+    match value_of(registers, register) {
+        Val::Num(number @ 0..=9) => put_number(number as u64, b"", line, behind),
+        _ => put_held(value_of(registers, register), line, behind),
     }
 }
 
@@ -57,17 +75,18 @@ fn put_registers(registers: &Registers, words: &[u8], line: &mut [u8], end: usiz
     ensures start { (result ≤ end) × (end ≤ result + REGISTERS + length words.now) }
     ensures length { length line.new ≡ length line.old }
 {
-    let start = put_val(value_of(registers, 7), words, line, end);
-    let start = put_val(value_of(registers, 6), b" ", line, start);
-    let start = put_val(value_of(registers, 5), b" ", line, start);
-    let start = put_val(value_of(registers, 4), b" ", line, start);
-    let start = put_val(value_of(registers, 3), b" ", line, start);
-    let start = put_val(value_of(registers, 2), b" ", line, start);
-    let start = put_val(value_of(registers, 1), b" ", line, start);
-    put_val(value_of(registers, 0), b" ", line, start)
+    let start = put_val(registers, 7, words, line, end);
+    let start = put_val(registers, 6, b" ", line, start);
+    let start = put_val(registers, 5, b" ", line, start);
+    let start = put_val(registers, 4, b" ", line, start);
+    let start = put_val(registers, 3, b" ", line, start);
+    let start = put_val(registers, 2, b" ", line, start);
+    let start = put_val(registers, 1, b" ", line, start);
+    put_val(registers, 0, b" ", line, start)
 }
 
 /// The same of a number, or of `-`.
+#[inline(always)]
 fn put_option(number: Option<u32>, words: &[u8], line: &mut [u8], end: usize) -> usize
     requires { (DIGITS + length words.now ≤ end) × (end ≤ length line.old) }
     ensures line { drop result line.new ≡ option_text number ++ words.now ++ drop end line.old }
@@ -84,6 +103,7 @@ fn put_option(number: Option<u32>, words: &[u8], line: &mut [u8], end: usize) ->
 }
 
 /// The same of `yes` or `no`.
+#[inline(always)]
 fn put_yes_or_no(yes: bool, words: &[u8], line: &mut [u8], end: usize) -> usize
     requires { (3 + length words.now ≤ end) × (end ≤ length line.old) }
     ensures line { drop result line.new ≡ yes_or_no yes ++ words.now ++ drop end line.old }
@@ -209,6 +229,7 @@ fn put_value(value: &Value, words: &[u8], line: &mut [u8], end: usize) -> Option
 }
 
 /// The same of a process behind the word of a kind.
+#[inline(always)]
 fn put_named(kind: &[u8], pid: Pid, words: &[u8], line: &mut [u8], end: usize) -> usize
     requires { (LEVELS + length kind.now + length words.now ≤ end) × (end ≤ length line.old) }
     ensures line { drop result line.new ≡ kind.now ++ pid_word pid ++ words.now ++ drop end line.old }
@@ -220,20 +241,20 @@ fn put_named(kind: &[u8], pid: Pid, words: &[u8], line: &mut [u8], end: usize) -
 }
 
 /// The same of an entity; `None` for a name of a directory and for a cached copy.
-fn put_entity(entity: Entity, words: &[u8], line: &mut [u8], end: usize) -> Option<usize>
+fn put_entity(entity: &Entity, words: &[u8], line: &mut [u8], end: usize) -> Option<usize>
     requires { (OBJECT + 4 + length words.now ≤ end) × (end ≤ length line.old) }
     ensures line { IfSome result (λ start.
-        drop start line.new ≡ entity_text entity ++ words.now ++ drop end line.old) }
+        drop start line.new ≡ entity_text entity.now ++ words.now ++ drop end line.old) }
     ensures start { IfSome result (λ start.
         (start ≤ end) × (end ≤ start + OBJECT + 4 + length words.now)) }
     ensures length { length line.new ≡ length line.old }
 {
     match entity {
-        Entity::Proc(pid) => Some(put_named(b"proc ", pid, words, line, end)),
-        Entity::Sig(pid) => Some(put_named(b"sig ", pid, words, line, end)),
-        Entity::Exit(pid) => Some(put_named(b"exit ", pid, words, line, end)),
+        Entity::Proc(pid) => Some(put_named(b"proc ", *pid, words, line, end)),
+        Entity::Sig(pid) => Some(put_named(b"sig ", *pid, words, line, end)),
+        Entity::Exit(pid) => Some(put_named(b"exit ", *pid, words, line, end)),
         Entity::Obj(id) => {
-            let start = put_object(id, words, line, end);
+            let start = put_object(*id, words, line, end);
             Some(put_words(b"obj ", line, start))
         }
         Entity::Link(..) | Entity::Copy(_) => None,
@@ -242,14 +263,14 @@ fn put_entity(entity: Entity, words: &[u8], line: &mut [u8], end: usize) -> Opti
 
 /// Puts an entity and the process that it has in a line, before a place, and returns where they start; `None` as above.
 pub(crate) fn put_with_process(
-    entity: Entity,
+    entity: &Entity,
     process: &Process,
     line: &mut [u8],
     end: usize,
 ) -> Option<usize>
     requires { (HELD + OBJECT + 5 ≤ end) × (end ≤ length line.old) }
     ensures line { IfSome result (λ start. drop start line.new
-        ≡ entity_text entity ++ 32 ∷ process_text process.now ++ drop end line.old) }
+        ≡ entity_text entity.now ++ 32 ∷ process_text process.now ++ drop end line.old) }
     ensures start { IfSome result (λ start. start ≤ end) }
     ensures length { length line.new ≡ length line.old }
 {
@@ -259,14 +280,14 @@ pub(crate) fn put_with_process(
 
 /// The same of a value.
 pub(crate) fn put_with_value(
-    entity: Entity,
+    entity: &Entity,
     value: &Value,
     line: &mut [u8],
     end: usize,
 ) -> Option<usize>
     requires { (HELD + OBJECT + 5 ≤ end) × (end ≤ length line.old) }
     ensures line { IfSome result (λ start. drop start line.new
-        ≡ entity_text entity ++ 32 ∷ value_text value.now ++ drop end line.old) }
+        ≡ entity_text entity.now ++ 32 ∷ value_text value.now ++ drop end line.old) }
     ensures kind { IfSome result (λ start. value.now ≢ Value.Dir) }
     ensures start { IfSome result (λ start. start ≤ end) }
     ensures length { length line.new ≡ length line.old }

@@ -50,14 +50,14 @@ pub(crate) fn put_number(number: u64, words: &[u8], line: &mut [u8], end: usize)
     write_digits(number, line, behind)
 }
 
-/// The same of a number that may be negative, with a place for its sign.
-pub(crate) fn put_signed(number: i64, words: &[u8], line: &mut [u8], end: usize) -> usize
-    requires { (DIGITS + 1 + length words.now ≤ end) × (end ≤ length line.old) }
-    ensures line { drop result line.new ≡ signed_decimal number ++ words.now ++ drop end line.old }
-    ensures start { (result ≤ end) × (end ≤ result + DIGITS + 1 + length words.now) }
+/// Puts a number that may be negative in a line, before a place, and returns where it starts.
+pub(crate) fn put_signed(number: i64, line: &mut [u8], end: usize) -> usize
+    requires { (DIGITS + 1 ≤ end) × (end ≤ length line.old) }
+    ensures line { drop result line.new ≡ signed_decimal number ++ drop end line.old }
+    ensures start { (result ≤ end) × (end ≤ result + DIGITS + 1) }
     ensures length { length line.new ≡ length line.old }
 {
-    let start = put_number(number.unsigned_abs(), words, line, end);
+    let start = put_number(number.unsigned_abs(), b"", line, end);
     if number < 0 {
         return put_words(b"-", line, start);
     }
@@ -65,50 +65,76 @@ pub(crate) fn put_signed(number: i64, words: &[u8], line: &mut [u8], end: usize)
 }
 
 /// The same of the two last numbers of a path.
-fn put_two_levels(path: u64, words: &[u8], line: &mut [u8], end: usize) -> usize
-    requires { (DIGITS + 1 + DIGITS + length words.now ≤ end) × (end ≤ length line.old) }
-    ensures line { drop result line.new ≡ two_levels path ++ words.now ++ drop end line.old }
-    ensures start { (result ≤ end) × (end ≤ result + DIGITS + 1 + DIGITS + length words.now) }
+#[inline(always)]
+fn put_two_levels(path: u64, line: &mut [u8], end: usize) -> usize
+    requires { (DIGITS + 1 + DIGITS ≤ end) × (end ≤ length line.old) }
+    ensures line { drop result line.new ≡ two_levels path ++ drop end line.old }
+    ensures start { (result ≤ end) × (end ≤ result + DIGITS + 1 + DIGITS) }
     ensures length { length line.new ≡ length line.old }
 {
-    let last = put_number(path % 65_536, words, line, end);
+    let last = put_number(path % 65_536, b"", line, end);
     put_number(path / 65_536 % 65_536, b".", line, last)
 }
 
 /// The same of the numbers of a process, joined by dots.
+fn put_path(pid: Pid, line: &mut [u8], end: usize) -> usize
+    requires { (LEVELS ≤ end) × (end ≤ length line.old) }
+    ensures line { drop result line.new ≡ pid_word pid ++ drop end line.old }
+    ensures start { (result ≤ end) × (end ≤ result + LEVELS) }
+    ensures length { length line.new ≡ length line.old }
+{
+    let path = pid.path();
+    if path < 1 << 16 {
+        return put_number(path, b"", line, end);
+    }
+    let lower = put_two_levels(path, line, end);
+    if path < 1 << 32 {
+        return lower;
+    }
+    let upper = path / 4_294_967_296;
+    let dot = put_words(b".", line, lower);
+    if path < 1 << 48 {
+        return put_number(upper, b"", line, dot);
+    }
+    put_two_levels(upper, line, dot)
+}
+
+/// Puts the numbers of a process and words behind them in a line, before a place, and returns where they start.
+#[inline(always)]
 pub(crate) fn put_pid(pid: Pid, words: &[u8], line: &mut [u8], end: usize) -> usize
     requires { (LEVELS + length words.now ≤ end) × (end ≤ length line.old) }
     ensures line { drop result line.new ≡ pid_word pid ++ words.now ++ drop end line.old }
     ensures start { (result ≤ end) × (end ≤ result + LEVELS + length words.now) }
     ensures length { length line.new ≡ length line.old }
 {
-    let path = pid.path();
-    if path < 1 << 16 {
-        return put_number(path, words, line, end);
-    }
-    let lower = put_two_levels(path, words, line, end);
-    if path < 1 << 32 {
-        return lower;
-    }
-    let upper = path / 4_294_967_296;
-    if path < 1 << 48 {
-        return put_number(upper, b".", line, lower);
-    }
-    put_two_levels(upper, b".", line, lower)
+    let behind = put_words(words, line, end);
+    put_path(pid, line, behind)
 }
 
-/// The same of an object.
+/// Puts an object in a line, before a place, and returns where it starts.
+fn put_id(object: ObjId, line: &mut [u8], end: usize) -> usize
+    requires { (OBJECT ≤ end) × (end ≤ length line.old) }
+    ensures line { drop result line.new ≡ object_word object ++ drop end line.old }
+    ensures start { (result ≤ end) × (end ≤ result + OBJECT) }
+    ensures length { length line.new ≡ length line.old }
+{
+    let count = put_number(u64::from(object.count), b"", line, end);
+    match object.maker {
+        None => put_words(b"0:", line, count),
+        Some(maker) => put_pid(maker, b":", line, count),
+    }
+}
+
+/// The same with words behind it.
+#[inline(always)]
 pub(crate) fn put_object(object: ObjId, words: &[u8], line: &mut [u8], end: usize) -> usize
     requires { (OBJECT + length words.now ≤ end) × (end ≤ length line.old) }
     ensures line { drop result line.new ≡ object_word object ++ words.now ++ drop end line.old }
     ensures start { (result ≤ end) × (end ≤ result + OBJECT + length words.now) }
     ensures length { length line.new ≡ length line.old }
 {
-    let count = put_number(u64::from(object.count), words, line, end);
-    match object.maker {
-        None => put_words(b"0:", line, count),
-        Some(maker) => put_pid(maker, b":", line, count),
-    }
+    let behind = put_words(words, line, end);
+    put_id(object, line, behind)
 }
 
 /// Whether a byte stands for itself in a literal.
@@ -119,16 +145,15 @@ fn is_plain(byte: u8) -> bool
     matches!(byte, b' '..=b'~') && byte != b'"' && byte != b'\\'
 }
 
-/// How many bytes at the front stand for themselves in a literal.
-fn plain_len(bytes: &[u8]) -> usize
-    ensures within { result ≤ length bytes.now }
-    ensures plain { flat_map spelled_byte (take result bytes.now) ≡ take result bytes.now }
+/// Whether each byte stands for itself in a literal. All are looked at, so that many are at a time.
+fn are_plain(bytes: &[u8]) -> bool
+    ensures { result ≡ true → flat_map spelled_byte bytes.now ≡ bytes.now }
 {
-    let mut len = 0;
-    while len < bytes.len() && is_plain(bytes[len]) {
-        len += 1;
+    let mut odd = false;
+    for byte in bytes {
+        odd |= !is_plain(*byte);
     }
-    len
+    !odd
 }
 
 /// Puts bytes as a literal, and words behind it, in a line before a place, and returns where they start; `None` where a byte
@@ -141,7 +166,7 @@ pub(crate) fn put_literal(bytes: &[u8], words: &[u8], line: &mut [u8], end: usiz
         start + length bytes.now + 2 + length words.now ≡ end) }
     ensures length { length line.new ≡ length line.old }
 {
-    if plain_len(bytes) < bytes.len() {
+    if !are_plain(bytes) {
         return None;
     }
     let start = put_words(words, line, end);

@@ -1,7 +1,9 @@
 //! The report of a kernel, and that of a plain kernel.
 ghost use Rattle.std.specs.Prelude.{◌≡◌, ◌≤◌, ◌++◌, flat_map, drop, OnOk, IfSome};
 ghost use Rattle.std.specs.Io.KnownBytes.{Appends};
+ghost use Rattle.std.specs.BTreeSet.{insert_key};
 ghost use Rattle.std.specs.List.Sorted.{IsStrictlySortedBy};
+ghost use Rattle.std.specs.Ordering.{nat_cmp};
 ghost use Rattle.sk_ids.specs.Entity.{entity_cmp};
 ghost use Rattle.sk_plain.specs.View.{Shows};
 ghost use Rattle.sk_report.specs.declared.line.TheConstants.{ROOM};
@@ -91,6 +93,28 @@ fn write_terminals<S: Subject, W: Write>(
     Ok(())
 }
 
+/// Adds the terminal of a process to numbers; that of the process before it is there.
+#[tactic(auto, using(crate::proofs::Numbers::again))]
+fn add_terminal(
+    numbers: &mut BTreeSet<u16>,
+    last: &mut Option<u16>,
+    terminal: u16,
+) -> Result<(), AllocError>
+    requires { IfSome last.old
+        (λ number. insert_key nat_cmp numbers.old.keys number ≡ numbers.old.keys) }
+    ensures added { OnOk result
+        (numbers.new.keys ≡ insert_key nat_cmp numbers.old.keys terminal) }
+    ensures last { OnOk result (IfSome last.new
+        (λ number. insert_key nat_cmp numbers.new.keys number ≡ numbers.new.keys)) }
+{
+    if *last == Some(terminal) {
+        return Ok(());
+    }
+    numbers.insert(terminal)?;
+    *last = Some(terminal);
+    Ok(())
+}
+
 /// Adds the terminals of the processes among these entities to numbers, and the lines of these entities to lines. Each
 /// entity is looked up once.
 fn gather<S: Subject>(
@@ -107,10 +131,11 @@ fn gather<S: Subject>(
         entities.now) }
 {
     let mut room = [0; ROOM];
+    let mut last = None;
     for entity in entities {
         let seen = subject.show(entity);
         if let Some(View::Process(process)) = seen {
-            numbers.insert(process.terminal)?;
+            add_terminal(numbers, &mut last, process.terminal)?;
         }
         add_line(subject, entities, entity, seen, &mut room, lines)?;
     }
@@ -156,8 +181,8 @@ fn put_line<S: Subject>(
 {
     let end = subject.put_end(entity, room, ROOM)?;
     match seen? {
-        View::Process(process) => put_with_process(*entity, process, room, end),
-        View::Value(value) => put_with_value(*entity, value, room, end),
+        View::Process(process) => put_with_process(entity, process, room, end),
+        View::Value(value) => put_with_value(entity, value, room, end),
     }
 }
 

@@ -3,7 +3,7 @@ use Rattle.sk_scenario.proofs.Names.{◌≡◌, ◌≤◌, ℕ, List, [], ◌∷
 use Rattle.sk_scenario.proofs.Names.{AllByRecursion, lt-ltb, Rule, FaultKind, words, first_of, with_line, IsWord, spaced}
 use Rattle.sk_scenario.proofs.Names.{bare_word, words_again, words_closed, spaced_line, line_cut, pid, Input}
 use Rattle.sk_scenario.proofs.Names.{BeginsWith, EndsLine}
-use Rattle.sk_words.specs.Operands.{none_of, one_of}
+use Rattle.sk_words.specs.Operands.{none_of, one_of, positive}
 use Rattle.sk_script.specs.StepInput.{input}
 use Rattle.sk_script.specs.declared.instruction.Input.TheVariants as inputs
 use Rattle.sk_trace.specs.Lines.{step}
@@ -32,6 +32,16 @@ unfolding call
 begins_guess text tail rest p i is e =
     begins call (codes "guess" ∷ e.0 ∷ e.1) text rest (calls.Guess p i) (bare_word (codes "guess") refl, e.3) (is ∙ ap (λ (t : List ℕ). codes "guess " ++ t) e.2) (λ before. rw e.4 refl)
 
+pub begins_commit : (text tail rest : List ℕ) (g : ℕ) → text ≡ codes "commit " ++ tail → EndsLine (one_of positive) tail g rest → BeginsWith call text (calls.Commit g) rest
+unfolding call
+begins_commit text tail rest g is e =
+    begins call (codes "commit" ∷ e.0 ∷ e.1) text rest (calls.Commit g) (bare_word (codes "commit") refl, e.3) (is ∙ ap (λ (t : List ℕ). codes "commit " ++ t) e.2) (λ before. rw e.4 refl)
+
+pub begins_fail : (text tail rest : List ℕ) (g : ℕ) → text ≡ codes "fail " ++ tail → EndsLine (one_of positive) tail g rest → BeginsWith call text (calls.Fail g) rest
+unfolding call
+begins_fail text tail rest g is e =
+    begins call (codes "fail" ∷ e.0 ∷ e.1) text rest (calls.Fail g) (bare_word (codes "fail") refl, e.3) (is ∙ ap (λ (t : List ℕ). codes "fail " ++ t) e.2) (λ before. rw e.4 refl)
+
 pub begins_turn : (text tail rest : List ℕ) (p : ℕ) → text ≡ codes "turn " ++ tail → EndsLine (one_of pid) tail p rest → BeginsWith world_event text (events.Turn p) rest
 unfolding world_event
 begins_turn text tail rest p is e =
@@ -50,7 +60,7 @@ begins_reply text rest is = begins world_event (codes "reply" ∷ []) text rest 
 digit_word : (d : ℕ) → 48 ≤ d → IsWord (d ∷ [])
 digit_word d low = bare_word (d ∷ []) (rw (lt-ltb 34 d (omega (arith, low))) refl)
 
-one_said : {A : Type 0} (read : List ℕ → Result A FaultKind) (w : List ℕ) (x : A) → IsWord w → read w ≡ Ok x → one_of read (w ∷ []) ≡ Ok x
+pub one_said : {A : Type 0} (read : List ℕ → Result A FaultKind) (w : List ℕ) (x : A) → IsWord w → read w ≡ Ok x → one_of read (w ∷ []) ≡ Ok x
 unfolding one_of
 one_said read w x word says = rw (word.closed, says) refl
 

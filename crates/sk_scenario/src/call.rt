@@ -6,7 +6,7 @@ ghost use Rattle.sk_words.specs.Words.{words, first_of};
 ghost use Rattle.sk_scenario.specs.Calls.{step_call, guess_call};
 
 use crate::glance;
-use crate::glance::{behind_good, behind_none, digit_pid};
+use crate::glance::{behind_commit, behind_fail, behind_good, behind_none, digit_pid, number_line};
 use sk_ids::{GuessId, Pid};
 use sk_section::{Items, Listed, Rules};
 use sk_trace::KeptInput;
@@ -120,9 +120,21 @@ impl Rules for StepRules {
             let rest = behind_none(tail)?;
             return Some((Call::Step(pid, KeptInput::none()), rest));
         }
-        let tail = glance::behind_guess(text)?;
-        let pid = digit_pid(tail)?;
-        let rest = behind_good(tail)?;
-        Some((Call::Guess(pid, KeptInput::good()), rest))
+        if let Some(tail) = glance::behind_guess(text) {
+            let pid = digit_pid(tail)?;
+            let rest = behind_good(tail)?;
+            return Some((Call::Guess(pid, KeptInput::good()), rest));
+        }
+        if let Some(tail) = behind_commit(text) {
+            return match number_line(tail) {
+                Some(line) => Some((Call::Commit(line.0), line.1)),
+                None => None,
+            };
+        }
+        let tail = behind_fail(text)?;
+        match number_line(tail) {
+            Some(line) => Some((Call::Fail(line.0), line.1)),
+            None => None,
+        }
     }
 }

@@ -7,6 +7,8 @@ ROOT = pathlib.Path(__file__).resolve().parent.parent
 NAME = r"[A-Za-z_][\w']*(?:-\w+)*"
 HEAD = re.compile(rf"(?:(?:abbrev|unfoldable|opaque) )?(?:pub )?(?:(?:record|data) )?(?:pub )?({NAME})(?= :| \(| [{{]|$)")
 IMPORT = re.compile(r"use Rattle\.([\w.]+)(?:\.\{([^}]*)\}| as (\w+))?;?$")
+# What a clause is called is no word of it.
+LABEL = re.compile(r"^\s*(?:requires|ensures)\*? \w+(?= ?[:{])")
 WORD = re.compile(rf"(?<![\w.'◌])({NAME})(?:\.({NAME}))?")
 ITEM = re.compile(r"pub (?:const |unsafe )*(fn|struct|enum|trait|type|const) (\w+)")
 
@@ -37,7 +39,7 @@ def words_of(lines, imports):
     """What the words of these lines may stand for, in order: (module or None for this one, name)."""
     found = {}
     for line in lines:
-        for first, second in WORD.findall(line.split("--")[0]):
+        for first, second in WORD.findall(LABEL.sub("", line.split("--")[0])):
             module, name = imports.get(first, (None, first))
             if name is None:
                 name = second

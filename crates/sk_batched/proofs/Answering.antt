@@ -40,7 +40,7 @@ pub drawn_as : {V O : Type 0} (a b : Parts (List ℕ) V O) (d e : Deed (List ℕ
 drawn_as a b d e g n same next takes = subst (λ m. Takes bytes_cmp a e (Some m) b) next (subst (λ f. Takes bytes_cmp a f (Some g) b) same takes)
 
 -- a guess was drawn where it was not, and then a step refused
-still_parts : {V O : Type 0} (old new : ByteView V O) → IsStill old new → IsSame bytes_cmp old.parts new.parts
+pub still_parts : {V O : Type 0} (old new : ByteView V O) → IsStill old new → IsSame bytes_cmp old.parts new.parts
 still_parts old new (inl is) = subst (λ (b : ByteView _ _). IsSame bytes_cmp old.parts b.parts) (sym is) (all_same bytes_cmp old.parts)
 still_parts old new (inr still) = still.parts
 
@@ -53,10 +53,6 @@ module _ {V O : Type 0} (old mid new : BatchedView V O) where
 
   pub began_still : Begins old mid → IsStill mid.kernel new.kernel → new.queue ≡ mid.queue → new.begun ≡ mid.begun → MayBegin old new
   began_still (draws, queue, begun) still queue_too begun_too = began_by old.begun refl draws queue begun still queue_too begun_too
-
-pub on_err : {A E P Q : Type 0} (r : Result A E) → (P → Q) → OnErr r P → OnErr r Q
-on_err (Ok x) f p = p
-on_err (Err why) f p = f p
 
 -- the next frame is taken or refused
 pub sent : {V O : Type 0} (r : Result Sealed Refusal) (m : Parts (List ℕ) V O) (q q' : QueueView) (p p' : PlacesView) (room filled : List ℕ) (ts : List Token) → FramePost r q p room q' p' filled → IsInStep m q true ts → IsInStep m q' (is_err r) ts

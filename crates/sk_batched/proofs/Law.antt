@@ -7,12 +7,12 @@ use Rattle.sk_batched.proofs.Names.{Ask, Effect, perform, with_read, System, Tak
 use Rattle.sk_batched.proofs.Names.{effect_of, Told, told_more, with_told, look_at, bytes_cmp, same_bytes, next_of}
 use Rattle.sk_batched.proofs.Names.{Commits, FailsIn, Takes, KernelCall, Calls, Does, events_of, Hands, IsFirst, Parts}
 use Rattle.sk_batched.proofs.Names.{IsSame, ByteView, QueueView, decided, left, Decision, Logged, Refused, batch_key}
-use Rattle.sk_batched.proofs.Names.{is_reserved, capped, in_batch, is_full, opening, BatchedView, Draws, IsNew, IsStill}
-use Rattle.sk_batched.proofs.Names.{open_if, open_numbers, tokens_of, IsInStep, in_batches, kernel_calls, looking_at}
+use Rattle.sk_batched.proofs.Names.{is_reserved, capped, in_batch, is_full, opening, BatchedView, Draws, IsNew, open_if}
+use Rattle.sk_batched.proofs.Names.{open_numbers, tokens_of, IsInStep, in_batches, kernel_calls, looking_at}
 use Rattle.sk_batched.proofs.Names.{opens_first, BatchStep, Opens, InBatch, Call, Steps, LogsStep, IsRefused}
 use Rattle.sk_batched.proofs.Names.{DrawsGuess, Sends, Hears, Cuts, Stops, Decides, LetsOut, Runs, BatchesAsPlain}
 use Rattle.sk_batched.proofs.Names.{runs_whole, bytes_exact, bytes_total, get-empty}
-use Rattle.sk_batched.proofs.Answering.{capped_small}
+use Rattle.sk_batched.proofs.Answering.{capped_small, still_parts}
 use Rattle.sk_batched.proofs.Moves.{looks_as_before, Spares}
 use Rattle.sk_batched.proofs.Queues.{batch_of, begins, cut_kept, decided_first, new_in_step, new_row, oldest_committed, oldest_failed, requeued, said_less, same_seen, step_taken, taken, word_kept, IsNumbered}
 use Rattle.sk_record.specs.declared.status.Status.TheVariants as status_as
@@ -78,10 +78,6 @@ look_drawn : {V O : Type 0} (a : BatchedView V O) (m : ByteView V O) (begun : Bo
 look_drawn a m true (ts, h) same k = ap (λ (e : ByteView _ _). look_at bytes_cmp e.parts.slots k) same
 look_drawn a m false (ts, h) takes k = looks_as_before a.kernel.parts m.parts (open_numbers a.queue a.begun) a.queue.number h.row takes k
 
-seen_still : {V O : Type 0} (old new : ByteView V O) → IsStill old new → IsSame bytes_cmp old.parts new.parts
-seen_still old new (inl is) = subst (λ b. IsSame bytes_cmp old.parts b.parts) (sym is) (all_same bytes_cmp old.parts)
-seen_still old new (inr still) = still.parts
-
 -- the oldest guess is decided
 decided_row : {V O : Type 0} (m : Parts (List ℕ) V O) (q : QueueView) (begun : Bool) (ts : List Token) → IsInStep m q begun ts → (d : Decision) → decided q.batches ≡ Some d
     → (us : List Token) × (((n : Parts (List ℕ) V O) (r : QueueView) → r ≡ record q { batches = left q.batches } → Commits bytes_cmp m (batch_of d) n → IsInStep n r begun us)
@@ -145,7 +141,7 @@ module _ {V O F N : Type 0} (own : System (List ℕ) V (ℕ × O) F N) where
         after.2,
       )
   inside told a (IsRefused ∷ cs) last b (ts, h) (m, stays, runs) =
-      let same = seen_still a.kernel m.kernel stays.kernel in
+      let same = still_parts a.kernel m.kernel stays.kernel in
       let known : Known m = (ts, subst (λ e. IsInStep m.kernel.parts m.queue e ts) (sym stays.begun) (subst (λ q. IsInStep m.kernel.parts q a.begun ts) (sym stays.queue) (same_seen a.kernel.parts a.queue a.begun ts h m.kernel.parts same))) in
       leads_from inner told a.kernel.parts m.kernel.parts (kernel_calls a.begun a.queue.number cs) last b.kernel.parts same
       (rest_of told last m a.begun a.queue.number cs b.kernel.parts stays.begun (ap (λ q. q.number) stays.queue) (inside told m cs last b known runs))

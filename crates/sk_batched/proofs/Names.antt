@@ -73,3 +73,5 @@ pub use Rattle.sk_speculator.specs.Law.{Call as KernelCall, Hands, Calls, Happen
 pub use Rattle.sk_speculator.specs.Law.{events_of}
 pub use Rattle.sk_speculator.specs.Parts.{IsSame, Parts, machine_of, undo_state_of}
 pub use Rattle.sk_speculator.specs.WholeStep.{WholeStep}
+pub use Rattle.std.proofs.lemmas.Map.Made.{Contains-tail}
+pub use Rattle.std.proofs.lemmas.Result.{on_err_weaker}

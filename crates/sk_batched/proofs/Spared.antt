@@ -4,16 +4,11 @@ use Rattle.sk_batched.proofs.Names.{ap, if◌then◌else◌, list_any, Vec, vec_
 use Rattle.sk_batched.proofs.Names.{or_parts, false_from_ne_true, is_in, bytes_cmp, same_bytes, WholeStep, has_long_key}
 use Rattle.sk_batched.proofs.Names.{byte_deed, LongKey, Reserved, batch_key, is_reserved, has_reserved_key}
 use Rattle.sk_batched.proofs.Names.{is_batch_key, step_refused}
-use Rattle.sk_batched.specs.declared.refusal.Refusal.{Refusal}
 use Rattle.sk_batched.proofs.Moves.{Spares}
 
 neither : (a b : Bool) → (if a then Some LongKey else if b then Some Reserved else None) ≡ None → (a ≡ false) × (b ≡ false)
-neither true b is = absurd (some_none LongKey is) where
-  some_none : (x : Refusal) → Some x ≡ None → ⊥
-  some_none x is = cc
-neither false true is = absurd (some_none Reserved is) where
-  some_none : (x : Refusal) → Some x ≡ None → ⊥
-  some_none x is = cc
+neither true b is = cc
+neither false true is = cc
 neither false false is = (refl, refl)
 
 reserves : (n : ℕ) → is_reserved (batch_key n) ≡ true

@@ -1,17 +1,18 @@
 -- Batches stand in the log one behind another, and a cut takes away just those of its frame.
-use Rattle.sk_batches.proofs.Names.{◌≡◌, ℕ, ◌+◌, ◌<◌, ◌≤◌, true, false, cond, ◌||◌, ◌&&◌, List, [], ◌∷◌, ◌++◌, length}
-use Rattle.sk_batches.proofs.Names.{map, Option, Some, None, inl, inr, refl, sym, ◌∙◌, ap, subst, arith, ◌⊎◌, ◌==◌}
-use Rattle.sk_batches.proofs.Names.{nat_lt, nat_le, both_ways, list_any, AllByRecursion, Contains, true≢false}
-use Rattle.sk_batches.proofs.Names.{false≢true, and_from, and_left, and_parts, eqb-true, eq-eqb, or_cases, or_from}
-use Rattle.sk_batches.proofs.Names.{or_left, or_right, cases_order, leb-true, le-leb, ltb-true, lt-ltb, le-ltb, ne_eqb}
-use Rattle.sk_batches.proofs.Names.{false_from_ne_true, length-append, length-map, All-contains, All-from_recursion}
-use Rattle.sk_batches.proofs.Names.{NUMBER_LIMIT, Stage, Kept, Sent, Synced, Failed, Refused, Batch, Cut, RecordView}
-use Rattle.sk_batches.proofs.Names.{kept, QueueView, send, tell, awaits, cut_off, first_failed, last_in, is_kept}
-use Rattle.sk_batches.proofs.Names.{is_sent, is_failed, is_decided, is_taken, left, past, Call, Appends, Withdraws}
-use Rattle.sk_batches.proofs.Names.{Takes, Syncs, Fails, Decides, Cuts, Stops, Happens, Runs, Story, story_after}
-use Rattle.sk_batches.proofs.Names.{is_off, AreDense, CutsARange, FramesAreDense, IsAtCut, IsBehind, IsBetween, IsRange}
+use Rattle.sk_batches.proofs.Names.{same_Some, none-some, or_parts, ◌≡◌, ℕ, ◌+◌, ◌<◌, ◌≤◌, true, false, cond, ◌||◌}
+use Rattle.sk_batches.proofs.Names.{◌&&◌, List, [], ◌∷◌, ◌++◌, length, map, Option, Some, None, inl, inr, refl, sym}
+use Rattle.sk_batches.proofs.Names.{◌∙◌, ap, subst, arith, ◌⊎◌, ◌==◌, nat_lt, nat_le, both_ways, list_any}
+use Rattle.sk_batches.proofs.Names.{AllByRecursion, Contains, true≢false, false≢true, and_from, and_left, and_parts}
+use Rattle.sk_batches.proofs.Names.{eqb-true, eq-eqb, or_cases, or_from, or_left, or_right, cases_order, leb-true}
+use Rattle.sk_batches.proofs.Names.{le-leb, ltb-true, lt-ltb, le-ltb, ne_eqb, false_from_ne_true, length-append}
+use Rattle.sk_batches.proofs.Names.{length-map, All-contains, All-from_recursion, NUMBER_LIMIT, Stage, Kept, Sent}
+use Rattle.sk_batches.proofs.Names.{Synced, Failed, Refused, Batch, Cut, RecordView, kept, QueueView, send, tell}
+use Rattle.sk_batches.proofs.Names.{awaits, cut_off, first_failed, last_in, is_kept, is_sent, is_failed, is_decided}
+use Rattle.sk_batches.proofs.Names.{is_taken, left, past, Call, Appends, Withdraws, Takes, Syncs, Fails, Decides, Cuts}
+use Rattle.sk_batches.proofs.Names.{Stops, Happens, Runs, Story, story_after, is_off, AreDense, CutsARange}
+use Rattle.sk_batches.proofs.Names.{FramesAreDense, IsAtCut, IsBehind, IsBetween, IsRange}
 use Rattle.sk_batches.proofs.Order.{cut_number, sent_number, told_number}
-use Rattle.sk_batches.proofs.Synced.{due_cut, else_decided, failed_undecided, failed_unkept, no_cut, not_sent, sent_undecided, sent_unkept}
+use Rattle.sk_batches.proofs.Synced.{due_cut, else_decided, failed_undecided, failed_unkept, kept_unfailing, sent_undecided, sent_unkept}
 
 -- ---- of all
 
@@ -474,30 +475,11 @@ row_of first next number frame n (b ∷ bs) so free above row =
 
 -- ---- where a cut is due
 
-kept_unfailing : (bs : List Batch) → AllByRecursion (λ (b : Batch). is_kept b.stage ≡ true) bs → first_failed bs ≡ None
-kept_unfailing [] all = refl
-kept_unfailing (b ∷ bs) all =
-    ap (λ t. cond t (Some (record { frame = b.frame; first = b.number; last = last_in b.frame b.number bs }))
-    (first_failed bs)) (unfailed b.stage all.0)
-    ∙ kept_unfailing bs all.1
-  where
-    unfailed : (s : Stage) → is_kept s ≡ true → is_failed s ≡ false
-    unfailed Failed e = absurd (false≢true e)
-    unfailed s e = refl
-
-abbrev frame_cut : Option Cut → ℕ
-frame_cut None = 0
-frame_cut (Some c) = c.frame
-
-abbrev first_cut : Option Cut → ℕ
-first_cut None = 0
-first_cut (Some c) = c.first
-
 -- one that did not fail stands before what failed
 before_failed : (b : Batch) (bs : List Batch) (c : Cut) → is_failed b.stage ≡ false → AllByRecursion (IsBehind b) bs
     → first_failed bs ≡ Some c
     → (b.frame < c.frame) × (b.number < c.first)
-before_failed b [] c stands behind is = absurd (no_cut c is)
+before_failed b [] c stands behind is = absurd (none-some c is)
 before_failed b (d ∷ bs) c stands behind is =
     let found : Cut = record { frame = d.frame; first = d.number; last = last_in d.frame d.number bs } in
     elim (is_failed d.stage) as
@@ -507,8 +489,8 @@ before_failed b (d ∷ bs) c stands behind is =
           let free = failed_unkept d.stage fails in
           let up = behind.0.frame free in
           let on = behind.0.number in
-          let at : d.frame ≡ c.frame = ap frame_cut here in
-          let named : d.number ≡ c.first = ap first_cut here in
+          let at : d.frame ≡ c.frame = ap (λ (x : Cut). x.frame) (same_Some _ _ here) in
+          let named : d.number ≡ c.first = ap (λ (x : Cut). x.first) (same_Some _ _ here) in
           elim (cases_order b.frame d.frame) as (λ _. (b.frame < c.frame) × (b.number < c.first)) [
             | inl same ↦ absurd (true≢false (sym fails ∙ sym (ap is_failed (behind.0.alike free same)) ∙ stands))
             | inr other ↦ elim other as (λ _. (b.frame < c.frame) × (b.number < c.first)) [
@@ -600,9 +582,9 @@ range_here first next number b bs so fails =
 ranged : (first next number : ℕ) (c : Cut) (bs : List Batch) → AreDense first next number bs
     → list_any (λ (b : Batch). is_sent b.stage) bs ≡ false
     → first_failed bs ≡ Some c → IsRange c bs
-ranged first next number c [] so none is = absurd (no_cut c is)
+ranged first next number c [] so none is = absurd (none-some c is)
 ranged first next number c (b ∷ bs) so none is =
-    let unsent = not_sent (is_sent b.stage) (list_any (λ (x : Batch). is_sent x.stage) bs) none in
+    let unsent = or_parts (is_sent b.stage) (list_any (λ (x : Batch). is_sent x.stage) bs) none in
     let found : Cut = record { frame = b.frame; first = b.number; last = last_in b.frame b.number bs } in
     elim (is_failed b.stage) as
     (λ t. is_failed b.stage ≡ t → cond t (Some found) (first_failed bs) ≡ Some c → IsRange c (b ∷ bs)) [
@@ -612,7 +594,7 @@ ranged first next number c (b ∷ bs) so none is =
           let rest = ranged first next number c bs so.3 unsent.1 later in
           let under = less.0 in
           let free : is_kept b.stage ≡ false = false_from_ne_true (is_kept b.stage) (λ k.
-          no_cut c (sym (kept_unfailing bs
+          none-some c (sym (kept_unfailing bs
           (all_of (IsBehind b) (λ (d : Batch). is_kept d.stage ≡ true) (λ d x. x.last k) bs so.2)) ∙ later)) in
           record {
             in_order = rest.in_order;
@@ -641,7 +623,7 @@ ranged first next number c (b ∷ bs) so none is =
 pub cut_between : (first next number : ℕ) (c : Cut) (bs : List Batch) → AreDense first next number bs
     → first_failed bs ≡ Some c
     → (first ≤ c.frame) × (c.frame < next) × (c.frame < NUMBER_LIMIT)
-cut_between first next number c [] so is = absurd (no_cut c is)
+cut_between first next number c [] so is = absurd (none-some c is)
 cut_between first next number c (b ∷ bs) so is =
     let found : Cut = record { frame = b.frame; first = b.number; last = last_in b.frame b.number bs } in
     elim (is_failed b.stage) as
@@ -649,7 +631,7 @@ cut_between first next number c (b ∷ bs) so is =
     → (first ≤ c.frame) × (c.frame < next) × (c.frame < NUMBER_LIMIT)) [
       | true ↦ λ fails here.
           let was = so.1 (failed_unkept b.stage fails) in
-          subst (λ n. (first ≤ n) × (n < next) × (n < NUMBER_LIMIT)) (ap frame_cut here)
+          subst (λ n. (first ≤ n) × (n < next) × (n < NUMBER_LIMIT)) (ap (λ (x : Cut). x.frame) (same_Some _ _ here))
           (was.from, was.before, was.numbered)
       | false ↦ λ stands later. cut_between first next number c bs so.3 later
     ] refl is

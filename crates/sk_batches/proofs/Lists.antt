@@ -1,13 +1,13 @@
 -- Passes over lists, one place after the other.
-use Rattle.sk_batches.proofs.Names.{◌≡◌, ℕ, zero, suc, ◌+◌, ◌-◌, ◌<◌, ◌≤◌, length, take, drop, true, false, cond, not}
-use Rattle.sk_batches.proofs.Names.{List, [], ◌∷◌, ◌++◌, map, Some, None, refl, sym, ◌∙◌, ap, subst, arith}
+use Rattle.sk_batches.proofs.Names.{none-some, ◌≡◌, ℕ, zero, suc, ◌+◌, ◌-◌, ◌<◌, ◌≤◌, length, take, drop, true, false}
+use Rattle.sk_batches.proofs.Names.{cond, not, List, [], ◌∷◌, ◌++◌, map, Some, None, refl, sym, ◌∙◌, ap, subst, arith}
 use Rattle.sk_batches.proofs.Names.{append_assoc, slice_set, slice_index_or, suc-eq-add-one, drop-cons, drop-append-add}
 use Rattle.sk_batches.proofs.Names.{take-append-add, take-append_seam, append-nil, drop_all, take_all, length-append}
 use Rattle.sk_batches.proofs.Names.{length-drop, length-take-le, drop-drop, ◌==◌, nat_lt, sum_by, remove}
-use Rattle.sk_batches.proofs.Names.{take-append-drop, sum_by-append, sum_by-cons, true≢false, eqb-true, Stage, Kept}
-use Rattle.sk_batches.proofs.Names.{Sent, Synced, Failed, Refused, Batch, Cut, Decision, RecordView, payload, but_last}
-use Rattle.sk_batches.proofs.Names.{is_struck, kept, send, tell, awaits, cut_off, is_kept, is_decided, decided}
-use Rattle.sk_batches.proofs.Names.{decision_of, kept_of, kept_records, left}
+use Rattle.sk_batches.proofs.Names.{take-append-drop, sum_by-cons, true≢false, eqb-true, Stage, Kept, Sent, Synced}
+use Rattle.sk_batches.proofs.Names.{Refused, Batch, Cut, Decision, RecordView, payload, but_last, is_struck, kept, send}
+use Rattle.sk_batches.proofs.Names.{tell, awaits, cut_off, is_kept, is_decided, decided, decision_of, kept_of}
+use Rattle.sk_batches.proofs.Names.{kept_records, left}
 
 module _ {X : Type 0} where
   -- the next, and what is behind it
@@ -80,9 +80,6 @@ last_length rs =
 -- ---- the bytes of batches
 abbrev pub size : Batch → ℕ
 size b = length (payload b.records)
-
-pub sum_pushed : (bs : List Batch) (b : Batch) → sum_by size (bs ++ b ∷ []) ≡ sum_by size bs + size b
-sum_pushed bs b = let all = sum_by-append size bs (b ∷ []) in omega (arith, all)
 
 pub sum_mapped : (f : Batch → Batch) → ((b : Batch) → size (f b) ≤ size b) → (bs : List Batch) → sum_by size (map f bs) ≤ sum_by size bs
 sum_mapped f less [] = omega arith
@@ -209,16 +206,13 @@ none_kept [] ys none = refl
 none_kept (x ∷ xs) ys none = let all = eqb-true (length (x ∷ xs)) 0 none in absurd (omega arith)
 
 -- ---- the oldest
-nothing : (d : Decision) → None ≡ Some d → ⊥
-nothing d e = cc
-
 something : (d : Decision) → Some d ≡ None → ⊥
 something d e = cc
 
 goes : (s : Stage) (b : Batch) (bs : List Batch) (d : Decision) → decision_of s b.number ≡ Some d → bs ≡ cond (is_decided s) bs (b ∷ bs)
 goes Synced b bs d is = refl
 goes Refused b bs d is = refl
-goes s b bs d is = absurd (nothing d is)
+goes s b bs d is = absurd (none-some d is)
 
 stays : (s : Stage) (b : Batch) (bs : List Batch) → decision_of s b.number ≡ None → cond (is_decided s) bs (b ∷ bs) ≡ b ∷ bs
 stays Synced b bs is = absurd (something _ is)
@@ -226,9 +220,9 @@ stays Refused b bs is = absurd (something _ is)
 stays s b bs is = refl
 
 pub is_left : (bs : List Batch) (d : Decision) → decided bs ≡ Some d → remove bs 0 ≡ left bs
-is_left [] d is = absurd (nothing d is)
+is_left [] d is = absurd (none-some d is)
 is_left (b ∷ bs) d is = goes b.stage b bs d is
 
 pub there_is : (bs : List Batch) (d : Decision) → decided bs ≡ Some d → 0 < length bs
-there_is [] d is = absurd (nothing d is)
+there_is [] d is = absurd (none-some d is)
 there_is (b ∷ bs) d is = omega arith

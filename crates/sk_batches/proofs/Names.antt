@@ -7,14 +7,15 @@ pub use Rattle.std.proofs.Math.Seq.{drop-length, take-append-add, drop-append-ad
 pub use Rattle.std.proofs.Math.Seq.{take-append_seam}
 pub use Rattle.std.proofs.lemmas.Bool.{eqb-false, ltb-false, and_from, true≢false, or_right, and_left, lt-ltb, or_cases}
 pub use Rattle.std.proofs.lemmas.Bool.{false_from_ne_true, or_left, or_from, le-leb, leb-true, false≢true, cases_order}
-pub use Rattle.std.proofs.lemmas.Bool.{eqb-true, ltb-true, eq-eqb, and_parts, le-ltb, ne_eqb}
+pub use Rattle.std.proofs.lemmas.Bool.{eqb-true, ltb-true, eq-eqb, and_parts, le-ltb, ne_eqb, and_right, or_parts}
 pub use Rattle.std.proofs.lemmas.Bool.Decides.{nat_tests}
 pub use Rattle.std.proofs.lemmas.Fn.{filter_same}
 pub use Rattle.std.proofs.lemmas.List.{length-take-le, drop_all, drop-drop, length-drop, take_all, length-map}
 pub use Rattle.std.proofs.lemmas.List.{take-append-drop, length-append, take_rest, append-nil}
 pub use Rattle.std.proofs.lemmas.List.Elements.{All-contains, All-from_recursion, filter-append}
 pub use Rattle.std.proofs.lemmas.List.Filters.{sum_by-filter_both}
-pub use Rattle.std.proofs.lemmas.List.Sums.{sum_by-cons, sum_by-append}
+pub use Rattle.std.proofs.lemmas.List.Sums.{sum_by-cons, sum_by-append, sum_by_push}
+pub use Rattle.std.proofs.lemmas.Option.{none-some, same_Some}
 pub use Rattle.std.specs.Cmp.{both_ways}
 pub use Rattle.std.specs.List.{filter, remove, Contains, AllByRecursion, list_any, sum_by}
 pub use Rattle.std.specs.Prelude.{count_by, slice_index_or, slice_set, ◌⊎◌, nat_le, nat_lt, ◌==◌}

@@ -1,19 +1,16 @@
 -- Each batch stands where its frame is in the log, and what is told as logged stands behind nothing that is not synced.
-use Rattle.sk_batches.proofs.Names.{◌≡◌, ltb, ℕ, ◌+◌, ◌<◌, ◌≤◌, Bool, true, false, cond, ◌||◌, ◌&&◌, List, [], ◌∷◌}
-use Rattle.sk_batches.proofs.Names.{◌++◌, map, Option, Some, None, inl, inr, refl, sym, ◌∙◌, ap, subst, arith, ◌⊎◌}
-use Rattle.sk_batches.proofs.Names.{◌==◌, nat_lt, filter, list_any, true≢false, false≢true, eqb-true, eqb-false, eq-eqb}
-use Rattle.sk_batches.proofs.Names.{or_left, or_right, or_cases, ltb-true, ltb-false, lt-ltb, Stage, Kept, Sent, Synced}
-use Rattle.sk_batches.proofs.Names.{Failed, Refused, Batch, Cut, RecordView, kept, QueueView, send, tell, awaits}
-use Rattle.sk_batches.proofs.Names.{cut_off, first_failed, last_in, is_kept, is_sent, is_failed, is_decided}
-use Rattle.sk_batches.proofs.Names.{kept_records, left, past, Call, Appends, Withdraws, Takes, Syncs, Fails, Decides}
-use Rattle.sk_batches.proofs.Names.{Cuts, Stops, Happens, Runs, Story, story_after, synced_after, with_decided}
-use Rattle.sk_batches.proofs.Names.{with_oldest, has, LogsWhatIsSynced, NoneIsKept, NUMBER_LIMIT, and_parts, and_from}
+use Rattle.sk_batches.proofs.Names.{same_Some, AllByRecursion, and_right, none-some, or_parts, ◌≡◌, ltb, ℕ, ◌+◌, ◌<◌}
+use Rattle.sk_batches.proofs.Names.{◌≤◌, Bool, true, false, cond, ◌&&◌, List, [], ◌∷◌, ◌++◌, map, Option, Some, None}
+use Rattle.sk_batches.proofs.Names.{inl, inr, refl, sym, ◌∙◌, ap, subst, arith, ◌⊎◌, ◌==◌, nat_lt, filter, list_any}
+use Rattle.sk_batches.proofs.Names.{true≢false, false≢true, eqb-true, eqb-false, eq-eqb, or_left, or_right, or_cases}
+use Rattle.sk_batches.proofs.Names.{ltb-true, ltb-false, lt-ltb, Stage, Kept, Sent, Synced, Failed, Refused, Batch, Cut}
+use Rattle.sk_batches.proofs.Names.{RecordView, kept, QueueView, send, tell, awaits, cut_off, first_failed, last_in}
+use Rattle.sk_batches.proofs.Names.{is_kept, is_sent, is_failed, is_decided, kept_records, left, past, Call, Appends}
+use Rattle.sk_batches.proofs.Names.{Withdraws, Takes, Syncs, Fails, Decides, Cuts, Stops, Happens, Runs, Story}
+use Rattle.sk_batches.proofs.Names.{story_after, synced_after, with_decided, with_oldest, has, LogsWhatIsSynced}
+use Rattle.sk_batches.proofs.Names.{NoneIsKept, NUMBER_LIMIT, and_parts, and_from}
 
 -- ---- tests
-
-not_second : (x y : Bool) → y ≡ false → (x && y) ≡ false
-not_second true y e = e
-not_second false y e = refl
 
 pub sent_undecided : (s : Stage) → is_sent s ≡ true → is_decided s ≡ false
 sent_undecided Synced e = absurd (false≢true e)
@@ -37,7 +34,7 @@ pub failed_unkept : (s : Stage) → is_failed s ≡ true → is_kept s ≡ false
 failed_unkept Kept e = absurd (false≢true e)
 failed_unkept s e = refl
 
-kept_unfailed : (s : Stage) → is_kept s ≡ true → is_failed s ≡ false
+pub kept_unfailed : (s : Stage) → is_kept s ≡ true → is_failed s ≡ false
 kept_unfailed Failed e = absurd (false≢true e)
 kept_unfailed s e = refl
 
@@ -114,8 +111,7 @@ record IsPlaced (synced : List ℕ) (f : ℕ) (prev : Before) (frame : ℕ) (sta
   pub told : is_decided stage ≡ true → has frame synced ≡ true
 
 abbrev AllKept : List Batch → Type 0
-AllKept [] = Unit {0}
-AllKept (b ∷ bs) = (is_kept b.stage ≡ true) × AllKept bs
+AllKept = AllByRecursion (λ b. is_kept b.stage ≡ true)
 
 -- from frame f on, behind a batch, where all before are decided or not: each batch is placed, up to those that are to be sent again
 abbrev InLog : List ℕ → ℕ → Before → Bool → List Batch → ℕ → Type 0
@@ -218,13 +214,6 @@ module _ (synced more : List ℕ) (frame : ℕ) (stage : Stage) (grows : (k : �
 
 -- ---- the oldest is let go of
 
-none_is : (x : ℕ × Stage) → None ≡ Some x → ⊥
-none_is x e = cc
-
-abbrev frame_in : Before → ℕ
-frame_in None = 0
-frame_in (Some x) = x.0
-
 lower : (synced : List ℕ) (first p : ℕ) (stage : Stage) (calm : Bool) (bs : List Batch) (next : ℕ) → first ≤ p → AllTold synced first (p + 1)
     → InLog synced (p + 1) (Some (p, stage)) calm bs next → InLog synced first None calm bs next
 lower synced first p stage calm [] next le all so = join synced first (p + 1) next all so
@@ -235,7 +224,7 @@ lower synced first p stage calm (b ∷ bs) next le all so = (
           small = old.0.small;
           place = elim old.0.place as (λ _. AllTold synced first b.frame ⊎ (no_batch ≡ Some (b.frame, b.stage))) [
             | inl more ↦ inl (join synced first (p + 1) b.frame all more)
-            | inr was ↦ let same : p ≡ b.frame = ap frame_in was in inl (record { least = omega arith; told = λ k a c. all.told k a (omega arith) })
+            | inr was ↦ let same : p ≡ b.frame = ap (λ (x : ℕ × Stage). x.0) (same_Some _ _ was) in inl (record { least = omega arith; told = λ k a c. all.told k a (omega arith) })
           ];
           told = old.0.told;
         },
@@ -249,7 +238,7 @@ oldest_told : (synced : List ℕ) (first frame : ℕ) (stage : Stage) → IsPlac
 oldest_told synced first frame stage placed is =
     elim placed.place as (λ _. AllTold synced first (frame + 1)) [
       | inl all ↦ one_told synced first frame all (placed.told is)
-      | inr was ↦ absurd (none_is (frame, stage) was)
+      | inr was ↦ absurd (none-some (frame, stage) was)
     ]
 
 popped : (synced : List ℕ) (first : ℕ) (bs : List Batch) (next : ℕ) → InLog synced first None true bs next → InLog synced first None true (left bs) next
@@ -259,7 +248,7 @@ popped synced first (b ∷ bs) next so =
       | true ↦ λ is.
           let old = so.0 (decided_unkept b.stage is) in
           let all = oldest_told synced first b.frame b.stage old.0 is in
-          let within = elim old.0.place as (λ _. first ≤ b.frame) [ inl more ↦ more.least | inr was ↦ absurd (none_is (b.frame, b.stage) was) ] in
+          let within = elim old.0.place as (λ _. first ≤ b.frame) [ inl more ↦ more.least | inr was ↦ absurd (none-some (b.frame, b.stage) was) ] in
           lower synced first b.frame b.stage true bs next within all (subst (λ t. InLog synced (b.frame + 1) (Some (b.frame, b.stage)) t bs next) is old.1)
       | false ↦ λ is. so
     ] refl
@@ -313,7 +302,7 @@ module _ (synced : List ℕ) (c : Cut) (small : c.frame < NUMBER_LIMIT) where
   -- where a batch stands behind one of frame p
   no_earlier : (p frame : ℕ) (before stage : Stage) → IsPlaced synced (p + 1) (Some (p, before)) frame stage → p ≤ frame
   no_earlier p frame before stage placed =
-      elim placed.place as (λ _. p ≤ frame) [ inl all ↦ let one = all.least in omega arith | inr was ↦ let same : p ≡ frame = ap frame_in was in omega arith ]
+      elim placed.place as (λ _. p ≤ frame) [ inl all ↦ let one = all.least in omega arith | inr was ↦ let same : p ≡ frame = ap (λ (x : ℕ × Stage). x.0) (same_Some _ _ was) in omega arith ]
 
   rest_kept : (p : ℕ) (before : Stage) (calm : Bool) (bs : List Batch) (next : ℕ) → calm ≡ false → c.frame < p → InLog synced (p + 1) (Some (p, before)) calm bs next
       → AllKept (map (cut_off c) bs)
@@ -363,14 +352,7 @@ module _ (synced : List ℕ) (c : Cut) (small : c.frame < NUMBER_LIMIT) where
             ] refl
       ] refl
 
-abbrev frame_cut : Option Cut → ℕ
-frame_cut None = 0
-frame_cut (Some c) = c.frame
-
-pub no_cut : (c : Cut) → None ≡ Some c → ⊥
-no_cut c e = cc
-
-kept_unfailing : (bs : List Batch) → AllKept bs → first_failed bs ≡ None
+pub kept_unfailing : (bs : List Batch) → AllKept bs → first_failed bs ≡ None
 kept_unfailing [] all = refl
 kept_unfailing (b ∷ bs) all =
     ap (λ t. cond t (Some (record { frame = b.frame; first = b.number; last = last_in b.frame b.number bs })) (first_failed bs)) (kept_unfailed b.stage all.0)
@@ -383,10 +365,6 @@ Follows f (Some x) = (f ≡ x.0 + 1) × (is_decided x.1 ≡ true)
 
 followed : (f : ℕ) (prev : Before) (x : ℕ × Stage) → prev ≡ Some x → Follows f prev → (f ≡ x.0 + 1) × (is_decided x.1 ≡ true)
 followed f prev x same so = subst (Follows f) same so
-
-pub not_sent : (x y : Bool) → (x || y) ≡ false → (x ≡ false) × (y ≡ false)
-not_sent true y e = absurd (true≢false e)
-not_sent false y e = (refl, e)
 
 record IsCut (synced : List ℕ) (c : Cut) (f : ℕ) (prev : Before) (calmer : Bool) (bs : List Batch) : Type 0 where
   pub least : f ≤ c.frame
@@ -403,7 +381,7 @@ module _ (synced : List ℕ) (c : Cut) where
         | inl all ↦ all
         | inr was ↦ absurd (true≢false (sym (followed f prev (b.frame, b.stage) was follows).1 ∙ failed_undecided b.stage fails))
       ] in
-      let rough = not_second calm (is_decided b.stage) (failed_undecided b.stage fails) in
+      let rough = and_right calm (is_decided b.stage) (failed_undecided b.stage fails) in
       let rest = cut_behind synced c small b.stage (calm && is_decided b.stage) (calmer && true) bs next rough (and_from calmer true calms refl)
       (subst (λ n. InLog synced (n + 1) (Some (n, b.stage)) (calm && is_decided b.stage) bs next) same behind) in
       record {
@@ -454,17 +432,17 @@ module _ (synced : List ℕ) (c : Cut) where
 
   cut_all : (f : ℕ) (prev : Before) (calm calmer : Bool) (bs : List Batch) (next : ℕ) → calmer ≡ true → Follows f prev → InLog synced f prev calm bs next
       → list_any (λ (b : Batch). is_sent b.stage) bs ≡ false → first_failed bs ≡ Some c → IsCut synced c f prev calmer bs
-  cut_all f prev calm calmer [] next calms follows so none is = absurd (no_cut c is)
+  cut_all f prev calm calmer [] next calms follows so none is = absurd (none-some c is)
   cut_all f prev calm calmer (b ∷ bs) next calms follows so none is =
-      let unsent = not_sent (is_sent b.stage) (list_any (λ (x : Batch). is_sent x.stage) bs) none in
+      let unsent = or_parts (is_sent b.stage) (list_any (λ (x : Batch). is_sent x.stage) bs) none in
       let found : Cut = record { frame = b.frame; first = b.number; last = last_in b.frame b.number bs } in
       elim (is_failed b.stage) as (λ t. is_failed b.stage ≡ t → cond t (Some found) (first_failed bs) ≡ Some c → IsCut synced c f prev calmer (b ∷ bs)) [
         | true ↦ λ fails here.
             let old = so.0 (failed_unkept b.stage fails) in
-            cut_here f prev calm calmer b bs next (ap frame_cut here) fails calms follows old.0 old.1
+            cut_here f prev calm calmer b bs next (ap (λ (x : Cut). x.frame) (same_Some _ _ here)) fails calms follows old.0 old.1
         | false ↦ λ stands later.
             elim (is_kept b.stage) as (λ t. is_kept b.stage ≡ t → IsCut synced c f prev calmer (b ∷ bs)) [
-              | true ↦ λ k. absurd (no_cut c (sym (kept_unfailing bs (so.1 k).2) ∙ later))
+              | true ↦ λ k. absurd (none-some c (sym (kept_unfailing bs (so.1 k).2) ∙ later))
               | false ↦ λ n.
                   let old = so.0 n in
                   let decided = else_decided b.stage n unsent.0 stands in
@@ -488,7 +466,7 @@ abbrev AreLogged : ℕ → QueueView → Story → Type 0
 AreLogged first q s = InLog s.synced first None true q.batches q.frame
 
 pub due_cut : (sent : Bool) (found : Option Cut) (c : Cut) → cond sent None found ≡ Some c → (sent ≡ false) × (found ≡ Some c)
-due_cut true found c is = absurd (no_cut c is)
+due_cut true found c is = absurd (none-some c is)
 due_cut false found c is = (refl, is)
 
 step : (first : ℕ) (q : QueueView) (s : Story) (c : Call) (m : QueueView) → Happens q c m → AreLogged first q s → AreLogged first m (story_after q c s)
@@ -537,7 +515,7 @@ rough_none synced f prev (b ∷ bs) next so =
 
 unkept_at_cut : (synced : List ℕ) (f : ℕ) (prev : Before) (calm : Bool) (bs : List Batch) (next : ℕ) (c : Cut) → InLog synced f prev calm bs next
     → first_failed bs ≡ Some c → kept_records bs ≡ []
-unkept_at_cut synced f prev calm [] next c so is = absurd (no_cut c is)
+unkept_at_cut synced f prev calm [] next c so is = absurd (none-some c is)
 unkept_at_cut synced f prev calm (b ∷ bs) next c so is =
     let found : Cut = record { frame = b.frame; first = b.number; last = last_in b.frame b.number bs } in
     elim (is_failed b.stage) as (λ t. is_failed b.stage ≡ t → cond t (Some found) (first_failed bs) ≡ Some c → kept_records (b ∷ bs) ≡ []) [
@@ -545,10 +523,10 @@ unkept_at_cut synced f prev calm (b ∷ bs) next c so is =
           let unkept = failed_unkept b.stage fails in
           none_of b bs unkept
           (rough_none synced (b.frame + 1) (Some (b.frame, b.stage)) bs next
-          (subst (λ t. InLog synced (b.frame + 1) (Some (b.frame, b.stage)) t bs next) (not_second calm (is_decided b.stage) (failed_undecided b.stage fails)) (so.0 unkept).1))
+          (subst (λ t. InLog synced (b.frame + 1) (Some (b.frame, b.stage)) t bs next) (and_right calm (is_decided b.stage) (failed_undecided b.stage fails)) (so.0 unkept).1))
       | false ↦ λ stands later.
           elim (is_kept b.stage) as (λ t. is_kept b.stage ≡ t → kept_records (b ∷ bs) ≡ []) [
-            | true ↦ λ k. absurd (no_cut c (sym (kept_unfailing bs (so.1 k).2) ∙ later))
+            | true ↦ λ k. absurd (none-some c (sym (kept_unfailing bs (so.1 k).2) ∙ later))
             | false ↦ λ n. none_of b bs n (unkept_at_cut synced (b.frame + 1) (Some (b.frame, b.stage)) (calm && is_decided b.stage) bs next c (so.0 n).1 later)
           ] refl
     ] refl is

@@ -1,18 +1,18 @@
 -- Numbers come and go: what is told stays.
-use Rattle.sk_bytes.proofs.Names.{◌≡◌, ◌<◌, ℕ, true, false, List, [], ◌∷◌, ◌++◌, Option, Some, None, Ok, cond, refl}
-use Rattle.sk_bytes.proofs.Names.{sym, ◌∙◌, ap, subst, inl, inr, ◌==◌, ◌⊎◌, ◌&&◌, ◌||◌, Bool, not, is_none, IfErr}
-use Rattle.sk_bytes.proofs.Names.{OnErr, Result, Err, nat_cmp, eq_by_cmp, nat_cmp_total, unsigned_tied, entries}
+use Rattle.sk_bytes.proofs.Names.{same_Some, ◌≡◌, ◌<◌, ℕ, true, false, List, [], ◌∷◌, ◌++◌, Option, Some, None, Ok}
+use Rattle.sk_bytes.proofs.Names.{cond, refl, sym, ◌∙◌, ap, subst, inl, inr, ◌==◌, ◌⊎◌, ◌&&◌, ◌||◌, Bool, not, is_none}
+use Rattle.sk_bytes.proofs.Names.{IfErr, OnErr, Result, Err, nat_cmp, eq_by_cmp, nat_cmp_total, unsigned_tied, entries}
 use Rattle.sk_bytes.proofs.Names.{nat_cmp-IsAntisymmetric, Vec, ne_eqb, or_parts, true≢false, list_any, put, is_in}
 use Rattle.sk_bytes.proofs.Names.{written_value, Effect, Note, has, without, noted, cut, unwound, committed, Merges}
 use Rattle.sk_bytes.proofs.Names.{none_drawn, Deed, performs, at_key, AreWrites, SlotView, look_at, log_at, Numbered}
 use Rattle.sk_bytes.proofs.Names.{number_of, string_of, some_none, Parts, IsSame, Takes, Commits, FailsIn, Forgets}
 use Rattle.sk_bytes.proofs.Names.{Refuses, shown, slot_shown, slots_told, told_of, strings_of, AllRest, IsTwoWay}
 use Rattle.sk_bytes.proofs.Names.{ByteView, Fits, IsTold, UsedBut, LetsGo, Gains, AreNames, names, has_long_key}
-use Rattle.sk_bytes.proofs.Names.{refusal_of, RefusesGuess, RefusesNext, Unchanged, Refusal, LongKey, LongValue}
-use Rattle.sk_bytes.proofs.Names.{TooMany, NoNumber, Memory, WholeStep, Inner, Ordering, whole_committed, whole_failed}
-use Rattle.sk_bytes.proofs.Names.{whole_first, whole_forgotten, whole_same, whole_taken}
+use Rattle.sk_bytes.proofs.Names.{refusal_of, RefusesGuess, RefusesNext, Unchanged, Refusal, TooMany, NoNumber, Memory}
+use Rattle.sk_bytes.proofs.Names.{WholeStep, Inner, Ordering, whole_committed, whole_failed, whole_first}
+use Rattle.sk_bytes.proofs.Names.{whole_forgotten, whole_same, whole_taken}
 use Rattle.sk_speculator.specs.declared.refusal.Refusal.TheVariants as inner
-use Rattle.sk_bytes.proofs.Told.{none_shown, same_told, some_same}
+use Rattle.sk_bytes.proofs.Told.{none_shown, same_told}
 use Rattle.sk_bytes.proofs.Rests.{taken_rest, committed_rest, cut_rest}
 
 -- ---- the same is told where strings have the same slots
@@ -31,8 +31,8 @@ module _ {V : Type 0} (es fs : Numbered) (slots : List (ℕ × SlotView V)) wher
   come q n one two (inr bare) here there = bare
 
   both : (q : List ℕ) (n m : ℕ) → IsTwoWay es → IsTwoWay fs → Alike n → Alike m → number_of fs q ≡ Some n → number_of es q ≡ Some m → slot_shown slots n ≡ slot_shown slots m
-  both q n m one two (inl same) other here there = ap (slot_shown slots) (some_same n m (sym (one.back q n (sym same ∙ two.there q n here)) ∙ there))
-  both q n m one two (inr bare) (inl same) here there = ap (slot_shown slots) (some_same n m (sym here ∙ two.back q m (same ∙ one.there q m there)))
+  both q n m one two (inl same) other here there = ap (slot_shown slots) (same_Some n m (sym (one.back q n (sym same ∙ two.there q n here)) ∙ there))
+  both q n m one two (inr bare) (inl same) here there = ap (slot_shown slots) (same_Some n m (sym here ∙ two.back q m (same ∙ one.there q m there)))
   both q n m one two (inr bare) (inr none) here there = bare ∙ sym none
 
   by_numbers : (q : List ℕ) → IsTwoWay es → IsTwoWay fs → ((n : ℕ) → Alike n) → (x y : Option ℕ) → number_of fs q ≡ x → number_of es q ≡ y → at_key None (slot_shown slots) x ≡ at_key None (slot_shown slots) y
@@ -295,21 +295,17 @@ told_still es m loose fits needed none = record {
 -- why no guess is drawn is told alike
 pub refused : {V O : Type 0} (m : Parts (List ℕ) V O) (step : WholeStep (Vec ℕ) V O) (why : Inner) → has_long_key step ≡ false → Refuses m why → RefusesGuess m step (refusal_of why)
 refused m step inner.TooMany short is = (short, is)
-refused m step inner.NoNumber short is = (short, is)
-refused m step inner.Memory short is = (short, is)
+refused m step s short is = (short, is)
 
 pub next_refused : {K V O : Type 0} (m : Parts K V O) (why : Inner) → (why ≡ inner.Memory → ⊥) → Refuses m why → RefusesNext m (refusal_of why)
-next_refused m inner.TooMany other is = is
-next_refused m inner.NoNumber other is = is
 next_refused m inner.Memory other is = absurd (other refl)
+next_refused m s other is = is
 
 module _ {V O : Type 0} (es : Numbered) (m : Parts ℕ V O) where
   next_told : (why : Refusal) → RefusesNext m why → RefusesNext (told_of es m) why
   next_told TooMany is = is
   next_told NoNumber is = is
-  next_told LongKey is = absurd is
-  next_told LongValue is = absurd is
-  next_told Memory is = absurd is
+  next_told s is = absurd is
 
   pub answer_told : (r : Result ℕ Refusal) → IfErr r (RefusesNext m) → IfErr r (RefusesNext (told_of es m))
   answer_told (Ok id) is = tt
@@ -318,6 +314,4 @@ module _ {V O : Type 0} (es : Numbered) (m : Parts ℕ V O) where
   pub refused_next : (step : WholeStep (Vec ℕ) V O) (why : Refusal) → has_long_key step ≡ false → RefusesNext m why → RefusesGuess (told_of es m) step why
   refused_next step TooMany short is = (short, is)
   refused_next step NoNumber short is = (short, is)
-  refused_next step LongKey short is = absurd is
-  refused_next step LongValue short is = absurd is
-  refused_next step Memory short is = absurd is
+  refused_next step s short is = absurd is

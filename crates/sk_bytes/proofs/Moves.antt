@@ -9,7 +9,7 @@ use Rattle.sk_bytes.proofs.Names.{AreWrites, SlotView, look_at, Numbered, number
 use Rattle.sk_bytes.proofs.Names.{some_none, same_bytes, shown, slot_shown, AllRest, IsTwoWay, LetsGo, Gains, AreNames}
 use Rattle.sk_bytes.proofs.Names.{names, exchanged}
 use Rattle.std.specs.Prelude.{Ok}
-use Rattle.sk_bytes.proofs.Told.{two_way_more, two_way_less}
+use Rattle.sk_bytes.proofs.Told.{two_way_more, two_way_less, nat_same, nat_other}
 
 -- ---- numbers go
 
@@ -57,12 +57,6 @@ module _ {V : Type 0} (slots : List (ℕ × SlotView V)) where
       above : (n : ℕ) → some n ≡ false → (x : Bool) → nat_lt n end ≡ x → end ≤ n
       above n out true is = absurd (true≢false (sym (first n (ltb-true n end is)) ∙ out))
       above n out false is = ltb-false n end is
-
-  nat_same : (m n : ℕ) → m ≡ n → eq_by_cmp nat_cmp m n ≡ true
-  nat_same m n same = unsigned_tied m n ∙ eq-eqb m n same
-
-  nat_other : (m n : ℕ) → (m ≡ n → ⊥) → eq_by_cmp nat_cmp m n ≡ false
-  nat_other m n other = unsigned_tied m n ∙ ne_eqb m n other
 
   -- a number whose key is not bare stays
   kept_one : (es : Numbered) (n m : ℕ) (x : Bool) → is_none (slot_shown slots n) ≡ false → eq_by_cmp nat_cmp m n ≡ x → string_of es m ≡ cond ((x || false) && is_none (slot_shown slots m)) None (string_of es m)
@@ -213,14 +207,6 @@ module _ {B K : Type 0} (key : B → Option K) where
 pub names_push : {A V : Type 0} (ws : List (A × V)) (a : A) (v : V) → names (ws ++ (a, v) ∷ []) ≡ names ws ++ a ∷ []
 names_push [] a v = refl
 names_push (w ∷ ws) a v = ap (λ ks. w.0 ∷ ks) (names_push ws a v)
-
-pub map_push : {A B : Type 0} (f : A → B) (xs : List A) (x : A) → map f (xs ++ x ∷ []) ≡ map f xs ++ f x ∷ []
-map_push f [] x = refl
-map_push f (y ∷ xs) x = ap (λ ys. f y ∷ ys) (map_push f xs x)
-
-pub map_length : {A B : Type 0} (f : A → B) (xs : List A) → length (map f xs) ≡ length xs
-map_length f [] = refl
-map_length f (x ∷ xs) = ap suc (map_length f xs)
 
 -- ---- what stands behind names is exchanged
 

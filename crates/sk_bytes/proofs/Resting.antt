@@ -1,10 +1,11 @@
 -- The strings of the numbers that rest on a guess.
-use Rattle.sk_bytes.proofs.Names.{◌≡◌, ℕ, ◌<◌, true, false, List, [], ◌∷◌, length, Option, Some, None, cond, refl, sym}
-use Rattle.sk_bytes.proofs.Names.{◌∙◌, ap, arith, ◌==◌, ◌||◌, Bool, is_some, slice_get, unsigned_tied, AllByRecursion}
-use Rattle.sk_bytes.proofs.Names.{filter, nat_cmp, Less, eq-eqb, ne_eqb, true≢false, IsStrictlySortedBy-filter, is_in}
-use Rattle.sk_bytes.proofs.Names.{has, last_tags, tags_at, has_filter, above, same_rising, eqb_turned, at_key, log_at}
-use Rattle.sk_bytes.proofs.Names.{Numbered, bytes_cmp, numbers_in, string_of, Parts, undo_state_of, names, strings_of}
-use Rattle.sk_bytes.proofs.Names.{told_of, with_string, ByteView, Fits, resting_on}
+use Rattle.sk_bytes.proofs.Names.{or_right, ◌≡◌, ℕ, ◌<◌, true, false, List, [], ◌∷◌, length, Option, Some, None, cond}
+use Rattle.sk_bytes.proofs.Names.{refl, sym, ◌∙◌, ap, arith, ◌==◌, ◌||◌, Bool, is_some, slice_get, unsigned_tied}
+use Rattle.sk_bytes.proofs.Names.{AllByRecursion, filter, nat_cmp, Less, eq-eqb, ne_eqb, true≢false}
+use Rattle.sk_bytes.proofs.Names.{IsStrictlySortedBy-filter, is_in, has, last_tags, tags_at, has_filter, above}
+use Rattle.sk_bytes.proofs.Names.{same_rising, eqb_turned, at_key, log_at, Numbered, bytes_cmp, numbers_in, string_of}
+use Rattle.sk_bytes.proofs.Names.{Parts, undo_state_of, names, strings_of, told_of, with_string, ByteView, Fits}
+use Rattle.sk_bytes.proofs.Names.{resting_on}
 use Rattle.std.proofs.Common.{◌&&◌}
 use Rattle.std.specs.List.Sorted.{IsStrictlySortedBy}
 use Rattle.sk_bytes.proofs.Told.{log_told}
@@ -25,12 +26,8 @@ one_before e es [] low within there = tt
 one_before e es (f ∷ fs) low within there =
     let less = above e.1 (numbers_in es) f.1 low (within f (ap (λ b. b || has f.1 (numbers_in fs)) (eq-eqb f.1 f.1 refl))) in (
       ap (λ b. cond b (Some e.0) (string_of es f.1)) (ne_eqb e.1 f.1 (λ same. apart e.1 f.1 less same)) ∙ there.0,
-      one_before e es fs low (λ h here. within h (later (f.1 == h.1) (has h.1 (numbers_in fs)) here)) there.1,
+      one_before e es fs low (λ h here. within h (or_right (f.1 == h.1) (has h.1 (numbers_in fs)) here)) there.1,
     ) where
-      later : (a b : Bool) → b ≡ true → (a || b) ≡ true
-      later true b is = refl
-      later false b is = is
-
       apart : (m n : ℕ) → m < n → m ≡ n → ⊥
       apart m n lt same = omega (arith, lt, same)
 

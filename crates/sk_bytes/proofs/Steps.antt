@@ -1,8 +1,8 @@
 -- A step that is handed over, and handed back.
-use Rattle.sk_bytes.proofs.Names.{◌≡◌, ℕ, List, map, length, Option, None, sym, ap, ◌∙◌, subst, Vec, vec_items, keys_of}
-use Rattle.sk_bytes.proofs.Names.{AreWrites, IsDeed, WholeStep, exchanged, names, AreNames, byte_deed, deed_in}
-use Rattle.sk_bytes.proofs.Names.{IsAsItWas, IsHandedOver, Swaps}
-use Rattle.sk_bytes.proofs.Moves.{exchanged_back, exchanged_length, exchanged_names, map_length, names_length, writes_named}
+use Rattle.sk_bytes.proofs.Names.{length-map, ◌≡◌, ℕ, List, map, length, Option, None, sym, ap, ◌∙◌, subst, Vec}
+use Rattle.sk_bytes.proofs.Names.{vec_items, keys_of, AreWrites, IsDeed, WholeStep, exchanged, names, AreNames}
+use Rattle.sk_bytes.proofs.Names.{byte_deed, deed_in, IsAsItWas, IsHandedOver, Swaps}
+use Rattle.sk_bytes.proofs.Moves.{exchanged_back, exchanged_length, exchanged_names, names_length, writes_named}
 
 module _ {V O : Type 0} (step left : WholeStep (Vec ℕ) V O) (numbered told : WholeStep ℕ V O) where
   abbrev pub AreNumbered : (List ℕ → Option ℕ) → Type 0
@@ -17,9 +17,9 @@ module _ {V O : Type 0} (step left : WholeStep (Vec ℕ) V O) (numbered told : W
 
   pub lengths : (key : List ℕ → Option ℕ) → AreNumbered key → length step.written.items ≡ length numbered.written.items
   lengths key are =
-      sym (map_length (λ w. vec_items w.0) step.written.items)
+      sym (length-map step.written.items (λ w. vec_items w.0))
       ∙ names_length key (map (λ w. vec_items w.0) step.written.items) (names numbered.written.items) are
-      ∙ map_length (λ w. w.0) numbered.written.items
+      ∙ length-map numbered.written.items (λ w. w.0)
 
   pub same_names : Swaps step numbered left told → names told.written.items ≡ names numbered.written.items
   same_names swaps = ap names swaps.told_written ∙ exchanged_names numbered.written.items step.written.items

@@ -1,12 +1,12 @@
 -- The machine of what is told is the machine inside, under the names of its keys.
-use Rattle.sk_bytes.proofs.Names.{◌≡◌, ℕ, true, false, List, [], ◌∷◌, Option, Some, None, cond, refl, sym, ◌∙◌, ap}
-use Rattle.sk_bytes.proofs.Names.{subst, ◌==◌, IsTotalOrder, unsigned_tied, nat_list_cmp_total, FinMap, IsAntisymmetric}
-use Rattle.sk_bytes.proofs.Names.{entries, get, get-entries, get-from_entries, get-insert, get-remove, get-empty}
-use Rattle.sk_bytes.proofs.Names.{same_map, nat_cmp-IsAntisymmetric, slice_cmp-IsAntisymmetric, nat_cmp, eq_by_cmp}
-use Rattle.sk_bytes.proofs.Names.{eqb-true, eqb-false, eq-eqb, ne_eqb, put, Note, Fails, with_drawn, with_status}
-use Rattle.sk_bytes.proofs.Names.{with_failure, MergedTakes, MergedCommits, Status, Deed, again, at_key, renamed}
-use Rattle.sk_bytes.proofs.Names.{KeepsApart, IsDeed, SlotView, found, slot_in, look_at, log_at, Numbered, bytes_cmp}
-use Rattle.sk_bytes.proofs.Names.{number_of, string_of, Adds, Removes, same_bytes, same_list, some_none, made_by, Parts}
+use Rattle.sk_bytes.proofs.Names.{true≢false, same_Some, ◌≡◌, ℕ, true, false, List, [], ◌∷◌, Option, Some, None, cond}
+use Rattle.sk_bytes.proofs.Names.{refl, sym, ◌∙◌, ap, subst, ◌==◌, IsTotalOrder, unsigned_tied, nat_list_cmp_total}
+use Rattle.sk_bytes.proofs.Names.{FinMap, IsAntisymmetric, entries, get, get-entries, get-from_entries, get-insert}
+use Rattle.sk_bytes.proofs.Names.{get-remove, get-empty, same_map, nat_cmp-IsAntisymmetric, slice_cmp-IsAntisymmetric}
+use Rattle.sk_bytes.proofs.Names.{nat_cmp, eq_by_cmp, eqb-true, eqb-false, eq-eqb, ne_eqb, put, Note, Fails, with_drawn}
+use Rattle.sk_bytes.proofs.Names.{with_status, with_failure, MergedTakes, MergedCommits, Status, Deed, again, at_key}
+use Rattle.sk_bytes.proofs.Names.{renamed, KeepsApart, IsDeed, SlotView, found, slot_in, look_at, log_at, Numbered}
+use Rattle.sk_bytes.proofs.Names.{bytes_cmp, number_of, string_of, Adds, Removes, same_bytes, some_none, made_by, Parts}
 use Rattle.sk_bytes.proofs.Names.{machine_of, Takes, Commits, FailsIn, Forgets, WholeStep, made_whole, deed_in, shown}
 use Rattle.sk_bytes.proofs.Names.{slot_shown, slots_told, told_of, IsTwoWay}
 use Rattle.sk_record.specs.declared.status.Status.TheVariants.{Committed}
@@ -104,9 +104,6 @@ module _ {V O : Type 0} where
 
 -- ---- strings and numbers stay in step
 
-pub some_same : (n m : ℕ) → Some n ≡ Some m → n ≡ m
-some_same n m is = cc
-
 pub two_way_more : (es fs : Numbered) (s : List ℕ) (n : ℕ) → IsTwoWay es → Adds es s n fs → IsTwoWay fs
 two_way_more es fs s n two adds = record {
   there = λ q m is.
@@ -123,9 +120,6 @@ two_way_more es fs s n two adds = record {
       ] refl;
 }
   where
-    apart : true ≡ false → ⊥
-    apart is = cc
-
     -- the number was free, so whose it is now is the new string
     same_at : (q : List ℕ) (m : ℕ) → number_of fs q ≡ Some m → n ≡ m → s ≡ q
     same_at q m is same =
@@ -137,7 +131,7 @@ two_way_more es fs s n two adds = record {
     other_at : (q : List ℕ) (m : ℕ) → number_of fs q ≡ Some m → (n ≡ m → ⊥) → number_of es q ≡ Some m
     other_at q m is other =
         elim (eq_by_cmp bytes_cmp q s) as (λ b. eq_by_cmp bytes_cmp q s ≡ b → cond b (Some n) (number_of es q) ≡ Some m → number_of es q ≡ Some m) [
-          | true ↦ λ e at. absurd (other (some_same n m at))
+          | true ↦ λ e at. absurd (other (same_Some n m at))
           | false ↦ λ e at. at
         ] refl (sym (adds.numbers q) ∙ is)
 
@@ -152,7 +146,7 @@ two_way_more es fs s n two adds = record {
     back_other : (q : List ℕ) (m : ℕ) → string_of fs m ≡ Some q → eq_by_cmp bytes_cmp q s ≡ false → number_of es q ≡ Some m
     back_other q m is e =
         elim (n == m) as (λ b. (n == m) ≡ b → cond b (Some s) (string_of es m) ≡ Some q → number_of es q ≡ Some m) [
-          | true ↦ λ f at. absurd (apart (sym ((same_bytes q s).1 (sym (same_list s q at))) ∙ e))
+          | true ↦ λ f at. absurd (true≢false (sym ((same_bytes q s).1 (sym (same_Some s q at))) ∙ e))
           | false ↦ λ f at. two.back q m at
         ] refl (sym (adds.strings m) ∙ is)
 
@@ -163,7 +157,7 @@ two_way_less es fs s n two gone = record {
         | true ↦ λ e at. absurd (cc)
         | false ↦ λ e at.
             gone.strings m
-            ∙ ap (λ b. cond b None (string_of es m)) (ne_eqb n m (λ same. apart (sym ((same_bytes q s).1 (same_list q s (sym (two.there q m at) ∙ ap (string_of es) (sym same) ∙ gone.had))) ∙ e)))
+            ∙ ap (λ b. cond b None (string_of es m)) (ne_eqb n m (λ same. true≢false (sym ((same_bytes q s).1 (same_Some q s (sym (two.there q m at) ∙ ap (string_of es) (sym same) ∙ gone.had))) ∙ e)))
             ∙ two.there q m at
       ] refl (sym (gone.numbers q) ∙ is);
   back = λ q m is.
@@ -171,14 +165,11 @@ two_way_less es fs s n two gone = record {
         | true ↦ λ e at. absurd (cc)
         | false ↦ λ e at.
             gone.numbers q
-            ∙ ap (λ b. cond b None (number_of es q)) (bytes_other q (λ same. eqb-false n m e (some_same n m (sym (two.back s n gone.had) ∙ ap (number_of es) (sym same) ∙ two.back q m at))))
+            ∙ ap (λ b. cond b None (number_of es q)) (bytes_other q (λ same. eqb-false n m e (same_Some n m (sym (two.back s n gone.had) ∙ ap (number_of es) (sym same) ∙ two.back q m at))))
             ∙ two.back q m at
       ] refl (sym (gone.strings m) ∙ is);
 }
   where
-    apart : true ≡ false → ⊥
-    apart is = cc
-
     bytes_other : (q : List ℕ) → (q ≡ s → ⊥) → eq_by_cmp bytes_cmp q s ≡ false
     bytes_other q other =
         elim (eq_by_cmp bytes_cmp q s) as (λ b. eq_by_cmp bytes_cmp q s ≡ b → b ≡ false) [
@@ -186,13 +177,19 @@ two_way_less es fs s n two gone = record {
           | false ↦ λ e. refl
         ] refl
 
+pub nat_same : (k l : ℕ) → k ≡ l → eq_by_cmp nat_cmp k l ≡ true
+nat_same k l same = unsigned_tied k l ∙ eq-eqb k l same
+
+pub nat_other : (k l : ℕ) → (k ≡ l → ⊥) → eq_by_cmp nat_cmp k l ≡ false
+nat_other k l other = unsigned_tied k l ∙ ne_eqb k l other
+
 -- names and numbers are apart alike
 pub keeps_apart : (es : Numbered) → IsTwoWay es → KeepsApart (number_of es) bytes_cmp nat_cmp
 keeps_apart es two = record {
   same = λ b c k l bk cl.
       elim (eq_by_cmp bytes_cmp b c) as (λ x. eq_by_cmp bytes_cmp b c ≡ x → eq_by_cmp nat_cmp k l ≡ x) [
-        | true ↦ λ e. nat_same k l (some_same k l (sym bk ∙ ap (number_of es) ((same_bytes b c).0 e) ∙ cl))
-        | false ↦ λ e. nat_other k l (λ same. apart (sym ((same_bytes b c).1 (same_list b c (sym (two.there b k bk) ∙ ap (string_of es) same ∙ two.there c l cl))) ∙ e))
+        | true ↦ λ e. nat_same k l (same_Some k l (sym bk ∙ ap (number_of es) ((same_bytes b c).0 e) ∙ cl))
+        | false ↦ λ e. nat_other k l (λ same. true≢false (sym ((same_bytes b c).1 (same_Some b c (sym (two.there b k bk) ∙ ap (string_of es) same ∙ two.there c l cl))) ∙ e))
       ] refl;
   unnamed = λ b c l none cl.
       elim (eq_by_cmp bytes_cmp b c) as (λ x. eq_by_cmp bytes_cmp b c ≡ x → x ≡ false) [
@@ -200,15 +197,6 @@ keeps_apart es two = record {
         | false ↦ λ e. refl
       ] refl;
 }
-  where
-    apart : true ≡ false → ⊥
-    apart is = cc
-
-    nat_same : (k l : ℕ) → k ≡ l → eq_by_cmp nat_cmp k l ≡ true
-    nat_same k l same = unsigned_tied k l ∙ eq-eqb k l same
-
-    nat_other : (k l : ℕ) → (k ≡ l → ⊥) → eq_by_cmp nat_cmp k l ≡ false
-    nat_other k l other = unsigned_tied k l ∙ ne_eqb k l other
 
 -- ---- the calls
 

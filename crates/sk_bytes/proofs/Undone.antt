@@ -1,10 +1,10 @@
 -- What a failure took back is told by strings, and what a decision did.
-use Rattle.sk_bytes.proofs.Names.{◌≡◌, ℕ, zero, suc, true, false, List, [], ◌∷◌, length, Option, Some, None, Ok, refl}
-use Rattle.sk_bytes.proofs.Names.{sym, ◌∙◌, ap, subst, ◌||◌, slice_get, nat_cmp, eq_by_cmp, unsigned_tied, eq-eqb}
-use Rattle.sk_bytes.proofs.Names.{ne_eqb, or_left, or_right, is_in, has, last_tags, Token, at_key, log_at, Numbered}
-use Rattle.sk_bytes.proofs.Names.{bytes_cmp, number_of, string_of, some_none, Parts, Commits, FailsIn, Forgets}
-use Rattle.sk_bytes.proofs.Names.{TookBack, Committed, Undone, told_of, strings_of, with_string, ByteView, Fits}
-use Rattle.sk_bytes.proofs.Names.{IsTwoWay, CommitPost, TellsUndone}
+use Rattle.sk_bytes.proofs.Names.{true≢false, ◌≡◌, ℕ, zero, suc, true, false, List, [], ◌∷◌, length, Option, Some, None}
+use Rattle.sk_bytes.proofs.Names.{Ok, refl, sym, ◌∙◌, ap, subst, ◌||◌, slice_get, nat_cmp, eq_by_cmp, unsigned_tied}
+use Rattle.sk_bytes.proofs.Names.{eq-eqb, ne_eqb, or_left, or_right, is_in, has, last_tags, Token, at_key, log_at}
+use Rattle.sk_bytes.proofs.Names.{Numbered, bytes_cmp, number_of, string_of, some_none, Parts, Commits, FailsIn}
+use Rattle.sk_bytes.proofs.Names.{Forgets, TookBack, Committed, Undone, told_of, strings_of, with_string, ByteView}
+use Rattle.sk_bytes.proofs.Names.{Fits, IsTwoWay, CommitPost, TellsUndone}
 use Rattle.sk_speculator.specs.Calls as inner
 use Rattle.sk_speculator.specs.declared.decided.Committed.TheVariants as commit
 use Rattle.sk_speculator.specs.declared.decided.Failed.TheVariants as failure
@@ -72,9 +72,7 @@ module _ (es : Numbered) where
 
 module _ {V O : Type 0} (es : Numbered) (a : Parts ℕ V O) (fits : Fits es a) (g : ℕ) (u : Undone ℕ) (took : TookBack nat_cmp a g u) where
   pub held_back : AllHeld es u.keys.items
-  held_back n here none = never (sym here ∙ took.keys n ∙ ap (λ log. has g (last_tags [] log)) (bare es a a fits n none).1) where
-    never : true ≡ false → ⊥
-    never is = cc
+  held_back n here none = true≢false (sym here ∙ took.keys n ∙ ap (λ log. has g (last_tags [] log)) (bare es a a fits n none).1)
 
   rests_on : (s : List ℕ) (o : Option ℕ) → at_key false (is_in nat_cmp u.keys.items) o ≡ has g (last_tags [] (at_key [] (log_at nat_cmp a.slots) o))
   rests_on s None = refl

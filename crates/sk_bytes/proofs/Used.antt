@@ -1,6 +1,6 @@
 -- No number is kept for nothing, whatever a step, a commit or a failure makes of the kernel inside.
-use Rattle.sk_bytes.proofs.Names.{◌≡◌, ℕ, true, false, List, [], ◌∷◌, ◌++◌, Option, None, cond, refl, sym, ◌∙◌, ap}
-use Rattle.sk_bytes.proofs.Names.{subst, inl, inr, ◌⊎◌, ◌&&◌, Bool, not, is_none, Result, Err, IfOk, nat_cmp}
+use Rattle.sk_bytes.proofs.Names.{without_none, ◌≡◌, ℕ, true, false, List, [], ◌∷◌, ◌++◌, Option, None, cond, refl, sym}
+use Rattle.sk_bytes.proofs.Names.{◌∙◌, ap, subst, inl, inr, ◌⊎◌, ◌&&◌, Bool, is_none, Result, Err, IfOk, nat_cmp}
 use Rattle.sk_bytes.proofs.Names.{nat_cmp_total, nat_cmp-IsAntisymmetric, Vec, or_parts, true≢false, false≢true, is_in}
 use Rattle.sk_bytes.proofs.Names.{Note, has, without, noted, last_tags, committed, unwound, Merges, Token, carries}
 use Rattle.sk_bytes.proofs.Names.{none_carried, uncut, Deed, SlotView, look_at, log_at, Numbered, string_of, Parts}
@@ -39,12 +39,6 @@ module _ {V : Type 0} (es fs : Numbered) (slots : List (ℕ × SlotView V)) wher
   used_more loose used gains n out bare = one_come loose n out (used n refl bare) (gains.strings n)
 
 -- ---- notes that are left
-
-without_none : (g : ℕ) (tags : List ℕ) → has g tags ≡ false → without g tags ≡ tags
-without_none g [] none = refl
-without_none g (t ∷ tags) none =
-    let parts = or_parts _ _ none in
-    ap (λ b. cond (not b) (t ∷ without g tags) (without g tags)) parts.0 ∙ ap (λ ts. t ∷ ts) (without_none g tags parts.1)
 
 unmoved : {V : Type 0} (g : ℕ) (log : List (Note V)) (now : Option V) → carries g log ≡ false → unwound g log now ≡ now
 unmoved g [] now none = refl

@@ -1,29 +1,11 @@
 -- What requests ask for, one after another.
 use Rattle.sk_channels.proofs.Names.{◌≡◌, ◌≢◌, ℕ, Bool, true, false, List, [], ◌∷◌, ◌++◌, map, Option, Some, None}
-use Rattle.sk_channels.proofs.Names.{Result, Ok, Err, refl, sym, ◌∙◌, ap, subst, false≢true, is_none, AllocError, Fault}
-use Rattle.sk_channels.proofs.Names.{Command, Order, Run, Multi, Exec, Discard, Said, Unknown, Name, Error, Text, Queue}
-use Rattle.sk_channels.proofs.Names.{Work, Say, name_of, order_named, order_of, executes, refuses, turn, Takes, Turn}
-use Rattle.sk_channels.proofs.Names.{Rejection, Ask, Do, Reject, Requests, is_for_host, is_hosts, spoilt_queue}
-use Rattle.sk_channels.proofs.Names.{with_words, IsUnqueued, Asks, AskInTurn, ComesTo, asks_of, untold, HadMemory}
+use Rattle.sk_channels.proofs.Names.{Result, Ok, Err, refl, sym, ◌∙◌, ap, subst, false≢true, is_none, Fault, Command}
+use Rattle.sk_channels.proofs.Names.{Order, Run, Multi, Exec, Discard, Said, Unknown, Name, Text, Queue, Work, Say}
+use Rattle.sk_channels.proofs.Names.{name_of, order_named, order_of, executes, refuses, turn, Turn, Ask, Do, Reject}
+use Rattle.sk_channels.proofs.Names.{Requests, is_for_host, is_hosts, with_words, AskInTurn, ComesTo, asks_of, untold}
+use Rattle.sk_channels.proofs.Names.{HadMemory}
 use Rattle.sk_channels.specs.declared.rejection.Rejection.TheVariants as rejections
-
-pub unqueued : (old : Option Queue) (words : List (List ℕ)) (e : AllocError) (new : Option Queue)
-    → Takes old (order_of words) (Err e) new → IsUnqueued old new
-unqueued None words e new none = absurd none
-unqueued (Some queue) words e new is = is
-
-no_words : (old : Option Queue) (said : Result Work AllocError) (new : Option Queue) → Takes old (order_of []) said new
-    → new ≡ spoilt_queue old
-no_words None (Ok work) new is = is.1
-no_words (Some queue) (Ok work) new is = is.1
-no_words None (Err e) new none = absurd none
-no_words (Some queue) (Err e) new is = is
-
--- A request without words says nothing.
-pub passed_over : (old : Option Queue) (words : List (List ℕ)) (said : Result Work AllocError) (new : Option Queue)
-    → words ≡ [] → Takes old (order_of words) said new → new ≡ spoilt_queue old
-passed_over old words said new none takes = no_words old said new
-    (subst (λ ws. Takes old (order_of ws) said new) none takes)
 
 -- One more request asks for something.
 pub ask_on : (old : Option Queue) (told : Requests) (asked : List Ask) (mid : Option Queue)

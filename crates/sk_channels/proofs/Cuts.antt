@@ -2,10 +2,9 @@
 use Rattle.sk_channels.proofs.Names.{◌≡◌, ◌≢◌, ℕ, ◌+◌, Bool, true, false, List, [], ◌∷◌, ◌++◌, drop, get_or, map}
 use Rattle.sk_channels.proofs.Names.{Option, Some, None, refl, sym, ◌∙◌, ap, subst, inl, inr, ◌⊎◌, true≢false}
 use Rattle.sk_channels.proofs.Names.{map-append, Fault, Limits, HasFault, IsPart, one_fault, fault_is_final}
-use Rattle.sk_channels.proofs.Names.{parts_are_none, read_once, Ask, Unknown, Error, Text, Queue, Say, Channel, Do}
-use Rattle.sk_channels.proofs.Names.{Reject, Inlet, Requests, with_words, asks_of, untold, AskInTurn, HadMemory}
-use Rattle.sk_channels.proofs.Names.{with_posed, IsOpen, IsClosed, IsHosts, HasHeard, with_ask, AsksAreSaid}
-use Rattle.sk_channels.proofs.Names.{CutsDontMatter, TicketsInOrder}
+use Rattle.sk_channels.proofs.Names.{parts_are_none, read_once, Ask, Text, Queue, Say, Do, Reject, Inlet, Requests}
+use Rattle.sk_channels.proofs.Names.{with_words, asks_of, untold, AskInTurn, HadMemory, with_posed, IsOpen, IsClosed}
+use Rattle.sk_channels.proofs.Names.{IsHosts, HasHeard, with_ask, AsksAreSaid, CutsDontMatter, TicketsInOrder}
 use Rattle.sk_channels.specs.declared.rejection.Rejection.TheVariants as rejections
 use Rattle.sk_channels.proofs.Asks.{asks_are, had_before, had_more, text_on}
 use Rattle.sk_channels.proofs.Heard.{opened, closed_one}

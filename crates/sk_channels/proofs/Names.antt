@@ -7,9 +7,8 @@ pub use Rattle.std.proofs.lemmas.Grind.{flat_map-append}
 pub use Rattle.std.proofs.lemmas.List.{drop_all, drop-drop, replicate_more, length-replicate, take-take, flat_map_more}
 pub use Rattle.std.proofs.lemmas.List.{length-drop, drop-take, take_all, map-append, take-append-drop, append-nil}
 pub use Rattle.std.specs.Prelude.{◌↔◌, IsTrue, ◌⊎◌, ◌||◌, is_none, flat_map}
-pub use Rattle.std.specs.declared.alloc.AllocError.{AllocError}
-pub use Rattle.sk_channels.specs.Asking.{IsUnqueued, AskInTurn, spoilt_queue, Requests, ComesTo, untold, is_hosts}
-pub use Rattle.sk_channels.specs.Asking.{with_words, asks_of, is_for_host, Asks, HadMemory}
+pub use Rattle.sk_channels.specs.Asking.{AskInTurn, Requests, ComesTo, untold, is_hosts, with_words, asks_of}
+pub use Rattle.sk_channels.specs.Asking.{is_for_host, HadMemory}
 pub use Rattle.sk_channels.specs.Hearing.{with_posed, Finds, HasHeardOn, IsGiven, IsHosts, IsHeard, HasHeard, IsClosed}
 pub use Rattle.sk_channels.specs.Hearing.{IsAsked, Feeds, IsOpen, only_posed, WordsAsk}
 pub use Rattle.sk_channels.specs.Laws.{AsksAreSaid, with_ask, TicketsInOrder, CutsDontMatter}
@@ -24,17 +23,16 @@ pub use Rattle.sk_channels.specs.declared.inlet.Inlet.{Inlet}
 pub use Rattle.sk_channels.specs.declared.outlet.Outlet.{Outlet}
 pub use Rattle.sk_channels.specs.declared.refusal.Refusal.{Refusal}
 pub use Rattle.sk_channels.specs.declared.refusal.Refusal.TheVariants.{Memory, NoTicket, Full}
-pub use Rattle.sk_channels.specs.declared.rejection.Rejection.{Rejection}
 pub use Rattle.sk_commands.specs.Names.{name_of}
 pub use Rattle.sk_commands.specs.Parsing.{order_named, order_of}
-pub use Rattle.sk_commands.specs.Session.{turn, refuses, executes, Takes, Turn}
+pub use Rattle.sk_commands.specs.Session.{turn, refuses, executes, Turn}
 pub use Rattle.sk_commands.specs.declared.command.Command.{Command}
 pub use Rattle.sk_commands.specs.declared.command.Order.{Order}
 pub use Rattle.sk_commands.specs.declared.command.Order.TheVariants.{Multi, Exec, Discard, Run}
 pub use Rattle.sk_commands.specs.declared.fault.Fault.{Fault as Said}
 pub use Rattle.sk_commands.specs.declared.fault.Fault.TheVariants.{Unknown}
 pub use Rattle.sk_commands.specs.declared.name.Name.{Name}
-pub use Rattle.sk_commands.specs.declared.reply.Reply.TheVariants.{Error, Text}
+pub use Rattle.sk_commands.specs.declared.reply.Reply.TheVariants.{Text}
 pub use Rattle.sk_commands.specs.declared.session.Queue.{Queue}
 pub use Rattle.sk_commands.specs.declared.work.Work.{Work}
 pub use Rattle.sk_commands.specs.declared.work.Work.TheVariants.{Say}

@@ -1,10 +1,9 @@
 -- What was fed, step by step.
 use Rattle.sk_channels.proofs.Names.{◌≡◌, ℕ, ◌+◌, ◌-◌, ◌<◌, ◌≤◌, Bool, true, false, List, ◌++◌, length, take, drop}
-use Rattle.sk_channels.proofs.Names.{Option, Some, None, Ok, Err, refl, sym, ◌∙◌, ap, subst, inl, inr, arith}
-use Rattle.sk_channels.proofs.Names.{append_assoc, append-nil, length-drop, take-append-drop, take-take, drop-take}
-use Rattle.sk_channels.proofs.Names.{drop-drop, drop_all, cases_lt, iff_false, true≢false, ◌↔◌, ◌||◌, IsTrue, Asked}
-use Rattle.sk_channels.proofs.Names.{Limits, Refusal, NoTicket, Full, Memory, Ask, Fed, Inlet, only_posed, HasHeard}
-use Rattle.sk_channels.proofs.Names.{HasHeardOn, Feeds}
+use Rattle.sk_channels.proofs.Names.{Option, Some, None, Ok, refl, sym, ◌∙◌, ap, subst, inl, inr, arith, append_assoc}
+use Rattle.sk_channels.proofs.Names.{length-drop, take-append-drop, take-take, drop-take, drop-drop, drop_all, cases_lt}
+use Rattle.sk_channels.proofs.Names.{iff_false, true≢false, ◌↔◌, ◌||◌, IsTrue, Asked, Limits, Ask, Fed, Inlet}
+use Rattle.sk_channels.proofs.Names.{only_posed, HasHeard, HasHeardOn, Feeds}
 use Rattle.std.specs.Prelude.{is_some}
 
 -- how many bytes came, where these are left
@@ -17,18 +16,6 @@ pub record IsLeft (old new : Inlet) (bytes rest : List ℕ) (steps : ℕ) : Type
   pub left : rest ≡ drop (gone bytes rest) bytes
   pub heard : (limits : Limits) (asked : List Ask) (stream : List ℕ) → HasHeard limits asked stream old
       → HasHeard limits asked (stream ++ take (gone bytes rest) bytes) new × (0 < steps → length rest < length bytes)
-
-pub all_left : (old : Inlet) (bytes : List ℕ) → IsLeft old old bytes bytes 0
-all_left old bytes =
-    let none : 0 ≡ gone bytes bytes = omega arith in record {
-      within = omega arith;
-      left = ap (λ n. drop n bytes) none;
-      heard = λ limits asked stream has. (
-        subst (λ n. HasHeard limits asked (stream ++ take n bytes) old) none
-            (subst (λ s. HasHeard limits asked s old) (sym (append-nil stream)) has),
-        (λ some. absurd (omega (arith, some))),
-      );
-    }
 
 -- Some bytes and more of those behind them.
 taken_on : (n k : ℕ) (xs : List ℕ) → take n xs ++ take k (drop n xs) ≡ take (n + k) xs
@@ -93,32 +80,6 @@ less_left old mid new bytes rest rest' steps steps' fed was some none idle is fe
             (λ more. omega (arith, was.within, some, on.1, on.2 some (ap (λ a. only_posed a new) none ∙ idle), length-drop fed.count rest)),
           );
     })
-
--- A step was refused.
-pub still_heard : (limits : Limits) (asked : List Ask) (stream rest : List ℕ) (why : Refusal) (new : Inlet)
-    → Feeds limits asked stream rest (Err why) new → HasHeard limits asked stream new
-still_heard limits asked stream rest NoTicket new fed = fed.0
-still_heard limits asked stream rest Full new fed = absurd fed
-still_heard limits asked stream rest Memory new fed = fed
-
-refused_at_once : (limits : Limits) (asked : List Ask) (stream rest bytes : List ℕ) (why : Refusal) (new : Inlet)
-    → Feeds limits asked stream rest (Err why) new → Feeds limits asked stream bytes (Err why) new
-refused_at_once limits asked stream rest bytes NoTicket new fed = fed
-refused_at_once limits asked stream rest bytes Full new fed = absurd fed
-refused_at_once limits asked stream rest bytes Memory new fed = fed
-
-pub refused_first : (old mid new : Inlet) (bytes rest : List ℕ) (steps : ℕ) (why : Refusal)
-    → IsLeft old mid bytes rest steps
-    → length rest ≡ length bytes
-    → ((limits : Limits) (asked : List Ask) (stream : List ℕ) → HasHeard limits asked stream mid
-    → Feeds limits asked stream rest (Err why) new)
-    → (limits : Limits) (asked : List Ask) (stream : List ℕ) → HasHeard limits asked stream old
-    → Feeds limits asked stream bytes (Err why) new
-refused_first old mid new bytes rest steps why was same feeds limits asked stream has =
-    let none : gone bytes rest ≡ 0 = omega (arith, same) in
-    let heard = subst (λ s. HasHeard limits asked s mid) (append-nil stream)
-    (subst (λ n. HasHeard limits asked (stream ++ take n bytes) mid) none (was.heard limits asked stream has).0) in
-    refused_at_once limits asked stream rest bytes why new (feeds limits asked stream heard)
 
 pub asked_on : (old mid new : Inlet) (bytes rest rest' : List ℕ) (steps : ℕ) (fed : Fed)
     → IsLeft old mid bytes rest steps

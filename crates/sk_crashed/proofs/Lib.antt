@@ -6,8 +6,6 @@ pub mod Scanned
 pub mod Tried
 pub mod Done
 pub mod Said
-pub mod Once
-pub mod Refused
 pub mod Disks
 pub mod Places
 pub mod Lives

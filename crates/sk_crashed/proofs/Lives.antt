@@ -4,14 +4,12 @@ use Rattle.sk_crashed.proofs.Names.{length, take, Option, Some, None, refl, sym,
 use Rattle.sk_crashed.proofs.Names.{eqb-true, append_assoc, append-nil, length-take, Work, Entries, SayAll, after_works}
 use Rattle.sk_crashed.proofs.Names.{log_limits, IsRefused, Says, says_once, Damage, Head, Found, IsMade, IsFound, below}
 use Rattle.sk_crashed.proofs.Names.{counted, counting, least, lower, AreRead, Part, after_append, cut_due, AreLeft}
-use Rattle.sk_crashed.proofs.Names.{AreKept, LivesAreRecovered, begun, written}
+use Rattle.sk_crashed.proofs.Names.{AreKept, LivesAreRecovered, begun, written, same_log, not_refused}
 use Rattle.sk_recovered.specs.Frames.{IsLeft}
 use Rattle.sk_durable.specs.History.{synced as synced_of}
 use Rattle.sk_crashed.proofs.Disks.{heads_from, recovered}
 use Rattle.sk_crashed.proofs.Done.{are_synced}
 use Rattle.sk_crashed.proofs.Joins.{below_as, lower_least, lower_less, lower_min, lower_twice}
-use Rattle.sk_crashed.proofs.Once.{same_log}
-use Rattle.sk_crashed.proofs.Refused.{not_refused}
 use Rattle.sk_crashed.proofs.Scanned.{bytes_of, heads_of, scanned}
 
 -- ---- the earlier segments are read as before, under other bounds
@@ -144,14 +142,6 @@ counted_both (p ∷ ps) qs next =
 
 -- ---- what they say is carried out as before
 
-abbrev tail_of : List (List ℕ) → List (List ℕ)
-tail_of [] = []
-tail_of (p ∷ ps) = ps
-
-abbrev head_of : List ℕ → List (List ℕ) → List ℕ
-head_of p [] = p
-head_of p (q ∷ qs) = q
-
 one_later : (first : ℕ) (base store : Entries) (p : List ℕ) (ps : List (List ℕ)) (damage : Option Damage) (works : List Work)
     → Says log_limits p works → IsMade first base (p ∷ ps) store damage → IsMade (first + 1) (after_works works base) ps store damage
 one_later first base store p ps damage works says made = at made.taken made.left made.works made.all made.say made.store_is damage made.left_is
@@ -161,16 +151,16 @@ one_later first base store p ps damage works says made = at made.taken made.left
         → IsMade (first + 1) (after_works works base) ps store damage
     at [] left all are say is None none = absurd (omega (arith, ap length are, ap length none))
     at [] left all are say is (Some damage) (payload, more, first_left, refused, not_memory, number) =
-        let same : payload ≡ p = sym (ap (head_of p) (are ∙ first_left)) in
+        let same : payload ≡ p = cc in
         absurd (not_memory (not_refused log_limits p works damage.why says (subst (λ q. IsRefused log_limits q damage.why) same refused)))
     at (q ∷ taken) left all are (mine, others, say_first, say_rest, both) is damage left_is =
-        let same : q ≡ p = sym (ap (head_of p) are) in
+        let same : q ≡ p = cc in
         let as_was : mine ≡ works = says_once log_limits p mine works (subst (λ x. Says log_limits x mine) same say_first) says in
         let more : first + suc (length taken) ≡ (first + 1) + length taken = omega arith in
         record {
           taken = taken;
           left = left;
-          all = ap tail_of are;
+          all = cc;
           works = others;
           say = say_rest;
           store_is = is ∙ ap (λ ws. after_works ws base) both ∙ after_append mine others base

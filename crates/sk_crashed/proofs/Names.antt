@@ -1,20 +1,18 @@
 -- What the proofs of this crate cite from outside of them, passed on from one place. Declares nothing.
-pub use Rattle.std.proofs.lemmas.Option.{same_Some}
-pub use Rattle.std.proofs.Common.{Some, Bool, sum, subst, inr, zero, ◌^◌, ◌-◌, arith, ap, ◌*◌, ◌++◌, length}
-pub use Rattle.std.proofs.Common.{length-append, suc, ◌≤◌, take, false, refl, [], ◌==◌, map, ◌∷◌, inl, Err, ◌≡◌, ◌+◌}
-pub use Rattle.std.proofs.Common.{Option, List, ◌/◌, ℕ, true, drop, sym, None, is_some, if◌then◌else◌, min, ◌<◌}
-pub use Rattle.std.proofs.Common.{flat_map, ◌∙◌, nat_lt, cond}
+pub use Rattle.std.proofs.lemmas.Option.{same_Some, none-some}
+pub use Rattle.std.proofs.Common.{Some, Bool, subst, inr, zero, ◌^◌, ◌-◌, arith, ap, ◌++◌, length, length-append, suc}
+pub use Rattle.std.proofs.Common.{◌≤◌, take, false, refl, [], ◌==◌, map, ◌∷◌, inl, Err, ◌≡◌, ◌+◌, Option, List, ℕ, true}
+pub use Rattle.std.proofs.Common.{sym, None, if◌then◌else◌, min, ◌<◌, flat_map, ◌∙◌, nat_lt, cond}
 pub use Rattle.std.proofs.lemmas.Bool.{or_right, lt-ltb, eqb-true, ltb-true, ltb-false, and_from, true≢false, or_cases}
 pub use Rattle.std.proofs.lemmas.Bool.{false_from_ne_true, false≢true, eq-eqb, and_parts, or_from, or_left}
 pub use Rattle.std.proofs.lemmas.List.{length-take, length-take-le, take-take, take_all, append_assoc, length-map}
-pub use Rattle.std.proofs.lemmas.List.{take-append-le, map-append, take-append-drop, take-map, take_at, drop_at}
-pub use Rattle.std.proofs.lemmas.List.{append-nil}
+pub use Rattle.std.proofs.lemmas.List.{take-append-le, map-append, take-map, take_at, append-nil}
 pub use Rattle.std.specs.Int.NonZero.{non_zero_u16_get}
 pub use Rattle.std.specs.List.{filter, list_any, AllByRecursion}
 pub use Rattle.std.specs.Prelude.{unwrap_or, ◌⊎◌, nat_le}
 pub use Rattle.sk_batched.specs.Batched.{capped}
 pub use Rattle.sk_batches.proofs.Dense.{all_pushed, frames_are_dense, all_both, all_mapped, all_of, cut_between}
-pub use Rattle.sk_batches.proofs.Synced.{sent_unkept, no_cut, due_cut, decided_synced}
+pub use Rattle.sk_batches.proofs.Synced.{sent_unkept, due_cut, decided_synced}
 pub use Rattle.sk_batches.specs.Calls.{new_queue}
 pub use Rattle.sk_batches.specs.Dense.{AreDense, IsBehind}
 pub use Rattle.sk_batches.specs.Frames.{next_payload}
@@ -28,11 +26,7 @@ pub use Rattle.sk_batches.specs.declared.batch.Batch.{Batch}
 pub use Rattle.sk_batches.specs.declared.batch.Stage.{Stage}
 pub use Rattle.sk_batches.specs.declared.batch.Stage.TheVariants.{Failed, Synced, Kept, Refused, Sent}
 pub use Rattle.sk_batches.specs.declared.queue.Cut.{Cut}
-pub use Rattle.sk_commands.specs.Parsing.{order_of}
 pub use Rattle.sk_commands.specs.Requests.{requests_of, AreWithin, AreAsked, log_text}
-pub use Rattle.sk_commands.specs.Session.{turn}
-pub use Rattle.sk_commands.specs.declared.fault.Fault.{Fault}
-pub use Rattle.sk_commands.specs.declared.session.Queue.{Queue}
 pub use Rattle.sk_commands.specs.declared.work.Work.{Work}
 pub use Rattle.sk_crashed.specs.Disk.{AreTried, IsLeft, AreAdded, AreLeft, Stored}
 pub use Rattle.sk_crashed.specs.Laws.{DisksAreRecovered, IsFront, PlacesAreBehind, AreKept, LivesAreRecovered}
@@ -51,9 +45,9 @@ pub use Rattle.sk_durable.specs.Store.{StoreView}
 pub use Rattle.sk_durable.specs.declared.limits.Limits.{Limits}
 pub use Rattle.sk_durable.specs.declared.store.Next.{Next}
 pub use Rattle.sk_log.proofs.Crash.{crash_keeps_prefix}
+pub use Rattle.sk_log.proofs.Once.{same_log, length_log}
 pub use Rattle.sk_log.proofs.Segments.{segments_join}
 pub use Rattle.sk_log.specs.Crash.{Crashed, ReadsPrefix}
-pub use Rattle.sk_log.specs.Frame.{Ends, front, head, frame}
 pub use Rattle.sk_log.specs.Front.{BeginsAs}
 pub use Rattle.sk_log.specs.Log.{IsLog, log}
 pub use Rattle.sk_log.specs.Segments.{SegmentsJoin, synced_of}
@@ -68,11 +62,7 @@ pub use Rattle.sk_recovered.specs.Segments.{AreRead, least, counting, Part, belo
 pub use Rattle.sk_recovered.specs.declared.frames.Damage.{Damage}
 pub use Rattle.sk_recovered.specs.declared.heads.Head.{Head}
 pub use Rattle.sk_recovered.specs.declared.recovered.Found.{Found}
-pub use Rattle.sk_replay.proofs.Again.{says_once, says_again, read_as}
-pub use Rattle.sk_replay.proofs.Told.{aligned, same_requests, no_part, no_fault, none_large}
+pub use Rattle.sk_replay.proofs.Again.{says_once, says_again, read_as, not_refused}
 pub use Rattle.sk_replay.specs.Frames.{AreLogged, payloads_of, SayAll}
 pub use Rattle.sk_replay.specs.Snapshot.{after_works}
-pub use Rattle.sk_replay.specs.Works.{queue_after, AreTaken, IsRefused, fault_in, log_limits, Says}
-pub use Rattle.sk_replay.specs.declared.refusal.Refusal.{Refusal}
-pub use Rattle.sk_requests.proofs.Streams.{go_on}
-pub use Rattle.sk_requests.specs.Stream.{Splits}
+pub use Rattle.sk_replay.specs.Works.{IsRefused, log_limits, Says}

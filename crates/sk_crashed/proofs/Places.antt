@@ -5,10 +5,9 @@ use Rattle.sk_crashed.proofs.Names.{true≢false, eq-eqb, eqb-true, log, next_pa
 use Rattle.sk_crashed.proofs.Names.{Next, Call, Connects, HangsUp, Frees, Hears, Carries, Declines, Tells, Drops}
 use Rattle.sk_crashed.proofs.Names.{Refuses, Hands, Draws, Sends, Turns, Learns, Cuts, Stops, Decides, Rests, Does}
 use Rattle.sk_crashed.proofs.Names.{StoreView, after_any, FramesAreBehind, IsFront, PlacesAreBehind, begun, cut_at}
-use Rattle.sk_crashed.proofs.Names.{now_in, turned, with_frame, written_by, Written}
+use Rattle.sk_crashed.proofs.Names.{now_in, turned, with_frame, written_by, Written, length_log}
 use Rattle.sk_crashed.proofs.Disks.{is_begun}
 use Rattle.sk_crashed.proofs.Done.{all_within, next_frame}
-use Rattle.sk_crashed.proofs.Once.{length_log}
 use Rattle.sk_crashed.proofs.Tried.{end_now}
 
 pub record IsPlaced (w : Written) (places : PlacesView) : Type 0 where

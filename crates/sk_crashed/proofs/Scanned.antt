@@ -1,9 +1,9 @@
 -- What is read of the segments of a disk is a front part of what was written in each.
-use Rattle.sk_crashed.proofs.Names.{◌≡◌, ℕ, zero, suc, ◌+◌, ◌-◌, ◌<◌, ◌≤◌, true, false, List, [], ◌∷◌, ◌++◌, map}
-use Rattle.sk_crashed.proofs.Names.{Option, Some, None, inl, inr, refl, sym, ap, subst, ◌∙◌, arith, ◌⊎◌, append_assoc}
-use Rattle.sk_crashed.proofs.Names.{append-nil, Crashed, BeginsAs, IsLog, crash_keeps_prefix, has, Cut, Head, least}
-use Rattle.sk_crashed.proofs.Names.{lower, AreRead, Part, TellsFirst, AreAdded, AreLeft, AreTried, Stored, cut_at}
-use Rattle.sk_crashed.proofs.Names.{end_of, least_of, live, synced_in, Written}
+use Rattle.sk_crashed.proofs.Names.{none-some, ◌≡◌, ℕ, zero, suc, ◌+◌, ◌-◌, ◌<◌, ◌≤◌, true, false, List, [], ◌∷◌, ◌++◌}
+use Rattle.sk_crashed.proofs.Names.{map, Option, Some, None, inl, inr, refl, sym, ap, subst, ◌∙◌, arith, ◌⊎◌}
+use Rattle.sk_crashed.proofs.Names.{append_assoc, append-nil, Crashed, BeginsAs, IsLog, crash_keeps_prefix, has, Cut}
+use Rattle.sk_crashed.proofs.Names.{Head, least, lower, AreRead, Part, TellsFirst, AreAdded, AreLeft, AreTried, Stored}
+use Rattle.sk_crashed.proofs.Names.{cut_at, end_of, least_of, live, synced_in, Written}
 use Rattle.sk_crashed.proofs.Joins.{least_there, lower_least, lower_min, part_there, parts_there, written_of, AreSeen, Seen}
 use Rattle.sk_crashed.proofs.Writing.{run_far, AreFollowing}
 
@@ -90,12 +90,9 @@ due_frame due = (cut_in due).frame
 
 -- ---- small lemmas
 
-no_some : (f : ℕ) → None ≡ Some f → ⊥
-no_some f e = cc
-
 none_kept : (kept f : ℕ) → (0 < kept → None ≡ Some f) → kept ≡ 0
 none_kept zero f all = refl
-none_kept (suc n) f all = absurd (no_some f (all (omega arith)))
+none_kept (suc n) f all = absurd (none-some f (all (omega arith)))
 
 some_none : (ps : List (List ℕ)) {P : Type 0} → Some ps ≡ None → P
 some_none ps e = cc

@@ -1,13 +1,13 @@
 -- No frame that may still be cut off was told as synced, nor one that was not taken.
-use Rattle.sk_crashed.proofs.Names.{◌≡◌, ℕ, ◌+◌, ◌<◌, Bool, true, false, cond, List, [], ◌∷◌, ◌++◌, map, Option, Some}
-use Rattle.sk_crashed.proofs.Names.{None, inl, inr, refl, sym, ◌∙◌, ap, subst, arith, filter, list_any, AllByRecursion}
+use Rattle.sk_crashed.proofs.Names.{same_Some, ◌≡◌, ℕ, ◌+◌, ◌<◌, Bool, true, false, cond, List, [], ◌∷◌, ◌++◌, map}
+use Rattle.sk_crashed.proofs.Names.{Some, inl, inr, refl, sym, ◌∙◌, ap, subst, arith, filter, list_any, AllByRecursion}
 use Rattle.sk_crashed.proofs.Names.{true≢false, false≢true, and_from, eqb-true, eq-eqb, false_from_ne_true, lt-ltb}
 use Rattle.sk_crashed.proofs.Names.{ltb-true, or_cases, or_right, NUMBER_LIMIT, Stage, Kept, Sent, Synced, Failed}
 use Rattle.sk_crashed.proofs.Names.{Refused, Batch, Cut, new_queue, AreDense, IsBehind, awaits, cut_due, cut_off}
 use Rattle.sk_crashed.proofs.Names.{first_failed, is_decided, is_failed, is_kept, is_sent, last_in, left, past, send}
 use Rattle.sk_crashed.proofs.Names.{tell, QueueView, kept, has, no_story, story_after, Appends, Fails, Happens, Runs}
 use Rattle.sk_crashed.proofs.Names.{Story, Syncs, Takes, Withdraws, all_both, all_mapped, all_of, all_pushed}
-use Rattle.sk_crashed.proofs.Names.{cut_between, frames_are_dense, decided_synced, due_cut, no_cut, sent_unkept}
+use Rattle.sk_crashed.proofs.Names.{cut_between, frames_are_dense, decided_synced, due_cut, none-some, sent_unkept}
 use Rattle.sk_crashed.proofs.Names.{and_parts, or_from, or_left}
 use Rattle.std.specs.Prelude.{◌==◌, nat_lt}
 use Rattle.sk_batches.specs.Runs.{Call, Cuts, Decides, Stops}
@@ -220,16 +220,12 @@ module _ (most most_bytes frame : ℕ) where
 
 -- ---- what is cut off next
 
-abbrev frame_cut : Option Cut → ℕ
-frame_cut None = 0
-frame_cut (Some c) = c.frame
-
 failed_untold : (told : List ℕ) (c : Cut) (bs : List Batch) → AllByRecursion (Waits told) bs → first_failed bs ≡ Some c → has c.frame told ≡ false
-failed_untold told c [] all is = absurd (no_cut c is)
+failed_untold told c [] all is = absurd (none-some c is)
 failed_untold told c (b ∷ bs) all is =
     let found : Cut = record { frame = b.frame; first = b.number; last = last_in b.frame b.number bs } in
     elim (is_failed b.stage) as (λ t. is_failed b.stage ≡ t → cond t (Some found) (first_failed bs) ≡ Some c → has c.frame told ≡ false) [
-      | true ↦ λ fails here. subst (λ n. has n told ≡ false) (ap frame_cut here) (all.0 (failed_due b.stage fails))
+      | true ↦ λ fails here. subst (λ n. has n told ≡ false) (ap (λ (x : Cut). x.frame) (same_Some _ _ here)) (all.0 (failed_due b.stage fails))
       | false ↦ λ stands later. failed_untold told c bs all.1 later
     ] refl is
 

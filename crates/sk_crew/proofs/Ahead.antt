@@ -1,11 +1,11 @@
 -- What is handed in before a turn is a lease of no more instructions than the worker was to run.
-use Rattle.sk_crew.proofs.Names.{◌<◌, ◌≤◌, ◌+◌, ◌==◌, ◌&&◌, nat_lt, ℕ, zero, suc, Bool, true, false, List, Option, Some}
-use Rattle.sk_crew.proofs.Names.{None, IfSome, Result, Ok, Err, slice_get, option_and_then, if◌then◌else◌, inl, inr}
-use Rattle.sk_crew.proofs.Names.{arith, refl, sym, ap, ◌∙◌, subst, Proc, Process, Instruction, LeaseView, LAST_COUNT}
-use Rattle.sk_crew.proofs.Names.{leased, counted, advanced, ran, private_next, script_at, EntityState, Scripts, Lends}
-use Rattle.sk_crew.proofs.Names.{lent_at, Refusal, state_at, HandIn, DeskView, pending, asks_for, unless_asked}
-use Rattle.sk_crew.proofs.Names.{desk_lease, HandedIn, WorkerView, Told, HandInTold, AnyTold, IsLentAny, IsLeaseOf}
-use Rattle.sk_crew.proofs.Names.{Rounds, due, next, after, IsLent, IsLentFor, IsLentNext, HasRun, RunsAhead}
+use Rattle.sk_crew.proofs.Names.{same_Some, ◌<◌, ◌≤◌, ◌+◌, ◌==◌, ◌&&◌, nat_lt, ℕ, zero, suc, Bool, true, false, List}
+use Rattle.sk_crew.proofs.Names.{Option, Some, None, IfSome, Result, Ok, Err, slice_get, option_and_then, if◌then◌else◌}
+use Rattle.sk_crew.proofs.Names.{inl, inr, arith, refl, sym, ap, ◌∙◌, subst, Proc, Process, Instruction, LeaseView}
+use Rattle.sk_crew.proofs.Names.{LAST_COUNT, leased, counted, advanced, ran, private_next, script_at, EntityState}
+use Rattle.sk_crew.proofs.Names.{Scripts, Lends, lent_at, Refusal, state_at, HandIn, DeskView, pending, asks_for}
+use Rattle.sk_crew.proofs.Names.{unless_asked, desk_lease, HandedIn, WorkerView, Told, HandInTold, AnyTold, IsLentAny}
+use Rattle.sk_crew.proofs.Names.{IsLeaseOf, Rounds, due, next, after, IsLent, IsLentFor, IsLentNext, HasRun, RunsAhead}
 use Rattle.std.specs.Prelude.{◌≡◌}
 use Rattle.std.specs.FinMap as map
 use Rattle.sk_store.specs.declared.entity_state.EntityState.TheVariants as stored
@@ -108,16 +108,13 @@ pub is_due : (processes : List ℕ) (r : Rounds) (pid : ℕ) → option_and_then
     → (r.is_over ≡ false) × (slice_get processes r.at ≡ Some pid)
 is_due processes r pid is = due_at processes r pid r.is_over is
 
-some_is : (x y : ℕ) → Some x ≡ Some y → x ≡ y
-some_is x y is = cc
-
 -- a lease of the process that is due next is of the one that is due
 pub lent_due : (processes : List ℕ) (r : Rounds) (pid : ℕ) (o : Option LeaseView) → option_and_then (slice_get processes) (due r) ≡ Some pid
     → IfSome o (IsLentNext processes r) → IfSome o (IsLent pid)
 lent_due processes r pid None is lent = tt
 lent_due processes r pid (Some l) is lent =
     let at = is_due processes r pid is in
-    (lent.0, some_is l.lent.pid pid (sym (lent.1 at.0) ∙ at.1))
+    (lent.0, same_Some l.lent.pid pid (sym (lent.1 at.0) ∙ at.1))
 
 after_at : (r : Rounds) (ended fits : Bool)
     → (if fits then record r { at = r.at + r.step; is_ended = r.is_ended && ended } else record r { at = r.first; is_ended = true; is_over = r.is_ended && ended }).at
@@ -143,7 +140,7 @@ lent_first_at processes at false l is goes_on = is
 -- a lease of the process that was asked for
 pub lent_for : (pid : ℕ) (o : Option LeaseView) → IfSome o (IsLentFor (Some pid)) → IfSome o (IsLent pid)
 lent_for pid None lent = tt
-lent_for pid (Some l) lent = (lent.0, some_is l.lent.pid pid (sym lent.1))
+lent_for pid (Some l) lent = (lent.0, same_Some l.lent.pid pid (sym lent.1))
 
 -- so is the first
 pub lent_first : (processes : List ℕ) (r : Rounds) (pid : Option ℕ) (o : Option LeaseView) → pid ≡ option_and_then (slice_get processes) (due r)

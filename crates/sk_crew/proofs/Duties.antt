@@ -1,7 +1,7 @@
 -- Each call of a worker is its own to make.
-use Rattle.sk_crew.proofs.Names.{◌⊎◌, ◌<◌, ◌≤◌, ℕ, zero, suc, ◌+◌, List, [], ◌∷◌, ◌++◌, length, take, Result, Some}
-use Rattle.sk_crew.proofs.Names.{slice_get, inl, inr, refl, sym, ap, ◌∙◌, subst, arith, Contains, sum_by-append}
-use Rattle.sk_crew.proofs.Names.{Contains-push, Contains-push_cases, Contains-append_left, Contains-append_right}
+use Rattle.sk_crew.proofs.Names.{◌⊎◌, ℕ, zero, suc, ◌+◌, List, [], ◌∷◌, ◌++◌, length, take, Result, Some, slice_get}
+use Rattle.sk_crew.proofs.Names.{inl, inr, refl, sym, ap, ◌∙◌, subst, arith, Contains, sum_by-append, Contains-push}
+use Rattle.sk_crew.proofs.Names.{Contains-push_cases, Contains-append_left, Contains-append_right}
 use Rattle.sk_crew.proofs.Names.{Contains-append_cases, slice_get-get_or, take-append-drop, map-append, append_assoc}
 use Rattle.sk_crew.proofs.Names.{append-nil, drop, KernelView, OpeningView, opening_of, DeskView, opened_at, DeskCall}
 use Rattle.sk_crew.proofs.Names.{Answered, Turned, Receipt, HistoryEntry, WorkerView, SharedView, Runs, Told, TurnTold}
@@ -56,9 +56,8 @@ one_and_more w v u one more =
     )
 
 reply_duty : (plan : CrewPlan) (processes : List ℕ) (number : ℕ) (call : DeskCall) → number ≡ 0 → IsReply call → IsDuty plan processes number call
-reply_duty plan processes number (calls.Turn pid) first is = absurd is
 reply_duty plan processes number (calls.Reply reply) first is = first
-reply_duty plan processes number (calls.HandIn pid count) first is = absurd is
+reply_duty plan processes number s first is = absurd is
 
 pub replies_keep : (plan : CrewPlan) (processes : List ℕ) (w w' : WorkerView) → w.number ≡ 0 → OnlyReplies w w'
     → KeepsTo plan processes w → KeepsTo plan processes w'
@@ -162,13 +161,11 @@ turn_number n answer w pid w' took = told_number answer took.0 pid w' took.2 ∙
 
 no_turn : (call : DeskCall) → IsReply call → turn_count call ≡ 0
 no_turn (calls.Turn pid) is = absurd is
-no_turn (calls.Reply reply) is = refl
-no_turn (calls.HandIn pid count) is = refl
+no_turn s is = refl
 
 reply_ended : (call : DeskCall) (pid : ℕ) → IsReply call → call ≡ calls.Turn pid → ⊥
-reply_ended (calls.Turn other) pid is same = absurd is
 reply_ended (calls.Reply reply) pid is same = cc
-reply_ended (calls.HandIn other count) pid is same = absurd is
+reply_ended s pid is same = absurd is
 
 replies_ended : (rs : List Receipt) → ((r : Receipt) → Contains rs r → IsReply r.entry.call) → AllEnded rs
 replies_ended rs all r pid there is = absurd (reply_ended r.entry.call pid (all r there) is)

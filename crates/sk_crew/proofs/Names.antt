@@ -6,11 +6,11 @@ pub use Rattle.std.proofs.lemmas.List.{append_assoc, map-append, take-append-dro
 pub use Rattle.std.proofs.lemmas.List.Elements.{Contains-append_left, Contains-push, Contains-append_cases}
 pub use Rattle.std.proofs.lemmas.List.Elements.{Contains-append_right, Contains-push_cases}
 pub use Rattle.std.proofs.lemmas.List.Sums.{sum_by-append}
-pub use Rattle.std.proofs.lemmas.Option.{slice_get_within, slice_get-get_or}
-pub use Rattle.std.specs.List.{Contains, sum_by}
+pub use Rattle.std.proofs.lemmas.Option.{slice_get_within, slice_get-get_or, same_Some}
+pub use Rattle.std.specs.List.{Contains}
 pub use Rattle.std.specs.Prelude.{Some, Bool, Ok, ◌∷◌, ◌&&◌, Err, zero, ◌^◌, ◌+◌, Option, List, slice_get, ◌*◌, ◌++◌}
 pub use Rattle.std.specs.Prelude.{length, ◌⊎◌, ℕ, true, drop, IfSome, None, suc, if◌then◌else◌, ◌≤◌, take, false, ◌<◌}
-pub use Rattle.std.specs.Prelude.{option_and_then, nat_le, Result, [], nat_lt, ◌==◌}
+pub use Rattle.std.specs.Prelude.{option_and_then, Result, [], nat_lt, ◌==◌}
 pub use Rattle.sk_client.specs.Desk.{pending, opened_at, asks_for, DeskView}
 pub use Rattle.sk_client.specs.Leasing.{unless_asked, desk_lease}
 pub use Rattle.sk_client.specs.declared.desk.Turn.{Turn}

@@ -1,5 +1,5 @@
 -- What a server answers, one request after another.
-use Rattle.sk_crew.proofs.Names.{List, [], ◌∷◌, ◌++◌, Result, Ok, Err, refl, sym, subst, Request, Reply, ServerRefusal}
+use Rattle.sk_crew.proofs.Names.{List, [], ◌∷◌, ◌++◌, Result, Ok, Err, refl, subst, Request, Reply, ServerRefusal}
 use Rattle.sk_crew.proofs.Names.{ServerView, Answers, AnswersAll, IsServed}
 use Rattle.std.specs.Prelude.{◌≡◌}
 

@@ -1,13 +1,13 @@
 -- A worker in its rounds: how many turns it began, and whether each turn of a round was answered `Ended`.
-use Rattle.sk_crew.proofs.Names.{◌⊎◌, ◌<◌, ◌≤◌, ℕ, zero, suc, ◌+◌, ◌*◌, ◌^◌, Bool, true, false, ◌&&◌, nat_lt, nat_le}
+use Rattle.sk_crew.proofs.Names.{same_Some, ◌⊎◌, ◌<◌, ◌≤◌, ℕ, zero, suc, ◌+◌, ◌*◌, ◌^◌, Bool, true, false, ◌&&◌, nat_lt}
 use Rattle.sk_crew.proofs.Names.{List, [], ◌∷◌, ◌++◌, length, Result, Ok, Err, Some, None, slice_get, option_and_then}
-use Rattle.sk_crew.proofs.Names.{if◌then◌else◌, inl, inr, refl, sym, ap, ◌∙◌, subst, arith, Contains, sum_by}
-use Rattle.sk_crew.proofs.Names.{unary_clauses, lt_of_mul-lt-mul_left, ltb-true, ltb-false, leb-true, leb-false}
-use Rattle.sk_crew.proofs.Names.{sum_by-append, Contains-push, Contains-push_cases, Contains-append_left}
-use Rattle.sk_crew.proofs.Names.{Contains-append_cases, append_assoc, append-nil, slice_get_within, Refusal, HandIn}
-use Rattle.sk_crew.proofs.Names.{Turn, DeskCall, Answered, Turned, HandedIn, Receipt, WorkerView, Told, TurnTold, made}
-use Rattle.sk_crew.proofs.Names.{entry, receipt, begins_turn, next_turn, Rounds, fresh, due, after, is_ended, RunsAhead}
-use Rattle.sk_crew.proofs.Names.{TakesTurn, IsOf, turn_count, turns_of, HasTurn, AllEnded, IsOver, TookTurns}
+use Rattle.sk_crew.proofs.Names.{if◌then◌else◌, inl, inr, refl, sym, ap, ◌∙◌, subst, arith, Contains, unary_clauses}
+use Rattle.sk_crew.proofs.Names.{lt_of_mul-lt-mul_left, ltb-true, ltb-false, leb-true, leb-false, sum_by-append}
+use Rattle.sk_crew.proofs.Names.{Contains-push, Contains-push_cases, Contains-append_left, Contains-append_cases}
+use Rattle.sk_crew.proofs.Names.{append_assoc, append-nil, slice_get_within, Refusal, HandIn, Turn, Answered, Turned}
+use Rattle.sk_crew.proofs.Names.{HandedIn, Receipt, WorkerView, Told, TurnTold, made, entry, receipt, begins_turn}
+use Rattle.sk_crew.proofs.Names.{next_turn, Rounds, fresh, due, after, is_ended, RunsAhead, TakesTurn, turn_count}
+use Rattle.sk_crew.proofs.Names.{turns_of, HasTurn, AllEnded, IsOver, TookTurns}
 use Rattle.std.specs.Prelude.{◌≡◌}
 use Rattle.sk_plain.specs.declared.refusal.Refusal.TheVariants as refusals
 use Rattle.sk_workers.specs.declared.entry.DeskCall.TheVariants as calls
@@ -62,9 +62,6 @@ ahead_ends workers number processes k n pid w v (inr ran) so =
     subst (λ (x : WorkerView). Ends workers number processes k x.receipts) (sym told.3)
     (ends_more workers number processes k w.receipts _ (hand_in_ended told.1 w.number pid ran.0 (HandedIn ran.1) told.2) so)
 
-some_is : (x y : ℕ) → Some x ≡ Some y → x ≡ y
-some_is x y is = cc
-
 below : (j k : ℕ) → j < suc k → (j < k) ⊎ (j ≡ k)
 below j k lt = elim (nat_lt j k) as (λ b. nat_lt j k ≡ b → (j < k) ⊎ (j ≡ k)) [
   | true ↦ λ is. inl (ltb-true j k is)
@@ -85,20 +82,13 @@ turn_ends workers number processes k pid v w' at told so =
       more.3,
       λ j other lt there. elim (below j k lt) [
         | inl before ↦ more.4 j other before there
-        | inr is ↦ (new, Contains-push so.1 new, ap calls.Turn (some_is pid other (sym at ∙ ap (λ i. slice_get processes (number + workers * i)) (sym is) ∙ there)))
+        | inr is ↦ (new, Contains-push so.1 new, ap calls.Turn (same_Some pid other (sym at ∙ ap (λ i. slice_get processes (number + workers * i)) (sym is) ∙ there)))
       ],
     )
 
 ended_why : (why : Refusal) → is_ended (Err why) ≡ true → why ≡ refusals.Ended
-ended_why refusals.NoProcess is = absurd (cc)
 ended_why refusals.Ended is = refl
-ended_why refusals.Mismatch is = absurd (cc)
-ended_why refusals.NeedsReply is = absurd (cc)
-ended_why refusals.Blocked is = absurd (cc)
-ended_why refusals.NoRoom is = absurd (cc)
-ended_why refusals.TooMany is = absurd (cc)
-ended_why refusals.TraceFull is = absurd (cc)
-ended_why refusals.Memory is = absurd (cc)
+ended_why s is = absurd (cc)
 
 ended_answer : (answer : Result Turn Refusal) → is_ended answer ≡ true → answer ≡ Err refusals.Ended
 ended_answer (Ok turn) is = absurd (cc)

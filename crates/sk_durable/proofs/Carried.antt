@@ -59,10 +59,6 @@ apart_from : (n : ℕ) (k : List ℕ) → is_reserved k ≡ false → eq_by_cmp 
 apart_from n k plain = false_from_ne_true (eq_by_cmp bytes_cmp k (batch_key n))
     (λ same. true≢false (sym (ap is_reserved ((same_bytes k (batch_key n)).0 same)) ∙ plain))
 
-apart_served : (n : ℕ) (k : List ℕ) → is_reserved k ≡ false → eq_by_cmp bytes_cmp k (batch_key n) ≡ false
-apart_served n k plain = false_from_ne_true (eq_by_cmp bytes_cmp k (batch_key n))
-    (λ same. true≢false (sym (ap is_reserved ((same_bytes k (batch_key n)).0 same)) ∙ plain))
-
 -- what some keys rest on is what they rested on before
 any_same : (p q : List ℕ → Bool) (ks : List (List ℕ)) → ((k : List ℕ) → is_reserved k ≡ false → p k ≡ q k)
     → list_any is_reserved ks ≡ false
@@ -153,7 +149,7 @@ module _ (told : Out) (a : StoreView) (status : ℕ → Option Status)
           (knows wants).0,
           λ key named lacking.
               let at = (knows wants).1 key named lacking in
-              (looks key ∙ at.0, tags key (apart_served n key named) ∙ ap (last_tags []) at.1),
+              (looks key ∙ at.0, tags key (apart_from n key named) ∙ ap (last_tags []) at.1),
         ),
       )
       (says.answer_is ∙ ap (λ has. (comes_to asked.known asked.work has).reply) look)

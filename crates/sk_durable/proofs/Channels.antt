@@ -12,10 +12,11 @@ use Rattle.sk_durable.proofs.Names.{StoreView, Call, Connects, Does, MayBeTold, 
 use Rattle.sk_durable.proofs.Names.{carried_by, carried_from, decided, failed, past, past_after, stands, Command}
 use Rattle.sk_durable.proofs.Names.{HasDone}
 use Rattle.sk_durable.proofs.Machines.{Machine}
-use Rattle.sk_durable.proofs.Served.{carried_behind, decided_behind, outs_from, serves_behind}
+use Rattle.sk_durable.proofs.Served.{carried_behind, decided_behind, outs_from}
 use Rattle.sk_durable.proofs.Pasts.{was_there, by_call, carried_push, carried_reset, connects, connects_is, freed, never_push, outs_behind, outs_grow, past_push, past_reset, same_limits, silent, taken, taken_after, taken_push, taken_reset, Said}
 use Rattle.sk_durable.proofs.Since.{all_said, last_machine, said_since, Since}
 use Rattle.sk_durable.proofs.Tickets.{answer_told, fewer_said, got_before, got_last, kept_append, less_said, mapped_none, none_long, nothing_told, refused_long, refused_told, rested, resting, rises_apart, rises_behind, rises_first, rises_kept, rises_push, rises_resting, rises_to, said_append, ticket_of, told_long, IsToldOf, Output, Rises}
+use Rattle.sk_durable.proofs.Calls.{serves_on}
 
 -- ---- what waits after a call
 
@@ -486,7 +487,7 @@ module _ (limits : Limits) (next : Next) (start : Entries) (t : ℕ) where
       record {
         first = done.first;
         new = done.new;
-        serves = serves_behind done.first a m cs (c ∷ []) done.serves
+        serves = serves_on done.first a m cs (c ∷ []) done.serves
             (m, does, refl);
       } in
       subst (λ l. Connected limits next start t l s) (append_assoc cs (c ∷ []) ds)

@@ -1,21 +1,11 @@
 -- What is in lists that are made of others.
-use Rattle.sk_durable.proofs.Names.{◌≡◌, zero, suc, ◌+◌, ◌<◌, Bool, true, false, cond, List, [], ◌∷◌, flat_map, length}
-use Rattle.sk_durable.proofs.Names.{map, inl, inr, refl, sym, ◌∙◌, ap, subst, arith, ◌⊎◌, filter, Contains}
-use Rattle.sk_durable.proofs.Names.{Contains-append_cases, ℕ, ◌==◌, list_any, has, false≢true, or_cases, or_left}
-use Rattle.sk_durable.proofs.Names.{or_right, eq-eqb, eqb-true}
-
-pub first_or_later : {A : Type 0} (y : A) (ys : List A) (x : A) → Contains (y ∷ ys) x → (y ≡ x) ⊎ Contains ys x
-first_or_later y ys x (zero, lt, is) = inl is
-first_or_later y ys x (suc k, lt, is) = inr (k, omega (arith, lt), is)
+use Rattle.sk_durable.proofs.Names.{◌≡◌, ◌+◌, ◌<◌, Bool, true, false, cond, List, [], ◌∷◌, flat_map, length, map, inl}
+use Rattle.sk_durable.proofs.Names.{inr, refl, sym, ◌∙◌, ap, subst, arith, filter, Contains, Contains-append_cases, ℕ}
+use Rattle.sk_durable.proofs.Names.{◌==◌, list_any, has, false≢true, or_cases, or_left, or_right, eq-eqb, eqb-true}
+pub use Rattle.sk_record.proofs.Lemmas.{cons_cases as first_or_later, cons_first as at_first, cons_later as at_later}
 
 pub nothing_there : {A P : Type 0} (x : A) → Contains [] x → P
 nothing_there x (k, lt, is) = absurd (omega (arith, lt))
-
-pub at_first : {A : Type 0} (y : A) (ys : List A) → Contains (y ∷ ys) y
-at_first y ys = (0, omega arith, refl)
-
-pub at_later : {A : Type 0} (y : A) (ys : List A) (x : A) → Contains ys x → Contains (y ∷ ys) x
-at_later y ys x (k, lt, is) = (suc k, omega (arith, lt), is)
 
 pub from_map : {A B : Type 0} (f : A → B) (xs : List A) (y : B) → Contains (map f xs) y → (x : A) × Contains xs x
     × (f x ≡ y)

@@ -23,6 +23,7 @@ use Rattle.sk_durable.proofs.Channels.{has_past}
 use Rattle.sk_durable.proofs.Plain.{logged_told}
 use Rattle.sk_durable.proofs.Records.{after_any, carried_push, frames_push, in_frames}
 use Rattle.sk_durable.proofs.Recovered.{front, logged_frames, restored, settled_first, work_in, AreShort}
+use Rattle.sk_durable.proofs.Queued.{or_none_first}
 
 -- ---- no frame is longer than one may be
 
@@ -44,10 +45,6 @@ no_room false false is = cc
 second_none : (o p : Option Why) → first_cause o p ≡ None → p ≡ None
 second_none None p is = is
 second_none (Some w) p is = cc
-
-or_none_first : (o p : Option Why) → option_or o p ≡ None → o ≡ None
-or_none_first None p is = refl
-or_none_first (Some w) p is = cc
 
 -- a frame that is taken is no longer
 short_frame : (q : QueueView) (p : PlacesView) (room : ℕ) (full : Bool)

@@ -1,18 +1,17 @@
 -- What each call leaves of the frames and of the commands in them.
-use Rattle.sk_durable.proofs.Names.{◌≡◌, ℕ, ◌<◌, ◌≤◌, true, false, cond, not, List, [], ◌∷◌, ◌++◌, flat_map, map, inl}
-use Rattle.sk_durable.proofs.Names.{inr, refl, sym, ◌∙◌, ap, subst, append_assoc, length-append, arith, ◌⊎◌, ◌==◌}
-use Rattle.sk_durable.proofs.Names.{filter, Contains, true≢false, false≢true, append-nil, map-append, flat_map-append}
-use Rattle.sk_durable.proofs.Names.{filter-append, All-contains, All-from_recursion, Contains-append_cases}
-use Rattle.sk_durable.proofs.Names.{Contains-append_left, Contains-push_cases, has, Commit, Event, Fail, failed_in}
-use Rattle.sk_durable.proofs.Names.{is_struck, kept, Stage, Kept, Sent, Synced, Refused, Batch, AreDense, IsBehind}
-use Rattle.sk_durable.proofs.Names.{after_take, after_word, awaits, is_failed, is_kept, is_refused, is_sent, is_taken}
-use Rattle.sk_durable.proofs.Names.{next_records, tell, QueueView, RecordView, Entry, is_logged, Command, and_parts}
-use Rattle.sk_durable.proofs.Names.{failed_more}
+use Rattle.sk_durable.proofs.Names.{sent_number, ◌≡◌, ℕ, ◌<◌, ◌≤◌, true, false, cond, not, List, [], ◌∷◌, ◌++◌}
+use Rattle.sk_durable.proofs.Names.{flat_map, map, inl, inr, refl, sym, ◌∙◌, ap, subst, append_assoc, length-append}
+use Rattle.sk_durable.proofs.Names.{arith, ◌⊎◌, ◌==◌, filter, Contains, true≢false, false≢true, append-nil, map-append}
+use Rattle.sk_durable.proofs.Names.{flat_map-append, filter-append, All-contains, All-from_recursion}
+use Rattle.sk_durable.proofs.Names.{Contains-append_cases, Contains-append_left, Contains-push_cases, has, Commit}
+use Rattle.sk_durable.proofs.Names.{Event, Fail, failed_in, is_struck, kept, Stage, Kept, Sent, Synced, Refused, Batch}
+use Rattle.sk_durable.proofs.Names.{AreDense, IsBehind, after_take, after_word, awaits, is_failed, is_kept, is_refused}
+use Rattle.sk_durable.proofs.Names.{is_sent, is_taken, next_records, tell, QueueView, RecordView, Entry, is_logged}
+use Rattle.sk_durable.proofs.Names.{Command, and_parts, failed_more}
 use Rattle.sk_durable.proofs.Contained.{at_later, from_map, nothing_there}
 use Rattle.sk_durable.proofs.Frames.{in_frame, living, marked, next_marked, off, placed, unsent, AreOf, HasFrames, IsBefore, IsBelow, IsOf, Marked, Placed}
 use Rattle.sk_durable.proofs.Marked.{all_told_placed, all_told_unsent, next_unmarked, none_unsent, numbered_push}
-use Rattle.sk_durable.proofs.Marked.{numbered_within, of_sent, off_sent, off_told, placed_of, placed_sent, sent_number}
-use Rattle.sk_durable.proofs.Marked.{told_number}
+use Rattle.sk_durable.proofs.Marked.{numbered_within, of_sent, off_sent, off_told, placed_of, placed_sent, told_number}
 
 -- ---- commands
 
@@ -268,9 +267,6 @@ module _ (first : ℕ) (cm : List Command) (ds : List (Event Entry)) (log : List
 
 -- ---- the oldest batch is decided
 
-fail_or_commit : {P : Type 0} (g h : ℕ) → ◌≡◌ {A = Event Entry} (Fail g) (Commit h) → P
-fail_or_commit g h is = cc
-
 same_commit : (g h : ℕ) → ◌≡◌ {A = Event Entry} (Commit g) (Commit h) → g ≡ h
 same_commit g h is = cc
 
@@ -395,6 +391,6 @@ module _ (first : ℕ) (cm : List Command) (ds : List (Event Entry)) (log : List
         below = so.below;
         settled = λ n at. elim (Contains-push_cases ds (Fail b.number) (Commit n) at) [
           | inl was ↦ ((so.settled n was).0, λ d there. (so.settled n was).1 d (there_before d there))
-          | inr is ↦ fail_or_commit b.number n is
+          | inr is ↦ cc
         ];
       }

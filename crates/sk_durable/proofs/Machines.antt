@@ -83,7 +83,7 @@ logs_behind told mid last x y z (Does e ∷ cs) ds one two (m, first, more, is, 
 logs_behind told mid last x y z (Tells t output ∷ cs) ds one two (m, out, behind) rest =
     (m, out, logs_behind (told_more t output told) mid last m y z cs ds one two behind rest)
 
-moves_behind : (cs ds : List Move) → moves_of (cs ++ ds) ≡ moves_of cs ++ moves_of ds
+pub moves_behind : (cs ds : List Move) → moves_of (cs ++ ds) ≡ moves_of cs ++ moves_of ds
 moves_behind [] ds = refl
 moves_behind (Does e ∷ cs) ds = ap (λ es. e ∷ es) (moves_behind cs ds)
 moves_behind (Tells t output ∷ cs) ds = moves_behind cs ds

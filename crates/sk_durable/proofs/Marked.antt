@@ -1,12 +1,12 @@
 -- Records of batches in frames, and what a queue's calls make of them.
-use Rattle.sk_durable.proofs.Names.{◌≡◌, ℕ, zero, suc, ◌+◌, ◌<◌, ◌≤◌, true, false, cond, List, [], ◌∷◌, ◌++◌, flat_map}
-use Rattle.sk_durable.proofs.Names.{length, map, drop, inl, inr, refl, sym, ◌∙◌, ap, append_assoc, arith, ◌⊎◌, ◌==◌}
-use Rattle.sk_durable.proofs.Names.{filter, AllByRecursion, Contains, false≢true, append-nil, map-append}
-use Rattle.sk_durable.proofs.Names.{flat_map-append, filter-append, Contains-append_cases, Contains-append_left}
-use Rattle.sk_durable.proofs.Names.{Contains-append_right, Contains-push_cases, Stage, Kept, Sent, Refused, Batch}
-use Rattle.sk_durable.proofs.Names.{AreDense, IsBehind, after_take, awaits, is_kept, is_refused, is_sent, is_taken}
-use Rattle.sk_durable.proofs.Names.{kept_of, kept_records, next_records, open_batch, send, tell, QueueView, RecordView}
-use Rattle.sk_durable.proofs.Names.{and_parts}
+use Rattle.sk_durable.proofs.Names.{sent_unkept, sent_number, ◌≡◌, ℕ, zero, suc, ◌+◌, ◌<◌, ◌≤◌, true, false, cond, List}
+use Rattle.sk_durable.proofs.Names.{[], ◌∷◌, ◌++◌, flat_map, length, map, drop, inl, inr, refl, sym, ◌∙◌, ap}
+use Rattle.sk_durable.proofs.Names.{append_assoc, arith, ◌⊎◌, ◌==◌, filter, AllByRecursion, Contains, false≢true}
+use Rattle.sk_durable.proofs.Names.{append-nil, map-append, flat_map-append, filter-append, Contains-append_cases}
+use Rattle.sk_durable.proofs.Names.{Contains-append_left, Contains-append_right, Contains-push_cases, Stage, Kept, Sent}
+use Rattle.sk_durable.proofs.Names.{Refused, Batch, AreDense, IsBehind, after_take, awaits, is_kept, is_refused}
+use Rattle.sk_durable.proofs.Names.{is_sent, is_taken, kept_of, kept_records, next_records, open_batch, send, tell}
+use Rattle.sk_durable.proofs.Names.{QueueView, RecordView, and_parts}
 use Rattle.sk_durable.proofs.Contained.{from_map, nothing_there, to_map}
 use Rattle.sk_durable.proofs.Frames.{in_frame, marked, next_marked, numbered, off, placed, unsent, Marked, Placed}
 
@@ -24,10 +24,6 @@ sent_taken : (s : Stage) → is_sent s ≡ true → is_taken s ≡ true
 sent_taken Kept e = absurd (false≢true e)
 sent_taken Refused e = absurd (false≢true e)
 sent_taken s e = refl
-
-sent_unkept : (s : Stage) → is_sent s ≡ true → is_kept s ≡ false
-sent_unkept Kept e = absurd (false≢true e)
-sent_unkept s e = refl
 
 sent_unrefused : (s : Stage) → is_sent s ≡ true → is_refused s ≡ false
 sent_unrefused Refused e = absurd (false≢true e)
@@ -150,13 +146,6 @@ unsent_of b x at =
     ] at
 
 -- ---- a frame is taken
-
-pub sent_number : (frame : ℕ) (b : Batch) → (send frame b).number ≡ b.number
-sent_number frame b = elim (is_kept b.stage) as
-    (λ t. (cond t (record b { frame = frame; stage = Sent }) b).number ≡ b.number) [
-      | true ↦ refl
-      | false ↦ refl
-    ]
 
 sent_refused : (frame : ℕ) (b : Batch) → is_refused (send frame b).stage ≡ is_refused b.stage
 sent_refused frame b =

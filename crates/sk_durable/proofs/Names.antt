@@ -59,8 +59,8 @@ pub use Rattle.sk_batched.specs.declared.batched.Outcome.TheVariants.{Logged as 
 pub use Rattle.sk_batched.specs.declared.refusal.Refusal.TheVariants.{Reserved}
 pub use Rattle.sk_batches.proofs.Dense.{cut_into, all_both, all_of, dense_at, CutInto, frames_are_dense, cuts_a_range}
 pub use Rattle.sk_batches.proofs.Dense.{of_all}
-pub use Rattle.sk_batches.proofs.Order.{cut_number}
-pub use Rattle.sk_batches.proofs.Synced.{logs_what_is_synced, failed_unkept, stays_below, decided_synced}
+pub use Rattle.sk_batches.proofs.Order.{cut_number, sent_number}
+pub use Rattle.sk_batches.proofs.Synced.{logs_what_is_synced, failed_unkept, sent_unkept, stays_below, decided_synced}
 pub use Rattle.sk_batches.specs.Calls.{new_queue, append_refused, is_busy, take_refused, has_no_number, WordPost}
 pub use Rattle.sk_batches.specs.Dense.{IsRange, AreDense, IsBehind, IsAtCut}
 pub use Rattle.sk_batches.specs.Frames.{frame_refused, first_cause, next_payload}

@@ -1,14 +1,14 @@
 -- A batch that is told as logged lies in frames that were told as synced, and its frame has all that it logs.
 use Rattle.sk_durable.proofs.Recovered.{of_at}
-use Rattle.sk_durable.proofs.Names.{◌≡◌, ℕ, suc, ◌+◌, ◌-◌, ◌<◌, ◌≤◌, Bool, true, false, cond, not, List, [], ◌∷◌, ◌++◌}
-use Rattle.sk_durable.proofs.Names.{map, Option, Some, None, inl, inr, refl, sym, ◌∙◌, ap, subst, arith, ◌==◌}
-use Rattle.sk_durable.proofs.Names.{slice_get, filter, Contains, option_map, true≢false, false≢true, or_cases}
-use Rattle.sk_durable.proofs.Names.{false_from_ne_true, not_from_false, Contains-append_cases, Contains-append_left}
-use Rattle.sk_durable.proofs.Names.{Contains-append_right, list_any-append, slice_get-map, has, Event, failed_in}
-use Rattle.sk_durable.proofs.Names.{is_struck, kept, Batch, Stage, Synced, Refused, Decision, AreDense, IsBehind}
-use Rattle.sk_durable.proofs.Names.{decision_of, is_kept, is_refused, is_taken, QueueView, RecordView, dense_at, of_all}
-use Rattle.sk_durable.proofs.Names.{Logged, log_text, Asked, Entry, Opens, Runs, Decides, Serves, carried, told_decided}
-use Rattle.sk_durable.proofs.Names.{frames, is_logged, stands, Command, HasDone, LoggedIsOnDisk, none-some, not-true}
+use Rattle.sk_durable.proofs.Names.{same_Some, is_some, ◌≡◌, ℕ, suc, ◌+◌, ◌-◌, ◌<◌, ◌≤◌, true, false, cond, not, List}
+use Rattle.sk_durable.proofs.Names.{[], ◌∷◌, ◌++◌, map, Some, inl, inr, refl, sym, ◌∙◌, ap, subst, arith, ◌==◌}
+use Rattle.sk_durable.proofs.Names.{slice_get, filter, Contains, option_map, true≢false, or_cases, false_from_ne_true}
+use Rattle.sk_durable.proofs.Names.{not_from_false, Contains-append_cases, Contains-append_left, Contains-append_right}
+use Rattle.sk_durable.proofs.Names.{list_any-append, slice_get-map, has, Event, failed_in, is_struck, kept, Batch}
+use Rattle.sk_durable.proofs.Names.{Stage, Synced, Refused, AreDense, IsBehind, decision_of, is_kept, is_refused}
+use Rattle.sk_durable.proofs.Names.{is_taken, QueueView, RecordView, dense_at, of_all, Logged, log_text, Asked, Entry}
+use Rattle.sk_durable.proofs.Names.{Runs, Decides, Serves, carried, told_decided, frames, is_logged, stands, Command}
+use Rattle.sk_durable.proofs.Names.{HasDone, LoggedIsOnDisk, none-some, not-true}
 use Rattle.std.specs.Prelude.{flat_map}
 use Rattle.sk_batches.specs.declared.queue.Decision.TheVariants as decision
 use Rattle.sk_batches.specs.Queue.{decided}
@@ -77,53 +77,26 @@ numbered_has first (xs ∷ sent) x at =
 
 -- ---- commands and their records
 
-abbrev asked_or : Asked → Entry → Asked
-asked_or other (Opens batch) = other
-asked_or other (Runs asked) = asked
-
-abbrev number_or : ℕ → Option ℕ → ℕ
-number_or other None = other
-number_or other (Some n) = n
-
 -- its record is of its batch, and has its bytes
 same_batch : (r : Command) (x : Marked) (asked : Asked) (n : ℕ) → IsOf r x → r.entry ≡ Runs asked → asked.batch ≡ Some n
     → (x.0 ≡ n) × (x.1.bytes ≡ log_text asked.work)
 same_batch r x asked n of runs batch =
-    let same : of.asked ≡ asked = ap (asked_or asked) (sym of.entry ∙ runs) in (
-      ap (number_or n) (sym of.batch ∙ ap (λ (a : Asked). a.batch) same ∙ batch),
+    let same : of.asked ≡ asked = cc (of.entry, runs) in (
+      same_Some x.0 n (sym of.batch ∙ ap (λ (a : Asked). a.batch) same ∙ batch),
       of.bytes ∙ ap (λ (a : Asked). log_text a.work) same,
     )
 
 logs_it : (r : Command) (asked : Asked) (n : ℕ) → r.entry ≡ Runs asked → asked.batch ≡ Some n → is_logged r.entry ≡ true
-logs_it r asked n runs batch = ap is_logged runs ∙ ap (λ (o : Option ℕ). is_there o) batch where
-  is_there : Option ℕ → Bool
-  is_there None = false
-  is_there (Some m) = true
+logs_it r asked n runs batch = ap is_logged runs ∙ ap is_some batch
 
 -- ---- the oldest batch
 
 synced_kept : (s : Stage) → s ≡ Synced → (is_kept s ≡ false) × (is_refused s ≡ false)
 synced_kept s is = (ap is_kept is, ap is_refused is)
 
-abbrev logged_in : Decision → Bool
-logged_in (decision.Logged n) = true
-logged_in (decision.Refused n) = false
-
-abbrev number_of : Decision → ℕ
-number_of (decision.Logged n) = n
-number_of (decision.Refused n) = n
-
-abbrev is_log : Option Decision → Bool
-is_log None = false
-is_log (Some d) = logged_in d
-
-abbrev told_number : Option Decision → ℕ
-told_number None = 0
-told_number (Some d) = number_of d
-
 stage_of : (s : Stage) (m n : ℕ) → decision_of s m ≡ Some (decision.Logged n) → (s ≡ Synced) × (m ≡ n)
-stage_of Synced m n is = (refl, ap told_number is)
-stage_of Refused m n is = absurd (false≢true (ap is_log is))
+stage_of Synced m n is = (refl, cc)
+stage_of Refused m n is = cc
 stage_of s m n is = absurd (none-some (decision.Logged n) is)
 
 pub oldest_logged : (bs : List Batch) (n : ℕ) → decided bs ≡ Some (decision.Logged n)

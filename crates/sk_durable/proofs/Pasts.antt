@@ -14,6 +14,7 @@ use Rattle.sk_durable.proofs.Names.{carried_from, past, past_after, past_from, C
 use Rattle.sk_channels.specs.Table.{released}
 use Rattle.sk_durable.proofs.Served.{outs_by, outs_from}
 use Rattle.sk_durable.proofs.Tickets.{kept_append}
+use Rattle.sk_durable.proofs.Ways.{none_hung_up}
 
 abbrev pub Said : Type 0
 Said = ℕ × (ℕ × Answer)
@@ -198,10 +199,6 @@ within old t before there =
     (λ past. absurd (let none : channel_at old t
     ≡ None = ap channel_of (get_or_past old.places.slots t None past) in cc (there, none)))
     (cases_lt t (length old.places.slots))
-
-none_hung_up : (place : Option (Option Channel)) → channel_of (hung_up place) ≡ None
-none_hung_up None = refl
-none_hung_up (Some place) = refl
 
 hung_up_none : (place : Option (Option Channel)) → hung_up place ≡ None → place ≡ None
 hung_up_none None is = refl

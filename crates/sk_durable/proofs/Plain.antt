@@ -82,22 +82,15 @@ fails_of (Commit g ∷ es) = fails_of es
 fails_of (Fail g ∷ es) = ap (λ gs. g ∷ gs) (fails_of es)
 
 -- a batch was told as logged just where it is among the decisions
-abbrev commit_of : ℕ → Event Entry → ℕ
-commit_of g (Commit h) = h
-commit_of g other = g
-
-fail_commit : {P : Type 0} (g h : ℕ) → ◌≡◌ {A = Event Entry} (Fail g) (Commit h) → P
-fail_commit g h is = cc
-
 told_logged : (c : Call) (n : ℕ) → Contains (decided_by c) (Commit n) → c ≡ Decides (LoggedBatch n)
 told_logged (Decides (LoggedBatch m)) n there =
     elim (first_or_later (Commit m) [] (Commit n) there) [
-      | inl same ↦ ap (λ k. Decides (LoggedBatch k)) (ap (commit_of m) same)
+      | inl same ↦ cc
       | inr more ↦ nothing_there (Commit n) more
     ]
 told_logged (Decides (Refused m keys)) n there =
     elim (first_or_later (Fail m) [] (Commit n) there) [
-      | inl same ↦ fail_commit m n same
+      | inl same ↦ cc
       | inr more ↦ nothing_there (Commit n) more
     ]
 told_logged other n there = nothing_there (Commit n) there

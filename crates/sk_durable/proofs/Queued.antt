@@ -42,7 +42,7 @@ none_first : (o p : Option Why) → first_cause o p ≡ None → o ≡ None
 none_first None p is = refl
 none_first (Some w) p is = cc
 
-or_none_first : (o p : Option Why) → option_or o p ≡ None → o ≡ None
+pub or_none_first : (o p : Option Why) → option_or o p ≡ None → o ≡ None
 or_none_first None p is = refl
 or_none_first (Some w) p is = cc
 

@@ -19,8 +19,9 @@ use Rattle.sk_durable.proofs.Cuts.{cuts_step}
 use Rattle.sk_durable.proofs.Framed.{no_frames, with_logged, with_logged_batch, with_refused_batch, with_sent, with_stop, with_told, with_unlogged}
 use Rattle.sk_durable.proofs.Frames.{off, HasFrames, InFrames, IsBelow, IsOf}
 use Rattle.sk_durable.proofs.Queued.{cut_is_range, not_done_same, stands_densely, synced_upto}
-use Rattle.sk_durable.proofs.Served.{carried_behind, decided_behind, serves_behind}
+use Rattle.sk_durable.proofs.Served.{carried_behind, decided_behind}
 use Rattle.sk_durable.proofs.Standing.{drawn, unstruck}
+use Rattle.sk_durable.proofs.Calls.{serves_on}
 
 -- ---- one call more
 
@@ -114,7 +115,7 @@ own_beside t n g =
           ap (λ b. t || b) refl ∙ without t ∙ ap (λ b. (t && not b) || false) (sym apart)
     ] refl
 
-same_runs : (a b : Asked) → Runs a ≡ Runs b → a ≡ b
+pub same_runs : (a b : Asked) → Runs a ≡ Runs b → a ≡ b
 same_runs a b is = cc
 
 module _ (limits : Limits) (origin : Next) (start : Entries) (cs : List Call) (m : StoreView)
@@ -328,7 +329,7 @@ after_any limits origin start P step before (c ∷ cs) m s done (n, does, rest) 
     (record {
       first = done.first;
       new = done.new;
-      serves = serves_behind done.first m n before (c ∷ []) done.serves
+      serves = serves_on done.first m n before (c ∷ []) done.serves
           (n, does, refl);
     })
     rest (step before m c n done does so))

@@ -13,6 +13,7 @@ use Rattle.sk_durable.proofs.Contained.{at_first, at_later, first_or_later, from
 use Rattle.sk_durable.proofs.Contained.{nothing_there, to_filter, to_map, any_has, has_any, has_at}
 use Rattle.sk_durable.proofs.Frames.{living, marked, next_marked, off, placed, unsent, AreOf, HasFrames, IsOf, Marked, Placed}
 use Rattle.sk_durable.proofs.Marked.{numbered_behind, placed_of, unsent_of}
+use Rattle.sk_durable.proofs.Records.{same_runs}
 
 -- ---- commands, frame by frame
 
@@ -171,9 +172,6 @@ off_at bs g is =
     let found = from_map (λ (b : Batch). b.number) (filter (λ (b : Batch). is_refused b.stage) bs) g
     (has_at (off bs) g is) in
     (found.0, (from_filter (λ (b : Batch). is_refused b.stage) bs found.0 found.1).0, found.2)
-
-same_runs : (a b : Asked) → Runs a ≡ Runs b → a ≡ b
-same_runs a b is = cc
 
 module _ (first : ℕ) (cm : List Command) (ds : List (Event Entry)) (log : List (List RecordView)) (told : List ℕ)
     (q : QueueView)

@@ -133,10 +133,6 @@ calls told a status are known (c ∷ cs) s (m, does, rest) =
 
 -- ---- calls in turn
 
-pub serves_behind : (a m b : StoreView) (cs ds : List Call) → Serves a cs m → Serves m ds b → Serves a (cs ++ ds) b
-serves_behind a m b [] ds same rest = subst (λ s. Serves s ds b) (sym same) rest
-serves_behind a m b (c ∷ cs) ds (n, does, more) rest = (n, does, serves_behind n m b cs ds more rest)
-
 -- what it was between them
 pub between : (a b : StoreView) (cs ds : List Call) → Serves a (cs ++ ds) b
     → (m : StoreView) × Serves a cs m × Serves m ds b

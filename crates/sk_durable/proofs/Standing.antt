@@ -10,14 +10,9 @@ use Rattle.sk_durable.proofs.Names.{carried, carried_by, decided, decided_by, fa
 use Rattle.sk_durable.proofs.Names.{failed_more}
 use Rattle.sk_record.specs.declared.status.Status.TheVariants as status_as
 use Rattle.sk_durable.proofs.Contained.{from_filter, none_lost, to_filter}
-use Rattle.sk_durable.proofs.Machines.{is_decision, machine, runs_work, Led, Machine, Move}
+use Rattle.sk_durable.proofs.Machines.{is_decision, machine, runs_work, Led, Machine, Move, moves_behind}
 use Rattle.sk_durable.proofs.Plain.{as_log, fails_are, led, outs, starts}
 use Rattle.sk_durable.proofs.Served.{call, outs_by}
-
-moves_both : (cs ds : List Move) → moves_of (cs ++ ds) ≡ moves_of cs ++ moves_of ds
-moves_both [] ds = refl
-moves_both (DoesMove e ∷ cs) ds = ap (λ es. e ∷ es) (moves_both cs ds)
-moves_both (TellsOut t output ∷ cs) ds = moves_both cs ds
 
 none_failed : (es : List (Event Entry)) → filter is_decision es ≡ [] → failed_in es ≡ []
 none_failed [] none = refl
@@ -100,7 +95,7 @@ module _ (limits : Limits) (next : Next) (start : Entries) (cs : List Call) (m :
 
   same_fails : failed_in (moves_of (one.moves ++ two.moves)) ≡ fails
   same_fails =
-      ap failed_in (moves_both one.moves two.moves) ∙ failed_more (moves_of one.moves) (moves_of two.moves)
+      ap failed_in (moves_behind one.moves two.moves) ∙ failed_more (moves_of one.moves) (moves_of two.moves)
       ∙ ap (λ gs. fails ++ gs) (none_failed (moves_of two.moves) (two.decides_are ∙ undecided)) ∙ append-nil fails
 
   abbrev entry_of : List Command → List Entry
@@ -114,7 +109,7 @@ module _ (limits : Limits) (next : Next) (start : Entries) (cs : List Call) (m :
       (machine s.batched.kernel two.status)
       (record_of served map_of (moves_of one.moves)) two.logs (two.decides_are ∙ undecided))
       ∙ sym (fold-append (record_after served map_of) [] (moves_of one.moves) (moves_of two.moves))
-      ∙ ap (record_of served map_of) (sym (moves_both one.moves two.moves))
+      ∙ ap (record_of served map_of) (sym (moves_behind one.moves two.moves))
       ∙ both_as.entries
       ∙ ap (λ gs. entry_of (kept gs (one.log ++ two.log))) same_fails
       ∙ ap entry_of (filter-append (λ (r : Command). not (is_struck fails r)) one.log two.log)

@@ -38,7 +38,7 @@ module _ (old : Channels) (t : ℕ) (before : Channel) (there : channel_at old t
 pub others_there : (old : Channels) (t : ℕ) (after : Channel) (u : ℕ) → u ≢ t → channel_at (with_channel old t after) u ≡ channel_at old u
 others_there old t after u apart = ap channel_of (get_or-set_other old.places.slots t u (Some (Some after)) None apart)
 
-none_hung_up : (place : Option (Option Channel)) → channel_of (hung_up place) ≡ None
+pub none_hung_up : (place : Option (Option Channel)) → channel_of (hung_up place) ≡ None
 none_hung_up None = refl
 none_hung_up (Some place) = refl
 

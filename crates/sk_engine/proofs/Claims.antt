@@ -1,11 +1,10 @@
 -- No leadership is told to two words.
 use Rattle.sk_engine.proofs.Names.{◌≡◌, ℕ, ◌<◌, ◌≤◌, Bool, true, false, cond, List, [], ◌∷◌, Option, Some, None, inl}
-use Rattle.sk_engine.proofs.Names.{inr, refl, sym, ◌∙◌, ap, subst, arith, LeadAnswer, LeadSeen, Held, Mine, Another}
-use Rattle.sk_engine.proofs.Names.{Absent, Claimed, Waits, Breach, claim_told, lead_told, held_of, may_put, may_fence}
-use Rattle.sk_engine.proofs.Names.{may_cut, with_entry, without_from, without_to, Has, World, Move, Leads, Ends, Fences}
-use Rattle.sk_engine.proofs.Names.{Tries, Cuts, Begins, ClaimHappens, ClaimMove, ClaimRuns, LeadershipIsOne, LeadTry}
-use Rattle.sk_engine.proofs.Names.{Worded, is_lead, lead_answer, new_worded, Claims, Goes, none-some, subst₃}
-use Rattle.sk_engine.proofs.Names.{after_move}
+use Rattle.sk_engine.proofs.Names.{inr, refl, sym, ◌∙◌, ap, subst, arith, LeadAnswer, Held, Mine, Another, Absent}
+use Rattle.sk_engine.proofs.Names.{Claimed, Waits, Breach, claim_told, lead_told, held_of, may_put, may_fence, may_cut}
+use Rattle.sk_engine.proofs.Names.{with_entry, without_from, without_to, Has, World, Move, Leads, Ends, Fences, Tries}
+use Rattle.sk_engine.proofs.Names.{Cuts, Begins, ClaimHappens, ClaimMove, ClaimRuns, LeadershipIsOne, LeadTry, Worded}
+use Rattle.sk_engine.proofs.Names.{is_lead, lead_answer, new_worded, Claims, Goes, none-some, subst₃, after_move}
 use Rattle.sk_engine.specs.Engine.{EngineView}
 use Rattle.sk_engine.specs.declared.answer.LeadAnswer.TheVariants as lead
 use Rattle.sk_engine.proofs.Tests.{mine}
@@ -27,15 +26,6 @@ AreSeen w word tries = AreClaimed w.engine.leader w.engine.newest word tries
 abbrev AreSo : Worded → Type 0
 AreSo c = AreSeen c.world c.word c.tries
 
-done_not : (r : ℕ) (seen : LeadSeen) → lead.Done r ≡ lead.Not seen → ⊥
-done_not r seen e = cc
-
-same_claim : (r s : ℕ) → Claimed r ≡ Claimed s → r ≡ s
-same_claim r s e = cc
-
-same_done : (r s : ℕ) → lead.Done r ≡ lead.Done s → r ≡ s
-same_done r s e = cc
-
 -- ---- a leadership begins
 
 module _ (leader : Option ℕ) (newest : ℕ) (word : List ℕ) (tries : List LeadTry)
@@ -48,26 +38,26 @@ module _ (leader : Option ℕ) (newest : ℕ) (word : List ℕ) (tries : List Le
       | inl is ↦
           let it : lead_told (lead.Done r) ≡ Claimed s = subst (λ (x : LeadAnswer). lead_told x ≡ Claimed s)
           (ap (λ (t : LeadTry). t.answer) is) e in
-          let same : s ≡ r = sym (same_claim r s it) in
+          let same : s ≡ r = cc in
           inl (ap (λ (x : List ℕ). record { word = x; answer = lead.Done s }) (ap (λ (t : LeadTry). t.word) is)
           ∙ ap (λ (n : ℕ). record { word = mine; answer = lead.Done n }) same)
       | inr old ↦ inr (so.told u a s old e)
     ];
     low = λ u s h. elim h as (λ _. s ≤ r) [
-      | inl is ↦ let same = same_done s r (ap (λ (t : LeadTry). t.answer) is) in omega arith
+      | inl is ↦ let same : s ≡ r = cc (ap (λ (t : LeadTry). t.answer) is) in omega arith
       | inr old ↦ let low = so.low u s old in omega arith
     ];
     one = λ u v s h k. elim h as (λ _. u ≡ v) [
       | inl is ↦ elim k as (λ _. u ≡ v) [
         | inl it ↦ ap (λ (t : LeadTry). t.word) is ∙ sym (ap (λ (t : LeadTry). t.word) it)
         | inr old ↦
-            let same = same_done s r (ap (λ (t : LeadTry). t.answer) is) in
+            let same : s ≡ r = cc (ap (λ (t : LeadTry). t.answer) is) in
             let low = so.low v s old in
             absurd (omega arith)
       ]
       | inr old ↦ elim k as (λ _. u ≡ v) [
         | inl it ↦
-            let same = same_done s r (ap (λ (t : LeadTry). t.answer) it) in
+            let same : s ≡ r = cc (ap (λ (t : LeadTry). t.answer) it) in
             let low = so.low u s old in
             absurd (omega arith)
         | inr older ↦ so.one u v s old older
@@ -78,7 +68,7 @@ module _ (leader : Option ℕ) (newest : ℕ) (word : List ℕ) (tries : List Le
   -- ---- there is a leader
 
   claimed_mine : (seen r : ℕ) (held : Held) → claim_told seen held ≡ Claimed r → (held ≡ Mine) × (seen ≡ r)
-  claimed_mine seen r Mine e = (refl, same_claim seen r e)
+  claimed_mine seen r Mine e = (refl, cc)
   claimed_mine seen r Another e = absurd (let no : Waits ≡ Claimed r = e in cc)
   claimed_mine seen r Absent e = absurd (let no : Breach ≡ Claimed r = e in cc)
 
@@ -91,8 +81,7 @@ module _ (leader : Option ℕ) (newest : ℕ) (word : List ℕ) (tries : List Le
 
   led_before : (own u : List ℕ) (one r : ℕ) → HasLed (not_put own one ∷ tries) u r → HasLed tries u r
   led_before own u one r h = elim h as (λ _. HasLed tries u r) [
-    | inl is ↦ absurd (done_not r (record { leadership = one; held = held_of own (Some word) })
-        (ap (λ (t : LeadTry). t.answer) is))
+    | inl is ↦ cc (ap (λ (t : LeadTry). t.answer) is)
     | inr old ↦ old
   ]
 

@@ -33,6 +33,5 @@ pub use Rattle.sk_engine.specs.declared.request.Fence.{Fence}
 pub use Rattle.sk_engine.specs.declared.request.Told.TheVariants.{Breach, Lost, Unknowable, Over, Still, Serves}
 pub use Rattle.sk_engine.specs.declared.request.Told.TheVariants.{Synced, Claimed, Waits}
 pub use Rattle.sk_engine.specs.declared.answer.LeadAnswer.{LeadAnswer}
-pub use Rattle.sk_engine.specs.declared.answer.LeadSeen.{LeadSeen}
 pub use Rattle.sk_engine.specs.declared.answer.RoundAnswer.{RoundAnswer}
 pub use Rattle.sk_engine.specs.declared.answer.RoundAnswer.TheVariants.{Seen}

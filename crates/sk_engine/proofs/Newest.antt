@@ -9,7 +9,7 @@ use Rattle.sk_engine.proofs.Names.{and_parts, after_move}
 use Rattle.sk_engine.specs.declared.answer.BatchAnswer.TheVariants as batch
 use Rattle.sk_engine.proofs.Tests.{led}
 use Rattle.sk_engine.proofs.Sound.{HasPut, IsSound}
-use Rattle.sk_engine.proofs.Steps.{done_not, new_sound, step}
+use Rattle.sk_engine.proofs.Steps.{new_sound, step}
 use Rattle.sk_engine.proofs.Runs.{more_batches, more_fences, newest_found, still_led}
 use Rattle.sk_engine.proofs.RoundRuns.{stilled}
 
@@ -91,7 +91,7 @@ begun r (s ∷ ss) h g runs so b = begun r ss runs.0 g runs.2 (sound_step r h s 
 
 put_answer : (t : Bool) (seen : BatchSeen) → batch.Done ≡ cond t batch.Done (batch.Not seen) → t ≡ true
 put_answer true seen e = refl
-put_answer false seen e = absurd (done_not seen e)
+put_answer false seen e = cc
 
 move_put : (w : World) (c : Move) (r n : ℕ) (v : List ℕ) → HasPut (after_move w c) r n v
     → HasPut w r n v ⊎ (w.engine.leader ≡ Some r)

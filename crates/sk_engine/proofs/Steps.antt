@@ -23,15 +23,6 @@ both_there x y o e f = let is : Some x ≡ Some y = sym e ∙ f in cc
 pub absent_there : (o : Option (List ℕ)) → o ≡ None → IsThere o → ⊥
 absent_there o e t = none-some t.0 (sym e ∙ t.1)
 
-pub done_not : (seen : BatchSeen) → batch.Done ≡ batch.Not seen → ⊥
-done_not seen e = cc
-
-fenced_not : (seen : FenceSeen) → fence.Done ≡ fence.Not seen → ⊥
-fenced_not seen e = cc
-
-synced_lost : (n : ℕ) → Synced n ≡ Lost n → ⊥
-synced_lost n e = cc
-
 -- what holds of one more, and of each that was there, holds of each that is there then
 one_more : {A : Type 0} (P : A → Type 0) (x y : A) (ys : List A) → Has x (y ∷ ys) → P y → (Has x ys → P x) → P x
 one_more P x y ys (inl is) new old = subst P (sym is) new
@@ -190,7 +181,7 @@ module _ (w : World) (so : IsSound w) where
 
     put_before : (r n : ℕ) (u : List ℕ) → HasPut not_put r n u → HasPut w r n u
     put_before r n u h = was_there (record { batch = batch_of r n; value = u; answer = batch.Done }) (record { batch = b; value = v; answer = batch.Not seen })
-        w.batches h (λ is. done_not seen (ap (λ (t : BatchTry). t.answer) is))
+        w.batches h (λ is. cc (ap (λ (t : BatchTry). t.answer) is))
 
     not_put_synced : batch_told b (batch.Not seen) ≡ Synced b.number → HasPut w b.leadership b.number v
     not_put_synced told =
@@ -428,7 +419,7 @@ module _ (w : World) (so : IsSound w) where
       rising = put_rising;
       over = λ c u a h told. elim h as (λ _. IsOver w.engine.leader w.engine.newest (whole (put_world b v)) c) [
         | inl is ↦ absurd (subst (λ (t : BatchTry). batch_told t.batch t.answer ≡ Lost t.batch.number → ⊥) (sym is)
-            (λ it. synced_lost b.number it) told)
+            (λ it. cc) told)
         | inr old ↦ let o = so.over c u a old told in record {
           led = o.led;
           ended = o.ended;
@@ -451,7 +442,7 @@ module _ (w : World) (so : IsSound w) where
 
     fenced_before : (r g : ℕ) → HasFenced not_fenced r g → HasFenced w r g
     fenced_before r g h = was_there (record { fence = fence_of r g; answer = fence.Done }) (record { fence = f; answer = fence.Not unfenced }) w.fences h
-        (λ is. fenced_not unfenced (ap (λ (t : FenceTry). t.answer) is))
+        (λ is. cc (ap (λ (t : FenceTry). t.answer) is))
 
     was_fenced : fence_told f (fence.Not unfenced) ≡ Serves → HasFenced w f.leadership f.gap
     was_fenced told =

@@ -165,10 +165,6 @@ none_so b ws = then_agrees ws (none_of ws) (operand_fault None (Some []) ws) (λ
 pub one_so : {A B : Type 0} (f : Form) (a : List ℕ → Result A FaultKind) → IsReading f a → (g : A → B) (ws : List (List ℕ)) → Agrees ws (one_of a ws >>= λ x. Ok (g x)) (operand_fault None (Some (f ∷ [])) ws)
 one_so f a h g ws = then_agrees ws (one_of a ws) (operand_fault None (Some (f ∷ [])) ws) (λ x. Ok (g x)) (one_agrees f a h ws) (λ x. tt)
 
-pub two_so : {A B C : Type 0} (f g : Form) (a : List ℕ → Result A FaultKind) (b : List ℕ → Result B FaultKind) → IsReading f a → IsReading g b → (made : A × B → C) (ws : List (List ℕ))
-    → Agrees ws (two_of a b ws >>= λ x. Ok (made x)) (operand_fault None (Some (f ∷ g ∷ [])) ws)
-two_so f g a b h k made ws = then_agrees ws (two_of a b ws) (operand_fault None (Some (f ∷ g ∷ [])) ws) (λ x. Ok (made x)) (two_agrees f g a b h k ws) (λ x. tt)
-
 pub three_so : {A B C D : Type 0} (f g i : Form) (a : List ℕ → Result A FaultKind) (b : List ℕ → Result B FaultKind) (c : List ℕ → Result C FaultKind) → IsReading f a → IsReading g b → IsReading i c → (made : A × B × C → D) (ws : List (List ℕ))
     → Agrees ws (three_of a b c ws >>= λ x. Ok (made x)) (operand_fault None (Some (f ∷ g ∷ i ∷ [])) ws)
 three_so f g i a b c h k l made ws = then_agrees ws (three_of a b c ws) (operand_fault None (Some (f ∷ g ∷ i ∷ [])) ws) (λ x. Ok (made x)) (three_agrees f g i a b c h k l ws) (λ x. tt)

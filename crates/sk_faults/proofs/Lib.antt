@@ -7,4 +7,3 @@ pub mod Lists
 pub mod Sections
 pub mod Steps
 pub mod Calls
-pub mod Somewhere

@@ -125,10 +125,6 @@ others_agree d word ws =
       ),
     ) refl
 
-only_so : {A B : Type 0} (r : Result A FaultKind) (f : A → B) → OnlyOther r → OnlyOther (r >>= λ a. Ok (f a))
-only_so (Ok a) f h = tt
-only_so (Err e) f h = h
-
 script_begins : (d : Declared) (ws : List (List ℕ)) → Agrees ws (new_script d ws) (operand_fault None (one_form forms.Name) ws)
 script_begins d ws = then_agrees ws (one_of name ws) (operand_fault None (one_form forms.Name) ws) (new_name d) (one_agrees forms.Name name reads_name ws) (only_script d)
 

@@ -1,11 +1,11 @@
 -- Where a fault of a line is told.
-use Rattle.std.specs.Prelude.{◌≡◌, ◌⊎◌, ⊤, ℕ, List, [], Option, Some, None, length, drop}
+use Rattle.std.specs.Prelude.{◌≡◌, ◌<◌, ◌⊎◌, ⊤, ℕ, List, [], Option, Some, None, length, drop}
 use Rattle.sk_words.specs.declared.fault.FaultKind.{FaultKind}
 use Rattle.sk_words.specs.declared.fault.FaultKind.TheVariants as kinds
 use Rattle.sk_words.specs.Words.{words, first_of}
 use Rattle.sk_faults.specs.declared.found.Found.{Found}
 use Rattle.sk_faults.specs.declared.part.Part.{Part}
-use Rattle.sk_faults.specs.Found.{found_of}
+use Rattle.sk_faults.specs.Found.{found_of, open_at}
 use Rattle.sk_faults.specs.Places.{IsWordOf}
 
 -- at the word of this index, or behind the line's last byte where the line has no such word
@@ -17,6 +17,15 @@ IsAt line index start word =
 -- at some word of the line
 abbrev pub IsSomewhere : List ℕ → ℕ → List ℕ → Type 0
 IsSomewhere line start word = (index : ℕ) × IsAt line index start word
+
+-- the index of the literal that is open, if one is, and else one behind the first word's
+abbrev pub IsWrong : Option Found → ℕ → Type 0
+IsWrong (Some f) index = index ≡ f.index
+IsWrong None index = 0 < index
+
+-- in a line that asks: at its first literal without a closing quote, and else at a word behind its first
+abbrev pub IsAtAsked : List ℕ → ℕ → List ℕ → Type 0
+IsAtAsked line start word = (index : ℕ) × IsWrong (open_at 1 (drop 1 (words line))) index × IsAt line index start word
 
 -- at the word that is found, or behind the last byte of a line whose words are as they must be: the last of a script without an end
 abbrev pub IsAtFound : Option Found → List ℕ → ℕ → List ℕ → Type 0

@@ -1,14 +1,17 @@
 //! The place of a fault of a line of a talk, and its reason.
-ghost use Rattle.std.specs.Prelude.{◌≡◌, None, IfSome, MatchOption};
+ghost use Rattle.std.specs.Prelude.{◌≡◌, ◌≢◌, ◌<◌, None, Ok, IfSome, MatchOption};
+ghost use Rattle.sk_words.specs.declared.fault.FaultKind.TheVariants.{Memory};
 ghost use Rattle.sk_words.specs.Words.{words, first_of};
-ghost use Rattle.sk_faults.specs.Found.{found_of};
-ghost use Rattle.sk_faults.specs.Details.{IsAtWord, IsSomewhere};
+ghost use Rattle.sk_questions.specs.Questions.{asked_by};
+ghost use Rattle.sk_faults.specs.Found.{found_of, open_at};
+ghost use Rattle.sk_faults.specs.Details.{IsAtAsked, IsAtWord, IsWrong};
 
-use crate::detail::{Detail, first_in, place_at, reason_of, somewhere};
+use crate::detail::{Detail, first_in, place_at, reason_of};
 use crate::found::{Why, find, open_at};
 use crate::part::Part;
 use crate::reason::Reason;
 use crate::wanted::{Wants, wants_of_entity, wants_of_question};
+use sk_questions::Asked;
 use sk_words::{FaultKind, Words};
 use std::io;
 use std::io::Write;
@@ -22,7 +25,9 @@ fn count_wrong<'a>(
     first: &'a [u8],
     wants: Wants,
     words: &Words<'a>,
-) -> Option<Wrong<'a>> {
+) -> Option<Wrong<'a>>
+    ensures { IfSome result (λ wrong. 0 < wrong.0) }
+{
     let mut words = words.again();
     let mut index = index;
     for wanted in wants {
@@ -37,7 +42,9 @@ fn count_wrong<'a>(
 }
 
 /// The first of the words behind that of this index that is not what is wanted there.
-fn form_wrong<'a>(index: usize, wants: Wants, words: &Words<'a>) -> Option<Wrong<'a>> {
+fn form_wrong<'a>(index: usize, wants: Wants, words: &Words<'a>) -> Option<Wrong<'a>>
+    ensures { IfSome result (λ wrong. 0 < wrong.0) }
+{
     let mut words = words.again();
     let mut index = index;
     for wanted in wants {
@@ -57,7 +64,9 @@ fn wrong_behind<'a>(
     first: &'a [u8],
     wants: Wants,
     words: &Words<'a>,
-) -> Option<Wrong<'a>> {
+) -> Option<Wrong<'a>>
+    ensures { IfSome result (λ wrong. 0 < wrong.0) }
+{
     if let Some(wrong) = count_wrong(index, first, wants, words) {
         return Some(wrong);
     }
@@ -65,7 +74,9 @@ fn wrong_behind<'a>(
 }
 
 /// What is wrong behind the first word of a line that asks for an entity.
-fn wrong_entity<'a>(first: &'a [u8], wants: Wants, words: &Words<'a>) -> Option<Wrong<'a>> {
+fn wrong_entity<'a>(first: &'a [u8], wants: Wants, words: &Words<'a>) -> Option<Wrong<'a>>
+    ensures { IfSome result (λ wrong. 0 < wrong.0) }
+{
     let mut behind = words.again();
     let Some(kind) = behind.next() else {
         return wrong_behind(0, first, wants, words);
@@ -77,7 +88,9 @@ fn wrong_entity<'a>(first: &'a [u8], wants: Wants, words: &Words<'a>) -> Option<
 }
 
 /// What is wrong behind the first word of a line that asks, and wants so much.
-fn wrong_question<'a>(first: &'a [u8], wants: Wants, words: &Words<'a>) -> Option<Wrong<'a>> {
+fn wrong_question<'a>(first: &'a [u8], wants: Wants, words: &Words<'a>) -> Option<Wrong<'a>>
+    ensures { IfSome result (λ wrong. IsWrong (open_at 1 words.now) wrong.0) }
+{
     if let Some(found) = open_at(words) {
         return Some((found.index, Reason::Open));
     }
@@ -88,15 +101,16 @@ fn wrong_question<'a>(first: &'a [u8], wants: Wants, words: &Words<'a>) -> Optio
 }
 
 /// Where the fault of a line that asks stands, and what is at fault there.
-fn explain_question<'a>(number: u64, line: &'a [u8], wants: Wants) -> Option<Detail<'a>>
+fn explain_question(number: u64, line: &[u8]) -> Option<Detail<'_>>
     ensures number { IfSome result (λ detail. detail.line ≡ number) }
     ensures place { IfSome result
-        (λ detail. IsSomewhere line.now detail.place.start detail.place.word.now) }
+        (λ detail. IsAtAsked line.now detail.place.start detail.place.word.now) }
 {
     let mut words = Words::of(line);
     let first = words.next()?;
+    let wants = wants_of_question(first)?;
     let (index, reason) = wrong_question(first, wants, &words)?;
-    let place = somewhere(line, index);
+    let place = place_at(line, index);
     Some(Detail {
         line: number,
         place,
@@ -129,15 +143,22 @@ fn explain_event(part: Part, number: u64, line: &[u8]) -> Option<Detail<'_>>
 /// fault there; `None` for want of memory.
 pub fn explain_line(part: Part, number: u64, line: &[u8], kind: FaultKind) -> Option<Detail<'_>>
     ensures number { IfSome result (λ detail. detail.line ≡ number) }
-    ensures place { IfSome result
-        (λ detail. IsSomewhere line.now detail.place.start detail.place.word.now) }
+    ensures memory { kind ≡ Memory → result ≡ None }
+    ensures asks { asked_by line.now ≢ Ok None
+        → IfSome result
+        (λ detail. IsAtAsked line.now detail.place.start detail.place.word.now) }
+    ensures says { kind ≢ Memory
+        → asked_by line.now ≡ Ok None
+        → MatchOption result (found_of part (first_of (words line.now)) ≡ None)
+        (λ detail. IsAtWord (found_of part (first_of (words line.now))) line.now
+        detail.place.start detail.place.word.now) }
 {
     if kind == FaultKind::Memory {
         return None;
     }
-    match wants_of_question(first_in(line)) {
-        Some(wants) => explain_question(number, line, wants),
-        None => explain_event(part, number, line),
+    match Asked::of(line) {
+        Ok(None) => explain_event(part, number, line),
+        Ok(Some(_)) | Err(_) => explain_question(number, line),
     }
 }
 

@@ -1,12 +1,13 @@
 -- Just the tokens of undecided and struck guesses are held, behind each call of the kernel too.
-use Rattle.sk_held.proofs.Names.{◌≡◌, ℕ, ◌≤◌, Bool, true, false, cond, not, ◌||◌, ◌&&◌, List, [], ◌∷◌, ◌++◌, map}
-use Rattle.sk_held.proofs.Names.{Option, Some, None, Ok, inl, inr, refl, sym, ◌∙◌, ap, subst, arith, ◌==◌, nat_lt}
-use Rattle.sk_held.proofs.Names.{AllByRecursion, filter, nat_cmp, Ordering, true≢false, eqb-true, or_cases, ltb-true}
-use Rattle.sk_held.proofs.Names.{ltb-false, map-append, append-nil, list_any-append, IsStrictlySortedBy-filter, has}
-use Rattle.sk_held.proofs.Names.{without, rests_on, with_drawn, with_failure, with_status, Open, numbers, not_struck}
-use Rattle.sk_held.proofs.Names.{still_open, Status, Failed, Struck, has_filter, KeptView, AreStatuses, none_drawn}
-use Rattle.sk_held.proofs.Names.{struck_with, open_in, Token, statuses_redeemed, more_rises, Deed, Parts, next_of}
-use Rattle.sk_held.proofs.Names.{Commits, FailsIn, Forgets, Takes, ids, is_out, AreHeld}
+use Rattle.sk_held.proofs.Names.{or_assoc, not-true, and_parts, ◌≡◌, ℕ, ◌≤◌, Bool, true, false, cond, not, ◌||◌, ◌&&◌}
+use Rattle.sk_held.proofs.Names.{List, [], ◌∷◌, ◌++◌, map, Option, Some, None, Ok, inl, inr, refl, sym, ◌∙◌, ap, subst}
+use Rattle.sk_held.proofs.Names.{arith, ◌==◌, nat_lt, AllByRecursion, filter, nat_cmp, Ordering, true≢false, eqb-true}
+use Rattle.sk_held.proofs.Names.{or_cases, ltb-true, ltb-false, map-append, append-nil, list_any-append}
+use Rattle.sk_held.proofs.Names.{IsStrictlySortedBy-filter, has, without, rests_on, with_drawn, with_failure}
+use Rattle.sk_held.proofs.Names.{with_status, Open, numbers, not_struck, still_open, Status, Failed, Struck, has_filter}
+use Rattle.sk_held.proofs.Names.{KeptView, AreStatuses, none_drawn, struck_with, open_in, Token, statuses_redeemed}
+use Rattle.sk_held.proofs.Names.{more_rises, Deed, Parts, next_of, Commits, FailsIn, Forgets, Takes, ids, is_out}
+use Rattle.sk_held.proofs.Names.{AreHeld}
 use Rattle.std.specs.List.Sorted.{IsStrictlySortedBy}
 use Rattle.sk_record.specs.declared.status.Status.TheVariants.{Committed}
 use Rattle.sk_guesses.specs.declared.guess.Redeemed.TheVariants as redeemed_as
@@ -47,7 +48,7 @@ other_goes g h (o ∷ os) other =
         | true ↦ λ is. ap (λ b. b || has h (numbers os)) (none o.0 is) ∙ rest
         | false ↦ λ _. ap (λ b. (o.0 == h) || b) rest ∙ swap (o.0 == h) (has h (numbers (not_struck g os))) (has h (struck_with g os))
       ] refl
-      | false ↦ ap (λ b. (o.0 == h) || b) rest ∙ along (o.0 == h) (has h (numbers (not_struck g os))) (has h (struck_with g os))
+      | false ↦ ap (λ b. (o.0 == h) || b) rest ∙ sym (or_assoc (o.0 == h) (has h (numbers (not_struck g os))) (has h (struck_with g os)))
     ] where
       none : (n : ℕ) → (n == g) ≡ true → (n == h) ≡ false
       none n is = elim (n == h) as (λ b. (n == h) ≡ b → b ≡ false) [
@@ -60,24 +61,16 @@ other_goes g h (o ∷ os) other =
       swap true false c = refl
       swap false b c = refl
 
-      along : (a b c : Bool) → (a || (b || c)) ≡ ((a || b) || c)
-      along true b c = refl
-      along false b c = refl
-
 struck_is_other : (g h : ℕ) (os : List Open) → has h (struck_with g os) ≡ true → (h == g) ≡ false
 struck_is_other g h [] here = absurd (true≢false (sym here))
 struck_is_other g h (o ∷ os) here =
     elim (has g o.1 && not (o.0 == g)) as (λ b. (has g o.1 && not (o.0 == g)) ≡ b → has h (numbers (cond b (o ∷ filter (λ (p : Open). has g p.1 && not (p.0 == g)) os) (filter (λ (p : Open). has g p.1 && not (p.0 == g)) os))) ≡ true → (h == g) ≡ false) [
       | true ↦ λ is there. elim (or_cases (o.0 == h) (has h (struck_with g os)) there) [
-        | inl same ↦ ap (λ n. n == g) (sym (eqb-true o.0 h same)) ∙ off (has g o.1) (o.0 == g) is
+        | inl same ↦ ap (λ n. n == g) (sym (eqb-true o.0 h same)) ∙ not-true (o.0 == g) (and_parts (has g o.1) (not (o.0 == g)) is).1
         | inr later ↦ struck_is_other g h os later
       ]
       | false ↦ λ _ later. struck_is_other g h os later
-    ] refl here where
-      off : (a b : Bool) → (a && not b) ≡ true → b ≡ false
-      off true true is = sym is
-      off true false is = refl
-      off false b is = absurd (true≢false (sym is))
+    ] refl here
 
 module _ {K V O : Type 0} (m n : Parts K V O) (ts us : List Token) (held : AreHeld m ts) where
   abbrev Own : Type 0

@@ -4,6 +4,7 @@ pub use Rattle.std.proofs.Common.{arith, List, ap, ◌++◌, length, ◌||◌, �
 pub use Rattle.std.proofs.Common.{refl, Result, [], ◌∙◌, not, map}
 pub use Rattle.std.proofs.Math.ListN.{get_or-map}
 pub use Rattle.std.proofs.lemmas.Bool.{ltb-false, true≢false, or_right, or_cases, or_left, eqb-true, ltb-true, eq-eqb}
+pub use Rattle.std.proofs.lemmas.Bool.{not-true, and_parts}
 pub use Rattle.std.proofs.lemmas.Cmp.{ranked}
 pub use Rattle.std.proofs.lemmas.List.{length-map, map-append, append-nil}
 pub use Rattle.std.proofs.lemmas.List.Folds.{list_any-append}
@@ -25,7 +26,7 @@ pub use Rattle.sk_bytes.specs.Steps.{byte_deed}
 pub use Rattle.sk_bytes.specs.Told.{ByteView}
 pub use Rattle.sk_bytes.specs.declared.bytes.Unmade.{Unmade}
 pub use Rattle.sk_bytes.specs.declared.refusal.Refusal.{Refusal}
-pub use Rattle.sk_bytes.specs.declared.refusal.Refusal.TheVariants.{NoNumber, Memory, LongValue, LongKey, TooMany}
+pub use Rattle.sk_bytes.specs.declared.refusal.Refusal.TheVariants.{Memory, LongKey}
 pub use Rattle.sk_deeds.specs.Deed.{Deed}
 pub use Rattle.sk_guesses.proofs.Kept.{statuses_redeemed}
 pub use Rattle.sk_guesses.proofs.Opens.{more_rises}
@@ -49,3 +50,4 @@ pub use Rattle.sk_speculator.specs.Parts.{Parts}
 pub use Rattle.sk_speculator.specs.WholeStep.{WholeStep}
 pub use Rattle.sk_speculator.specs.declared.decided.Committed.{Committed}
 pub use denote.Ref.{Bor}
+pub use Rattle.std.proofs.Math.Bool.{or_assoc}

@@ -1,7 +1,7 @@
 -- What a part more makes of the step that is being written.
 use Rattle.sk_held.proofs.Names.{◌≡◌, ℕ, Bool, true, false, ◌||◌, List, [], Option, Some, Result, Ok, Err, refl, Vec}
-use Rattle.sk_held.proofs.Names.{vec_items, list_any, WholeStep, has_long_key, is_long, Refusal, LongKey, LongValue}
-use Rattle.sk_held.proofs.Names.{TooMany, NoNumber, Memory, is_long_key, is_long_value, HeldView, PutsPost, WritesPost}
+use Rattle.sk_held.proofs.Names.{vec_items, list_any, WholeStep, has_long_key, is_long, Refusal, LongKey, Memory}
+use Rattle.sk_held.proofs.Names.{is_long_key, is_long_value, HeldView, PutsPost, WritesPost}
 
 abbrev Bytes : Type 0
 Bytes = Vec ℕ
@@ -28,7 +28,5 @@ pub puts : (r : Result (Unit {0}) Refusal) (key bytes : List ℕ) (value : Bytes
     → WritesPost r key (Some value) old new → PutsPost r key bytes old new
 puts (Ok u) key bytes value old new same short fits w = (value, same, w)
 puts (Err LongKey) key bytes value old new same short fits w = w
-puts (Err LongValue) key bytes value old new same short fits w = absurd w.0
-puts (Err TooMany) key bytes value old new same short fits w = absurd w.0
-puts (Err NoNumber) key bytes value old new same short fits w = absurd w.0
 puts (Err Memory) key bytes value old new same short fits w = ((short, fits), w.1)
+puts s key bytes value old new same short fits w = absurd w.0

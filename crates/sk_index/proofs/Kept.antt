@@ -1,16 +1,15 @@
 -- What an index keeps holds after one string more, and after one less.
-use Rattle.sk_index.proofs.Names.{◌≡◌, ◌≢◌, ℕ, zero, suc, ◌<◌, ◌≤◌, ◌^◌, true, false, ltb, List, [], ◌∷◌, Some, None}
-use Rattle.sk_index.proofs.Names.{cond, refl, sym, ap, ◌∙◌, subst, arith, ◌==◌, ◌||◌, ◌&&◌, not, Bool, filter, list_any}
-use Rattle.sk_index.proofs.Names.{nat_cmp, ordering_then, is_eq, is_le, is_lt, nat_cmp_is, Included, range_contains}
-use Rattle.sk_index.proofs.Names.{Ordering, Less, Equal, Greater, is_at, Vec, eqb-true, eqb-false, ltb-true, ltb-false}
+use Rattle.sk_index.proofs.Names.{same_Some, ◌≡◌, ◌≢◌, ℕ, zero, suc, ◌<◌, ◌≤◌, ◌^◌, true, false, ltb, List, [], ◌∷◌}
+use Rattle.sk_index.proofs.Names.{Some, None, cond, refl, sym, ap, ◌∙◌, subst, arith, ◌||◌, ◌&&◌, not, Bool, filter}
+use Rattle.sk_index.proofs.Names.{list_any, nat_cmp, ordering_then, is_eq, is_le, is_lt, nat_cmp_is, Included}
+use Rattle.sk_index.proofs.Names.{range_contains, Ordering, Less, Equal, Greater, is_at, Vec, ltb-true, ltb-false}
 use Rattle.sk_index.proofs.Names.{exact_unsigned, exact_pairs, Slab, get, Updates, number_of, Adds, Removes, numbered}
 use Rattle.sk_index.proofs.Names.{place_cmp, IsIndex}
 use Rattle.sk_index.proofs.Strings as strings
 
 equal_of : (o : Ordering) → is_eq o ≡ true → o ≡ Equal
-equal_of Less is = absurd (cc)
 equal_of Equal is = refl
-equal_of Greater is = absurd (cc)
+equal_of s is = absurd (cc)
 
 pub exact_place : (p q : ℕ × ℕ) → is_at (place_cmp p) q ≡ true → p ≡ q
 exact_place p q is = exact_pairs nat_cmp nat_cmp exact_unsigned exact_unsigned p q (equal_of (place_cmp p q) is)
@@ -18,14 +17,6 @@ exact_place p q is = exact_pairs nat_cmp nat_cmp exact_unsigned exact_unsigned p
 pub still_true : (b x : Bool) → x ≡ true → cond b true x ≡ true
 still_true true x is = refl
 still_true false x is = is
-
--- in a place or elsewhere
-elsewhere : {P : Type 0} (m k : ℕ) → (m ≡ k → P) → ((m ≢ k) → P) → P
-elsewhere {P} m k here there =
-    elim (m == k) as (λ c. (m == k) ≡ c → P) [
-      | true ↦ λ e. here (eqb-true m k e)
-      | false ↦ λ e. there (eqb-false m k e)
-    ] refl
 
 module _ (hash : List ℕ → ℕ) (old : Slab (Vec ℕ)) (under : ℕ × ℕ → Bool) (is : IsIndex hash old under) where
   module _ (mid new : Slab (Vec ℕ)) (more : ℕ × ℕ → Bool) (k : ℕ) (v : Vec ℕ) (kept : mid.slots ≡ old.slots)
@@ -43,13 +34,13 @@ module _ (hash : List ℕ → ℕ) (old : Slab (Vec ℕ)) (under : ℕ × ℕ �
     adds = strings.adds old.slots new.slots k others is.apart v was_none updates.changed none
 
     there : (w : Vec ℕ) → get new k ≡ Some w → w ≡ v
-    there w gets = strings.same_some w v (sym gets ∙ updates.changed)
+    there w gets = same_Some w v (sym gets ∙ updates.changed)
 
     pub added : IsIndex hash new more
     added = record {
       apart = strings.added_apart old.slots new.slots k others is.apart v was_none updates.changed none;
       found = λ n w gets.
-          elsewhere n k
+          strings.elsewhere n k
           (λ here.
           let same : w ≡ v = there w (ap (get new) (sym here) ∙ gets) in
           let at : key ≡ (hash w.items, n) =
@@ -57,7 +48,7 @@ module _ (hash : List ℕ → ℕ) (old : Slab (Vec ℕ)) (under : ℕ × ℕ �
           subst (λ q. more q ≡ true) at put)
           (λ other. stays (hash w.items, n) (is.found n w (sym (others n other) ∙ gets)));
       small = λ n w gets.
-          elsewhere n k (λ here. subst (λ m. m < 2 ^ 64) (sym here) fits)
+          strings.elsewhere n k (λ here. subst (λ m. m < 2 ^ 64) (sym here) fits)
           (λ other. is.small n w (sym (others n other) ∙ gets));
     }
 

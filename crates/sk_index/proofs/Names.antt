@@ -28,3 +28,4 @@ pub use Rattle.std.specs.declared.ops.Bound.TheVariants.{Included}
 pub use Rattle.sk_index.specs.Index.{number_of, Adds, bytes_cmp, Removes, string_of, numbers_in, AreApart}
 pub use Rattle.sk_index.specs.Inside.{numbered, first_under, is_under, IsIndex, is_place, place_cmp}
 pub use Rattle.slab.specs.Slab.{Slab, Updates, get}
+pub use Rattle.std.proofs.lemmas.Option.{same_Some}

@@ -1,9 +1,9 @@
 -- The strings in their places, as they are seen with their numbers.
-use Rattle.sk_index.proofs.Names.{◌≡◌, ◌≢◌, ℕ, zero, suc, ◌+◌, ◌<◌, true, false, List, [], ◌∷◌, get_or, Option, Some}
-use Rattle.sk_index.proofs.Names.{None, cond, refl, sym, ap, ◌∙◌, subst, zero-add, arith, ◌==◌, if◌then◌else◌, Decides}
-use Rattle.sk_index.proofs.Names.{option_map, eq_by_cmp, find, Vec, eqb-true, eqb-false, ne_eqb, eq-eqb}
-use Rattle.sk_index.proofs.Names.{bytes_eq-Decides, is_eq-slice_cmp, bytes_cmp, number_of, string_of, Adds, Removes}
-use Rattle.sk_index.proofs.Names.{numbered}
+use Rattle.sk_index.proofs.Names.{same_Some, ◌≡◌, ◌≢◌, ℕ, zero, suc, ◌+◌, ◌<◌, true, false, List, [], ◌∷◌, get_or}
+use Rattle.sk_index.proofs.Names.{Option, Some, None, cond, refl, sym, ap, ◌∙◌, subst, zero-add, arith, ◌==◌}
+use Rattle.sk_index.proofs.Names.{if◌then◌else◌, Decides, option_map, eq_by_cmp, find, Vec, eqb-true, eqb-false, ne_eqb}
+use Rattle.sk_index.proofs.Names.{eq-eqb, bytes_eq-Decides, is_eq-slice_cmp, bytes_cmp, number_of, string_of, Adds}
+use Rattle.sk_index.proofs.Names.{Removes, numbered}
 
 pub some_none : {A P : Type 0} (x : A) → Some x ≡ None → P
 some_none x is = cc
@@ -17,22 +17,6 @@ items_same v w is = ap items_or is
 
 pub true_false : {P : Type 0} → true ≡ false → P
 true_false is = cc
-
-vec_or : Vec ℕ → Option (Vec ℕ) → Vec ℕ
-vec_or d None = d
-vec_or d (Some v) = v
-
-pub same_some : (v w : Vec ℕ) → Some v ≡ Some w → v ≡ w
-unfolding vec_or
-same_some v w is = ap (vec_or v) is
-
-list_or : List ℕ → Option (List ℕ) → List ℕ
-list_or d None = d
-list_or d (Some s) = s
-
-pub same_list : (s t : List ℕ) → Some s ≡ Some t → s ≡ t
-unfolding list_or
-same_list s t is = ap (list_or s) is
 
 pub same_bytes : (s t : List ℕ) → Decides (eq_by_cmp bytes_cmp s t) (s ≡ t)
 same_bytes s t = subst (λ b. Decides b (s ≡ t)) (sym (is_eq-slice_cmp s t)) (bytes_eq-Decides s t)
@@ -137,7 +121,7 @@ slot_of vs n q is = by_slot (at vs n) refl
     by_slot : (slot : Option (Vec ℕ)) → at vs n ≡ slot → (v : Vec ℕ) × (at vs n ≡ Some v) × (v.items ≡ q)
     by_slot None gets = some_none q (sym is ∙ string_at vs n ∙ ap (option_map (λ (v : Vec ℕ). v.items)) gets)
     by_slot (Some v) gets =
-        (v, gets, same_list v.items q (sym (ap (option_map (λ (v : Vec ℕ). v.items)) gets) ∙ sym (string_at vs n) ∙ is))
+        (v, gets, same_Some v.items q (sym (ap (option_map (λ (v : Vec ℕ). v.items)) gets) ∙ sym (string_at vs n) ∙ is))
 
 -- a string that is nowhere has no number
 pub unnumbered : (vs : Slots) (q : List ℕ) → ((n : ℕ) → string_of (numbered 0 vs) n ≡ Some q → ⊥) → None
@@ -155,17 +139,17 @@ pub nowhere : {P : Type 0} (vs : Slots) → Apart vs → (q : List ℕ) → numb
     → (n : ℕ) (v : Vec ℕ) → at vs n ≡ Some v → q ≡ v.items → P
 nowhere vs apart q none n v is same = some_none n (sym (number_at vs apart n v q is same) ∙ none)
 
+-- in a place or elsewhere
+pub elsewhere : {P : Type 0} (m k : ℕ) → (m ≡ k → P) → ((m ≢ k) → P) → P
+elsewhere {P} m k here there =
+    elim (m == k) as (λ c. (m == k) ≡ c → P) [
+      | true ↦ λ e. here (eqb-true m k e)
+      | false ↦ λ e. there (eqb-false m k e)
+    ] refl
+
 -- ---- one place has something else
 
 module _ (old new : Slots) (k : ℕ) (others : (m : ℕ) → m ≢ k → at new m ≡ at old m) where
-  -- where it is not this place
-  elsewhere : {P : Type 0} (m : ℕ) → (m ≡ k → P) → ((m ≢ k) → P) → P
-  elsewhere {P} m here there =
-      elim (m == k) as (λ c. (m == k) ≡ c → P) [
-        | true ↦ λ e. here (eqb-true m k e)
-        | false ↦ λ e. there (eqb-false m k e)
-      ] refl
-
   kept_string : (s : Option (List ℕ)) → option_map (λ v. v.items) (at new k) ≡ s → (m : ℕ)
       → string_of (numbered 0 new) m ≡ (if k == m then s else string_of (numbered 0 old) m)
   kept_string s is m =
@@ -183,14 +167,14 @@ module _ (old new : Slots) (k : ℕ) (others : (m : ℕ) → m ≢ k → at new 
 
     pub added_apart : Apart new
     added_apart i j w x wi xj same =
-        elsewhere i
+        elsewhere i k
         (λ ik.
-        elsewhere j (λ jk. ik ∙ sym jk)
+        elsewhere j k (λ jk. ik ∙ sym jk)
         (λ nj.
         nowhere old apart v.items none j x (sym (others j nj) ∙ xj)
         (sym (items_at w (ap (at new) (sym ik) ∙ wi)) ∙ same)))
         (λ ni.
-        elsewhere j
+        elsewhere j k
         (λ jk.
         nowhere old apart v.items none i w (sym (others i ni) ∙ wi)
         (sym (items_at x (ap (at new) (sym jk) ∙ xj)) ∙ sym same))
@@ -218,7 +202,7 @@ module _ (old new : Slots) (k : ℕ) (others : (m : ℕ) → m ≢ k → at new 
             unseen None gets = refl
             unseen (Some m) gets =
                 let slot = at_number new q m gets in
-                elsewhere m
+                elsewhere m k
                 (λ mk. true_false (sym
                 ((same_bytes q v.items).1 (slot.2 ∙ items_at slot.0 (ap (at new) (sym mk) ∙ slot.1))) ∙ e))
                 (λ nm. nowhere old apart q had m slot.0 (sym (others m nm) ∙ slot.1) slot.2)

@@ -1,19 +1,19 @@
 -- What is found of a leadership whose store was wound up.
-use Rattle.sk_led.proofs.Names.{◌≡◌, ℕ, zero, suc, ◌+◌, ◌-◌, ◌<◌, ◌≤◌, Bool, true, false, List, [], ◌∷◌, ◌++◌, length}
-use Rattle.sk_led.proofs.Names.{take, map, Some, None, inl, inr, refl, sym, ◌∙◌, ap, subst, arith, ◌≢◌, slice_get}
-use Rattle.sk_led.proofs.Names.{true≢false, take-map, has, payload, RecordView, Work, Says, SayAll, log_limits}
-use Rattle.sk_led.proofs.Names.{after_works, Entries, Limits, Next, StoreView, Call, Cuts, frames, synced, HasDone}
-use Rattle.sk_led.proofs.Names.{IsRecovered, crashes_are_recovered, between, batch_of, owner_of, whole, World, HasPut}
-use Rattle.sk_led.proofs.Names.{IsSound, order, AreOf, IsGivenUp, IsLeading, NoneSynced, Move, Moves, new_world, HasAll}
-use Rattle.sk_led.proofs.Names.{StoreDoes, Decides, Logged, Contains, nothing_there, AllByRecursion, Batch, Stage}
-use Rattle.sk_led.proofs.Names.{Synced, is_kept, at_first, dense_at, oldest_logged, Option, queue_decided}
+use Rattle.sk_led.proofs.Names.{take-take, false_from_ne_true, ◌≡◌, ℕ, zero, suc, ◌+◌, ◌-◌, ◌<◌, ◌≤◌, true, false, List}
+use Rattle.sk_led.proofs.Names.{[], ◌∷◌, ◌++◌, length, take, map, Some, None, inl, inr, refl, sym, ◌∙◌, ap, subst}
+use Rattle.sk_led.proofs.Names.{arith, ◌≢◌, slice_get, true≢false, take-map, has, payload, RecordView, Work, Says}
+use Rattle.sk_led.proofs.Names.{SayAll, log_limits, after_works, Entries, Limits, Next, StoreView, Call, Cuts, frames}
+use Rattle.sk_led.proofs.Names.{synced, HasDone, IsRecovered, crashes_are_recovered, between, batch_of, owner_of, whole}
+use Rattle.sk_led.proofs.Names.{World, HasPut, IsSound, order, AreOf, IsGivenUp, IsLeading, NoneSynced, Move, Moves}
+use Rattle.sk_led.proofs.Names.{new_world, HasAll, StoreDoes, Decides, Logged, Contains, nothing_there, AllByRecursion}
+use Rattle.sk_led.proofs.Names.{Batch, Stage, Synced, is_kept, at_first, dense_at, oldest_logged, queue_decided}
 use Rattle.sk_led.proofs.Names.{stands_densely, synced_upto, log_text}
 use Rattle.sk_batches.specs.declared.queue.Decision.TheVariants as decision
 use Rattle.sk_engine.specs.declared.answer.BatchAnswer.TheVariants as batch
 use Rattle.sk_led.proofs.Grows.{first_off, same_payloads}
 use Rattle.sk_led.proofs.Late.{IsLate}
-use Rattle.sk_led.proofs.Leads.{decided_upto, found_frames, not_synced, of_at, placed, within, IsPlaced}
-use Rattle.sk_led.proofs.Wound.{cut_at, get_of_taken, get_taken, take_less, Log}
+use Rattle.sk_led.proofs.Leads.{both_records, decided_upto, found_frames, not_synced, of_at, placed, within, IsPlaced}
+use Rattle.sk_led.proofs.Wound.{cut_at, get_of_taken, get_taken, Log}
 
 -- ---- frames without records say nothing
 
@@ -59,11 +59,7 @@ given_up w so r n (inr unsent) v here own =
     unsent (v, so.tried (batch_of r n) v batch.Done put)
 
 same_front : (k n : ℕ) (xs ys : Log) → n ≤ k → take k xs ≡ take k ys → take n xs ≡ take n ys
-same_front k n xs ys le same = sym (take_less n k xs le) ∙ ap (λ (zs : Log). take n zs) same ∙ take_less n k ys le
-
-not_there : (t : Bool) → (t ≡ true → ⊥) → t ≡ false
-not_there true never = absurd (never refl)
-not_there false never = refl
+same_front k n xs ys le same = sym (take-take n k xs le) ∙ ap (λ (zs : Log). take n zs) same ∙ take-take n k ys le
 
 pub ended_found : (read : List ℕ → List ℕ) (w : World) → IsSound w
     → (r gap : ℕ) (limits : Limits) (next : Next) (start : Entries)
@@ -102,7 +98,7 @@ ended_found read w so r gap limits next start leading cut ds s done led given te
     let off : has (first + count.0) (synced cs) ≡ false
     = elim count.1.2 as (λ _. has (first + count.0) (synced cs) ≡ false) [
       | inl is ↦ is
-      | inr all ↦ not_there (has (first + count.0) (synced cs)) (λ is.
+      | inr all ↦ false_from_ne_true (has (first + count.0) (synced cs)) (λ is.
           let long = wound.long in
           let got = wound.empty (first + count.0) (omega arith) is in
           past_end log (subst (λ k. slice_get log k ≡ Some []) (omega arith) got))
@@ -133,9 +129,6 @@ no_bytes : (records : List RecordView) (text : List ℕ) → records ≡ []
     → Contains (map (λ (x : RecordView). x.bytes) records) text → ⊥
 no_bytes records text is at = nothing_there text
     (subst (λ (rs : List RecordView). Contains (map (λ (x : RecordView). x.bytes) rs) text) is at)
-
-both_some : (x y : List RecordView) (o : Option (List RecordView)) → o ≡ Some x → o ≡ Some y → x ≡ y
-both_some x y o e f = let is : Some x ≡ Some y = sym e ∙ f in cc
 
 logged_parts : (m n : StoreView) (number : ℕ) → StoreDoes m (Decides (Logged number)) n
     → queue_decided m.batched.queue.batches ≡ Some (decision.Logged number)
@@ -190,7 +183,7 @@ ended_logged read moves w r gap limits next start leading cut xs later cs s numb
           let all = has_all asked there is in
           let none = wound.empty frame ge (told frame from (omega arith)) in
           absurd (no_bytes all.0 (log_text asked.work)
-          (both_some all.0 [] (slice_get (frames first before) (frame - first)) all.1 none) all.2))
+          (both_records all.0 [] (slice_get (frames first before) (frame - first)) all.1 none) all.2))
     ]
   where
     synced_unkept : (t : Stage) → t ≡ Synced → is_kept t ≡ false

@@ -2,7 +2,7 @@
 use Rattle.sk_led.proofs.Names.{◌≡◌, ◌==◌, ◌||◌, ◌≢◌, ℕ, suc, ◌+◌, ◌<◌, ◌≤◌, Bool, true, false, List, [], ◌∷◌, ◌++◌}
 use Rattle.sk_led.proofs.Names.{length, map, Some, None, Ok, Err, Option, option_or, inl, inr, refl, sym, ◌∙◌, ap}
 use Rattle.sk_led.proofs.Names.{subst, arith, if◌then◌else◌, list_any, list_any-append, or_right, eq-eqb, false≢true}
-use Rattle.sk_led.proofs.Names.{serves_behind, Batch, Stage, QueueView, after_take, awaits, cut_due, first_failed}
+use Rattle.sk_led.proofs.Names.{serves_on, Batch, Stage, QueueView, after_take, awaits, cut_due, first_failed}
 use Rattle.sk_led.proofs.Names.{is_awaited, is_decided, is_failed, last_in, left, next_records, open_batch}
 use Rattle.sk_led.proofs.Names.{queue_decided, send, tell, word_refused, Cut, Decision, decision_of, first_cause}
 use Rattle.sk_led.proofs.Names.{PlacesView, Refusal, Sealed, Stays, AfterNoFrame, all_stays, place_at, next_refused}
@@ -34,7 +34,7 @@ pub one_done : (a b : StoreView) (c : Call) → StoreDoes a c b → AreLast (c �
 one_done a b c does last = (c ∷ [], (b, does, refl), last)
 
 pub does_on : (a m b : StoreView) → DoesLast a m → DoesLast m b → DoesLast a b
-does_on a m b x y = (x.0 ++ y.0, serves_behind a m b x.0 y.0 x.1 y.1, last_on x.0 y.0 x.2 y.2)
+does_on a m b x y = (x.0 ++ y.0, serves_on a m b x.0 y.0 x.1 y.1, last_on x.0 y.0 x.2 y.2)
 
 -- ---- decisions
 

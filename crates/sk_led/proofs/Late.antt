@@ -1,12 +1,12 @@
 -- Behind a cut all that still waits for a word of the host is in later frames, and what was told as synced in earlier
 -- ones.
-use Rattle.sk_led.proofs.Names.{◌≡◌, ℕ, suc, ◌+◌, ◌<◌, ◌≤◌, Bool, true, false, List, [], ◌∷◌, refl, sym, ap, subst}
-use Rattle.sk_led.proofs.Names.{arith, ◌==◌, cond, Some, None, map, nat_lt, list_any, AllByRecursion, Contains}
-use Rattle.sk_led.proofs.Names.{ltb-true, ltb-false, NUMBER_LIMIT, Stage, Kept, Sent, Synced, Failed, Refused, Batch}
-use Rattle.sk_led.proofs.Names.{Cut, after_cut, awaits, cut_due, cut_off, first_failed, is_decided, is_failed, is_kept}
-use Rattle.sk_led.proofs.Names.{is_sent, last_in, left, open_batch, past, send, tell, QueueView, kept_records_of}
-use Rattle.sk_led.proofs.Names.{AreDense, IsAtCut, IsRange, all_mapped, all_pushed, dense_at, ◌∙◌, decided_synced}
-use Rattle.sk_led.proofs.Names.{filter, and_parts, false≢true}
+use Rattle.sk_led.proofs.Names.{failed_unkept, ◌≡◌, ℕ, suc, ◌+◌, ◌<◌, ◌≤◌, Bool, true, false, List, [], ◌∷◌, refl, sym}
+use Rattle.sk_led.proofs.Names.{ap, subst, arith, ◌==◌, cond, Some, None, map, nat_lt, list_any, AllByRecursion}
+use Rattle.sk_led.proofs.Names.{Contains, ltb-true, ltb-false, NUMBER_LIMIT, Stage, Kept, Sent, Synced, Failed, Refused}
+use Rattle.sk_led.proofs.Names.{Batch, Cut, after_cut, awaits, cut_due, cut_off, first_failed, is_decided, is_failed}
+use Rattle.sk_led.proofs.Names.{is_kept, is_sent, last_in, left, open_batch, past, send, tell, QueueView}
+use Rattle.sk_led.proofs.Names.{kept_records_of, AreDense, IsAtCut, IsRange, all_mapped, all_pushed, dense_at, ◌∙◌}
+use Rattle.sk_led.proofs.Names.{decided_synced, filter, and_parts, false≢true}
 use Rattle.sk_batches.specs.Runs.{story_after, Appends, Call, Cuts, Decides, Fails, Happens, Runs, Stops, Story, Syncs}
 use Rattle.sk_batches.specs.Runs.{Takes, Withdraws}
 
@@ -203,10 +203,6 @@ due_here cut q e = elim (list_any (λ (b : Batch). is_sent b.stage) q.batches) a
       | true ↦ λ is. no_failed cut is
       | false ↦ λ is. failed_here cut q.batches is
     ] e
-
-failed_unkept : (s : Stage) → is_failed s ≡ true → is_kept s ≡ false
-failed_unkept Kept e = absurd (false≢true e)
-failed_unkept s e = refl
 
 -- the frame of the cut stands in the log
 pub due_between : (first : ℕ) (cut : Cut) (q : QueueView) → AreDense first q.frame q.number q.batches

@@ -1,21 +1,18 @@
 -- What was told as logged stands in the engine, and what is found of a leadership is what its first commands leave,
 -- while it leads.
-use Rattle.sk_led.proofs.Names.{◌≡◌, ℕ, zero, suc, ◌+◌, ◌-◌, ◌<◌, ◌≤◌, Bool, true, false, List, [], ◌∷◌, length, Option}
-use Rattle.sk_led.proofs.Names.{Some, None, inl, inr, refl, sym, ◌∙◌, ap, subst, arith, ◌≢◌, slice_get, has, payload}
-use Rattle.sk_led.proofs.Names.{RecordView, Logged, Decides, frames, synced, map, Limits, Entries, Work, after_works}
-use Rattle.sk_led.proofs.Names.{StoreView, Move, Moves, HasDone, IsRecovered, SayAll, Next, Call}
-use Rattle.sk_led.proofs.Names.{crashes_are_recovered, batch_of, AreOf, IsInEngine, IsLeading}
-use Rattle.sk_led.proofs.Names.{new_world, owner_of, whole, HasDecided, WasSynced, World, HasPut, IsSound, both_there}
-use Rattle.sk_led.proofs.Names.{new_sound, order, decided_is_read, decided_stays, run, sent_there, AreUncut}
-use Rattle.sk_led.proofs.Names.{◌++◌, Asked, Runs, Contains, HasAll, entries, stands, log_text}
+use Rattle.sk_led.proofs.Names.{none-some, ◌≡◌, ℕ, zero, suc, ◌+◌, ◌-◌, ◌<◌, ◌≤◌, Bool, true, false, List, [], ◌∷◌}
+use Rattle.sk_led.proofs.Names.{length, Option, Some, inl, inr, refl, sym, ◌∙◌, ap, subst, arith, ◌≢◌, slice_get, has}
+use Rattle.sk_led.proofs.Names.{payload, RecordView, Logged, Decides, frames, synced, map, Limits, Entries, Work}
+use Rattle.sk_led.proofs.Names.{after_works, StoreView, Move, Moves, HasDone, IsRecovered, SayAll, Next, Call}
+use Rattle.sk_led.proofs.Names.{crashes_are_recovered, batch_of, AreOf, IsInEngine, IsLeading, new_world, owner_of}
+use Rattle.sk_led.proofs.Names.{whole, HasDecided, WasSynced, World, HasPut, IsSound, both_there, new_sound, order}
+use Rattle.sk_led.proofs.Names.{decided_is_read, decided_stays, run, sent_there, AreUncut, ◌++◌, Asked, Runs, Contains}
+use Rattle.sk_led.proofs.Names.{HasAll, entries, stands, log_text}
 use Rattle.sk_engine.specs.declared.answer.BatchAnswer.TheVariants as batch
 use Rattle.sk_led.proofs.Grows.{first_off, frame_stays, same_payloads, synced_grow}
 
-both_records : (x y : List RecordView) (o : Option (List RecordView)) → o ≡ Some x → o ≡ Some y → x ≡ y
+pub both_records : (x y : List RecordView) (o : Option (List RecordView)) → o ≡ Some x → o ≡ Some y → x ≡ y
 both_records x y o e f = let is : Some x ≡ Some y = sym e ∙ f in cc
-
-none_is : (v : List ℕ) → None ≡ Some v → ⊥
-none_is v e = cc
 
 -- ---- what was told as logged
 
@@ -101,7 +98,7 @@ leading_logged read moves w r gap next leading cs runs led number before later r
 pub of_at : (w : World) (r number : ℕ) (values : List (List ℕ)) → AreOf w r number values → (k : ℕ) (v : List ℕ)
     → slice_get values k ≡ Some v
     → (whole w (number + k) ≡ Some v) × (owner_of v ≡ r)
-of_at w r number [] are k v e = absurd (none_is v e)
+of_at w r number [] are k v e = absurd (none-some v e)
 of_at w r number (u ∷ values) are zero v e =
     let is : u ≡ v = cc in (
       subst (λ n. whole w n ≡ Some v) (omega arith) (are.0 ∙ ap (λ (x : List ℕ). Some x) is),

@@ -7,7 +7,7 @@ pub use Rattle.std.proofs.lemmas.Bool.{or_right, or_left, or_cases, true≢false
 pub use Rattle.std.proofs.lemmas.Bool.{ltb-false, lt-ltb, not_from_false, false_from_ne_true, leb-false, and_parts}
 pub use Rattle.std.proofs.lemmas.Bool.{not-true}
 pub use Rattle.std.proofs.lemmas.List.{append-nil, length-append, length-map, length-take-le, take-append-drop}
-pub use Rattle.std.proofs.lemmas.List.{take-map, take-append-le}
+pub use Rattle.std.proofs.lemmas.List.{take-map, take-append-le, take-take}
 pub use Rattle.std.proofs.lemmas.List.Elements.{Contains-append_cases, Contains-append_left}
 pub use Rattle.std.proofs.lemmas.List.Folds.{list_any-append}
 pub use Rattle.std.specs.Prelude.{slice_get, ◌⊎◌, ◌≢◌, if◌then◌else◌, nat_lt, is_some, nat_le}
@@ -15,7 +15,7 @@ pub use Rattle.std.specs.List.{list_any, filter, AllByRecursion, Contains}
 pub use Rattle.sk_batched.specs.declared.batched.Outcome.TheVariants.{Logged}
 pub use Rattle.sk_batches.proofs.Dense.{all_mapped, all_pushed, dense_at}
 pub use Rattle.sk_batches.proofs.Names.{NUMBER_LIMIT}
-pub use Rattle.sk_batches.proofs.Synced.{decided_synced}
+pub use Rattle.sk_batches.proofs.Synced.{decided_synced, failed_unkept}
 pub use Rattle.sk_batches.specs.Dense.{AreDense, IsAtCut, IsRange}
 pub use Rattle.sk_batches.specs.Queue.{after_cut, awaits, cut_due, cut_off, first_failed, is_decided, is_failed}
 pub use Rattle.sk_batches.specs.Queue.{is_kept, is_sent, last_in, left, open_batch, past, send, tell, QueueView}
@@ -39,7 +39,7 @@ pub use Rattle.sk_durable.proofs.Names.{first_of, is_struck, kept, numbers, rele
 pub use Rattle.sk_durable.proofs.OnDisk.{logged_is_on_disk, oldest_logged}
 pub use Rattle.sk_durable.proofs.Queued.{cut_is_range, queued, stands_densely, synced_upto}
 pub use Rattle.sk_durable.proofs.Records.{in_frames}
-pub use Rattle.sk_durable.proofs.Served.{between, serves_behind}
+pub use Rattle.sk_durable.proofs.Served.{between}
 pub use Rattle.sk_durable.proofs.Since.{said_since}
 pub use Rattle.sk_durable.proofs.Tickets.{Output}
 pub use Rattle.sk_durable.specs.Calls.{Call, Carries, Connects, Cuts, Decides, Learns, Sends, Tells, Serves}
@@ -83,6 +83,6 @@ pub use Rattle.std.specs.Option.{option_or}
 pub use Rattle.sk_batches.specs.Frames.{first_cause, frame_refused}
 pub use Rattle.sk_batches.specs.declared.frames.Sealed.{Sealed}
 pub use Rattle.sk_channels.specs.Table.{place_at}
-pub use Rattle.sk_durable.proofs.Calls.{all_stays}
+pub use Rattle.sk_durable.proofs.Calls.{all_stays, serves_on}
 pub use Rattle.sk_durable.specs.Posts.{CutPost, FramePost, TurnPost}
 pub use Rattle.std.proofs.lemmas.Result.{err_from_is_err_and}

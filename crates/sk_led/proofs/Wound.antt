@@ -1,12 +1,12 @@
 -- What cuts leave of the frames before the first of them.
-use Rattle.sk_led.proofs.Names.{◌≡◌, ℕ, zero, suc, ◌+◌, ◌-◌, ◌<◌, ◌≤◌, Bool, true, false, List, [], ◌∷◌, ◌++◌, refl}
-use Rattle.sk_led.proofs.Names.{sym, ◌∙◌, ap, subst, arith, ◌==◌, cond, inl, inr, Some, length, take, nat_lt, ◌⊎◌}
-use Rattle.sk_led.proofs.Names.{slice_get, filter, eqb-true, ltb-true, or_cases, or_left, or_right, length-append}
-use Rattle.sk_led.proofs.Names.{length-map, length-take-le, take-append-le, append_assoc, append-nil, has, RecordView}
-use Rattle.sk_led.proofs.Names.{synced_after, Cut, Call, Sends, Learns, Cuts, StoreDoes, Serves, StoreView, frames}
-use Rattle.sk_led.proofs.Names.{frames_by, synced, synced_by, HasDone, Limits, Next, Entries, NoneSynced}
-use Rattle.sk_led.proofs.Names.{stands_densely, cut_is_range, queued, no_story, in_frames, serves_behind, cut_due}
-use Rattle.sk_led.proofs.Names.{after_cut, none-some, false≢true}
+use Rattle.sk_led.proofs.Names.{take-take, ◌≡◌, ℕ, zero, suc, ◌+◌, ◌-◌, ◌<◌, ◌≤◌, Bool, true, false, List, [], ◌∷◌}
+use Rattle.sk_led.proofs.Names.{◌++◌, refl, sym, ◌∙◌, ap, subst, arith, ◌==◌, cond, inl, inr, Some, length, take}
+use Rattle.sk_led.proofs.Names.{nat_lt, ◌⊎◌, slice_get, filter, eqb-true, ltb-true, or_cases, or_left, or_right}
+use Rattle.sk_led.proofs.Names.{length-append, length-map, length-take-le, take-append-le, append_assoc, append-nil}
+use Rattle.sk_led.proofs.Names.{has, RecordView, synced_after, Cut, Call, Sends, Learns, Cuts, StoreDoes, Serves}
+use Rattle.sk_led.proofs.Names.{StoreView, frames, frames_by, synced, synced_by, HasDone, Limits, Next, Entries}
+use Rattle.sk_led.proofs.Names.{NoneSynced, stands_densely, cut_is_range, queued, no_story, in_frames, serves_on}
+use Rattle.sk_led.proofs.Names.{cut_due, after_cut, none-some, false≢true}
 use Rattle.sk_batches.specs.declared.batch.Stage.TheVariants as stages
 use Rattle.sk_led.proofs.Grows.{frames_split, get_front, synced_split}
 use Rattle.sk_led.proofs.Late.{due_between, late_due, late_first, late_once, late_run, AreLate}
@@ -40,12 +40,6 @@ get_of_taken [] k (suc n) x e = e
 get_of_taken (y ∷ xs) k zero x e = absurd (none-some x e)
 get_of_taken (y ∷ xs) zero (suc n) x e = e
 get_of_taken (y ∷ xs) (suc k) (suc n) x e = get_of_taken xs k n x e
-
-pub take_less : {A : Type 0} (k n : ℕ) (xs : List A) → k ≤ n → take k (take n xs) ≡ take k xs
-take_less zero n xs le = refl
-take_less (suc k) zero xs le = absurd (omega arith)
-take_less (suc k) (suc n) [] le = refl
-take_less (suc k) (suc n) (x ∷ xs) le = ap (λ ys. x ∷ ys) (take_less k n xs (omega arith))
 
 -- a frame that is synced is one of those that a test lets by
 has_filtered : (n : ℕ) (p : ℕ → Bool) (ns : List ℕ) → has n (filter p ns) ≡ true → (has n ns ≡ true) × (p n ≡ true)
@@ -86,7 +80,7 @@ wound_first first cut log told from lt =
     let le : count ≤ length log = omega arith in
     let size = length-take-le count log le in
     record {
-      front = take-append-le count (take count log) ([] ∷ []) (omega arith) ∙ take_less count count log (omega arith);
+      front = take-append-le count (take count log) ([] ∷ []) (omega arith) ∙ take-take count count log (omega arith);
       long = let more = cut_long count log le in omega arith;
       empty = λ n ge is. elim (cut_cases n cut told is) as
           (λ _. slice_get (take count log ++ [] ∷ []) (n - first) ≡ Some []) [
@@ -111,7 +105,7 @@ wound_cut first at log told later now cut from behind lt so =
     let size = length-take-le count later le in
     record {
       front = take-append-le (at - first) (take count later) ([] ∷ []) (omega arith)
-          ∙ take_less (at - first) count later (omega arith) ∙ so.front;
+          ∙ take-take (at - first) count later (omega arith) ∙ so.front;
       long = let more = cut_long count later le in omega arith;
       empty = λ n ge is. elim (cut_cases n cut now is) as
           (λ _. slice_get (take count later ++ [] ∷ []) (n - first) ≡ Some []) [
@@ -208,7 +202,7 @@ module _ (limits : Limits) (origin : Next) (start : Entries) (at : ℕ) (log : L
         first = done.first;
         new = done.new;
         serves
-            = serves_behind done.first m n cs (c ∷ []) done.serves (n, does, refl);
+            = serves_on done.first m n cs (c ∷ []) done.serves (n, does, refl);
       })
       rest (tells_later c ds tells) (late_after at m n c does (tells_first c ds tells) late)
       (subst (λ (f : Log). IsWound origin.frame at log told f (synced (cs ++ c ∷ [])))
@@ -253,7 +247,7 @@ cut_at limits origin start cs cut ds m s done (n, does, rest) tells =
             first = done.first;
             new = done.new;
             serves
-                = serves_behind done.first m n cs (Cuts cut ∷ []) done.serves (n, does, refl);
+                = serves_on done.first m n cs (Cuts cut ∷ []) done.serves (n, does, refl);
           })
           rest tells late here);
     }

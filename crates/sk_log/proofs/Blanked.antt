@@ -1,9 +1,9 @@
 -- Blanking behind the frames that were read.
-use Rattle.sk_log.proofs.Names.{◌≡◌, ℕ, suc, ◌+◌, ◌≤◌, List, [], ◌∷◌, ◌++◌, length, slice_index, take, drop, sym, ◌∙◌}
+use Rattle.sk_log.proofs.Names.{append_assoc, ◌≡◌, ℕ, suc, ◌+◌, ◌≤◌, List, [], ◌∷◌, ◌++◌, length, slice_index, take, drop, sym, ◌∙◌}
 use Rattle.sk_log.proofs.Names.{ap, subst, inl, inr, arith, length-append, add-zero, take-append-drop, take_at}
 use Rattle.sk_log.proofs.Names.{get_or_append_left, get_or-drop, get_or_past, cases_lt, frame, Ends, log, AreFrames}
 use Rattle.sk_log.proofs.Names.{IsLog, IsFaded, Keeps, BlankingKeeps}
-use Rattle.sk_log.proofs.Fade.{faded_tail, assoc, torn_is_told}
+use Rattle.sk_log.proofs.Fade.{faded_tail, torn_is_told}
 use Rattle.sk_log.proofs.Crash.{no_frame, kept_frame, crash_keeps_prefix}
 
 pub faded_twice : (written left after : List ℕ) → IsFaded written left → IsFaded left after → IsFaded written after
@@ -15,7 +15,7 @@ module _ (segment : ℕ) where
   log_append number (p ∷ ps) qs =
       let next : suc number + length ps ≡ number + length (p ∷ ps) = omega arith in
       ap (λ xs. frame segment number p ++ xs) (log_append (suc number) ps qs ∙ ap (λ n. log segment (suc number) ps ++ log segment n qs) next)
-      ∙ sym (assoc (frame segment number p) (log segment (suc number) ps) (log segment (number + length (p ∷ ps)) qs))
+      ∙ sym (append_assoc (frame segment number p) (log segment (suc number) ps) (log segment (number + length (p ∷ ps)) qs))
 
   pub frames_tail : (number : ℕ) (ps qs : List (List ℕ)) → AreFrames segment number (ps ++ qs) → AreFrames segment (number + length ps) qs
   frames_tail number [] qs fine = subst (λ n. AreFrames segment n qs) (sym (add-zero number)) fine

@@ -1,10 +1,10 @@
 -- What is read after a crash.
-use Rattle.sk_log.proofs.Names.{◌≡◌, ℕ, zero, suc, ◌+◌, ◌≤◌, List, [], ◌∷◌, ◌++◌, length, slice_index, take, drop, refl}
+use Rattle.sk_log.proofs.Names.{append_assoc, ◌≡◌, ℕ, zero, suc, ◌+◌, ◌≤◌, List, [], ◌∷◌, ◌++◌, length, slice_index, take, drop, refl}
 use Rattle.sk_log.proofs.Names.{sym, ◌∙◌, ap, subst, arith, length-append, add-zero, take-append-drop, length-take-le}
 use Rattle.sk_log.proofs.Names.{ext_get_or, get_or-take, get_or_append_left, head, frame, Ends, log, AreFrames, IsFaded}
 use Rattle.sk_log.proofs.Names.{Keeps, ReadsPrefix, CrashKeepsPrefix}
 use Rattle.sk_log.proofs.Digits.{length-head, first-head}
-use Rattle.sk_log.proofs.Fade.{faded_tail, kept_tail, assoc, torn_is_told}
+use Rattle.sk_log.proofs.Fade.{faded_tail, kept_tail, torn_is_told}
 
 -- Zeros begin no frame.
 pub no_frame : (segment number : ℕ) (p more : List ℕ) → IsFaded [] (frame segment number p ++ more) → ⊥
@@ -28,7 +28,7 @@ module _ (segment : ℕ) where
       → left ≡ log segment number ps ++ rest → Ends segment (number + length ps) rest → ReadsPrefix frames m ps
   reads number [] [] m left rest fine fine' synced room faded kept is ends = (0, omega arith, omega arith, refl)
   reads number [] (p ∷ ps) m left rest fine fine' synced room faded kept is ends =
-      absurd (no_frame segment number p (log segment (suc number) ps ++ rest) (subst (IsFaded []) (is ∙ assoc (frame segment number p) (log segment (suc number) ps) rest) faded))
+      absurd (no_frame segment number p (log segment (suc number) ps ++ rest) (subst (IsFaded []) (is ∙ append_assoc (frame segment number p) (log segment (suc number) ps) rest) faded))
   reads number (f ∷ fs) [] zero left rest fine fine' synced room faded kept is ends = (0, omega arith, omega arith, refl)
   reads number (f ∷ fs) [] (suc m) left rest fine fine' synced room faded kept is ends =
       let len = length-append (frame segment number f) (log segment (suc number) fs) in
@@ -37,7 +37,7 @@ module _ (segment : ℕ) where
       absurd (subst (λ n. Ends segment n rest) (add-zero number) ends f (drop (length (frame segment number f)) left) fine.0 (sym is ∙ whole))
   reads number (f ∷ fs) (p ∷ ps) m left rest fine fine' synced room faded kept is ends =
       let more = log segment (suc number) ps ++ rest in
-      let parted : left ≡ frame segment number p ++ more = is ∙ assoc (frame segment number p) (log segment (suc number) ps) rest in
+      let parted : left ≡ frame segment number p ++ more = is ∙ append_assoc (frame segment number p) (log segment (suc number) ps) rest in
       let same : p ≡ f = (torn_is_told segment number segment number f p (log segment (suc number) fs) more fine.0 fine'.0 (subst (IsFaded (log segment number (f ∷ fs))) parted faded)).2 in
       let here : left ≡ frame segment number f ++ more = parted ∙ ap (λ q. frame segment number q ++ more) same in
       let next : number + length (p ∷ ps) ≡ suc number + length ps = omega arith in

@@ -1,5 +1,5 @@
 -- A frame that lost bytes or bits is not read as a frame.
-use Rattle.sk_log.proofs.Names.{◌≡◌, ℕ, suc, ◌+◌, ◌-◌, ◌<◌, ◌≤◌, ◌^◌, List, [], ◌∷◌, ◌++◌, length, slice_index, take}
+use Rattle.sk_log.proofs.Names.{append_assoc, ◌≡◌, ℕ, suc, ◌+◌, ◌-◌, ◌<◌, ◌≤◌, ◌^◌, List, [], ◌∷◌, ◌++◌, length, slice_index, take}
 use Rattle.sk_log.proofs.Names.{drop, sum, refl, sym, ◌∙◌, ap, subst, inl, inr, arith, take_at, drop_at}
 use Rattle.sk_log.proofs.Names.{get_or_append_left, get_or-append-add, get_or_past, sum_by-cons, cases_lt, digits}
 use Rattle.sk_log.proofs.Names.{front, head, frame, IsFrame, IsFaded, Keeps}
@@ -88,16 +88,12 @@ faded_head segment number len total segment' number' len' total' faded =
 pub kept_tail : (front written more : List ℕ) (n : ℕ) → Keeps (length front + n) (front ++ written) (front ++ more) → Keeps n written more
 kept_tail front written more n keeps i lt = sym (get_or-append-add front more i 0) ∙ keeps (length front + i) (omega arith) ∙ get_or-append-add front written i 0
 
-pub assoc : (a b c : List ℕ) → (a ++ b) ++ c ≡ a ++ (b ++ c)
-assoc [] b c = refl
-assoc (x ∷ a) b c = ap (λ xs. x ∷ xs) (assoc a b c)
-
 -- What begins as a frame, where each byte is at most that of a frame, is that frame.
 module _ (segment number segment' number' : ℕ) (f p after more : List ℕ) (made : IsFrame segment number f) (made' : IsFrame segment' number' p)
     (faded : IsFaded (frame segment number f ++ after) (frame segment' number' p ++ more)) where
   parts : IsFaded (head segment number f) (head segment' number' p) × IsFaded (f ++ after) (p ++ more)
   parts = faded_parts (head segment number f) (head segment' number' p) (f ++ after) (p ++ more) (length-head segment number f ∙ sym (length-head segment' number' p))
-      (subst (λ l. IsFaded (head segment number f ++ (f ++ after)) l) (assoc (head segment' number' p) p more) (subst (λ w. IsFaded w (frame segment' number' p ++ more)) (assoc (head segment number f) f after) faded))
+      (subst (λ l. IsFaded (head segment number f ++ (f ++ after)) l) (append_assoc (head segment' number' p) p more) (subst (λ w. IsFaded w (frame segment' number' p ++ more)) (append_assoc (head segment number f) f after) faded))
 
   all : (digits 4 segment' ≡ digits 4 segment) × (digits 8 number' ≡ digits 8 number) × (length p ≡ length f) × (sum p ≡ sum f)
   all = same_saying segment' number' (length p) (sum p) segment number (length f) (sum f) made'.short made.short made'.light made.light

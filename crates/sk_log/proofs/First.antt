@@ -1,15 +1,10 @@
 -- What the first frame of a segment tells after a crash.
-use Rattle.sk_log.proofs.Names.{◌≡◌, ℕ, zero, suc, ◌<◌, ◌≤◌, ◌^◌, List, [], ◌∷◌, ◌++◌, length, slice_index, take, drop}
-use Rattle.sk_log.proofs.Names.{sum, sym, ◌∙◌, ap, subst, arith, length-append, append-nil, take-append-drop}
-use Rattle.sk_log.proofs.Names.{get_or_append_left, head_of, head, frame, Ends, log, AreFrames, IsFaded, Keeps, Crashed}
+use Rattle.sk_log.proofs.Names.{append_assoc, ◌≡◌, ℕ, zero, suc, ◌<◌, ◌≤◌, ◌^◌, List, [], ◌∷◌, ◌++◌, length, slice_index, take, drop}
+use Rattle.sk_log.proofs.Names.{sum, sym, ◌∙◌, ap, subst, arith, length-append, take-append-drop, get_or_append_left}
+use Rattle.sk_log.proofs.Names.{head_of, head, frame, Ends, log, AreFrames, IsFaded, Keeps, Crashed}
 use Rattle.sk_log.proofs.Digits.{limit-eight, same_digits, length-head_of, length-head, first-head_of}
-use Rattle.sk_log.proofs.Fade.{assoc, faded_parts, faded_head, front_numbers}
-use Rattle.sk_log.proofs.Read.{parts_there}
+use Rattle.sk_log.proofs.Fade.{faded_parts, faded_head, front_numbers}
 use Rattle.sk_log.proofs.Crash.{kept_frame}
-
--- The head of a frame that begins here stands here.
-pub head_first : (segment number : ℕ) (bytes p more : List ℕ) → 24 ≤ length bytes → bytes ≡ frame segment number p ++ more → take 24 bytes ≡ head segment number p
-head_first segment number bytes p more long is = (parts_there segment number bytes [] p more long (append-nil bytes ∙ is)).0
 
 first_of_frames : (segment number n len total : ℕ) (payloads : List (List ℕ)) (left more : List ℕ) → AreFrames segment number payloads → n < 2 ^ 56
     → IsFaded (log segment number payloads) left → left ≡ head_of segment n len total ++ more → n ≡ number
@@ -19,7 +14,7 @@ first_of_frames segment number n len total [] left more fine small faded is =
     absurd (omega (arith, at, faded 0, first-head_of segment n len total))
 first_of_frames segment number n len total (f ∷ fs) left more fine small faded is =
     let behind = f ++ log segment (suc number) fs in
-    let written : IsFaded (head segment number f ++ behind) left = subst (λ w. IsFaded w left) (assoc (head segment number f) f (log segment (suc number) fs)) faded in
+    let written : IsFaded (head segment number f ++ behind) left = subst (λ w. IsFaded w left) (append_assoc (head segment number f) f (log segment (suc number) fs)) faded in
     let heads = faded_parts (head segment number f) (head_of segment n len total) behind more (length-head segment number f ∙ sym (length-head_of segment n len total)) (subst (IsFaded (head segment number f ++ behind)) is written) in
     let digits = front_numbers segment n len total segment number (length f) (sum f) (faded_head segment number (length f) (sum f) segment n len total heads.0) in
     same_digits 8 n number (omega (arith, limit-eight, small)) (omega (arith, limit-eight, fine.0.number_small)) digits

@@ -5,6 +5,7 @@ pub mod Crash
 mod Read
 mod Blanked
 mod Reading
+pub mod Once
 mod Further
 pub mod Segments
 mod First

@@ -5,7 +5,7 @@ pub use Rattle.std.proofs.Common.{rules, ◌+◌, ◌<◌, arith, refl, List, []
 pub use Rattle.std.proofs.lemmas.Bool.{cases_lt, false≢true}
 pub use Rattle.std.proofs.lemmas.List.{get_or_past, get_or-take, drop_at, ext_get_or, length-take, take-append-drop}
 pub use Rattle.std.proofs.lemmas.List.{length-take-le, get_or_append_left, get_or-drop, drop-drop, take_at}
-pub use Rattle.std.proofs.lemmas.List.{get_or-append-add, append-nil}
+pub use Rattle.std.proofs.lemmas.List.{get_or-append-add, append-nil, append_assoc}
 pub use Rattle.std.proofs.lemmas.List.Sums.{sum_by-cons, sum_by-append}
 pub use Rattle.std.proofs.lemmas.Nat.{and_le_r}
 pub use Rattle.sk_log.specs.Crash.{IsFaded, Crashed, BlankingKeeps, UsesFront, CrashKeepsPrefix, GoesOn, ReadsPrefix}

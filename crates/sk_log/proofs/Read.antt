@@ -1,10 +1,10 @@
 -- What a frame's head says of the bytes behind it.
-use Rattle.sk_log.proofs.Names.{◌≡◌, ℕ, ◌+◌, ◌*◌, ◌/◌, ◌%◌, ◌<◌, ◌≤◌, ◌^◌, List, ◌++◌, length, slice_index, take, drop}
+use Rattle.sk_log.proofs.Names.{append_assoc, ◌≡◌, ℕ, ◌+◌, ◌*◌, ◌/◌, ◌%◌, ◌<◌, ◌≤◌, ◌^◌, List, ◌++◌, length, slice_index, take, drop}
 use Rattle.sk_log.proofs.Names.{refl, sym, ◌∙◌, ap, arith, length-append, take-append-drop, drop-drop, length-take-le}
 use Rattle.sk_log.proofs.Names.{head, frame}
 use Rattle.sk_log.specs.Frame.{digits, head_of}
 use Rattle.sk_log.proofs.Digits.{length-head}
-use Rattle.sk_log.proofs.Fade.{assoc, same_parts}
+use Rattle.sk_log.proofs.Fade.{same_parts}
 
 pub says_len : (segment number len total : ℕ) (bytes : List ℕ) → len < 2 ^ 28 → bytes ≡ head_of segment number len total
     → slice_index bytes 12 % 128 + 128 * (slice_index bytes 13 % 128 + 128 * (slice_index bytes 14 % 128 + 128 * (slice_index bytes 15 % 128))) ≡ len
@@ -51,14 +51,14 @@ says_number segment number len total bytes small is =
 pub parts_there : (segment number : ℕ) (bytes later p more : List ℕ) → 24 ≤ length bytes → bytes ++ later ≡ frame segment number p ++ more
     → (take 24 bytes ≡ head segment number p) × (drop 24 bytes ++ later ≡ p ++ more)
 parts_there segment number bytes later p more long is =
-    let split : bytes ++ later ≡ take 24 bytes ++ (drop 24 bytes ++ later) = ap (λ xs. xs ++ later) (sym (take-append-drop 24 bytes)) ∙ assoc (take 24 bytes) (drop 24 bytes) later in
+    let split : bytes ++ later ≡ take 24 bytes ++ (drop 24 bytes ++ later) = ap (λ xs. xs ++ later) (sym (take-append-drop 24 bytes)) ∙ append_assoc (take 24 bytes) (drop 24 bytes) later in
     same_parts 24 (take 24 bytes) (head segment number p) (drop 24 bytes ++ later) (p ++ more) (length-take-le 24 bytes long) (length-head segment number p)
-    (sym split ∙ is ∙ assoc (head segment number p) p more)
+    (sym split ∙ is ∙ append_assoc (head segment number p) p more)
 
 pub payload_there : (body later p more : List ℕ) → length p ≤ length body → body ++ later ≡ p ++ more → take (length p) body ≡ p
 payload_there body later p more long is =
     let n = length p in
-    let split : body ++ later ≡ take n body ++ (drop n body ++ later) = ap (λ xs. xs ++ later) (sym (take-append-drop n body)) ∙ assoc (take n body) (drop n body) later in
+    let split : body ++ later ≡ take n body ++ (drop n body ++ later) = ap (λ xs. xs ++ later) (sym (take-append-drop n body)) ∙ append_assoc (take n body) (drop n body) later in
     (same_parts n (take n body) p (drop n body ++ later) more (length-take-le n body long) refl (sym split ∙ is)).0
 
 -- A frame that the bytes begin, or may begin, is at least as long as its head and payload.
@@ -71,4 +71,4 @@ pub frame_there : (segment number len : ℕ) (bytes : List ℕ) → take 24 byte
 frame_there segment number len bytes is =
     let body = take len (drop 24 bytes) in
     let behind : drop 24 bytes ≡ body ++ drop (24 + len) bytes = sym (take-append-drop len (drop 24 bytes)) ∙ ap (λ t. body ++ t) (drop-drop len 24 bytes) in
-    sym (take-append-drop 24 bytes) ∙ (λ i. is i ++ behind i) ∙ sym (assoc (head segment number body) body (drop (24 + len) bytes))
+    sym (take-append-drop 24 bytes) ∙ (λ i. is i ++ behind i) ∙ sym (append_assoc (head segment number body) body (drop (24 + len) bytes))

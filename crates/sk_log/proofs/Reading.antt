@@ -1,12 +1,11 @@
 -- What a reader knows after a call.
-use Rattle.sk_log.proofs.Names.{◌≡◌, ℕ, suc, ◌+◌, ◌-◌, ◌≤◌, List, [], ◌∷◌, ◌++◌, length, slice_index, take, drop, sum}
-use Rattle.sk_log.proofs.Names.{refl, sym, ◌∙◌, ap, subst, inl, inr, arith, length-append, length-drop, add-zero}
-use Rattle.sk_log.proofs.Names.{append-nil, drop_at, length-take-le, get_or_append_left, get_or-append-add, cases_lt}
-use Rattle.sk_log.proofs.Names.{head, frame, IsFrame, Ends, BeginsFrame, IsShort, FrontIs, log, AreFrames, UsesFront}
-use Rattle.sk_log.proofs.Names.{Reading, KeptBegin, Settles, Remains, HasRead, IsNext, RestIs, EndsAt, Front, Whole}
-use Rattle.sk_log.proofs.Names.{Short, Other, Rest}
+use Rattle.sk_log.proofs.Names.{append_assoc, ◌≡◌, ℕ, suc, ◌+◌, ◌≤◌, List, [], ◌∷◌, ◌++◌, length, take, drop, sum, refl, sym}
+use Rattle.sk_log.proofs.Names.{◌∙◌, ap, subst, arith, length-append, length-drop, add-zero, append-nil, drop_at}
+use Rattle.sk_log.proofs.Names.{length-take-le, head, frame, IsFrame, Ends, BeginsFrame, IsShort, FrontIs, log}
+use Rattle.sk_log.proofs.Names.{AreFrames, UsesFront, Reading, KeptBegin, Settles, Remains, HasRead, IsNext, RestIs}
+use Rattle.sk_log.proofs.Names.{EndsAt, Front, Whole, Short, Other, Rest}
 use Rattle.sk_log.proofs.Digits.{length-head}
-use Rattle.sk_log.proofs.Fade.{assoc, same_parts, same_heads}
+use Rattle.sk_log.proofs.Fade.{same_parts, same_heads}
 use Rattle.sk_log.proofs.Read.{length-frame, frame_length}
 use Rattle.sk_log.proofs.Blanked.{log_append}
 
@@ -14,7 +13,7 @@ use Rattle.sk_log.proofs.Blanked.{log_append}
 pub same_frame : (segment number : ℕ) (p q more more' : List ℕ) → IsFrame segment number p → IsFrame segment number q
     → frame segment number p ++ more ≡ frame segment number q ++ more' → (p ≡ q) × (more ≡ more')
 same_frame segment number p q more more' made made' same =
-    let split = sym (assoc (head segment number p) p more) ∙ same ∙ assoc (head segment number q) q more' in
+    let split = sym (append_assoc (head segment number p) p more) ∙ same ∙ append_assoc (head segment number q) q more' in
     let parts = same_parts 24 (head segment number p) (head segment number q) (p ++ more) (q ++ more') (length-head segment number p) (length-head segment number q) split in
     let heads = same_heads segment number (length p) (sum p) segment number (length q) (sum q) made.short made'.short made.light made'.light parts.0 in
     same_parts (length q) p q more more' heads.2 refl parts.1
@@ -55,7 +54,7 @@ more_frames segment first (q ∷ ps) p fine made =
     let next : first + length (q ∷ ps) ≡ suc first + length ps = omega arith in
     (fine.0, more_frames segment (suc first) ps p fine.1 (subst (λ n. IsFrame segment n p) next made))
 
-log_push : (segment first : ℕ) (ps : List (List ℕ)) (p : List ℕ) → log segment first (ps ++ p ∷ []) ≡ log segment first ps ++ frame segment (first + length ps) p
+pub log_push : (segment first : ℕ) (ps : List (List ℕ)) (p : List ℕ) → log segment first (ps ++ p ∷ []) ≡ log segment first ps ++ frame segment (first + length ps) p
 log_push segment first ps p = log_append segment first ps (p ∷ []) ∙ ap (λ xs. log segment first ps ++ xs) (append-nil (frame segment (first + length ps) p))
 
 -- One frame more was read.
@@ -78,10 +77,16 @@ passed segment first payloads bytes payload old n unread front used read next wh
       place = omega (arith, read.place, ap length pushed, added, length-frame segment (first + length payloads) payload, ap length both.0, long);
       fed = read.fed;
       rest = drop (24 + n) old.unread;
-      begins = read.begins ∙ ap (λ xs. log segment first payloads ++ xs) rest_is ∙ sym (assoc (log segment first payloads) (frame segment (first + length payloads) payload) (drop (24 + n) old.unread))
+      begins = read.begins ∙ ap (λ xs. log segment first payloads ++ xs) rest_is ∙ sym (append_assoc (log segment first payloads) (frame segment (first + length payloads) payload) (drop (24 + n) old.unread))
           ∙ ap (λ xs. xs ++ drop (24 + n) old.unread) (sym pushed);
       remains = remains_of (settled_reading old (old.number + 1) (old.place + (24 + n)) old.fed unread front used) (drop (24 + n) old.unread) front settles;
     }
+
+-- The kept bytes are all that stands behind the frames, where a frame may come still.
+pub kept_rest : (reading : Reading) (rest : List ℕ) (front : Front) → (front ≡ Other → ⊥) → Remains reading rest front → reading.unread ≡ rest
+kept_rest reading rest (Whole n) some remains = remains
+kept_rest reading rest (Short n) some remains = remains
+kept_rest reading rest Other some remains = absurd (some refl)
 
 -- A piece came behind bytes that are kept.
 pub fed_kept : (segment first : ℕ) (payloads : List (List ℕ)) (bytes piece : List ℕ) (old : Reading) (unread : List ℕ) (front : Front) (used : ℕ)
@@ -89,8 +94,7 @@ pub fed_kept : (segment first : ℕ) (payloads : List (List ℕ)) (bytes piece :
     → Settles old.segment old.number (old.unread ++ piece) unread front used
     → HasRead segment first payloads (bytes ++ piece) (settled_reading old old.number old.place (old.fed + length piece) unread front used)
 fed_kept segment first payloads bytes piece old unread front used read kept settles =
-    let is : old.unread ≡ read.rest =
-    elim old.front as (λ f. (f ≡ Other → ⊥) → Remains old read.rest f → old.unread ≡ read.rest) [ Whole n ↦ λ _ remains. remains | Short n ↦ λ _ remains. remains | Other ↦ λ none remains. absurd (none refl) ] kept read.remains in
+    let is = kept_rest old read.rest old.front kept read.remains in
     record {
       same = read.same;
       frames = read.frames;
@@ -98,54 +102,9 @@ fed_kept segment first payloads bytes piece old unread front used read kept sett
       place = read.place;
       fed = omega (arith, read.fed, length-append bytes piece);
       rest = old.unread ++ piece;
-      begins = ap (λ xs. xs ++ piece) read.begins ∙ assoc (log segment first payloads) read.rest piece ∙ ap (λ xs. log segment first payloads ++ (xs ++ piece)) (sym is);
+      begins = ap (λ xs. xs ++ piece) read.begins ∙ append_assoc (log segment first payloads) read.rest piece ∙ ap (λ xs. log segment first payloads ++ (xs ++ piece)) (sym is);
       remains = remains_of (settled_reading old old.number old.place (old.fed + length piece) unread front used) (old.unread ++ piece) front settles;
     }
-
--- A piece came where no frame can come any more.
-pub fed_other : (segment first : ℕ) (payloads : List (List ℕ)) (bytes piece : List ℕ) (old : Reading) (used : ℕ)
-    → HasRead segment first payloads bytes old → old.front ≡ Other
-    → ((rest : List ℕ) → length rest ≡ old.fed - old.place → UsesFront old.used rest → UsesFront used (rest ++ piece))
-    → HasRead segment first payloads (bytes ++ piece) (settled_reading old old.number old.place (old.fed + length piece) old.unread old.front used)
-fed_other segment first payloads bytes piece old used read other counts =
-    let remains = subst (Remains old read.rest) other read.remains in
-    let behind : length read.rest ≡ old.fed - old.place = omega (arith, read.fed, read.place, ap length read.begins, length-append (log segment first payloads) read.rest) in
-    let new = settled_reading old old.number old.place (old.fed + length piece) old.unread old.front used in
-    let after : Remains new (read.rest ++ piece) Other =
-    (λ later. subst (Ends old.segment old.number) (sym (assoc read.rest piece later)) (remains.0 (piece ++ later)), counts read.rest behind remains.1) in
-    record {
-      same = read.same;
-      frames = read.frames;
-      number = read.number;
-      place = read.place;
-      fed = omega (arith, read.fed, length-append bytes piece);
-      rest = read.rest ++ piece;
-      begins = ap (λ xs. xs ++ piece) read.begins ∙ assoc (log segment first payloads) read.rest piece;
-      remains = subst (Remains new (read.rest ++ piece)) (sym other) after;
-    }
-
-pub uses_same : (n : ℕ) (xs ys : List ℕ) → UsesFront n xs → UsesFront 0 ys → UsesFront n (xs ++ ys)
-uses_same n xs ys uses none = record {
-  within = omega (arith, uses.within, length-append xs ys);
-  last = λ i is zero. uses.last i is (sym (get_or_append_left xs ys 0 i (omega (arith, uses.within, is))) ∙ zero);
-  zeros = λ i past. elim (cases_lt i (length xs)) [
-    | inl low ↦ get_or_append_left xs ys 0 i low ∙ uses.zeros i past
-    | inr high ↦
-        let at : length xs + (i - length xs) ≡ i = omega arith in
-        ap (slice_index (xs ++ ys)) (sym at) ∙ get_or-append-add xs ys (i - length xs) 0 ∙ none.zeros (i - length xs) (omega arith)
-  ];
-}
-
-pub uses_more : (m : ℕ) (xs ys : List ℕ) → UsesFront m ys → (m ≡ 0 → ⊥) → UsesFront (length xs + m) (xs ++ ys)
-uses_more m xs ys uses some = record {
-  within = omega (arith, uses.within, length-append xs ys);
-  last = λ i is zero.
-      let at : length xs + (i - length xs) ≡ i = omega (arith, is, some) in
-      uses.last (i - length xs) (omega (arith, is, some)) (sym (get_or-append-add xs ys (i - length xs) 0) ∙ ap (slice_index (xs ++ ys)) at ∙ zero);
-  zeros = λ i past.
-      let at : length xs + (i - length xs) ≡ i = omega (arith, past) in
-      ap (slice_index (xs ++ ys)) (sym at) ∙ get_or-append-add xs ys (i - length xs) 0 ∙ uses.zeros (i - length xs) (omega (arith, past));
-}
 
 -- No frame follows, and what remains is counted so.
 pub end_of : (segment first : ℕ) (payloads : List (List ℕ)) (bytes : List ℕ) (in_flight : ℕ) (old : Reading) (used : ℕ) (rest : Rest)
@@ -172,12 +131,6 @@ end_of segment first payloads bytes in_flight old used rest read ends counts tol
       rest = subst (λ xs. RestIs in_flight xs rest) (sym behind) (told read.rest (counts read.rest read.remains));
     }
 
--- The kept bytes are all that stands behind the frames, where a frame may come still.
-pub kept_rest : (reading : Reading) (rest : List ℕ) (front : Front) → (front ≡ Other → ⊥) → Remains reading rest front → reading.unread ≡ rest
-kept_rest reading rest (Whole n) some remains = remains
-kept_rest reading rest (Short n) some remains = remains
-kept_rest reading rest Other some remains = absurd (some refl)
-
 pub kept_ends : (segment number : ℕ) (unread : List ℕ) (front : Front) → ((n : ℕ) → front ≡ Whole n → ⊥) → KeptBegin segment number unread front → Ends segment number unread
 kept_ends segment number unread (Whole n) none kept = absurd (none n refl)
 kept_ends segment number unread (Short n) none kept = short_ends segment number n unread kept
@@ -185,11 +138,6 @@ kept_ends segment number unread Other none kept = none_ends segment number unrea
 
 pub next_of : (reading : Reading) (n : ℕ) → BeginsFrame reading.segment reading.number reading.unread n → IsNext reading (take n (drop 24 reading.unread))
 next_of reading n begins = record { made = begins.small; more = drop (24 + n) reading.unread; begins = begins.begins }
-
-pub kept_none : (segment number : ℕ) (unread : List ℕ) (front : Front) → unread ≡ [] → FrontIs segment number [] front → KeptBegin segment number unread front
-kept_none segment number unread (Whole n) none is = subst (λ u. BeginsFrame segment number u n) (sym none) is
-kept_none segment number unread (Short n) none is = subst (λ u. IsShort segment number u n) (sym none) is
-kept_none segment number unread Other none is = none
 
 abbrev first_reading : ℕ → ℕ → List ℕ → Front → Reading
 first_reading segment number unread front = record { segment = segment; number = number; place = 0; fed = 0; used = 0; unread = unread; front = front }
@@ -211,12 +159,3 @@ begun segment number unread front none is = record {
   begins = refl;
   remains = remains_none segment number unread front front none is;
 }
-
-pub settles_kept : (segment number : ℕ) (bytes new : List ℕ) (front : Front) (used : ℕ) → FrontIs segment number bytes front → (front ≡ Other → ⊥) → new ≡ bytes → Settles segment number bytes new front used
-settles_kept segment number bytes new (Whole n) used is some same = (subst (λ u. BeginsFrame segment number u n) (sym same) is, same)
-settles_kept segment number bytes new (Short n) used is some same = (subst (λ u. IsShort segment number u n) (sym same) is, same)
-settles_kept segment number bytes new Other used is some same = absurd (some refl)
-
-pub settles_other : (segment number : ℕ) (bytes new : List ℕ) (front : Front) (used : ℕ) → FrontIs segment number bytes front → front ≡ Other → UsesFront used bytes → new ≡ [] → Settles segment number bytes new front used
-settles_other segment number bytes new front used is other uses none =
-    subst (λ f. Settles segment number bytes new f used) (sym other) (subst (FrontIs segment number bytes) other is, uses, none)

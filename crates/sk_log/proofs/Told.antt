@@ -4,20 +4,6 @@ use Rattle.sk_log.proofs.Names.{subst, arith, length-drop, length-take, length-t
 use Rattle.sk_log.proofs.Names.{frame, IsFrame, Ends, BeginsAs, BeginsFrame, IsShort, IsOther}
 use Rattle.sk_log.proofs.Read.{frame_length, parts_there, payload_there, frame_there}
 
-pub other_segment : (segment number : ℕ) (bytes : List ℕ) → 2 ^ 28 ≤ segment → IsOther segment number bytes
-other_segment segment number bytes high later p more made is = omega (arith, made.segment_small, high)
-
-pub other_number : (segment number : ℕ) (bytes : List ℕ) → 2 ^ 56 ≤ number → IsOther segment number bytes
-other_number segment number bytes high later p more made is = omega (arith, made.number_small, high)
-
-pub short_head : (segment number : ℕ) (bytes : List ℕ) → length bytes < 24 → IsShort segment number bytes 24
-short_head segment number bytes few = record {
-  lacking = few;
-  wanted = λ p later more made is. omega arith;
-  no_head = λ _. refl;
-  head = λ enough. absurd (omega (arith, few, enough));
-}
-
 -- What the digits of a head say of the payload.
 abbrev pub SaidLen : List ℕ → ℕ → Type 0
 SaidLen bytes said = (segment number len total : ℕ) → len < 2 ^ 28 → bytes ≡ head_of segment number len total → said ≡ len

@@ -1,9 +1,9 @@
 -- A reply is read from its bytes.
 use Rattle.sk_messages.proofs.Names.{◌≡◌, ℕ, ◌<◌, ◌≤◌, ◌^◌, ◌&&◌, nat_lt, nat_le, cond, false, List, [], ◌∷◌, ◌++◌}
-use Rattle.sk_messages.proofs.Names.{length, drop, Option, Some, None, option_map, refl, ap, ◌∙◌, arith, le-ltb, le-leb}
-use Rattle.sk_messages.proofs.Names.{eq-eqb, length-append, from_le_bytes-to_le_bytes_8, TEXT_LIMIT, ContentView}
-use Rattle.sk_messages.proofs.Names.{LAST_VERSION, Answer, Yes, No, Copy, Dropped, Reply, answer_of, content_in}
-use Rattle.sk_messages.proofs.Names.{content_of, kind_of, reply_bytes, reply_from, reply_of, IsReply}
+use Rattle.sk_messages.proofs.Names.{length, drop, Some, None, option_map, refl, ap, ◌∙◌, arith, le-ltb, le-leb, eq-eqb}
+use Rattle.sk_messages.proofs.Names.{length-append, from_le_bytes-to_le_bytes_8, TEXT_LIMIT, ContentView, LAST_VERSION}
+use Rattle.sk_messages.proofs.Names.{Answer, Yes, No, Copy, Reply, answer_of, content_in, content_of, kind_of}
+use Rattle.sk_messages.proofs.Names.{reply_bytes, reply_from, reply_of, IsReply}
 use Rattle.sk_messages.specs.Numbers.{number_at, number_bytes}
 
 -- four numbers, and bytes behind them
@@ -65,16 +65,13 @@ whole number kind version bytes =
 -- of each kind of answer
 kinds : (number : ℕ) (answer : Answer) → (content_in answer).version ≤ LAST_VERSION → length (content_in answer).bytes ≤ TEXT_LIMIT
     → option_map (made number) (answer_of (kind_of answer) (content_in answer).version (content_in answer).bytes) ≡ Some (made number answer)
-kinds number Yes version short = refl
 kinds number (No c) version short = ap (λ o. option_map (made number) (option_map No o)) (content_is c version short)
 kinds number (Copy c) version short = ap (λ o. option_map (made number) (option_map Copy o)) (content_is c version short)
-kinds number Dropped version short = refl
+kinds number s version short = refl
 
 kind_fits : (answer : Answer) → kind_of answer < 2 ^ 64
 kind_fits Yes = omega arith
-kind_fits (No c) = omega arith
-kind_fits (Copy c) = omega arith
-kind_fits Dropped = omega arith
+kind_fits s = omega arith
 
 pub again : (r : Reply) → IsReply r → reply_of (reply_bytes r) ≡ Some r
 again r (number, version, short) =

@@ -1,8 +1,8 @@
 -- How many outputs each channel has.
-use Rattle.sk_outputs.proofs.Names.{◌≡◌, ℕ, zero, suc, ◌+◌, ◌<◌, ◌≤◌, Bool, true, false, not, cond, List, [], ◌∷◌, ◌++◌}
-use Rattle.sk_outputs.proofs.Names.{length, drop, get_or, refl, sym, ◌∙◌, ap, arith, ◌==◌, slice_index_or, prefix_len}
-use Rattle.sk_outputs.proofs.Names.{remove, eqb-true, eqb-false, Tagged, lightened, not_dropped, released, has, Said}
-use Rattle.sk_outputs.proofs.Names.{said_at, is_empty, is_ready, AreCounted}
+use Rattle.sk_outputs.proofs.Names.{nil_from_length, ◌≡◌, ℕ, zero, suc, ◌+◌, ◌<◌, ◌≤◌, Bool, true, false, not, cond}
+use Rattle.sk_outputs.proofs.Names.{List, [], ◌∷◌, ◌++◌, length, drop, get_or, refl, sym, ◌∙◌, ap, arith, ◌==◌}
+use Rattle.sk_outputs.proofs.Names.{slice_index_or, prefix_len, remove, eqb-true, eqb-false, Tagged, lightened}
+use Rattle.sk_outputs.proofs.Names.{not_dropped, released, has, Said, said_at, is_empty, is_ready, AreCounted}
 use Rattle.sk_outputs.proofs.Firsts.{other}
 use Rattle.sk_outputs.proofs.Ready.{ready_is}
 
@@ -84,12 +84,8 @@ module _ {O : Type 0} where
   pub none_counted : (xs : Said O) (ns : List ℕ) → AreCounted xs ns → (t : ℕ) → (get_or ns t 0 == 0) ≡ is_empty (said_at xs t)
   none_counted xs ns counted t = ap (λ n. n == 0) (counted t) ∙ none_of (said_at xs t)
 
-  empty_is : (xs : Said O) → length xs ≡ 0 → xs ≡ []
-  empty_is [] none = refl
-  empty_is (x ∷ xs) none = absurd (omega (arith, none))
-
   pub none_ready : (xs : Said O) (ns : List ℕ) (t : ℕ) → AreCounted xs ns → get_or ns t 0 ≡ 0 → is_ready xs t ≡ false
-  none_ready xs ns t counted none = ready_is xs t ∙ ap (λ ys. not (is_empty (released ys))) (empty_is (said_at xs t) (sym (counted t) ∙ none))
+  none_ready xs ns t counted none = ready_is xs t ∙ ap (λ ys. not (is_empty (released ys))) (nil_from_length (said_at xs t) (sym (counted t) ∙ none))
 
   -- the first of a channel that is left stands behind the one that was taken
   pub ready_later : (to i : ℕ) (xs : Said O) → i ≡ prefix_len (other to) xs → is_ready (drop i (remove xs i)) to ≡ is_ready (remove xs i) to

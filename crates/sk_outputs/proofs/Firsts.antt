@@ -38,11 +38,3 @@ module _ {O : Type 0} where
   others_kept t i [] x lt at other = absurd (omega arith)
   others_kept t zero (y ∷ xs) x lt at other = sym (ap (λ b. cond b (y ∷ said_at xs t) (said_at xs t)) (ap (λ (z : Tagged (ℕ × O)). z.0.0 == t) (sym at) ∙ other))
   others_kept t (suc i) (y ∷ xs) x lt at other = ap (λ ys. cond (y.0.0 == t) (y ∷ ys) ys) (others_kept t i xs x (omega arith) at other)
-
-pub not_true : (b : Bool) → not b ≡ true → b ≡ false
-not_true true is = sym is
-not_true false is = refl
-
-pub not_false : (b : Bool) → not b ≡ false → b ≡ true
-not_false true is = refl
-not_false false is = sym is

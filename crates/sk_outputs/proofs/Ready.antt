@@ -1,17 +1,11 @@
 -- Which channels have an output to take.
-use Rattle.sk_outputs.proofs.Names.{◌≡◌, ℕ, zero, suc, ◌+◌, ◌<◌, ◌≤◌, ◌&&◌, ◌||◌, Bool, true, false, not, cond, List}
-use Rattle.sk_outputs.proofs.Names.{[], ◌∷◌, ◌++◌, length, drop, refl, sym, ◌∙◌, ap, subst, arith, ◌==◌, slice_index_or}
-use Rattle.sk_outputs.proofs.Names.{Option, Some, None, Result, Ok, Err, IfSome, OnOk, filter, prefix_len, slice_get}
-use Rattle.sk_outputs.proofs.Names.{option_map, both_ways, true≢false, eqb-true, eq-eqb, Tagged, lightened, not_dropped}
+use Rattle.sk_outputs.proofs.Names.{shorter, not-true, not-false, ◌≡◌, ℕ, zero, suc, ◌+◌, ◌<◌, ◌≤◌, ◌&&◌, ◌||◌, Bool}
+use Rattle.sk_outputs.proofs.Names.{true, false, not, cond, List, [], ◌∷◌, ◌++◌, length, drop, refl, sym, ◌∙◌, ap}
+use Rattle.sk_outputs.proofs.Names.{subst, arith, ◌==◌, slice_index_or, Option, Some, None, IfSome, prefix_len}
+use Rattle.sk_outputs.proofs.Names.{slice_get, option_map, true≢false, eqb-true, Tagged, lightened, not_dropped}
 use Rattle.sk_outputs.proofs.Names.{released, released_if, has, without, has_filter, eqb_turned, Said, said_at}
 use Rattle.sk_outputs.proofs.Names.{first_of, is_empty, is_ready, AreReady}
-use Rattle.sk_outputs.proofs.Firsts.{other, not_true, not_false}
-
-suc_eq : (a b : ℕ) → (suc a == suc b) ≡ (a == b)
-suc_eq a b =
-    both_ways (suc a == suc b) (a == b)
-    (λ is. let same : suc a ≡ suc b = eqb-true (suc a) (suc b) is in let less : a ≡ b = omega (arith, same) in eq-eqb a b less)
-    (λ is. eq-eqb (suc a) (suc b) (ap suc (eqb-true a b is)))
+use Rattle.sk_outputs.proofs.Firsts.{other}
 
 never : (n : ℕ) → (0 == suc n) ≡ false
 never n =
@@ -20,19 +14,10 @@ never n =
       | false ↦ λ _. refl
     ] refl
 
-pub fewer_kept : {A : Type 0} (p : A → Bool) (xs : List A) → length (filter p xs) ≤ length xs
-fewer_kept p [] = omega arith
-fewer_kept p (x ∷ xs) =
-    let rest = fewer_kept p xs in
-    elim (p x) as (λ b. length (cond b (x ∷ filter p xs) (filter p xs)) ≤ suc (length xs)) [
-      | true ↦ omega arith
-      | false ↦ omega arith
-    ]
-
 module _ {O : Type 0} where
   -- a failure leaves no more outputs
   pub fewer : (g : ℕ) (xs : Said O) → length (not_dropped g xs) ≤ length xs
-  fewer g xs = fewer_kept (λ (x : Tagged (ℕ × O)). not (has g x.1)) xs
+  fewer g xs = shorter (λ (x : Tagged (ℕ × O)). not (has g x.1)) xs
 
   -- and a commit as many
   pub as_many : (g : ℕ) (xs : Said O) → length (lightened g xs) ≡ length xs
@@ -53,13 +38,6 @@ module _ {O : Type 0} where
 
   pub some_released : (xs : Said O) (t : ℕ) → is_ready xs t ≡ true → released (said_at xs t) ≡ [] → ⊥
   some_released xs t is none = true≢false (sym is ∙ ready_is xs t ∙ ap (λ ws. not (is_empty ws)) none)
-
-  -- one that is there first and rests on nothing
-  pub front_ready : (xs : Said O) (x : Tagged (ℕ × O)) → 0 < length xs → x ≡ slice_index_or xs 0 x → is_empty x.1 ≡ true → is_ready xs x.0.0 ≡ true
-  front_ready [] x some at bare = absurd (omega arith)
-  front_ready (y ∷ xs) x some at bare =
-      ap (λ (z : Tagged (ℕ × O)). cond (z.0.0 == x.0.0) (is_empty z.1) (is_ready xs x.0.0)) (sym at)
-      ∙ ap (λ b. cond b (is_empty x.1) (is_ready xs x.0.0)) (eq-eqb x.0.0 x.0.0 refl) ∙ bare
 
   pub none_released : (xs : Said O) (t : ℕ) → is_ready xs t ≡ false → released (said_at xs t) ≡ []
   none_released xs t is = bare (released (said_at xs t)) (sym (ready_is xs t) ∙ is) where
@@ -111,7 +89,7 @@ module _ {O : Type 0} where
     pub put_on : not (is_empty x.1) ≡ false → ((t : ℕ) → has t new ≡ ((a == t) || has t old)) → (t : ℕ) → has t new ≡ cond (x.0.0 == t) (is_empty x.1) (has t old)
     put_on bare put t = put t ∙ (λ i. (same i == t) || has t old) ∙ on (x.0.0 == t) where
       on : (b : Bool) → (b || has t old) ≡ cond b (is_empty x.1) (has t old)
-      on true = sym (not_false (is_empty x.1) bare)
+      on true = sym (not-false (is_empty x.1) bare)
       on false = refl
 
     -- and one that rests on a guess takes it off
@@ -120,15 +98,10 @@ module _ {O : Type 0} where
         ap (has t) (taken ∙ ap (λ n. without n old) same) ∙ has_filter (λ n. not (n == x.0.0)) t old ∙ ap (λ c. not c && has t old) (eqb_turned t x.0.0)
         ∙ off (x.0.0 == t) where
           off : (b : Bool) → (not b && has t old) ≡ cond b (is_empty x.1) (has t old)
-          off true = sym (not_true (is_empty x.1) rests)
+          off true = sym (not-true (is_empty x.1) rests)
           off false = refl
 
-  pub same_outputs : (xs ys : Said O) (channels : List ℕ) → ys ≡ xs → AreReady xs channels → AreReady ys channels
-  same_outputs xs ys channels same ready = subst (λ zs. AreReady zs channels) (sym same) ready
-
   -- ---- where one is said
-  pub said_so : (xs ys zs : Said O) (x : Tagged (ℕ × O)) (channels : List ℕ) → ys ≡ xs → zs ≡ xs ++ x ∷ [] → AreReady (ys ++ x ∷ []) channels → AreReady zs channels
-  said_so xs ys zs x channels same is ready = subst (λ ws. AreReady ws channels) (ap (λ ws. ws ++ x ∷ []) same ∙ sym is) ready
 
   pub said_next : (xs : Said O) (x : Tagged (ℕ × O)) (old new : List ℕ) → AreReady xs old → (is_empty x.1 && is_empty (said_at xs x.0.0)) ≡ true
       → ((t : ℕ) → has t new ≡ ((x.0.0 == t) || has t old)) → AreReady (xs ++ x ∷ []) new
@@ -183,19 +156,6 @@ module _ {O : Type 0} where
     by_tags [] some = refl
     by_tags (g ∷ tags) none = absurd (true≢false (sym none))
 
-  -- all are of other channels
-  pub all_others : (to : ℕ) (xs : Said O) → (prefix_len (other to) xs == length xs) ≡ is_empty (said_at xs to)
-  all_others to [] = refl
-  all_others to (x ∷ xs) =
-      elim (x.0.0 == to) as (λ b. (cond (not b) (1 + prefix_len (other to) xs) 0 == suc (length xs)) ≡ is_empty (cond b (x ∷ said_at xs to) (said_at xs to))) [
-        | true ↦ never (length xs)
-        | false ↦ let one : 1 + prefix_len (other to) xs ≡ suc (prefix_len (other to) xs) = omega arith in ap (λ n. n == suc (length xs)) one ∙ suc_eq (prefix_len (other to) xs) (length xs) ∙ all_others to xs
-      ]
-
 pub if_some : {A : Type 0} (r : Option A) (P Q : A → Type 0) → ((x : A) → P x → Q x) → IfSome r P → IfSome r Q
 if_some (Some x) P Q f p = f x p
 if_some None P Q f p = tt
-
-pub on_ok : {A B : Type 0} (r : Result A B) (P Q : Type 0) → (P → Q) → OnOk r P → OnOk r Q
-on_ok (Ok x) P Q f p = f p
-on_ok (Err e) P Q f p = tt

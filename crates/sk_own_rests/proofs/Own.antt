@@ -1,17 +1,10 @@
 -- Each call is a move of the machine, with what is logged of it, for statuses that agree with what is kept of guesses.
-use Rattle.sk_own_rests.proofs.Names.{◌≡◌, ℕ, List, [], ◌∷◌, ◌++◌, Option, Some, None, inl, inr, refl, sym, ◌∙◌, ap}
-use Rattle.sk_own_rests.proofs.Names.{subst, append_assoc, arith, ◌⊎◌, unwrap_or, FinMap, IsAntisymmetric, IsTotalOrder}
-use Rattle.sk_own_rests.proofs.Names.{false≢true, append-nil, has, without, System, Event, Taken, Commit, Fail, numbers}
-use Rattle.sk_own_rests.proofs.Names.{with_drawn, with_failure, with_status, Status, has_filter, and_both, AreStatuses}
-use Rattle.sk_own_rests.proofs.Names.{open_is, IsNext, Moves, Starts, Told, TakenOut, with_told, told_more, first}
-use Rattle.sk_own_rests.proofs.Names.{look_at, log_at, said_at, Parts, undo_state_of, machine_of, next_of, Forgets}
-use Rattle.sk_own_rests.proofs.Names.{Call, Does, Tells, Returns, events_of, TakesOut, Happens, IsFirst, Logged}
-use Rattle.sk_own_rests.proofs.Names.{IsLogOf, IsAsLogged, Stands, stands_first, one_more, taken_out, ends, OwnLogs}
-use Rattle.sk_own_rests.proofs.Names.{OwnStandsAsLogged}
-use Rattle.sk_record.specs.declared.status.Status.TheVariants as status_as
-
-none_number : {P : Type 0} (g : ℕ) → None ≡ Some g → P
-none_number g is = cc
+use Rattle.sk_own_rests.proofs.Names.{forgotten, goes, none_yet, starts, taken_from, ◌≡◌, ℕ, List, [], ◌∷◌, ◌++◌}
+use Rattle.sk_own_rests.proofs.Names.{Option, None, sym, ◌∙◌, ap, subst, append_assoc, FinMap, IsAntisymmetric}
+use Rattle.sk_own_rests.proofs.Names.{IsTotalOrder, append-nil, System, Event, Status, AreStatuses, Told, with_told}
+use Rattle.sk_own_rests.proofs.Names.{told_more, first, Parts, undo_state_of, machine_of, Forgets, Call, Does, Tells}
+use Rattle.sk_own_rests.proofs.Names.{Returns, events_of, TakesOut, Happens, IsFirst, Logged, IsLogOf, IsAsLogged}
+use Rattle.sk_own_rests.proofs.Names.{Stands, stands_first, one_more, taken_out, ends, OwnLogs, OwnStandsAsLogged}
 
 module _ {K V O F N : Type 0} (own : System K V (ℕ × O) F N) where
   -- the parts stand for the trace and what is logged of it, with statuses that agree with what is kept of guesses
@@ -21,84 +14,9 @@ module _ {K V O F N : Type 0} (own : System K V (ℕ × O) F N) where
     pub agrees : AreStatuses m.guesses m.opens status
     pub stands : Stands own start es log (with_told told (machine_of own.order m status))
 
-  -- where an event leads
-  record Leads (a : Parts K V O) (status : ℕ → Option Status) (e : Event N) (b : Parts K V O) : Type 0 where
-    later : ℕ → Option Status
-    agrees : AreStatuses b.guesses b.opens later
-    moves : Moves own (machine_of own.order a status) e (machine_of own.order b later)
-
-  fresh : (a : Parts K V O) (status : ℕ → Option Status) (mark : Option ℕ) → AreStatuses a.guesses a.opens status
-      → (mark ≡ None) ⊎ (mark ≡ Some (next_of a.guesses)) → IsNext (machine_of own.order a status) mark
-  fresh a status mark are (inl none) g h is le = none_number g (sym none ∙ is)
-  fresh a status mark are (inr next) g h is le =
-      let same : next_of a.guesses ≡ g = ap (λ o. unwrap_or o 0) (sym next ∙ is) in
-      are.fresh h (omega (arith, same, le))
-
-  leads : (a : Parts K V O) (status : ℕ → Option Status) (e : Event N) (b : Parts K V O)
-      → AreStatuses a.guesses a.opens status → Happens own a e b → Leads a status e b
-  leads a status (Taken n) b are d = record {
-    later = with_drawn (own.mark n) status;
-    agrees = d.takes.agrees status are;
-    moves = record {
-      deed = d.deed;
-      honest = d.honest;
-      takes = d.takes.takes status are;
-      fresh = fresh a status (own.mark n) are
-          d.mark;
-    };
-  }
-  leads a status (Commit g) b are c = record {
-    later = with_status g status_as.Committed status;
-    agrees = c.agrees status are;
-    moves = (open_is (status g) (sym (are.undecided g) ∙ c.undecided), c.commits status are);
-  }
-  leads a status (Fail g) b are f = record {
-    later = with_failure g a.opens status;
-    agrees = f.agrees status are;
-    moves = (open_is (status g) (sym (are.undecided g) ∙ f.undecided), f.fails status are);
-  }
-
-  forgotten : (a : Parts K V O) (status : ℕ → Option Status) (g : ℕ) → AreStatuses a.guesses a.opens status
-      → AreStatuses (record a.guesses { struck = without g a.guesses.struck }) a.opens status
-  forgotten a status g are = record {
-    undecided = are.undecided;
-    struck = λ h here. are.struck h (and_both _ _ (sym (has_filter _ h a.guesses.struck) ∙ here)).1;
-    fresh = are.fresh;
-  }
-
-  taken_from : (a : Parts K V O) (status : ℕ → Option Status) (t : ℕ) (output : O) (b : Parts K V O)
-      → TakesOut a t output b
-      → TakenOut (machine_of own.order a status) t output (machine_of own.order b status)
-  taken_from a status t output b out = record {
-    look = λ k. ap (λ (p : Parts K V O). look_at own.order p.slots k) out.same;
-    logs = λ k. ap (λ (p : Parts K V O). log_at own.order p.slots k) out.same;
-    opens = ap (λ (p : Parts K V O). p.opens) out.same;
-    status = λ g. refl;
-    first = out.first;
-    others = out.others;
-  }
-
-  none_yet : (start : FinMap own.order V) (a : Parts K V O) → IsFirst own start a
-      → AreStatuses a.guesses a.opens (λ g. None)
-  none_yet start a is = record {
-    undecided = λ g. ap (λ os. has g (numbers os)) is.opens;
-    struck = λ g here. absurd (false≢true (sym (ap (has g) is.struck) ∙ here));
-    fresh = λ g above. refl;
-  }
-
-  starts : (start : FinMap own.order V) (a : Parts K V O) → IsFirst own start a
-      → Starts own start (machine_of own.order a (λ g. None))
-  starts start a is = record {
-    look = is.look;
-    logs = is.log;
-    opens = is.opens;
-    status = λ g. refl;
-    texts = λ t. ap (λ xs. said_at xs t) is.said;
-  }
-
 module _ {K V O F N : Type 0} (own : System K V (ℕ × O) F N) (total : IsTotalOrder own.order)
     (exact : IsAntisymmetric own.order)
-    (goes : (w : ℕ × O) → own.goes_to w ≡ w.0) (start : FinMap own.order V) where
+    (goes_to : (w : ℕ × O) → own.goes_to w ≡ w.0) (start : FinMap own.order V) where
   pub first_own : (a : Parts K V O) → IsFirst own start a → OwnStands own start [] [] (λ t. []) a
   first_own a is = record {
     status = λ g. None;
@@ -113,11 +31,11 @@ module _ {K V O F N : Type 0} (own : System K V (ℕ × O) F N) (total : IsTotal
       → OwnStands own start es log told a → Happens own a e b → IsLogOf own (undo_state_of own.order a) e one
       → OwnStands own start (es ++ e ∷ []) (log ++ one) told b
   happened es log told a e b one s happens logged =
-      let led = leads own a s.status e b s.agrees happens in
+      let led = goes own a s.status e b s.agrees happens in
       record {
         status = led.later;
         agrees = led.agrees;
-        stands = one_more own total exact start goes told es log (machine_of own.order a s.status) e
+        stands = one_more own total exact start goes_to told es log (machine_of own.order a s.status) e
             (machine_of own.order b led.later) one
             s.stands led.moves logged;
       }
@@ -130,7 +48,7 @@ module _ {K V O F N : Type 0} (own : System K V (ℕ × O) F N) (total : IsTotal
   told_one es log told a t output b s out = record {
     status = s.status;
     agrees = subst (λ (p : Parts K V O). AreStatuses p.guesses p.opens s.status) (sym out.same) s.agrees;
-    stands = taken_out own total exact start goes told es log (machine_of own.order a s.status) t output
+    stands = taken_out own total exact start goes_to told es log (machine_of own.order a s.status) t output
         (machine_of own.order b s.status) s.stands
         (taken_from own a s.status t output b out);
   }
@@ -180,6 +98,6 @@ module _ {K V O F N : Type 0} (own : System K V (ℕ × O) F N) (total : IsTotal
   of_all a b cs log told is logs = along [] [] cs log (λ t. []) told a b (first_own a is) logs
 
 pub own_logged : {K V O F N : Type 0} (own : System K V (ℕ × O) F N) → OwnStandsAsLogged own
-own_logged own total exact goes start a b cs log told is logs =
-    let s = of_all own total exact goes start a b cs log told is logs in
-    (s.status, s.agrees, own_ends own total exact goes start (events_of cs) log told b s)
+own_logged own total exact goes_to start a b cs log told is logs =
+    let s = of_all own total exact goes_to start a b cs log told is logs in
+    (s.status, s.agrees, own_ends own total exact goes_to start (events_of cs) log told b s)

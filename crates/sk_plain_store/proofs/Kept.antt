@@ -3,7 +3,7 @@ use Rattle.sk_plain_store.proofs.Names.{◌≡◌, ℕ, Bool, true, false, not, 
 use Rattle.sk_plain_store.proofs.Names.{is_some, bytes_eq, refl, sym, ap, subst, ◌∙◌, eq_by_cmp, is_eq, IsTotalOrder}
 use Rattle.sk_plain_store.proofs.Names.{tied_itself, nat_list_cmp_total, nat_cmp-IsAntisymmetric}
 use Rattle.sk_plain_store.proofs.Names.{slice_cmp-IsAntisymmetric, find-put, find-where_key, is_some-find}
-use Rattle.sk_plain_store.proofs.Names.{is_sorted-put, is_sorted-where_key, Ordering, Less, Equal, Greater, list_any}
+use Rattle.sk_plain_store.proofs.Names.{is_sorted-put, is_sorted-where_key, Ordering, Equal, list_any}
 use Rattle.sk_plain_store.proofs.Names.{same_from_decides, bytes_eq-Decides, is_among, Written, after, with_value}
 use Rattle.sk_plain_store.proofs.Names.{bytes_cmp, held, keys_of, written_at, written_to, Entries}
 use Rattle.std.specs.FinMap.Entries.{is_sorted}
@@ -12,9 +12,8 @@ pub bytes_total : IsTotalOrder bytes_cmp
 bytes_total = nat_list_cmp_total
 
 equal : (r : Ordering) → is_eq r ≡ true → r ≡ Equal
-equal Less e = cc
 equal Equal e = refl
-equal Greater e = cc
+equal s e = cc
 
 pub tied_is : (a b : List ℕ) → bytes_cmp a b ≡ Equal → a ≡ b
 tied_is a b e = slice_cmp-IsAntisymmetric nat_cmp-IsAntisymmetric a b e

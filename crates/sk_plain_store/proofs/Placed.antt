@@ -1,12 +1,11 @@
 -- The entries that places have, where one is held, set or let go.
-use Rattle.sk_plain_store.proofs.Names.{◌≡◌, ℕ, ◌+◌, ◌<◌, ◌≤◌, Bool, true, false, cond, List, [], ◌∷◌, ◌++◌, length}
-use Rattle.sk_plain_store.proofs.Names.{get_or, take, Option, Some, None, is_some, if◌then◌else◌, refl, sym, ap, subst}
-use Rattle.sk_plain_store.proofs.Names.{◌∙◌, ◌&&◌, unwrap_or, Vec, is_eq, is_lt, match_ordering, Ordering, Less, Equal}
-use Rattle.sk_plain_store.proofs.Names.{Greater, AllByRecursion, IsStrictlySortedBy, remove_entry, set_value}
-use Rattle.sk_plain_store.proofs.Names.{insert_entry, is_at, is_sorted, below_all, sorted_head, sorted_tail, bytes_cmp}
-use Rattle.sk_plain_store.proofs.Names.{held, keys_of, put_in, taken_out, written_at, written_to, Entries, take_all}
-use Rattle.sk_plain_store.proofs.Names.{take_more, told, Written, entries_of, has_place, place_of, with_entry}
-use Rattle.sk_plain_store.proofs.Names.{HavePlaces, KeepsPlaces, Places}
+use Rattle.sk_plain_store.proofs.Names.{same_Some, ◌≡◌, ℕ, ◌+◌, ◌<◌, Bool, true, false, cond, List, [], ◌∷◌, ◌++◌}
+use Rattle.sk_plain_store.proofs.Names.{length, get_or, take, Option, Some, None, is_some, refl, sym, ap, subst, ◌∙◌}
+use Rattle.sk_plain_store.proofs.Names.{◌&&◌, Vec, is_eq, is_lt, match_ordering, Ordering, Less, Equal, Greater}
+use Rattle.sk_plain_store.proofs.Names.{AllByRecursion, IsStrictlySortedBy, remove_entry, set_value, insert_entry}
+use Rattle.sk_plain_store.proofs.Names.{is_at, is_sorted, below_all, sorted_head, sorted_tail, bytes_cmp, held, keys_of}
+use Rattle.sk_plain_store.proofs.Names.{put_in, taken_out, written_at, written_to, Entries, take_more, told, Written}
+use Rattle.sk_plain_store.proofs.Names.{entries_of, has_place, place_of, with_entry, HavePlaces, KeepsPlaces, Places}
 use Rattle.std.specs.Prelude.{not}
 use Rattle.std.specs.Map as pairs
 use Rattle.sk_plain_store.proofs.Kept.{bytes_total, tied_is}
@@ -38,8 +37,7 @@ no_place key (p ∷ places) h = ap (λ o. cond (is_eq o) (Some p.1) (place_of pl
 
 below_head : (o : Ordering) (b : Bool) → (is_lt o && b) ≡ true → (o ≡ Less) × (b ≡ true)
 below_head Less b h = (refl, h)
-below_head Equal b h = cc
-below_head Greater b h = cc
+below_head s b h = cc
 
 none_below : (key : List ℕ) (es : Entries) → below_all bytes_cmp key es ≡ true → held es key ≡ None
 none_below key [] h = refl
@@ -214,15 +212,12 @@ takes_out key (p ∷ places) h =
 
 -- ---- a place is let go
 
-same_in : (x : Option (List ℕ)) → Some x ≡ Some None → x ≡ None
-same_in x e = ap (λ o. unwrap_or o x) e
-
 pub lets_go : (key : List ℕ) (places : Places) → place_of places key ≡ Some None → entries_of (remove_entry (is_at (λ k. bytes_cmp key k.items)) places) ≡ entries_of places
 lets_go key [] held = refl
 lets_go key (p ∷ places) held =
     let more = remove_entry (is_at (λ k. bytes_cmp key k.items)) places in
     elim (is_eq (bytes_cmp key p.0.items)) as (λ b. cond b (Some p.1) (place_of places key) ≡ Some None → entries_of (cond b places (p ∷ more)) ≡ entries_of (p ∷ places)) [
-      | true ↦ λ e. ap (λ has. with_entry p.0.items has (entries_of places)) (sym (same_in p.1 e))
+      | true ↦ λ e. ap (λ has. with_entry p.0.items has (entries_of places)) (sym (same_Some p.1 None e))
       | false ↦ λ e. ap (with_entry p.0.items p.1) (lets_go key places e)
     ] held
 
@@ -263,11 +258,4 @@ next_have ws i w key old new small is same h keeps here =
     subst (λ x. HavePlaces x new) (sym (ap told (take_more ws i w small ∙ ap (λ x. take i ws ++ x ∷ []) is) ∙ told_more (take i ws) w))
     (have_more (told (take i ws)) (w.0.items, w.1) old new h keeps (subst (λ k. has_place new k ≡ true) same here))
 
-pub all_have : (ws : List (Vec ℕ × Option (List ℕ))) (i : ℕ) (places : Places) → length ws ≤ i → HavePlaces (told (take i ws)) places → HavePlaces (told ws) places
-all_have ws i places past h = subst (λ x. HavePlaces (told x) places) (take_all i ws past) h
-
 -- ---- the entries, one after another
-
-keys_entry : (k : Vec ℕ) (has : Option (List ℕ)) (places : Places) → keys_of (entries_of ((k, has) ∷ places)) ≡ (if is_some has then k.items ∷ keys_of (entries_of places) else keys_of (entries_of places))
-keys_entry k None places = refl
-keys_entry k (Some value) places = refl

@@ -210,15 +210,7 @@ begun start first heads bytes r head log bound counts has is read bounded next =
 pub left : (start : Entries) (first : ℕ) (heads : List Head) (bytes : List (List ℕ)) (r : Recovered) (dropped : ℕ)
     → HasRecovered start first heads bytes r
     → HasRecovered start first heads bytes (record r { dropped = dropped })
-left start first heads bytes r dropped has = record {
-  parts = has.parts;
-  read = has.read;
-  heads_are = has.heads_are;
-  opened = has.opened;
-  first_is = has.first_is;
-  taken = has.taken;
-  next = has.next;
-}
+left start first heads bytes r dropped has = search has
 
 -- all segments were read
 pub all_read : (start : Entries) (first : ℕ) (heads : List Head) (bytes : List (List ℕ)) (r : Recovered) (has : HasRecovered start first heads bytes r)

@@ -1,7 +1,7 @@
 -- What is found after a crash.
-use Rattle.sk_recovered.proofs.Names.{◌≡◌, ℕ, Err, zero, suc, ◌+◌, ◌-◌, ◌≤◌, List, [], ◌∷◌, ◌++◌, flat_map, length}
-use Rattle.sk_recovered.proofs.Names.{take, Option, Some, None, refl, sym, ap, subst, ◌∙◌, arith, length-append}
-use Rattle.sk_recovered.proofs.Names.{length-map, map-append, take-map, ReadsPrefix, joined, synced_of}
+use Rattle.sk_recovered.proofs.Names.{logged_front, ◌≡◌, ℕ, Err, zero, suc, ◌+◌, ◌-◌, ◌≤◌, List, [], ◌∷◌, ◌++◌}
+use Rattle.sk_recovered.proofs.Names.{flat_map, length, take, Option, Some, None, refl, sym, ap, subst, ◌∙◌, arith}
+use Rattle.sk_recovered.proofs.Names.{length-append, length-map, map-append, take-map, ReadsPrefix, joined, synced_of}
 use Rattle.sk_recovered.proofs.Names.{crash_keeps_prefix, segments_join, log_text, requests_of, AreAsked, AreWithin}
 use Rattle.sk_recovered.proofs.Names.{Work, Entries, payloads_of, AreLogged, log_limits, read_as, bytes_of, heads_of}
 use Rattle.sk_recovered.proofs.Names.{synced_at, synced_in, whole, whole_at, AreWritten, CrashesAreRecovered, Written}
@@ -66,11 +66,6 @@ logged_both : (xs ys : List (List Work)) → AreLogged xs → AreLogged ys → A
 logged_both [] ys one two = two
 logged_both (x ∷ xs) ys one two = (one.0, one.1, logged_both xs ys one.2 two)
 
-logged_front : (n : ℕ) (frames : List (List Work)) → AreLogged frames → AreLogged (take n frames)
-logged_front zero frames logged = tt
-logged_front (suc n) [] logged = tt
-logged_front (suc n) (ws ∷ frames) logged = (logged.0, logged.1, logged_front n frames logged.2)
-
 logged_at : (o : Option ℕ) (s : Written) (later : List (List Work)) → AreLogged s.frames → AreLogged later
     → AreLogged (whole_at o s later)
 logged_at None s later one two = one
@@ -82,14 +77,6 @@ logged_all (s ∷ segments) written = logged_at (least (heads_of segments)) s (w
 
 -- ---- so none is damaged
 
-abbrev head_of : List (List ℕ) → List ℕ → List ℕ
-head_of [] p = p
-head_of (q ∷ qs) p = q
-
-abbrev tail_of : List (List ℕ) → List (List ℕ)
-tail_of [] = []
-tail_of (q ∷ qs) = qs
-
 is_logged : (frames : List (List Work)) (n : ℕ) (taken : List (List ℕ)) (p : List ℕ) (more : List (List ℕ))
     → AreLogged frames → take n (payloads_of frames) ≡ taken ++ p ∷ more
     → (ws : List Work) × AreAsked ws × AreWithin log_limits (flat_map requests_of ws) × (p ≡ flat_map log_text ws)
@@ -97,8 +84,8 @@ is_logged frames zero [] p more logged is = absurd (omega (arith, ap length is))
 is_logged frames zero (t ∷ taken) p more logged is = absurd (omega (arith, ap length is))
 is_logged [] (suc n) [] p more logged is = absurd (omega (arith, ap length is))
 is_logged [] (suc n) (t ∷ taken) p more logged is = absurd (omega (arith, ap length is))
-is_logged (ws ∷ frames) (suc n) [] p more logged is = (ws, logged.0, logged.1, sym (ap (λ ps. head_of ps p) is))
-is_logged (ws ∷ frames) (suc n) (t ∷ taken) p more logged is = is_logged frames n taken p more logged.2 (ap tail_of is)
+is_logged (ws ∷ frames) (suc n) [] p more logged is = (ws, logged.0, logged.1, cc)
+is_logged (ws ∷ frames) (suc n) (t ∷ taken) p more logged is = is_logged frames n taken p more logged.2 cc
 
 pub undamaged : (first n : ℕ) (start store : Entries) (frames : List (List Work)) (payloads : List (List ℕ)) (damage : Option Damage)
     → AreLogged frames → payloads ≡ take n (payloads_of frames)

@@ -37,7 +37,7 @@ pub use Rattle.sk_recovered.specs.declared.recovered.Found.{Found}
 pub use Rattle.sk_recovered.specs.declared.recovered.Recovered.{Recovered}
 pub use Rattle.sk_recovered.specs.declared.segment.Segment.{Segment}
 pub use Rattle.sk_replay.proofs.Again.{read_as}
-pub use Rattle.sk_replay.proofs.Framed.{restore}
+pub use Rattle.sk_replay.proofs.Framed.{restore, logged_front}
 pub use Rattle.sk_replay.proofs.Restored.{restored}
 pub use Rattle.sk_replay.proofs.Short.{short_is_within}
 pub use Rattle.sk_replay.specs.Frames.{SayAll, AreLogged, payloads_of, works_in}

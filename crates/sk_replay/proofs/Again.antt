@@ -62,25 +62,41 @@ is_open (Some q) e h = cc
 no_fault_said : (fault : Fault) → Some fault ≡ None → ⊥
 no_fault_said fault e = cc
 
-no_refusal : (limits : Limits) (ws : List Work) (payload : List ℕ) (refusal : Refusal) → AreAsked ws → Splits limits (map Some (flat_map requests_of ws)) [] payload → IsRefused limits payload refusal → refusal ≡ refusals.Memory
-no_refusal limits ws payload (refusals.Request fault place) asked whole (qs, taken, told, (rest, splits, has)) =
-    absurd (no_fault limits fault qs (flat_map requests_of ws) rest payload splits has whole)
-no_refusal limits ws payload (refusals.TooLarge place) asked whole (qs, taken, (within, (rest, splits))) =
-    absurd (none_large limits qs (flat_map requests_of ws) (rest ++ drop place payload) payload (told_of_all limits (map Some qs ++ None ∷ []) place payload rest splits) whole)
-no_refusal limits ws payload (refusals.Command fault place) asked whole (qs, words, taken, (within, (rest, splits)), is) =
-    let on = aligned limits (qs ++ words ∷ []) (flat_map requests_of ws) (rest ++ drop place payload) payload
-    (told_of_all limits (map Some (qs ++ words ∷ [])) place payload rest splits) whole in
-    let front = taken_front None (qs ++ words ∷ []) on.0 (subst (AreTaken None) on.1 (all_close ws asked).0) in
+-- a payload that says works is not refused
+pub not_refused : (limits : Limits) (payload : List ℕ) (works : List Work) (why : Refusal) → Says limits payload works
+    → IsRefused limits payload why → why ≡ refusals.Memory
+not_refused limits payload works (refusals.Request fault place) says (qs, taken, told, (rest, splits, has)) =
+    absurd (no_fault limits fault qs says.requests rest payload splits has says.splits)
+not_refused limits payload works (refusals.TooLarge place) says (qs, taken, (within, (rest, splits))) =
+    absurd (none_large limits qs says.requests (rest ++ drop place payload) payload
+    (told_of_all limits (map Some qs ++ None ∷ []) place payload rest splits) says.splits)
+not_refused limits payload works (refusals.Command fault place) says (qs, words, taken, (within, (rest, splits)), is) =
+    let on = aligned limits (qs ++ words ∷ []) says.requests (rest ++ drop place payload) payload
+    (told_of_all limits (map Some (qs ++ words ∷ [])) place payload rest splits) says.splits in
+    let front = taken_front None (qs ++ words ∷ []) on.0 (subst (AreTaken None) on.1 says.taken) in
     absurd (no_fault_said fault (sym (ap fault_in is) ∙ taken_last None qs words front))
-no_refusal limits ws payload refusals.Cut asked whole (qs, taken, ends) = absurd (no_part limits qs (flat_map requests_of ws) payload ends whole)
-no_refusal limits ws payload refusals.Open asked whole (qs, taken, splits, opened) =
-    let same = same_requests limits qs (flat_map requests_of ws) payload splits whole in
-    absurd (is_open (queue_after None qs) (ap (queue_after None) (sym same) ∙ (all_close ws asked).1) opened)
-no_refusal limits ws payload refusals.Memory asked whole refused = refl
+not_refused limits payload works refusals.Cut says (qs, taken, ends) = absurd (no_part limits qs says.requests payload ends says.splits)
+not_refused limits payload works refusals.Open says (qs, taken, splits, opened) =
+    let same = same_requests limits qs says.requests payload splits says.splits in
+    absurd (is_open (queue_after None qs) (ap (queue_after None) (sym same) ∙ says.closed) opened)
+not_refused limits payload works refusals.Memory says refused = refl
+
+says_asked : (limits : Limits) (ws : List Work) (payload : List ℕ) → AreAsked ws → Splits limits (map Some (flat_map requests_of ws)) [] payload → Says limits payload ws
+says_asked limits ws payload asked whole = record {
+  requests = flat_map requests_of ws;
+  splits = whole;
+  taken = (all_close ws asked).0;
+  closed = (all_close ws asked).1;
+  works_are = sym (works_again ws asked);
+}
+
+-- a payload says works in one way
+pub says_once : (limits : Limits) (payload : List ℕ) (vs ws : List Work) → Says limits payload vs → Says limits payload ws → vs ≡ ws
+says_once limits payload vs ws one two =
+    one.works_are ∙ ap (work_for None) (sym (same_requests limits one.requests two.requests payload one.splits two.splits)) ∙ sym two.works_are
 
 says_same : (limits : Limits) (ws read : List Work) (payload : List ℕ) → AreAsked ws → Splits limits (map Some (flat_map requests_of ws)) [] payload → Says limits payload read → read ≡ ws
-says_same limits ws read payload asked whole says =
-    says.works_are ∙ ap (work_for None) (sym (same_requests limits says.requests (flat_map requests_of ws) payload says.splits whole)) ∙ works_again ws asked
+says_same limits ws read payload asked whole says = says_once limits payload read ws says (says_asked limits ws payload asked whole)
 
 whole_of : (limits : Limits) (ws : List Work) (payload : List ℕ) → AreWithin limits (flat_map requests_of ws) → payload ≡ flat_map log_text ws → Splits limits (map Some (flat_map requests_of ws)) [] payload
 whole_of limits ws payload within is = subst (Splits limits (map Some (flat_map requests_of ws)) []) (sym is) (read_again limits ws within)
@@ -89,14 +105,9 @@ whole_of limits ws payload within is = subst (Splits limits (map Some (flat_map 
 pub says_again : (limits : Limits) (ws read : List Work) (payload : List ℕ) → AreAsked ws → AreWithin limits (flat_map requests_of ws) → payload ≡ flat_map log_text ws → Says limits payload read → read ≡ ws
 says_again limits ws read payload asked within is says = says_same limits ws read payload asked (whole_of limits ws payload within is) says
 
--- a payload says works in one way
-pub says_once : (limits : Limits) (payload : List ℕ) (vs ws : List Work) → Says limits payload vs → Says limits payload ws → vs ≡ ws
-says_once limits payload vs ws one two =
-    one.works_are ∙ ap (work_for None) (sym (same_requests limits one.requests two.requests payload one.splits two.splits)) ∙ sym two.works_are
-
 whole_again : (limits : Limits) (ws : List Work) (payload : List ℕ) (result : Result (Vec Work) Refusal) → AreAsked ws → Splits limits (map Some (flat_map requests_of ws)) [] payload → IsRead limits payload result → IsAgain ws result
 whole_again limits ws payload (Ok read) asked whole says = says_same limits ws read.items payload asked whole says
-whole_again limits ws payload (Err refusal) asked whole refused = no_refusal limits ws payload refusal asked whole refused
+whole_again limits ws payload (Err refusal) asked whole refused = not_refused limits payload ws refusal (says_asked limits ws payload asked whole) refused
 
 pub read_as : (limits : Limits) (payload : List ℕ) (result : Result (Vec Work) Refusal) → IsRead limits payload result → (ws : List Work) → AreAsked ws → AreWithin limits (flat_map requests_of ws) → payload ≡ flat_map log_text ws → IsAgain ws result
 read_as limits payload result read ws asked within is =

@@ -1,16 +1,12 @@
 -- How far a payload is read.
-use Rattle.sk_replay.proofs.Names.{◌≡◌, ℕ, ◌+◌, ◌-◌, ◌≤◌, Bool, true, false, List, [], ◌∷◌, ◌++◌, length, map, take}
-use Rattle.sk_replay.proofs.Names.{drop, Option, Some, None, is_some, Result, Ok, Err, IfErr, OnOk, refl, sym, ap}
-use Rattle.sk_replay.proofs.Names.{subst, ◌∙◌, arith, length-drop, Vec, take-add, take_all, take-append-drop}
+use Rattle.sk_replay.proofs.Names.{map_push, take_rest, ◌≡◌, ℕ, ◌+◌, ◌-◌, ◌≤◌, Bool, true, false, List, [], ◌∷◌, ◌++◌}
+use Rattle.sk_replay.proofs.Names.{length, map, take, drop, Option, Some, None, is_some, Result, Ok, Err, IfErr, refl}
+use Rattle.sk_replay.proofs.Names.{sym, ap, subst, ◌∙◌, arith, length-drop, Vec, take-add, take_all, take-append-drop}
 use Rattle.sk_replay.proofs.Names.{EndsWithin, HasRead, ReadsOn, Splits, Limits, ReaderRefusal, Reader, Taken, Queue}
 use Rattle.sk_replay.proofs.Names.{Work, log_limits, queue_after, refused_at, HasCarried, HasCome, IsRefused}
 use Rattle.sk_replay.proofs.Names.{IsRefusedBehind, IsToldOf, Says, Reading, Refusal}
 use Rattle.sk_requests.specs.declared.fault.Refusal.TheVariants as reader
 use Rattle.sk_replay.specs.declared.refusal.Refusal.TheVariants as refusals
-
-map_push : (rs : List (List (List ℕ))) (words : List (List ℕ)) → map Some (rs ++ words ∷ []) ≡ map Some rs ++ Some words ∷ []
-map_push [] words = refl
-map_push (r ∷ rs) words = ap (λ l. Some r ∷ l) (map_push rs words)
 
 -- so many bytes more came
 on_by : (payload : List ℕ) (place count : ℕ) → take place payload ++ take count (drop place payload) ≡ take (place + count) payload
@@ -32,7 +28,7 @@ pub request_on : (payload : List ℕ) (old new : Reading) (count : ℕ) (words :
 request_on payload old new count words come few place read carried = record {
   requests = come.requests ++ words ∷ [];
   within = omega (arith, place, few, come.within, length-drop old.place payload);
-  read = subst (λ t. HasRead log_limits t (take new.place payload) new.reader) (sym (map_push come.requests words))
+  read = subst (λ t. HasRead log_limits t (take new.place payload) new.reader) (sym (map_push Some come.requests words))
       (subst (λ s. HasRead log_limits (map Some come.requests ++ Some words ∷ []) s new.reader) (on_by payload old.place count ∙ ap (λ n. take n payload) (sym place)) read);
   carried = carried;
 }
@@ -55,7 +51,7 @@ request_refused payload old count reader words (refusals.Command fault behind) c
       come.requests,
       words,
       come.carried.taken,
-      subst (λ n. IsToldOf log_limits (map Some (come.requests ++ words ∷ [])) n payload) (sym refused.0) (subst (λ t. IsToldOf log_limits t (old.place + count) payload) (sym (map_push come.requests words)) told),
+      subst (λ n. IsToldOf log_limits (map Some (come.requests ++ words ∷ [])) n payload) (sym refused.0) (subst (λ t. IsToldOf log_limits t (old.place + count) payload) (sym (map_push Some come.requests words)) told),
       refused.1,
     )
 request_refused payload old count reader words refusals.Memory come few read refused = tt
@@ -101,22 +97,15 @@ all_said payload reading b opened works come ends is opens false_is same = recor
 
 -- ---- results
 
-pub on_result : (result : Result (Unit {0}) Refusal) (P Q : Type 0) → (P → Q) → OnOk result P → OnOk result Q
-on_result (Ok u) P Q f h = f h
-on_result (Err e) P Q f h = h
-
 pub if_refused : (result : Result (Unit {0}) Refusal) (P Q : Refusal → Type 0) → ((r : Refusal) → P r → Q r) → IfErr result P → IfErr result Q
 if_refused (Ok u) P Q f h = h
 if_refused (Err e) P Q f h = f e h
 
 -- ---- the rest of a payload
 
-pub rest_whole : (place : ℕ) (payload : List ℕ) → take (length payload - place) (drop place payload) ≡ drop place payload
-rest_whole place payload = take_all (length payload - place) (drop place payload) (omega (arith, length-drop place payload))
-
 -- what a reader answers of the rest
 pub reads_rest : (payload : List ℕ) (old : Reading) (result : Result Taken ReaderRefusal) (new : Reader) (come : HasCome payload old)
     → ReadsOn log_limits (map Some come.requests) (take old.place payload) (take (length payload - old.place) (drop old.place payload)) result new
     → ReadsOn log_limits (map Some come.requests) (take old.place payload) (drop old.place payload) result new
 reads_rest payload old result new come reads =
-    subst (λ b. ReadsOn log_limits (map Some come.requests) (take old.place payload) b result new) (rest_whole old.place payload) reads
+    subst (λ b. ReadsOn log_limits (map Some come.requests) (take old.place payload) b result new) (take_rest payload old.place) reads

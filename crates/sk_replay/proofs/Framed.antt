@@ -10,7 +10,7 @@ say_logged (ws ∷ frames) works logged all =
     let first : all.0 ≡ ws = says_again log_limits ws all.0 (flat_map log_text ws) logged.0 logged.1 refl all.2 in
     let others = say_logged frames all.1 logged.2 all.3 in all.4 ∙ ap (λ vs. vs ++ all.1) first ∙ ap (λ vs. ws ++ vs) others
 
-logged_front : (n : ℕ) (frames : List (List Work)) → AreLogged frames → AreLogged (take n frames)
+pub logged_front : (n : ℕ) (frames : List (List Work)) → AreLogged frames → AreLogged (take n frames)
 logged_front zero frames logged = tt
 logged_front (suc n) [] logged = tt
 logged_front (suc n) (ws ∷ frames) logged = (logged.0, logged.1, logged_front n frames logged.2)

@@ -3,9 +3,12 @@ pub use Rattle.std.proofs.lemmas.Bool.{and_parts}
 pub use Rattle.std.proofs.Common.{Some, Bool, subst, unwrap_or, Ok, ◌∷◌, Err, inl, zero, ◌≡◌, ◌^◌, ◌-◌, rules, IfErr}
 pub use Rattle.std.proofs.Common.{◌+◌, Option, arith, List, ap, length-drop, ◌++◌, length, ℕ, true, drop, sym}
 pub use Rattle.std.proofs.Common.{length-append, None, is_some, suc, ◌≤◌, take, false, ◌<◌, refl, flat_map, Result, []}
-pub use Rattle.std.proofs.Common.{OnOk, ◌∙◌, map}
+pub use Rattle.std.proofs.Common.{◌∙◌, map}
 pub use Rattle.std.proofs.Math.Seq.{take-add}
 pub use Rattle.std.proofs.lemmas.List.{take_all, append_assoc, take-append-drop, take-map, take_rest, append-nil}
+pub use Rattle.std.proofs.lemmas.List.{map_push}
+pub use Rattle.std.proofs.lemmas.List.Concat.{flat_map-append}
+pub use Rattle.std.proofs.lemmas.Result.{on_ok_weaker}
 pub use Rattle.std.specs.FinMap.{is_sorted}
 pub use Rattle.std.specs.FinMap.Entries.{below_all, by_order}
 pub use Rattle.std.specs.Global.{Vec}

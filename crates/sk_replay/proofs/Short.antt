@@ -1,7 +1,7 @@
 -- What has few bytes has few words, and each is short.
-use Rattle.sk_replay.proofs.Names.{◌≡◌, ℕ, ◌+◌, ◌<◌, ◌≤◌, ◌^◌, List, [], ◌∷◌, ◌++◌, flat_map, length, refl, sym, ap}
-use Rattle.sk_replay.proofs.Names.{subst, ◌∙◌, inl, arith, length-append, append_assoc, head, array, bulk, bulks, total}
-use Rattle.sk_replay.proofs.Names.{AreWords, IsWithin, log_text, requests_of, AreWithin, Work, ShortIsWithin}
+use Rattle.sk_replay.proofs.Names.{flat_map-append, ◌≡◌, ℕ, ◌+◌, ◌<◌, ◌≤◌, ◌^◌, List, [], ◌∷◌, ◌++◌, flat_map, length}
+use Rattle.sk_replay.proofs.Names.{refl, sym, ap, subst, ◌∙◌, inl, arith, length-append, head, array, bulk, bulks}
+use Rattle.sk_replay.proofs.Names.{total, AreWords, IsWithin, log_text, requests_of, AreWithin, Work, ShortIsWithin}
 use Rattle.sk_replay.proofs.Names.{log_limits}
 
 bulk_long : (w : List ℕ) → length w + 1 ≤ length (bulk w)
@@ -37,13 +37,9 @@ all_within (words ∷ requests) short =
     let all = length-append (array words) (flat_map array requests) in
     (one_within words (omega (arith, all, short)), all_within requests (omega (arith, all, short)))
 
-both : (xs ys : List (List (List ℕ))) → flat_map array (xs ++ ys) ≡ flat_map array xs ++ flat_map array ys
-both [] ys = refl
-both (x ∷ xs) ys = ap (λ t. array x ++ t) (both xs ys) ∙ sym (append_assoc (array x) (flat_map array xs) (flat_map array ys))
-
 texts : (works : List Work) → flat_map log_text works ≡ flat_map array (flat_map requests_of works)
 texts [] = refl
-texts (work ∷ works) = ap (λ t. log_text work ++ t) (texts works) ∙ sym (both (requests_of work) (flat_map requests_of works))
+texts (work ∷ works) = ap (λ t. log_text work ++ t) (texts works) ∙ sym (flat_map-append array (requests_of work) (flat_map requests_of works))
 
 pub short_is_within : ShortIsWithin
 short_is_within works short = all_within (flat_map requests_of works) (subst (λ t. length t < 2 ^ 28) (texts works) short)

@@ -15,10 +15,9 @@ pub play_out : {S I : Type 0} (kernel_of : S → KernelView) (Takes : ℕ → I 
     → (written ≡ Err stops.Memory → HasAnswered (Lists kernel_of Takes shows.steps) items s old mid) → EndsReport written end buffer mid new → EndsPlay kernel_of Takes report shows items s end old new
 play_out kernel_of Takes report shows items s (Ok u) ends.Done buffer old mid new played memory ended =
     reported_kept (Lists kernel_of Takes shows.steps) (IsPlayed kernel_of report shows) items s old mid new played ended.1
-play_out kernel_of Takes report shows items s (Ok u) ends.Fault buffer old mid new played memory ended = ended.0
-play_out kernel_of Takes report shows items s (Ok u) ends.Usage buffer old mid new played memory ended = ended.0
 play_out kernel_of Takes report shows items s (Ok u) ends.Trouble buffer old mid new played memory ended = absurd ended.0
 play_out kernel_of Takes report shows items s (Ok u) ends.OutputRefused buffer old mid new played memory ended = tt
+play_out kernel_of Takes report shows items s (Ok u) other buffer old mid new played memory ended = ended.0
 play_out kernel_of Takes report shows items s (Err stops.Memory) end buffer old mid new played memory ended =
     subst (λ x. EndsPlay kernel_of Takes report shows items s x old new) (sym ended.0) (answered_kept (Lists kernel_of Takes shows.steps) items s old mid new (memory refl) ended.1)
 play_out kernel_of Takes report shows items s (Err stops.Output) end buffer old mid new played memory ended = subst (λ x. EndsPlay kernel_of Takes report shows items s x old new) (sym ended) tt
@@ -45,14 +44,11 @@ pub faulty_out : (boot : BootView) (es : List Event) (fault : TraceFault) (end :
     → EndsPlain boot es end old old
 faulty_out boot es (faults.Refused at) end old h is = subst (λ x. EndsPlain boot es x old old) (sym is) ((at, inl h), Keeps-refl old)
 faulty_out boot es (faults.UnknownGuess at) end old h is = subst (λ x. EndsPlain boot es x old old) (sym is) ((at, inr h), Keeps-refl old)
-faulty_out boot es faults.NoStart end old h is = subst (λ x. EndsPlain boot es x old old) (sym is) (inr (Keeps-refl old))
-faulty_out boot es faults.Memory end old h is = subst (λ x. EndsPlain boot es x old old) (sym is) (inr (Keeps-refl old))
+faulty_out boot es s end old h is = subst (λ x. EndsPlain boot es x old old) (sym is) (inr (Keeps-refl old))
 
 pub faulty_flushed : (fault : TraceFault) (end : End) (buffer : List ℕ) → end ≡ trace_fault_end fault → IsFlushed end buffer
 faulty_flushed (faults.Refused at) end buffer is = subst (λ x. IsFlushed x buffer) (sym is) tt
-faulty_flushed (faults.UnknownGuess at) end buffer is = subst (λ x. IsFlushed x buffer) (sym is) tt
-faulty_flushed faults.NoStart end buffer is = subst (λ x. IsFlushed x buffer) (sym is) tt
-faulty_flushed faults.Memory end buffer is = subst (λ x. IsFlushed x buffer) (sym is) tt
+faulty_flushed s end buffer is = subst (λ x. IsFlushed x buffer) (sym is) tt
 
 -- a trace that happened again
 pub replayed_out : (held : List ℕ) (k : KernelView) (es : List Event) (left : List ℕ) (last : KernelView) (written : Result (Unit {0}) Stop) (end : End) (buffer : List ℕ) (old mid new : Option (List ℕ))

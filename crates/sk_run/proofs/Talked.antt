@@ -61,9 +61,7 @@ talks_more n (x ∷ ls) l old mid new text answer p h =
 
 next_number : (told : LineTold) (n : ℕ) → number_behind told n ≤ n + 1
 next_number (tells.Answered a) n = omega arith
-next_number (tells.Happened t) n = omega arith
-next_number tells.Nothing n = omega arith
-next_number (tells.Fault kind) n = omega arith
+next_number s n = omega arith
 
 answered_number : (asked : Result (Option Asked) FaultKind) (n : ℕ) (l : List ℕ) (old new : Talk) (text : List ℕ) → AnswersAs asked n l old new text → new.number ≤ old.number + 1
 answered_number (Ok (Some (asks.Question question))) n l old new text h = rw h.0 (omega arith)
@@ -146,18 +144,16 @@ goes_on play input n talk next left then old mid new l answer tail g t e h w = r
 pub ends_by_line : (play : Play) (input : Option (List ℕ)) (n : ℕ) (talk : Talk) (left then old mid new : Option (List ℕ)) (l : List ℕ) (tail : List (List ℕ)) (end : End) (buffer : List ℕ)
     → Going play input n talk left old mid → TakesLine left then (l ∷ tail) → is_end l ≡ true → IsWritten end buffer → Keeps mid new → EndsTalk play input end old new
 ends_by_line play input n talk left then old mid new l tail ends.Done buffer g t e w k = (g.ls, leaves_end input left then g.ls tail l g.leaves t e, (talk, g.text, g.talks, Appends-kept old mid new g.text g.written k))
-ends_by_line play input n talk left then old mid new l tail ends.Fault buffer g t e w k = w
-ends_by_line play input n talk left then old mid new l tail ends.Usage buffer g t e w k = w
 ends_by_line play input n talk left then old mid new l tail ends.Trouble buffer g t e w k = absurd w
 ends_by_line play input n talk left then old mid new l tail ends.OutputRefused buffer g t e w k = tt
+ends_by_line play input n talk left then old mid new l tail s buffer g t e w k = w
 
 pub ends_behind : (play : Play) (input : Option (List ℕ)) (n : ℕ) (talk : Talk) (left then old mid new : Option (List ℕ)) (end : End) (buffer : List ℕ)
     → Going play input n talk left old mid → TakesLine left then [] → IsWritten end buffer → Keeps mid new → EndsTalk play input end old new
 ends_behind play input n talk left then old mid new ends.Done buffer g t w k = (g.ls, leaves_all input left then g.ls g.leaves t, (talk, g.text, g.talks, Appends-kept old mid new g.text g.written k))
-ends_behind play input n talk left then old mid new ends.Fault buffer g t w k = w
-ends_behind play input n talk left then old mid new ends.Usage buffer g t w k = w
 ends_behind play input n talk left then old mid new ends.Trouble buffer g t w k = absurd w
 ends_behind play input n talk left then old mid new ends.OutputRefused buffer g t w k = tt
+ends_behind play input n talk left then old mid new s buffer g t w k = w
 
 pub ends_in_trouble : (play : Play) (input : Option (List ℕ)) (n : ℕ) (talk : Talk) (left old new : Option (List ℕ)) → Going play input n talk left old new → EndsTalk play input ends.Trouble old new
 ends_in_trouble play input n talk left old new g = (g.ls, leaves_some input left g.ls g.leaves, (talk, g.text, g.talks, g.written))

@@ -167,8 +167,7 @@ module _ {E V W F N : Type 0} (K : System E V W F N) (total : IsTotalOrder K.ord
     -- So it is with one event more.
     abbrev pub CleanAt : List (Event N) → Event N → Type 0
     CleanAt es (Taken n) = (e : E) → lacks n e ≡ true → (get (run K start (record_of K start es)) e ≡ None) × ((g : ℕ) → ¬ (IsTagOf K start es e g))
-    CleanAt es (Commit c) = Unit {0}
-    CleanAt es (Fail c) = Unit {0}
+    CleanAt es s = Unit {0}
 
     abbrev pub StandsClean : Record N → Type 0
     StandsClean r = AllClean r.undecided (λ g. []) start r.entries
@@ -179,8 +178,7 @@ module _ {E V W F N : Type 0} (K : System E V W F N) (total : IsTotalOrder K.ord
 
     clean_here : (es : List (Event N)) (e : Event N) → TakenClean (es ++ e ∷ []) → CleanAt es e
     clean_here es (Taken n) h = λ e lacking. h es [] n refl e lacking
-    clean_here es (Commit c) h = tt
-    clean_here es (Fail c) h = tt
+    clean_here es s h = tt
 
     mark_fresh : (r : Record N) (mark : Option ℕ) → IsFresh K start r mark → (c : ℕ) → mark ≡ Some c
         → still_marked (effects K start r.entries) c ≡ false

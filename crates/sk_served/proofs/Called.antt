@@ -14,8 +14,7 @@ use Rattle.sk_served.proofs.Stored.{all_kept, lacks, one_longer, told_all, told_
 -- what holds of an entry that is taken
 abbrev OfTaken : (Entry → Type 0) → Event Entry → Type 0
 OfTaken P (Taken n) = P n
-OfTaken P (Commit g) = Unit {0}
-OfTaken P (Fail g) = Unit {0}
+OfTaken P s = Unit {0}
 
 named : (a : Kernel) (e : Event Entry) → IsProper a e → OfTaken NamesNoReserved e
 named a (Taken (Runs r)) h = h.0

@@ -40,8 +40,7 @@ is_less o e = subst (λ r. T (is_lt r)) (sym e) tt
 
 less_is : (o : Ordering) → T (is_lt o) → o ≡ Less
 less_is Less p = refl
-less_is Equal p = absurd p
-less_is Greater p = absurd p
+less_is s p = absurd p
 
 to_T : (b : Bool) → b ≡ true → T b
 to_T true e = tt

@@ -1,7 +1,7 @@
 -- Notes that have the tags of the note before them are left out, one after another.
-use Rattle.sk_slots.proofs.Names.{◌≡◌, ℕ, zero, suc, ◌<◌, ◌≤◌, length, take, Bool, true, false, not, cond, inr, List}
-use Rattle.sk_slots.proofs.Names.{[], ◌∷◌, Option, refl, sym, ◌∙◌, ap, subst, arith, ◌==◌, slice_index_or, exact_bytes}
-use Rattle.sk_slots.proofs.Names.{Note, has, without, noted, last_tags, committed, Merges, merged, same_tags, past}
+use Rattle.sk_slots.proofs.Names.{◌≡◌, ℕ, zero, suc, ◌<◌, length, take, true, false, not, cond, inr, List, [], ◌∷◌}
+use Rattle.sk_slots.proofs.Names.{Option, refl, sym, ◌∙◌, ap, subst, arith, ◌==◌, slice_index_or, exact_bytes, Note}
+use Rattle.sk_slots.proofs.Names.{without, noted, last_tags, committed, Merges, merged, same_tags, past}
 use Rattle.std.specs.List.{remove}
 
 abbrev pub HasTags : List ℕ → Type 0
@@ -70,12 +70,6 @@ module _ {V : Type 0} where
   joined_more t i [] n lt at apart all = absurd (omega arith)
   joined_more t zero (x ∷ ns) n lt at apart all = (ap (λ (m : Note V). same_tags m.tags t) (sym at) ∙ apart, tt)
   joined_more t (suc i) (x ∷ ns) n lt at apart all = (all.0, joined_more x.tags i ns n (omega arith) at apart all.1)
-
-  pub all_taken : (i : ℕ) (ns : List (Note V)) → length ns ≤ i → take i ns ≡ ns
-  all_taken zero [] le = refl
-  all_taken (suc i) [] le = refl
-  all_taken zero (n ∷ ns) le = absurd (omega arith)
-  all_taken (suc i) (n ∷ ns) le = ap (λ ms. n ∷ ms) (all_taken i ns (omega arith))
 
   -- ---- a commit done twice
   -- each note rests on something, and not on the guess

@@ -1,11 +1,10 @@
 -- One slot of all is changed.
-use Rattle.sk_slots.proofs.Names.{◌≡◌, ℕ, List, [], ◌∷◌, Bool, true, false, cond, ◌||◌, ◌&&◌, not, Option, Some, None}
-use Rattle.sk_slots.proofs.Names.{◌+◌, ◌<◌, length, drop, refl, sym, ◌∙◌, ap, subst, ◌==◌, get_or, is_none, Result, Ok}
+use Rattle.sk_slots.proofs.Names.{same_Some, ◌≡◌, ℕ, List, [], ◌∷◌, Bool, true, false, cond, ◌||◌, not, Option, Some}
+use Rattle.sk_slots.proofs.Names.{None, ◌+◌, ◌<◌, length, drop, refl, sym, ◌∙◌, ap, subst, get_or, is_none, Result, Ok}
 use Rattle.sk_slots.proofs.Names.{Err, OnOk, OnErr, eq_by_cmp, Ordering, IsTotalOrder, eq_by_cmp_equiv, Equal-is}
 use Rattle.sk_slots.proofs.Names.{FinMap, IsAntisymmetric, get, insert, remove, get-insert, get-remove, true≢false}
-use Rattle.sk_slots.proofs.Names.{is_in, Note, has, without, noted, unwound, cut, committed, drop-cons, suc-eq-add-one}
-use Rattle.sk_slots.proofs.Names.{and_both, unwrap_or, SlotView, is_bare, is_empty, is_settled, IsPrepared, slot_in}
-use Rattle.sk_slots.proofs.Names.{HasPrepared}
+use Rattle.sk_slots.proofs.Names.{is_in, Note, has, unwound, cut, drop-cons, suc-eq-add-one, and_both, SlotView}
+use Rattle.sk_slots.proofs.Names.{is_bare, is_empty, is_settled, IsPrepared, slot_in, HasPrepared}
 
 empty_is : {A : Type 0} (xs : List A) → is_empty xs ≡ true → xs ≡ []
 empty_is [] is = refl
@@ -54,16 +53,6 @@ module _ {K V : Type 0} {R : K → K → Ordering} (total : IsTotalOrder R) (exa
         | false ↦ λ _. refl
       ] refl
 
-  -- a slot of which there is nothing, left out
-  pub one_gone : {A : Type 0} (f : SlotView V → A) (m n : FinMap R (SlotView V)) (k : K) (s : SlotView V) → get m k ≡ Some s → n ≡ remove m k → f (slot_in None) ≡ f s
-      → (q : K) → f (slot_in (get n q)) ≡ f (slot_in (get m q))
-  one_gone f m n k s here all is q =
-      ap (λ (x : FinMap R (SlotView V)). f (slot_in (get x q))) all ∙ ap (λ o. f (slot_in o)) (get-remove total m k q)
-      ∙ elim (eq_by_cmp R q k) as (λ b. eq_by_cmp R q k ≡ b → f (slot_in (cond b None (get m q))) ≡ f (slot_in (get m q))) [
-        | true ↦ λ e. is ∙ ap (λ o. f (slot_in o)) (sym (ap (get m) (same_by exact q k e) ∙ here))
-        | false ↦ λ _. refl
-      ] refl
-
   -- the same, where the slot was changed before
   pub same_gone : {A : Type 0} (f : SlotView V → A) (m n : FinMap R (SlotView V)) (k : K) (s w : SlotView V) → get m k ≡ Some s → n ≡ remove (insert m k w) k → f (slot_in None) ≡ f s
       → (q : K) → f (slot_in (get n q)) ≡ f (slot_in (get m q))
@@ -94,20 +83,9 @@ module _ {K V : Type 0} {R : K → K → Ordering} (total : IsTotalOrder R) (exa
 pub settled_of : {V : Type 0} (s : SlotView V) → is_bare s ≡ false → is_settled (record s { ready = None }) ≡ true
 settled_of s some = ap not some
 
-pub bare_of : (b : Bool) → not b ≡ false → b ≡ true
-bare_of true is = refl
-bare_of false is = sym is
-
-pub left_of : (b : Bool) → not b ≡ true → b ≡ false
-left_of true is = sym is
-left_of false is = refl
-
 -- slots that are settled, but for those of some keys
 abbrev pub Settled : {K V : Type 0} {R : K → K → Ordering} → List K → FinMap R (SlotView V) → Type 0
 Settled {K} {V} {R} ks m = (q : K) (s : SlotView V) → get m q ≡ Some s → is_in R ks q ≡ false → is_settled s ≡ true
-
-some_is : {A : Type 0} (x y : A) → Some x ≡ Some y → x ≡ y
-some_is x y same = ap (λ o. unwrap_or o x) same
 
 module _ {K V : Type 0} {R : K → K → Ordering} (total : IsTotalOrder R) (exact : IsAntisymmetric R) where
   -- one of those keys has another slot
@@ -122,7 +100,7 @@ module _ {K V : Type 0} {R : K → K → Ordering} (total : IsTotalOrder R) (exa
   pub settled_set : (ks : List K) (m n : FinMap R (SlotView V)) (k : K) (w : SlotView V) → n ≡ insert m k w → is_settled w ≡ true → Settled (k ∷ ks) m → Settled ks n
   settled_set ks m n k w all is settled q s here out =
       elim (eq_by_cmp R q k) as (λ b. eq_by_cmp R q k ≡ b → cond b (Some w) (get m q) ≡ Some s → is_settled s ≡ true) [
-        | true ↦ λ _ there. ap is_settled (sym (some_is w s there)) ∙ is
+        | true ↦ λ _ there. ap is_settled (sym (same_Some w s there)) ∙ is
         | false ↦ λ apart there. settled q s there (ap (λ b. b || is_in R ks q) apart ∙ out)
       ] refl (sym (get-insert total m k w q) ∙ ap (λ (x : FinMap R (SlotView V)). get x q) (sym all) ∙ here)
 

@@ -1,16 +1,15 @@
 -- What the proofs of this crate cite from outside of them, passed on from one place. Declares nothing.
-pub use Rattle.std.proofs.Common.{ap, Some, ◌++◌, length, Bool, ◌||◌, ℕ, subst, inr, true, drop, ◌∷◌, sym, None, ◌&&◌}
-pub use Rattle.std.proofs.Common.{suc, zero, ◌≤◌, ◌≡◌, take, ◌-◌, ◌+◌, false, Option, ◌<◌, arith, refl, List, [], ◌∙◌}
-pub use Rattle.std.proofs.Common.{not, cond}
+pub use Rattle.std.proofs.Common.{rules, ap, Some, ◌++◌, length, Bool, ◌||◌, ℕ, subst, inr, true, drop, ◌∷◌, sym, None}
+pub use Rattle.std.proofs.Common.{◌&&◌, suc, zero, ◌≤◌, ◌≡◌, take, ◌-◌, ◌+◌, false, Option, ◌<◌, arith, refl, List, []}
+pub use Rattle.std.proofs.Common.{◌∙◌, not, cond}
 pub use Rattle.std.proofs.Math.Numerals.{suc-eq-add-one}
 pub use Rattle.std.proofs.Math.Seq.{drop-cons}
-pub use Rattle.std.proofs.lemmas.Bool.{true≢false, eqb-true, or_left}
+pub use Rattle.std.proofs.lemmas.Bool.{true≢false, eqb-true, or_left, not-true, not-false}
 pub use Rattle.std.specs.Cmp.{eq_by_cmp_equiv, Equal-is, IsTotalOrder}
 pub use Rattle.std.specs.FinMap.{get-remove, contains_key-keys, get-insert, FinMap, get, remove, get-empty}
 pub use Rattle.std.specs.FinMap.{IsAntisymmetric, insert}
 pub use Rattle.std.specs.List.{prefix_len}
-pub use Rattle.std.specs.List.Retain.{RetainsInTurn}
-pub use Rattle.std.specs.Option.{option_copied_mut, unwrap_or, option_copied}
+pub use Rattle.std.specs.Option.{option_copied_mut, unwrap_or}
 pub use Rattle.std.specs.Ordering.{eq_by_cmp}
 pub use Rattle.std.specs.Prelude.{slice_set, Ok, is_none, Err, is_some, OnErr, slice_index_or, Result, OnOk, ◌==◌}
 pub use Rattle.std.specs.Prelude.{get_or}
@@ -29,3 +28,6 @@ pub use Rattle.sk_slots.specs.Kept.{CanGoBack, seen, newest_tags, rewound}
 pub use Rattle.sk_slots.specs.Slot.{goes_unnoted, noted_on, is_empty, is_bare, SlotView, is_settled, IsPrepared}
 pub use Rattle.sk_slots.specs.Slots.{IsReady, log_at, slot_in, HasPrepared, found, look_at, AllSettled, SettledBut}
 pub use Rattle.sk_slots.specs.declared.notes.Kept.{Kept}
+pub use Rattle.std.proofs.lemmas.List.{take_all, drop_all}
+pub use Rattle.std.proofs.lemmas.List.Sums.{prefix_len-le-length}
+pub use Rattle.std.proofs.lemmas.Option.{same_Some}

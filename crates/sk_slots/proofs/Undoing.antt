@@ -1,10 +1,10 @@
 -- Notes as they are kept: what is seen of them where one is added, joined with another, left out or put back.
-use Rattle.sk_slots.proofs.Names.{◌≡◌, ℕ, zero, suc, ◌+◌, ◌-◌, ◌<◌, ◌≤◌, length, take, drop, Bool, true, false, not}
-use Rattle.sk_slots.proofs.Names.{cond, List, [], ◌∷◌, ◌++◌, Option, Some, None, refl, sym, ◌∙◌, ap, subst, arith, ◌==◌}
+use Rattle.sk_slots.proofs.Names.{◌≡◌, ℕ, zero, suc, ◌+◌, ◌-◌, ◌<◌, ◌≤◌, length, take, drop, true, false, not, cond}
+use Rattle.sk_slots.proofs.Names.{List, [], ◌∷◌, ◌++◌, Option, Some, None, refl, sym, ◌∙◌, ap, subst, arith, ◌==◌}
 use Rattle.sk_slots.proofs.Names.{is_none, is_some, slice_index_or, slice_set, prefix_len, true≢false, eqb-true, Note}
-use Rattle.sk_slots.proofs.Names.{has, without, noted, last_tags, unwound, committed, merged, same_tags, value_before}
-use Rattle.sk_slots.proofs.Names.{CanJoin, FitsBefore, Before, Was, Changed, Kept, newest_tags, rewound, seen}
-use Rattle.sk_slots.proofs.Names.{CanGoBack, is_empty, goes_unnoted, noted_on}
+use Rattle.sk_slots.proofs.Names.{has, without, noted, last_tags, unwound, committed, same_tags, value_before, CanJoin}
+use Rattle.sk_slots.proofs.Names.{FitsBefore, Before, Was, Changed, Kept, newest_tags, rewound, seen, CanGoBack}
+use Rattle.sk_slots.proofs.Names.{is_empty, noted_on}
 use Rattle.std.specs.List.{remove}
 use Rattle.sk_slots.proofs.Joins.{AllFree, HasTags, without_twice}
 
@@ -242,21 +242,9 @@ module _ {A : Type 0} where
   drop_more (suc i) [] x le = absurd (omega arith)
   drop_more (suc i) (y ∷ xs) x le = drop_more i xs x (omega arith)
 
-  pub drop_all : (i : ℕ) (xs : List A) → length xs ≤ i → drop i xs ≡ []
-  drop_all zero [] le = refl
-  drop_all (suc i) [] le = refl
-  drop_all zero (x ∷ xs) le = absurd (omega arith)
-  drop_all (suc i) (x ∷ xs) le = drop_all i xs (omega arith)
-
   pub long_more : (xs : List A) (x : A) → length (xs ++ x ∷ []) ≡ suc (length xs)
   long_more [] x = refl
   long_more (y ∷ xs) x = ap suc (long_more xs x)
-
-  pub take_all : (i : ℕ) (xs : List A) → length xs ≤ i → take i xs ≡ xs
-  take_all zero [] le = refl
-  take_all (suc i) [] le = refl
-  take_all zero (x ∷ xs) le = absurd (omega arith)
-  take_all (suc i) (x ∷ xs) le = ap (λ ys. x ∷ ys) (take_all i xs (omega arith))
 
   pub set_length : (xs : List A) (i : ℕ) (x : A) → length (slice_set xs i x) ≡ length xs
   set_length [] i x = refl
@@ -279,19 +267,7 @@ module _ {V U : Type 0} where
   newest_more t [] k = refl
   newest_more t (x ∷ ks) k = newest_more x.tags ks k
 
-  -- the first that rests on a guess stands among them, or behind them
-  pub prefix_within : (g : ℕ) (ks : List (Kept V U)) → prefix_len (λ n. not (has g n.tags)) ks ≤ length ks
-  prefix_within g [] = omega arith
-  prefix_within g (k ∷ ks) =
-      let rest = prefix_within g ks in
-      elim (has g k.tags) as (λ b. cond (not b) (1 + prefix_len (λ n. not (has g n.tags)) ks) 0 ≤ suc (length ks)) [ true ↦ omega arith | false ↦ omega (arith, rest) ]
-
 module _ {V U : Type 0} (undone : U → V → V) (fits : U → V → Type 0) where
-  -- no notes
-  pub nothing_in : (now was : Option V) (ks : List (Kept V U)) → length ks ≡ 0 → (seen undone now ks ≡ seen undone was ks) × CanGoBack undone fits now ks
-  nothing_in now was [] none = (refl, tt)
-  nothing_in now was (k ∷ ks) none = absurd (omega arith)
-
   pub left_can_at : (now : Option V) (i j : ℕ) (ks : List (Kept V U)) (n m : Kept V U) → i ≡ suc j → i < length ks → n ≡ slice_index_or ks i n → m ≡ slice_index_or (remove ks i) j m
       → CanGoBack undone fits now ks → CanJoin fits n.before m.before
   left_can_at now i j ks n m next lt is was can =

@@ -1,5 +1,5 @@
 -- Notes as they are kept, with the value before a write or the undo of a change, and the log that is seen of them.
-use Rattle.std.specs.Prelude.{◌≡◌, ℕ, List, [], ◌∷◌, Option, Some, None}
+use Rattle.std.specs.Prelude.{ℕ, List, [], ◌∷◌, Option}
 use Rattle.sk_record.specs.Notes.{Note}
 use Rattle.sk_inversion.specs.Undone.{value_before, FitsBefore}
 use Rattle.sk_inversion.specs.declared.before.Before.{Before}

@@ -1,7 +1,7 @@
 -- What a key has, with the value before each write that can be undone, the oldest first.
-use Rattle.std.specs.Prelude.{◌≡◌, ◌&&◌, not, ℕ, Bool, true, false, List, [], ◌∷◌, ◌++◌, Option, Some, None, is_none, refl, if◌then◌else◌}
+use Rattle.std.specs.Prelude.{◌≡◌, ◌&&◌, not, ℕ, Bool, true, false, List, [], ◌∷◌, ◌++◌, Option, Some, is_none, refl, if◌then◌else◌}
 use Rattle.std.specs.Coded.{Coded, code_by, coded×, coded_ℕ, coded_list, coded_option}
-use Rattle.sk_record.specs.Notes.{Note, last_tags, unwound, cut, committed}
+use Rattle.sk_record.specs.Notes.{Note, last_tags}
 use Rattle.sk_record.specs.Merged.{same_tags}
 
 -- what a key has, its notes, and the tags of a note for which there is room

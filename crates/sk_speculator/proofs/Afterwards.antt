@@ -1,11 +1,11 @@
 -- The parts of a kernel after each call, and what they then are.
-use Rattle.sk_speculator.proofs.Names.{◌≡◌, ℕ, ◌<◌, ◌+◌, Bool, true, false, not, cond, ◌||◌, List, [], ◌∷◌, ◌++◌, map}
-use Rattle.sk_speculator.proofs.Names.{Option, Some, None, Result, Ok, Err, inl, inr, refl, sym, ◌∙◌, ap, subst, arith}
-use Rattle.sk_speculator.proofs.Names.{◌==◌, IfSome, list_any, IsStrictlySortedBy, nat_cmp, Ordering, IsTotalOrder}
-use Rattle.sk_speculator.proofs.Names.{Equal-is, IsAntisymmetric, empty, get-empty, or_assoc, true≢false, false≢true}
-use Rattle.sk_speculator.proofs.Names.{eqb-true, eq-eqb, or_left, or_right, or_cases, or_parts, list_any-append}
-use Rattle.sk_speculator.proofs.Names.{sorted_from_strictly_increasing, unwrap_or, MarkedEffect, is_in, is_marked}
-use Rattle.sk_speculator.proofs.Names.{written_value, writes, marked_effect, said_by, Note, has, without, noted}
+use Rattle.sk_speculator.proofs.Names.{without_none, ◌≡◌, ℕ, ◌<◌, ◌+◌, Bool, true, false, cond, ◌||◌, List, [], ◌∷◌}
+use Rattle.sk_speculator.proofs.Names.{◌++◌, map, Option, Some, None, Ok, Err, inl, inr, refl, sym, ◌∙◌, ap, subst}
+use Rattle.sk_speculator.proofs.Names.{arith, ◌==◌, IfSome, list_any, IsStrictlySortedBy, nat_cmp, Ordering}
+use Rattle.sk_speculator.proofs.Names.{IsTotalOrder, Equal-is, IsAntisymmetric, empty, get-empty, or_assoc, true≢false}
+use Rattle.sk_speculator.proofs.Names.{false≢true, eqb-true, eq-eqb, or_left, or_right, or_cases, or_parts}
+use Rattle.sk_speculator.proofs.Names.{list_any-append, sorted_from_strictly_increasing, unwrap_or, MarkedEffect, is_in}
+use Rattle.sk_speculator.proofs.Names.{is_marked, written_value, writes, marked_effect, said_by, Note, has, noted}
 use Rattle.sk_speculator.proofs.Names.{last_tags, unwound, cut, committed, StatusIs, Taken, Commit, Fail, marks}
 use Rattle.sk_speculator.proofs.Names.{all_recorded, no_record, Open, numbers, tags_at, step_tags, opened, still_open}
 use Rattle.sk_speculator.proofs.Names.{not_struck, IsTidy, IsGrowing, Machine, Fails, lightened, not_dropped}
@@ -13,9 +13,9 @@ use Rattle.sk_speculator.proofs.Names.{with_status, with_drawn, with_failure, Me
 use Rattle.sk_speculator.proofs.Names.{MergedStands, joined, Status, Undecided, Struck, union_is_tags, AllSome, tidy_of}
 use Rattle.sk_speculator.proofs.Names.{grows_of, rests_of, no_tags, tags_by, with_tags, AllExact, Covers, with_entities}
 use Rattle.sk_speculator.proofs.Names.{redeemed_at, KeptView, AreStatuses, known, none_drawn, redeemed_kept, keys_of}
-use Rattle.sk_speculator.proofs.Names.{Token, Redeemed, OpenGuess, opens_of, open_in, open_is, carries, none_carried}
-use Rattle.sk_speculator.proofs.Names.{uncut, exact_as, exact_more, begun, tags_written, Deed, Entry, effect_of, again}
-use Rattle.sk_speculator.proofs.Names.{IsNext, with_told, told_more, untagged, takes_told, commits_told, fails_told}
+use Rattle.sk_speculator.proofs.Names.{Token, OpenGuess, opens_of, open_in, open_is, carries, none_carried, uncut}
+use Rattle.sk_speculator.proofs.Names.{exact_as, exact_more, begun, tags_written, Deed, Entry, effect_of, again, IsNext}
+use Rattle.sk_speculator.proofs.Names.{with_told, told_more, untagged, takes_told, commits_told, fails_told}
 use Rattle.sk_speculator.proofs.Names.{stands_told, performs, allowed, first, SlotView, look_at, log_at, merges, Said}
 use Rattle.sk_speculator.proofs.Names.{said_at, Parts, undo_state_of, machine_of, any_rests, Performed, IsWhole}
 use Rattle.sk_speculator.proofs.Names.{IsSound, IsSame, says, next_of, Takes, Commits, FailsIn}
@@ -40,12 +40,6 @@ module _ {K V : Type 0} (R : K → K → Ordering) (exact : IsAntisymmetric R) w
       ]
 
 -- ---- logs that do not rest on a guess
-has_without : (g : ℕ) (tags : List ℕ) → has g tags ≡ false → without g tags ≡ tags
-has_without g [] none = refl
-has_without g (t ∷ tags) none =
-    let parts = or_parts _ _ none in
-    ap (λ b. cond (not b) (t ∷ without g tags) (without g tags)) parts.0 ∙ ap (λ ts. t ∷ ts) (has_without g tags parts.1)
-
 noted_there : {V : Type 0} (tags : List ℕ) (v : Option V) (rest : List (Note V)) → (tags ≡ [] → ⊥) → noted true tags v rest ≡ record { tags = tags; before = v } ∷ rest
 noted_there [] v rest some = absurd (some refl)
 noted_there (t ∷ tags) v rest some = refl
@@ -54,7 +48,7 @@ uncommitted : {V : Type 0} (g : ℕ) (log : List (Note V)) → AllSome log → c
 uncommitted g [] some none = refl
 uncommitted g (n ∷ ns) some none =
     let parts = or_parts _ _ none in
-    (λ i. noted true (has_without g n.tags parts.0 i) n.before (uncommitted g ns some.1 parts.1 i)) ∙ noted_there n.tags n.before ns some.0
+    (λ i. noted true (without_none g n.tags parts.0 i) n.before (uncommitted g ns some.1 parts.1 i)) ∙ noted_there n.tags n.before ns some.0
 
 unmoved : {V : Type 0} (g : ℕ) (log : List (Note V)) (now : Option V) → carries g log ≡ false → unwound g log now ≡ now
 unmoved g [] now none = refl
@@ -332,27 +326,12 @@ known_agrees v os status g are =
       ] refl
     ] refl
 
--- what an answer has of these three
-abbrev undecided_in : ℕ → Result Redeemed Token → ℕ
-undecided_in d (Ok (redeemed_as.Undecided g)) = g
-undecided_in d (Ok (redeemed_as.Struck g)) = d
-undecided_in d (Err back) = d
-
-abbrev struck_in : ℕ → Result Redeemed Token → ℕ
-struck_in d (Ok (redeemed_as.Undecided g)) = d
-struck_in d (Ok (redeemed_as.Struck g)) = g
-struck_in d (Err back) = d
-
-abbrev back_in : Token → Result Redeemed Token → Token
-back_in d (Ok r) = d
-back_in d (Err back) = back
-
 -- a token is of a guess that is undecided, or struck, or comes back
 module _ (v : KeptView) (os : List Open) (t : Token) where
   known_undecided : (g : ℕ) → redeemed_at (known v os t.id) t ≡ Ok (redeemed_as.Undecided g) → (has t.id (numbers os) ≡ true) × (g ≡ t.id)
   known_undecided g is =
       elim (has t.id (numbers os)) as (λ b. has t.id (numbers os) ≡ b → redeemed_at (cond b (Some Undecided) (cond (has t.id v.struck) (Some Struck) None)) t ≡ Ok (redeemed_as.Undecided g) → (has t.id (numbers os) ≡ true) × (g ≡ t.id)) [
-        | true ↦ λ here told. (here, sym (ap (undecided_in g) told))
+        | true ↦ λ here told. (here, cc)
         | false ↦ λ _. elim (has t.id v.struck) as (λ b. redeemed_at (cond b (Some Struck) None) t ≡ Ok (redeemed_as.Undecided g) → (has t.id (numbers os) ≡ true) × (g ≡ t.id)) [ true ↦ λ told. cc | false ↦ λ told. cc ]
       ] refl is
 
@@ -361,7 +340,7 @@ module _ (v : KeptView) (os : List Open) (t : Token) where
       elim (has t.id (numbers os)) as (λ b. redeemed_at (cond b (Some Undecided) (cond (has t.id v.struck) (Some Struck) None)) t ≡ Ok (redeemed_as.Struck g) → (has t.id v.struck ≡ true) × (g ≡ t.id)) [
         | true ↦ λ told. cc
         | false ↦ elim (has t.id v.struck) as (λ b. has t.id v.struck ≡ b → redeemed_at (cond b (Some Struck) None) t ≡ Ok (redeemed_as.Struck g) → (has t.id v.struck ≡ true) × (g ≡ t.id)) [
-          | true ↦ λ here told. (here, sym (ap (struck_in g) told))
+          | true ↦ λ here told. (here, cc)
           | false ↦ λ _ told. cc
         ] refl
       ] is
@@ -372,7 +351,7 @@ module _ (v : KeptView) (os : List Open) (t : Token) where
         | true ↦ λ _ told. cc
         | false ↦ λ closed. elim (has t.id v.struck) as (λ b. has t.id v.struck ≡ b → redeemed_at (cond b (Some Struck) None) t ≡ Err back → (has t.id (numbers os) ≡ false) × (has t.id v.struck ≡ false) × (back ≡ t)) [
           | true ↦ λ _ told. cc
-          | false ↦ λ out told. (closed, out, sym (ap (back_in t) told))
+          | false ↦ λ out told. (closed, out, cc)
         ] refl
       ] refl is
 
@@ -394,7 +373,7 @@ module _ (v : KeptView) (os : List Open) (t : Token) where
   back_told back is =
       elim (t.kernel == v.kernel) as (λ b. (t.kernel == v.kernel) ≡ b → cond b (redeemed_at (known v os t.id) t) (Err t) ≡ Err back → (t.kernel ≡ v.kernel → (has t.id (numbers os) ≡ false) × (has t.id v.struck ≡ false)) × (back ≡ t)) [
         | true ↦ λ _ told. let there = known_back back told in ((λ _. (there.0, there.1)), there.2)
-        | false ↦ λ other told. ((λ same. absurd (true≢false (sym (eq-eqb t.kernel v.kernel same) ∙ other))), sym (ap (back_in t) told))
+        | false ↦ λ other told. ((λ same. absurd (true≢false (sym (eq-eqb t.kernel v.kernel same) ∙ other))), cc)
       ] refl is
 
 -- what stands after a token came back or was spent

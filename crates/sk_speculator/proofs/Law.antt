@@ -1,11 +1,11 @@
 -- Each call is a move of the machine, for statuses that agree with what is kept of guesses.
-use Rattle.sk_speculator.proofs.Names.{◌≡◌, ℕ, List, [], ◌∷◌, Option, Some, None, inl, inr, refl, sym, ◌∙◌, ap, subst}
-use Rattle.sk_speculator.proofs.Names.{arith, ◌⊎◌, unwrap_or, FinMap, false≢true, has, without, System, Event, Taken}
-use Rattle.sk_speculator.proofs.Names.{Commit, Fail, numbers, IsPlainRun, with_drawn, with_failure, with_status, Status}
-use Rattle.sk_speculator.proofs.Names.{has_filter, and_both, AreStatuses, open_is, IsNext, Moves, Starts, Told}
-use Rattle.sk_speculator.proofs.Names.{TakenOut, with_told, told_more, tells, look_at, log_at, said_at, Parts}
-use Rattle.sk_speculator.proofs.Names.{machine_of, next_of, Call, Does, Tells, Returns, events_of, Happens, Calls}
-use Rattle.sk_speculator.proofs.Names.{IsFirst, OwnRunsAsPlain}
+use Rattle.sk_speculator.proofs.Names.{TakesOut, ◌≡◌, ℕ, List, [], ◌∷◌, Option, Some, None, inl, inr, refl, sym, ◌∙◌}
+use Rattle.sk_speculator.proofs.Names.{ap, subst, arith, ◌⊎◌, unwrap_or, FinMap, false≢true, has, without, System}
+use Rattle.sk_speculator.proofs.Names.{Event, Taken, Commit, Fail, numbers, IsPlainRun, with_drawn, with_failure}
+use Rattle.sk_speculator.proofs.Names.{with_status, Status, has_filter, and_both, AreStatuses, open_is, IsNext, Moves}
+use Rattle.sk_speculator.proofs.Names.{Starts, Told, TakenOut, with_told, told_more, tells, look_at, log_at, said_at}
+use Rattle.sk_speculator.proofs.Names.{Parts, machine_of, next_of, Call, Does, Tells, Returns, events_of, Happens}
+use Rattle.sk_speculator.proofs.Names.{Calls, IsFirst, OwnRunsAsPlain}
 use Rattle.sk_record.specs.declared.status.Status.TheVariants as status_as
 use Rattle.sk_deeds.specs.Told as deeds
 
@@ -27,10 +27,10 @@ none_number g is = cc
 
 module _ {K V O F N : Type 0} (own : System K V (ℕ × O) F N) where
   -- where an event leads
-  record Goes (a : Parts K V O) (status : ℕ → Option Status) (e : Event N) (b : Parts K V O) : Type 0 where
-    later : ℕ → Option Status
-    agrees : AreStatuses b.guesses b.opens later
-    moves : Moves own (machine_of own.order a status) e (machine_of own.order b later)
+  pub record Goes (a : Parts K V O) (status : ℕ → Option Status) (e : Event N) (b : Parts K V O) : Type 0 where
+    pub later : ℕ → Option Status
+    pub agrees : AreStatuses b.guesses b.opens later
+    pub moves : Moves own (machine_of own.order a status) e (machine_of own.order b later)
 
   fresh : (a : Parts K V O) (status : ℕ → Option Status) (mark : Option ℕ) → AreStatuses a.guesses a.opens status → (mark ≡ None) ⊎ (mark ≡ Some (next_of a.guesses)) → IsNext (machine_of own.order a status) mark
   fresh a status mark are (inl none) g h is le = none_number g (sym none ∙ is)
@@ -38,7 +38,7 @@ module _ {K V O F N : Type 0} (own : System K V (ℕ × O) F N) where
       let same : next_of a.guesses ≡ g = ap (λ o. unwrap_or o 0) (sym next ∙ is) in
       are.fresh h (omega (arith, same, le))
 
-  goes : (a : Parts K V O) (status : ℕ → Option Status) (e : Event N) (b : Parts K V O) → AreStatuses a.guesses a.opens status → Happens own a e b → Goes a status e b
+  pub goes : (a : Parts K V O) (status : ℕ → Option Status) (e : Event N) (b : Parts K V O) → AreStatuses a.guesses a.opens status → Happens own a e b → Goes a status e b
   goes a status (Taken n) b are d = record {
     later = with_drawn (own.mark n) status;
     agrees = d.takes.agrees status are;
@@ -55,11 +55,22 @@ module _ {K V O F N : Type 0} (own : System K V (ℕ × O) F N) where
     moves = (open_is (status g) (sym (are.undecided g) ∙ f.undecided), f.fails status are);
   }
 
-  forgotten : (a : Parts K V O) (status : ℕ → Option Status) (g : ℕ) → AreStatuses a.guesses a.opens status → AreStatuses (record a.guesses { struck = without g a.guesses.struck }) a.opens status
+  pub forgotten : (a : Parts K V O) (status : ℕ → Option Status) (g : ℕ) → AreStatuses a.guesses a.opens status → AreStatuses (record a.guesses { struck = without g a.guesses.struck }) a.opens status
   forgotten a status g are = record {
     undecided = are.undecided;
     struck = λ h here. are.struck h (and_both _ _ (sym (has_filter _ h a.guesses.struck) ∙ here)).1;
     fresh = are.fresh;
+  }
+
+  -- an output that is taken out of the kernel is taken out of the machine
+  pub taken_from : (a : Parts K V O) (status : ℕ → Option Status) (t : ℕ) (output : O) (b : Parts K V O) → TakesOut a t output b → TakenOut (machine_of own.order a status) t output (machine_of own.order b status)
+  taken_from a status t output b out = record {
+    look = λ k. ap (λ (p : Parts K V O). look_at own.order p.slots k) out.same;
+    logs = λ k. ap (λ (p : Parts K V O). log_at own.order p.slots k) out.same;
+    opens = ap (λ (p : Parts K V O). p.opens) out.same;
+    status = λ g. refl;
+    first = out.first;
+    others = out.others;
   }
 
   -- where any calls lead
@@ -80,15 +91,7 @@ module _ {K V O F N : Type 0} (own : System K V (ℕ × O) F N) where
       record { later = more.later; agrees = more.agrees; calls = (machine_of own.order m one.later, one.moves, more.calls) }
   leads told a status (Tells t output ∷ cs) last b are (m, out, rest) =
       let more = leads (told_more t output told) m status cs last b (subst (λ (p : Parts K V O). AreStatuses p.guesses p.opens status) (sym out.same) are) rest in
-      let taken : TakenOut (machine_of own.order a status) t output (machine_of own.order m status) = record {
-        look = λ k. ap (λ (p : Parts K V O). look_at own.order p.slots k) out.same;
-        logs = λ k. ap (λ (p : Parts K V O). log_at own.order p.slots k) out.same;
-        opens = ap (λ (p : Parts K V O). p.opens) out.same;
-        status = λ g. refl;
-        first = out.first;
-        others = out.others;
-      } in
-      record { later = more.later; agrees = more.agrees; calls = (machine_of own.order m status, taken, more.calls) }
+      record { later = more.later; agrees = more.agrees; calls = (machine_of own.order m status, taken_from a status t output m out, more.calls) }
   leads told a status (Returns g ∷ cs) last b are (m, forgets, rest) =
       let more = leads told m status cs last b (subst (λ (p : Parts K V O). AreStatuses p.guesses p.opens status) (sym forgets.left) (forgotten a status g are)) rest in
       record {
@@ -97,14 +100,14 @@ module _ {K V O F N : Type 0} (own : System K V (ℕ × O) F N) where
         calls = subst (λ (p : Parts K V O). deeds.Calls own told (machine_of own.order p status) (told_of cs) last (machine_of own.order b more.later)) forgets.left more.calls;
       }
 
-  none_yet : (start : FinMap own.order V) (a : Parts K V O) → IsFirst own start a → AreStatuses a.guesses a.opens (λ g. None)
+  pub none_yet : (start : FinMap own.order V) (a : Parts K V O) → IsFirst own start a → AreStatuses a.guesses a.opens (λ g. None)
   none_yet start a is = record {
     undecided = λ g. ap (λ os. has g (numbers os)) is.opens;
     struck = λ g here. absurd (false≢true (sym (ap (has g) is.struck) ∙ here));
     fresh = λ g above. refl;
   }
 
-  starts : (start : FinMap own.order V) (a : Parts K V O) → IsFirst own start a → Starts own start (machine_of own.order a (λ g. None))
+  pub starts : (start : FinMap own.order V) (a : Parts K V O) → IsFirst own start a → Starts own start (machine_of own.order a (λ g. None))
   starts start a is = record { look = is.look; logs = is.log; opens = is.opens; status = λ g. refl; texts = λ t. ap (λ xs. said_at xs t) is.said }
 
 pub runs_whole : {K V O F N : Type 0} (own : System K V (ℕ × O) F N) → OwnRunsAsPlain own

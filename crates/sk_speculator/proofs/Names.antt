@@ -1,13 +1,14 @@
 -- What the proofs of this crate cite from outside of them, passed on from one place. Declares nothing.
 pub use Rattle.std.proofs.Common.{Some, Bool, subst, inr, Ok, ◌∷◌, ◌&&◌, Err, inl, zero, ◌≡◌, ◌+◌, Option, arith, map}
 pub use Rattle.std.proofs.Common.{List, ap, ◌++◌, length, ◌||◌, ℕ, true, drop, sym, None, suc, ◌≤◌, take, false, ◌<◌}
-pub use Rattle.std.proofs.Common.{refl, Result, [], ◌∙◌, nat_lt, not, cond}
+pub use Rattle.std.proofs.Common.{refl, [], ◌∙◌, nat_lt, not, cond}
 pub use Rattle.std.proofs.Math.Bool.{or_assoc}
 pub use Rattle.std.proofs.Math.Numerals.{suc-eq-add-one}
 pub use Rattle.std.proofs.Math.Seq.{drop-cons}
 pub use Rattle.std.proofs.lemmas.Bool.{ltb-false, true≢false, or_right, or_cases, or_left, leb-false, or_parts}
 pub use Rattle.std.proofs.lemmas.Bool.{false≢true, eqb-true, ltb-true, eq-eqb, and_parts}
-pub use Rattle.std.proofs.lemmas.List.{append-nil}
+pub use Rattle.std.proofs.lemmas.List.{append-nil, take_all, drop_all}
+pub use Rattle.std.proofs.lemmas.Grind.{drop_more_same}
 pub use Rattle.std.proofs.lemmas.List.Folds.{list_any-append}
 pub use Rattle.std.proofs.lemmas.Map.Keys.{sorted_from_strictly_increasing}
 pub use Rattle.std.specs.Cmp.{eq_by_cmp_equiv, Equal-is, IsTotalOrder}
@@ -35,7 +36,6 @@ pub use Rattle.sk_guesses.specs.Kept.{redeemed_kept, struck_with, forgotten, wit
 pub use Rattle.sk_guesses.specs.Kept.{HasKeptRoom, known, keys_of, none_drawn, KeptView}
 pub use Rattle.sk_guesses.specs.Opens.{open_in, left_to, dependents_of, opens_of, OpenGuess, not_resting}
 pub use Rattle.sk_guesses.specs.Token.{Token}
-pub use Rattle.sk_guesses.specs.declared.guess.Redeemed.{Redeemed}
 pub use Rattle.sk_ids.specs.SameLemma.{exact_bytes}
 pub use Rattle.sk_outputs.specs.Said.{said_at, Said}
 pub use Rattle.sk_record.proofs.Machine.{has_filter}
@@ -61,6 +61,8 @@ pub use Rattle.sk_slots.specs.Slot.{goes_unnoted, is_bare, is_settled, noted_on,
 pub use Rattle.sk_slots.specs.Slots.{log_at, found, SettledBut, IsReady, slot_in, look_at, AllSettled}
 pub use Rattle.sk_speculator.specs.Calls.{next_of, Forgets, FailsIn, Commits, TookBack, IsStranger, Takes}
 pub use Rattle.sk_speculator.specs.Law.{Returns, Does, IsFirst, Tells, Calls, events_of, OwnRunsAsPlain, Happens, Call}
+pub use Rattle.sk_speculator.specs.Law.{TakesOut}
 pub use Rattle.sk_speculator.specs.Parts.{Performed, IsWhole, IsSame, undo_state_of, any_rests, Parts, machine_of, says}
 pub use Rattle.sk_speculator.specs.Parts.{IsSound, made_by}
 pub use Rattle.sk_speculator.specs.declared.decided.Undone.{Undone}
+pub use Rattle.sk_ids.proofs.Newest.{without_none}

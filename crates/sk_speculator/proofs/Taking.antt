@@ -1,5 +1,5 @@
 -- A step that is taken, with a guess of its own or none, and one that is refused.
-use Rattle.sk_speculator.proofs.Names.{◌≡◌, ℕ, suc, length, ◌<◌, ◌≤◌, ◌+◌, true, false, nat_lt, ◌||◌, List, [], ◌∷◌}
+use Rattle.sk_speculator.proofs.Names.{◌≡◌, ℕ, suc, length, ◌<◌, ◌≤◌, true, false, nat_lt, ◌||◌, List, [], ◌∷◌}
 use Rattle.sk_speculator.proofs.Names.{◌++◌, Option, Some, None, refl, sym, ◌∙◌, ap, subst, arith, IsStrictlySortedBy}
 use Rattle.sk_speculator.proofs.Names.{nat_cmp, Ordering, IsTotalOrder, IsAntisymmetric, false≢true, eq-eqb, ltb-true}
 use Rattle.sk_speculator.proofs.Names.{ltb-false, or_left, or_right, append-nil, is_in, is_marked, has, last_tags}

@@ -1,7 +1,7 @@
 -- Writes, one after another, and the tags of keys.
-use Rattle.sk_speculator.proofs.Names.{◌≡◌, ℕ, zero, suc, ◌+◌, ◌<◌, ◌≤◌, length, take, drop, arith, Bool, true, false}
-use Rattle.sk_speculator.proofs.Names.{cond, ◌||◌, List, [], ◌∷◌, ◌++◌, Option, refl, sym, ◌∙◌, ap, subst, get_or}
-use Rattle.sk_speculator.proofs.Names.{slice_set, OnOk, OnErr, is_err, drop-cons, suc-eq-add-one, eq_by_cmp, Ordering}
+use Rattle.sk_speculator.proofs.Names.{◌≡◌, ℕ, zero, suc, ◌+◌, ◌<◌, length, take, drop, arith, Bool, true, false, cond}
+use Rattle.sk_speculator.proofs.Names.{◌||◌, List, [], ◌∷◌, ◌++◌, Option, refl, sym, ◌∙◌, ap, subst, get_or, slice_set}
+use Rattle.sk_speculator.proofs.Names.{OnOk, OnErr, is_err, drop-cons, suc-eq-add-one, eq_by_cmp, Ordering}
 use Rattle.sk_speculator.proofs.Names.{IsTotalOrder, eq_by_cmp_equiv, Equal-is, IsAntisymmetric, true≢false, or_left}
 use Rattle.sk_speculator.proofs.Names.{or_right, append-nil, exact_bytes, is_in, written_value, Note, noted, last_tags}
 use Rattle.sk_speculator.proofs.Names.{Merges, all_kept, left_out, SlotView, goes_unnoted, noted_on, look_at, log_at}
@@ -108,18 +108,6 @@ take_next {X} xs i x lt is = let next : i + 1 ≡ suc i = omega arith in ap (λ 
   by_place (y ∷ xs) zero lt is = ap (λ z. z ∷ []) (sym is)
   by_place (y ∷ xs) (suc i) lt is = ap (λ ys. y ∷ ys) (by_place xs i (omega arith) is)
 
-pub take_all : {X : Type 0} (xs : List X) (i : ℕ) → length xs ≤ i → take i xs ≡ xs
-take_all [] zero le = refl
-take_all [] (suc i) le = refl
-take_all (x ∷ xs) zero le = absurd (omega arith)
-take_all (x ∷ xs) (suc i) le = ap (λ ys. x ∷ ys) (take_all xs i (omega arith))
-
-pub drop_all : {X : Type 0} (xs : List X) (i : ℕ) → length xs ≤ i → drop i xs ≡ []
-drop_all [] zero le = refl
-drop_all [] (suc i) le = refl
-drop_all (x ∷ xs) zero le = absurd (omega arith)
-drop_all (x ∷ xs) (suc i) le = drop_all xs i (omega arith)
-
 pub drop_next : {X : Type 0} (xs : List X) (i : ℕ) (x : X) → i < length xs → x ≡ get_or xs i x → drop i xs ≡ x ∷ drop (i + 1) xs
 drop_next xs i x lt is = drop-cons xs i x lt ∙ (λ k. sym is k ∷ drop (suc-eq-add-one i k) xs)
 
@@ -130,15 +118,6 @@ drop_set {X} xs i x = let next : i + 1 ≡ suc i = omega arith in ap (λ k. drop
   by_place [] i = refl
   by_place (y ∷ xs) zero = refl
   by_place (y ∷ xs) (suc i) = by_place xs i
-
--- what stands behind the next place is the same where what stands from here is
-pub drop_more : {X : Type 0} (xs ys : List X) (i : ℕ) → drop i xs ≡ drop i ys → drop (i + 1) xs ≡ drop (i + 1) ys
-drop_more {X} xs ys i same = let next : i + 1 ≡ suc i = omega arith in ap (λ k. drop k xs) next ∙ by_place xs i ∙ ap (drop 1) same ∙ sym (ap (λ k. drop k ys) next ∙ by_place ys i) where
-  by_place : (zs : List X) (i : ℕ) → drop (suc i) zs ≡ drop 1 (drop i zs)
-  by_place [] zero = refl
-  by_place [] (suc i) = refl
-  by_place (z ∷ zs) zero = refl
-  by_place (z ∷ zs) (suc i) = by_place zs i
 
 pub set_length : {X : Type 0} (xs : List X) (i : ℕ) (x : X) → length (slice_set xs i x) ≡ length xs
 set_length [] i x = refl

@@ -1,5 +1,5 @@
 -- What a step and a decision make of a kernel. The statuses of guesses are not kept: each call is told for all that agree with what is.
-use Rattle.std.specs.Prelude.{◌≡◌, ◌++◌, ◌+◌, ◌≤◌, ◌&&◌, ℕ, true, false, List, length, nat_le, Option, Some, None, Result, Ok, Err}
+use Rattle.std.specs.Prelude.{◌≡◌, ◌++◌, ◌+◌, ◌≤◌, ℕ, true, false, length, nat_le, Option, Some, None, Result, Ok, Err}
 use Rattle.std.specs.List.Sorted.{IsStrictlySortedBy}
 use Rattle.std.specs.declared.cmp.Ordering.{Ordering}
 use Rattle.sk_ids.specs.declared.guess.TheConstants.{LAST_GUESS}

@@ -6,7 +6,7 @@ use Rattle.std.specs.Coded.{Coded, code_by, coded×, coded_ℕ, coded_list}
 use Rattle.std.specs.declared.cmp.Ordering.{Ordering}
 use Rattle.std.specs.FinMap.{FinMap}
 use Rattle.sk_record.specs.Effects.{is_in, written_value}
-use Rattle.sk_record.specs.Notes.{Note, has, noted, last_tags}
+use Rattle.sk_record.specs.Notes.{has, noted, last_tags}
 use Rattle.sk_record.specs.Trace.{Event}
 use Rattle.sk_record.specs.UndoState.{Open, UndoState}
 use Rattle.sk_record.specs.Machine.{Machine}

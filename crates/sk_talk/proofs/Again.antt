@@ -2,18 +2,14 @@
 use Rattle.sk_talk.proofs.Names.{◌≡◌, ℕ, true, false, List, [], ◌∷◌, Option, Some, None, Result, Ok, Err, is_some, refl}
 use Rattle.sk_talk.proofs.Names.{ap, sym, subst, ◌∙◌, find, list_any, AllByRecursion, eq_by_cmp, Equal-is}
 use Rattle.sk_talk.proofs.Names.{eq_by_cmp_equiv, true≢false, or_parts, bytes_eq-Decides, entity_cmp, entity_total}
-use Rattle.sk_talk.proofs.Names.{entity_exact, EntityState, KernelView, state_at, Entity, Proc, Sig, Exit, Obj, Link}
-use Rattle.sk_talk.proofs.Names.{Copy, FaultKind, spaced, words, entity, entity_words, IsEntity, entity_again}
-use Rattle.sk_talk.proofs.Names.{words_cut_again, entity_text, is_named, present_as, named_by, named}
+use Rattle.sk_talk.proofs.Names.{entity_exact, EntityState, KernelView, state_at, Entity, Proc, FaultKind, spaced}
+use Rattle.sk_talk.proofs.Names.{words, entity, entity_words, IsEntity, entity_again, words_cut_again, entity_text}
+use Rattle.sk_talk.proofs.Names.{is_named, present_as, named_by, named}
 use Rattle.std.specs.FinMap as map
 
 text_is_words : (e : Entity) → entity_text e ≡ spaced (entity_words e)
 text_is_words (Proc p) = refl
-text_is_words (Sig p) = refl
-text_is_words (Exit p) = refl
-text_is_words (Obj o) = refl
-text_is_words (Link d n) = refl
-text_is_words (Copy n) = refl
+text_is_words s = refl
 
 pub text_again : (e : Entity) → IsEntity e → entity (words (entity_text e)) ≡ Ok e
 text_again e h = ap (λ t. entity (words t)) (text_is_words e) ∙ ap entity (words_cut_again e h) ∙ entity_again e h

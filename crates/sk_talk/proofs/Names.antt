@@ -10,7 +10,7 @@ pub use Rattle.std.specs.Ordering.{eq_by_cmp}
 pub use Rattle.sk_ids.specs.EntityLemma.{entity_total, entity_exact}
 pub use Rattle.sk_ids.specs.Entity.{entity_cmp}
 pub use Rattle.sk_ids.specs.declared.entity.Entity.{Entity}
-pub use Rattle.sk_ids.specs.declared.entity.Entity.TheVariants.{Exit, Sig, Link, Obj, Proc, Copy}
+pub use Rattle.sk_ids.specs.declared.entity.Entity.TheVariants.{Proc}
 pub use Rattle.sk_kernel.specs.Kernel.{state_at, KernelView}
 pub use Rattle.sk_questions.proofs.Again.{entity_again, words_cut_again}
 pub use Rattle.sk_questions.specs.Named.{entity, entity_words, IsEntity}

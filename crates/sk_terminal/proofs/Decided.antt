@@ -1,21 +1,16 @@
 -- Terminals after a decision that looked at some of them, and what is listed for them then.
-use Rattle.sk_terminal.proofs.Names.{◌≡◌, ℕ, ◌<◌, ◌+◌, length, take, Bool, true, false, cond, not, ◌||◌, ◌&&◌, List, []}
-use Rattle.sk_terminal.proofs.Names.{◌∷◌, ◌++◌, Option, Some, None, Result, inl, inr, refl, sym, ◌∙◌, ap, subst, ◌==◌}
-use Rattle.sk_terminal.proofs.Names.{slice_index_or, OnOk, OnErr, option_map, unwrap_or, both_ways, false≢true}
+use Rattle.sk_terminal.proofs.Names.{without_none, not-true, ◌≡◌, ℕ, ◌<◌, ◌+◌, length, take, Bool, true, false, cond}
+use Rattle.sk_terminal.proofs.Names.{not, ◌||◌, ◌&&◌, List, [], ◌∷◌, ◌++◌, Option, Some, None, inl, inr, refl, sym, ◌∙◌}
+use Rattle.sk_terminal.proofs.Names.{ap, subst, ◌==◌, slice_index_or, option_map, unwrap_or, both_ways, false≢true}
 use Rattle.sk_terminal.proofs.Names.{or_cases, or_parts, or_left, or_right, eqb-true, eq-eqb, append-nil}
 use Rattle.sk_terminal.proofs.Names.{list_any-append, has, without, lightened, not_dropped, has_filter, and_both}
 use Rattle.sk_terminal.proofs.Names.{TaggedText, any_rests, TerminalMap, texts_at, said_to, Listing, is_listed}
 use Rattle.sk_terminal.proofs.Names.{rests_at, AreListed, ListsAtMost, NoneListed}
-use Rattle.std.proofs.Common.{Ok, Err}
 use Rattle.std.specs.FinMap as map
 use Rattle.sk_terminal.proofs.SaidTo.{texts_said}
 use Rattle.sk_terminal.proofs.Listed.{has_more, flipped}
 
 -- ---- numbers that differ
-not_true : (b : Bool) → not b ≡ true → b ≡ false
-not_true true h = absurd (false≢true h)
-not_true false h = refl
-
 told_apart : (g c : ℕ) (tags : List ℕ) → has g tags ≡ true → has c tags ≡ false → (g == c) ≡ false
 told_apart g c tags here free = elim (g == c) as (λ b. (g == c) ≡ b → b ≡ false) [
   | true ↦ λ is. absurd (false≢true (sym free ∙ ap (λ n. has n tags) (sym (eqb-true g c is)) ∙ here))
@@ -29,17 +24,11 @@ LeavesFree c change = (texts : List TaggedText) → any_rests c texts ≡ false 
 abbrev pub TakesOut : ℕ → (List TaggedText → List TaggedText) → Type 0
 TakesOut c change = (g : ℕ) (texts : List TaggedText) → any_rests g (change texts) ≡ true → ((g == c) ≡ false) × (any_rests g texts ≡ true)
 
-without_free : (g : ℕ) (tags : List ℕ) → has g tags ≡ false → tags ≡ without g tags
-without_free g [] none = refl
-without_free g (t ∷ tags) none =
-    let parts = or_parts _ _ none in
-    ap (λ ts. t ∷ ts) (without_free g tags parts.1) ∙ sym (ap (λ b. cond (not b) (t ∷ without g tags) (without g tags)) parts.0)
-
 pub light_leaves : (c : ℕ) → LeavesFree c (lightened c)
 light_leaves c [] none = refl
 light_leaves c (x ∷ xs) none =
     let parts = or_parts _ _ none in
-    let same = without_free c x.1 parts.0 in
+    let same = sym (without_none c x.1 parts.0) in
     let rest = light_leaves c xs parts.1 in
     λ i. (x.0, same i) ∷ rest i
 
@@ -54,7 +43,7 @@ light_takes c g [] here = absurd (false≢true here)
 light_takes c g (x ∷ xs) here = elim (or_cases (has g (without c x.1)) (any_rests g (lightened c xs)) here) [
   | inl now ↦
       let both = and_both (not (g == c)) (has g x.1) (sym (has_filter (λ t. not (t == c)) g x.1) ∙ now) in
-      (not_true (g == c) both.0, or_left _ _ both.1)
+      (not-true (g == c) both.0, or_left _ _ both.1)
   | inr later ↦ let rest = light_takes c g xs later in (rest.0, or_right _ _ rest.1)
 ]
 

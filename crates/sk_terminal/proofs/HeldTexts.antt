@@ -1,8 +1,8 @@
 -- Held texts after a pass back to those said before a guess was drawn.
-use Rattle.sk_terminal.proofs.Names.{◌≡◌, ℕ, zero, suc, ◌<◌, ◌≤◌, ◌+◌, length, take, drop, Bool, true, false, cond, not}
-use Rattle.sk_terminal.proofs.Names.{◌&&◌, ◌||◌, List, [], ◌∷◌, ◌++◌, map, refl, sym, ◌∙◌, ap, subst, arith, ◌==◌}
-use Rattle.sk_terminal.proofs.Names.{slice_index_or, slice_set, list_any, list_all, filter, prefix_len, or_parts}
-use Rattle.sk_terminal.proofs.Names.{or_from, or_left, or_right, take-append-drop, list_any-append, has, without}
+use Rattle.sk_terminal.proofs.Names.{map-append, without_none, ◌≡◌, ℕ, zero, suc, ◌<◌, ◌≤◌, ◌+◌, length, take, drop}
+use Rattle.sk_terminal.proofs.Names.{Bool, true, false, cond, not, ◌||◌, List, [], ◌∷◌, ◌++◌, map, refl, sym, ◌∙◌, ap}
+use Rattle.sk_terminal.proofs.Names.{subst, arith, ◌==◌, slice_index_or, slice_set, list_any, list_all, filter}
+use Rattle.sk_terminal.proofs.Names.{prefix_len, or_parts, or_from, take-append-drop, list_any-append, has, without}
 use Rattle.sk_terminal.proofs.Names.{lightened, not_dropped, has_filter, and_both, TaggedText, any_rests, is_clear}
 use Rattle.sk_terminal.proofs.Names.{texts_of, AreBounded, Held}
 
@@ -44,10 +44,6 @@ light g h = record { said = (h.said.0, without g h.said.1); newest = h.newest }
 
 abbrev pub light_from : ℕ → ℕ → List Held → List Held
 light_from g i hs = take i hs ++ map (light g) (drop i hs)
-
-pub from_end : (g : ℕ) (hs : List Held) → hs ≡ light_from g (length hs) hs
-from_end g [] = refl
-from_end g (h ∷ hs) = ap (λ xs. h ∷ xs) (from_end g hs)
 
 from_one : (g i : ℕ) (hs : List Held) (h : Held) → i < length hs → h ≡ slice_index_or (light_from g (suc i) hs) i h → slice_set (light_from g (suc i) hs) i (light g h) ≡ light_from g i hs
 from_one g i [] h lt is = absurd (omega arith)
@@ -92,27 +88,17 @@ free_to g low high (suc j) (x ∷ hs) h b lt is less =
 pub free_before : (g low high i j : ℕ) (hs : List Held) (h : Held) → AreBounded low hs high → i ≡ suc j → j < length hs → h ≡ slice_index_or hs j h → h.newest < g → list_any (rests g) (take i hs) ≡ false
 free_before g low high i j hs h b next lt is less = ap (λ k. list_any (rests g) (take k hs)) next ∙ free_to g low high j hs h b lt is less
 
-without_free : (g : ℕ) (tags : List ℕ) → has g tags ≡ false → without g tags ≡ tags
-without_free g [] none = refl
-without_free g (t ∷ tags) none =
-    let parts = or_parts _ _ none in
-    ap (λ b. cond (not b) (t ∷ without g tags) (without g tags)) parts.0 ∙ ap (λ ts. t ∷ ts) (without_free g tags parts.1)
-
 light_free : (g : ℕ) (hs : List Held) → list_any (rests g) hs ≡ false → map (light g) hs ≡ hs
 light_free g [] none = refl
 light_free g (h ∷ hs) none =
     let parts = or_parts _ _ none in
-    let same = without_free g h.said.1 parts.0 in
+    let same = without_none g h.said.1 parts.0 in
     let rest = light_free g hs parts.1 in
     λ i. record { said = (h.said.0, same i); newest = h.newest } ∷ rest i
 
-light_append : (g : ℕ) (hs ks : List Held) → map (light g) (hs ++ ks) ≡ map (light g) hs ++ map (light g) ks
-light_append g [] ks = refl
-light_append g (h ∷ hs) ks = ap (λ xs. light g h ∷ xs) (light_append g hs ks)
-
 whole_light : (g i : ℕ) (hs : List Held) → list_any (rests g) (take i hs) ≡ false → light_from g i hs ≡ map (light g) hs
 whole_light g i hs none =
-    ap (λ xs. xs ++ map (light g) (drop i hs)) (sym (light_free g (take i hs) none)) ∙ sym (light_append g (take i hs) (drop i hs)) ∙ ap (map (light g)) (take-append-drop i hs)
+    ap (λ xs. xs ++ map (light g) (drop i hs)) (sym (light_free g (take i hs) none)) ∙ sym (map-append (light g) (take i hs) (drop i hs)) ∙ ap (map (light g)) (take-append-drop i hs)
 
 texts_light : (g : ℕ) (hs : List Held) → texts_of (map (light g) hs) ≡ lightened g (texts_of hs)
 texts_light g [] = refl
@@ -174,10 +160,6 @@ pub prefix_texts : (hs : List Held) → prefix_len (λ h. is_clear h.said) hs �
 prefix_texts [] = refl
 prefix_texts (h ∷ hs) = ap (λ k. cond (is_clear h.said) (1 + k) 0) (prefix_texts hs)
 
-pub prefix_within : (hs : List Held) → prefix_len (λ h. is_clear h.said) hs ≤ length hs
-prefix_within [] = omega arith
-prefix_within (h ∷ hs) = elim (is_clear h.said) as (λ b. cond b (1 + prefix_len (λ h. is_clear h.said) hs) 0 ≤ length (h ∷ hs)) [ true ↦ omega (arith, prefix_within hs) | false ↦ omega arith ]
-
 pub texts_drop : (k : ℕ) (hs : List Held) → texts_of (drop k hs) ≡ drop k (texts_of hs)
 texts_drop zero hs = refl
 texts_drop (suc k) [] = refl
@@ -187,10 +169,6 @@ pub texts_take : (k : ℕ) (hs : List Held) → map (λ (h : Held). h.said.0) (t
 texts_take zero hs = refl
 texts_take (suc k) [] = refl
 texts_take (suc k) (h ∷ hs) = ap (λ xs. h.said.0 ∷ xs) (texts_take k hs)
-
-pub texts_more : (hs : List Held) (h : Held) → texts_of (hs ++ h ∷ []) ≡ texts_of hs ++ h.said ∷ []
-texts_more [] h = refl
-texts_more (x ∷ hs) h = ap (λ xs. x.said ∷ xs) (texts_more hs h)
 
 pub texts_length : (hs : List Held) → length (texts_of hs) ≡ length hs
 texts_length [] = refl
@@ -209,20 +187,6 @@ none_free g (h ∷ hs) all =
 pub none_rests : (g i : ℕ) (hs : List Held) → list_any (rests g) (take i hs) ≡ false → list_all (is_free g) (drop i hs) ≡ true → false ≡ list_any (rests g) hs
 none_rests g i hs before after =
     sym (sym (ap (list_any (rests g)) (take-append-drop i hs)) ∙ list_any-append (rests g) (take i hs) (drop i hs) ∙ or_from _ _ before (none_free g (drop i hs) after))
-
-pub some_rests : (g j : ℕ) (hs : List Held) (h : Held) → j < length hs → h ≡ slice_index_or hs j h → has g h.said.1 ≡ true → true ≡ list_any (rests g) hs
-some_rests g j [] h lt is here = absurd (omega arith)
-some_rests g zero (x ∷ hs) h lt is here = sym (or_left _ _ (sym (ap (rests g) is) ∙ here))
-some_rests g (suc j) (x ∷ hs) h lt is here = sym (or_right _ _ (sym (some_rests g j hs h (omega arith) is here)))
-
-drop_next : (j : ℕ) (hs : List Held) (h : Held) → j < length hs → h ≡ slice_index_or hs j h → drop j hs ≡ h ∷ drop (suc j) hs
-drop_next j [] h lt is = absurd (omega arith)
-drop_next zero (x ∷ hs) h lt is = ap (λ y. y ∷ hs) (sym is)
-drop_next (suc j) (x ∷ hs) h lt is = drop_next j hs h (omega arith) is
-
-pub free_before_one : (g i j : ℕ) (hs : List Held) (h : Held) → i ≡ suc j → j < length hs → h ≡ slice_index_or hs j h → has g h.said.1 ≡ false → list_all (is_free g) (drop i hs) ≡ true → list_all (is_free g) (drop j hs) ≡ true
-free_before_one g i j hs h next lt is free after =
-    ap (list_all (is_free g)) (drop_next j hs h lt is) ∙ ap (λ b. not b && list_all (is_free g) (drop (suc j) hs)) free ∙ sym (ap (λ k. list_all (is_free g) (drop k hs)) next) ∙ after
 
 pub rests_texts : (g : ℕ) (hs : List Held) → list_any (rests g) hs ≡ any_rests g (texts_of hs)
 rests_texts g [] = refl

@@ -4,7 +4,7 @@ pub use Rattle.std.proofs.Common.{◌+◌, Option, arith, List, ap, ◌++◌, le
 pub use Rattle.std.proofs.Common.{None, suc, ◌≤◌, take, false, ◌<◌, refl, Result, [], ◌∙◌, nat_lt, not, map}
 pub use Rattle.std.proofs.Math.Bool.{or_assoc}
 pub use Rattle.std.proofs.lemmas.Bool.{ltb-false, true≢false, or_right, or_cases, or_left, or_from, or_parts}
-pub use Rattle.std.proofs.lemmas.Bool.{false≢true, eqb-true, ltb-true, eq-eqb, ne_eqb}
+pub use Rattle.std.proofs.lemmas.Bool.{false≢true, eqb-true, ltb-true, eq-eqb, ne_eqb, not-true}
 pub use Rattle.std.proofs.lemmas.Bool.Decides.{Decides-and, Decides-like, Decides-at}
 pub use Rattle.std.proofs.lemmas.Fn.{filter_same}
 pub use Rattle.std.proofs.lemmas.List.{append_cancel_left, map-append, take-append-drop, append-nil, length-set}
@@ -23,7 +23,7 @@ pub use Rattle.std.specs.List.Retain.{RetainsInTurn}
 pub use Rattle.std.specs.List.Sorted.{IsBinarySearchResult, IsStrictlySortedBy}
 pub use Rattle.std.specs.Option.{option_map, option_copied_mut, unwrap_or}
 pub use Rattle.std.specs.Ordering.{nat_cmp, eq_by_cmp}
-pub use Rattle.std.specs.Prelude.{eqb, Ok, Err, slice_index_or, get_or, slice_set, OnErr, OnOk, ◌==◌}
+pub use Rattle.std.specs.Prelude.{eqb, Ok, Err, slice_index_or, get_or, slice_set, OnErr, ◌==◌}
 pub use Rattle.std.specs.Vec.{vec_capacity}
 pub use Rattle.std.specs.declared.cmp.Ordering.TheVariants.{Less}
 pub use Rattle.sk_ids.proofs.GuessSets.{rising_one}

@@ -1,5 +1,5 @@
 -- What the checks of a close show.
-use Rattle.sk_workers.proofs.Names.{ap, length, ℕ, subst, ◌∷◌, sym, suc, zero, ◌≡◌, ◌<◌, refl, List, [], ◌∙◌}
+use Rattle.sk_workers.proofs.Names.{same_Some, ap, length, ℕ, subst, ◌∷◌, sym, suc, zero, ◌≡◌, ◌<◌, refl, List, [], ◌∙◌}
 use Rattle.sk_workers.proofs.Names.{slice_get_within, slice_get, Some, MatchOption, None, Option, DeskView, pending}
 use Rattle.sk_workers.proofs.Names.{receipts_of, Stands, IsFirstBad, AreDistinct, AllStand, IsClosed, IsFrom, Agrees}
 use Rattle.sk_workers.proofs.Names.{numbers, AreApart, IsLegal, AreFresh, AreOwn, SharedView, BookView, WorkerView}
@@ -12,9 +12,6 @@ pub found : (h : List HistoryEntry) (w : WorkerView) (rs : List Receipt) (o : Op
 found h w rs None is own all = record { own = own; agree = subst (λ (l : List Receipt). (k : ℕ) → k < length l → Agrees h l k) is all }
 found h w rs (Some k) is own bad = subst (λ (l : List Receipt). IsFirstBad h l k) is bad
 
-some_is : {A : Type 0} (x y : A) → Some x ≡ Some y → x ≡ y
-some_is x y e = cc
-
 -- receipts that stand, of workers with numbers of their own, are for different places
 apart : (h : List HistoryEntry) (ws : List WorkerView) → AllStand h ws → AreDistinct ws → AreApart ws
 apart h ws stand distinct i j k l v w r s atv atw other atr ats same =
@@ -22,7 +19,7 @@ apart h ws stand distinct i j k l v w r s atv atw other atr ats same =
     let sw = stand j w atw in
     let one = (sv.agree k (slice_get_within v.receipts k r atr) r atr).0 in
     let two = (sw.agree l (slice_get_within w.receipts l s ats) s ats).0 in
-    let is : r.entry ≡ s.entry = some_is r.entry s.entry (sym one ∙ ap (slice_get h) same ∙ two) in
+    let is : r.entry ≡ s.entry = same_Some r.entry s.entry (sym one ∙ ap (slice_get h) same ∙ two) in
     distinct i j v w atv atw other (sym (sv.own k r atr) ∙ ap (λ (e : HistoryEntry). e.worker) is ∙ sw.own l s ats)
 
 -- what was checked and counted is what a close promises

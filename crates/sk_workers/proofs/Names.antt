@@ -3,7 +3,7 @@ pub use Rattle.std.proofs.Common.{ap, ◌++◌, length, Bool, ◌≤◌, ℕ, ve
 pub use Rattle.std.proofs.Common.{length-append, Err, inl, suc, zero, ◌≡◌, ◌+◌, false, ◌<◌, arith, refl, List, Result}
 pub use Rattle.std.proofs.Common.{[], ◌∙◌, cond}
 pub use Rattle.std.proofs.lemmas.Bool.{false≢true}
-pub use Rattle.std.proofs.lemmas.Option.{slice_get_within}
+pub use Rattle.std.proofs.lemmas.Option.{slice_get_within, same_Some}
 pub use Rattle.std.specs.Prelude.{slice_get, Some, MatchOption, None, IfErr, Option}
 pub use Rattle.sk_client.specs.Desk.{given_to, requests_taken, stepped, given, decided, input_of, first_taken, DeskView}
 pub use Rattle.sk_client.specs.Desk.{pending, answered, turned, rule, is_void}
@@ -16,7 +16,7 @@ pub use Rattle.sk_client.specs.Pending.{PendingRequest}
 pub use Rattle.sk_client.specs.Rule.{Rule}
 pub use Rattle.sk_kernel.specs.Kernel.{undecided_at, step_refused}
 pub use Rattle.sk_kernel.specs.declared.hand_in.HandIn.{HandIn}
-pub use Rattle.sk_kernel.specs.declared.hand_in.HandIn.TheVariants.{Stale, TraceFull, Memory}
+pub use Rattle.sk_kernel.specs.declared.hand_in.HandIn.TheVariants.{Stale, Memory}
 pub use Rattle.sk_plain.specs.declared.refusal.Refusal.{Refusal}
 pub use Rattle.sk_record.specs.Notes.{has}
 pub use Rattle.sk_script.specs.Lease.{LeaseView, after_private}

@@ -2,12 +2,12 @@
 use Rattle.sk_workers.proofs.Names.{ap, length, Bool, ℕ, subst, inr, true, Ok, ◌∷◌, sym, Err, inl, ◌≡◌, false, refl}
 use Rattle.sk_workers.proofs.Names.{List, Result, [], ◌∙◌, cond, IfErr, given_to, requests_taken, stepped, given}
 use Rattle.sk_workers.proofs.Names.{decided, input_of, first_taken, DeskView, answered, turned, rule, is_void}
-use Rattle.sk_workers.proofs.Names.{ReplyPost, ByRule, TurnPost, DeskTakesIn, DeskHandInPost, Given, ReplyRefusal}
-use Rattle.sk_workers.proofs.Names.{Turn, PendingRequest, Rule, undecided_at, step_refused, HandIn, Stale, TraceFull}
-use Rattle.sk_workers.proofs.Names.{Memory, Refusal, has, LeaseView, after_private, Input, Answer, Reply, HandInAdds}
-use Rattle.sk_workers.proofs.Names.{TurnTold, without_reply, AnyTold, as_opened, HandInTold, CallPost, TakesAny}
-use Rattle.sk_workers.proofs.Names.{TakesInAdds, TurnAdds, with_reply, without_lease, HandsIn, BookView, WorkerView}
-use Rattle.sk_workers.proofs.Names.{Answered, Turned, Replied, HandedIn, DeskCall}
+use Rattle.sk_workers.proofs.Names.{ReplyPost, ByRule, TurnPost, DeskTakesIn, DeskHandInPost, Given, ReplyRefusal, Turn}
+use Rattle.sk_workers.proofs.Names.{PendingRequest, Rule, undecided_at, step_refused, HandIn, Stale, Memory, Refusal}
+use Rattle.sk_workers.proofs.Names.{has, LeaseView, after_private, Input, Answer, Reply, HandInAdds, TurnTold}
+use Rattle.sk_workers.proofs.Names.{without_reply, AnyTold, as_opened, HandInTold, CallPost, TakesAny, TakesInAdds}
+use Rattle.sk_workers.proofs.Names.{TurnAdds, with_reply, without_lease, HandsIn, BookView, WorkerView, Answered}
+use Rattle.sk_workers.proofs.Names.{Turned, Replied, HandedIn, DeskCall}
 use Rattle.std.proofs.Common.{Option, Some, None}
 use Rattle.sk_client.specs.Rule as rules
 use Rattle.sk_client.specs.Desk.{entry}
@@ -57,18 +57,15 @@ reply_keeps d e r (Err back) post = ap as_opened post.2
 -- ---- hand-ins
 
 hand_in_keeps : (d e : DeskView) (pid count : ℕ) (r : Result (Unit {0}) HandIn) → HandsIn r d pid count e → Keeps d e
-hand_in_keeps d e pid count (Ok u) is = ap as_opened is.2.2
 hand_in_keeps d e pid count (Err Stale) is = ap as_opened is
-hand_in_keeps d e pid count (Err TraceFull) is = ap as_opened is.2.2
 hand_in_keeps d e pid count (Err Memory) is = ap as_opened is.2.3
+hand_in_keeps d e pid count s is = ap as_opened is.2.2
 
 -- what the desk does with a lease is what is entered of it
 pub hands_in : (d e : DeskView) (l : LeaseView) (answer : Result (Unit {0}) HandIn)
     → after_private l.script l.count l.lent ≡ Some l.now → DeskTakesIn answer l d e → HandsIn answer d l.lent.pid l.count e
-hands_in d e l (Ok u) done post = (l, (post.0, refl, refl, done), post)
 hands_in d e l (Err Stale) done post = post.1
-hands_in d e l (Err TraceFull) done post = (l, (post.0, refl, refl, done), post)
-hands_in d e l (Err Memory) done post = (l, (post.0, refl, refl, done), post)
+hands_in d e l s done post = (l, (post.0, refl, refl, done), post)
 
 -- ---- calls
 

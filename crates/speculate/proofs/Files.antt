@@ -1,8 +1,7 @@
 -- What reading a file and then its text comes to.
 use Rattle.speculate.proofs.Names.{◌≡◌, ◌≢◌, ◌≤◌, inr, ℕ, List, length, Option, Some, None, Result, Ok, Err, sym, subst}
-use Rattle.speculate.proofs.Names.{IfSome, Fault, FaultKind, Word, Operand, Label, TooLong, Memory, Declared}
-use Rattle.speculate.proofs.Names.{section_view, SectionView, Steps, World, Trace, Scenario, End, Task}
-use Rattle.speculate.proofs.Names.{fault_end, INPUT_LIMIT, opened_in, Talking, EndsOpened}
+use Rattle.speculate.proofs.Names.{IfSome, Fault, FaultKind, Word, Declared, section_view, SectionView, Steps, World}
+use Rattle.speculate.proofs.Names.{Trace, Scenario, End, Task, fault_end, INPUT_LIMIT, opened_in, Talking, EndsOpened}
 use Rattle.speculate.proofs.Names.{EndsFile, EndsInSection, EndsRead, EndsText}
 use Rattle.sk_command.specs.declared.end.End.TheVariants as ends
 use Rattle.sk_command.specs.declared.job.Task.TheVariants as tasks
@@ -10,10 +9,7 @@ use Rattle.sk_command.specs.declared.job.Task.TheVariants as tasks
 -- a text never ends a run as faulty words do
 fault_no_usage : (kind : FaultKind) → fault_end kind ≢ ends.Usage
 fault_no_usage Word = λ e. absurd cc
-fault_no_usage Operand = λ e. absurd cc
-fault_no_usage Label = λ e. absurd cc
-fault_no_usage TooLong = λ e. absurd cc
-fault_no_usage Memory = λ e. absurd cc
+fault_no_usage s = λ e. absurd cc
 
 opened_no_usage : (o : Option Talking) (input old new : Option (List ℕ)) → EndsOpened o input ends.Usage old new → ⊥
 opened_no_usage None input old new h = absurd cc

@@ -21,7 +21,7 @@ pub use Rattle.sk_talk.specs.Played.{opened_in}
 pub use Rattle.sk_talk.specs.declared.play.Play.{Play as Talking}
 pub use Rattle.sk_words.specs.declared.fault.Fault.{Fault}
 pub use Rattle.sk_words.specs.declared.fault.FaultKind.{FaultKind}
-pub use Rattle.sk_words.specs.declared.fault.FaultKind.TheVariants.{Operand, Word, TooLong, Label, Memory}
+pub use Rattle.sk_words.specs.declared.fault.FaultKind.TheVariants.{Word}
 pub use Rattle.sk_workers.specs.History.{Runs}
 pub use Rattle.speculate.specs.Program.{EndsInSection, EndsRead, EndsText, EndsFile}
 pub use Rattle.speculate.specs.Work.{CanLeave, IsTold, EndsWork}

@@ -7,7 +7,5 @@ use Rattle.sk_command.specs.declared.end.End.TheVariants as ends
 pub worked_out : (workers turns : ℕ) (d : Declared) (calls : ℕ) (desk : DeskView) (server : ServerView) (end : End) (old new : Option (List ℕ))
     → CanLeave workers turns d calls desk → IsTold (desk_report_text desk server ++ workers_line workers calls) end old new → EndsWork workers turns d end old new
 worked_out workers turns d calls desk server ends.Done old new left text = (calls, desk, server, left, text)
-worked_out workers turns d calls desk server ends.Fault old new left text = text
-worked_out workers turns d calls desk server ends.Usage old new left text = text
-worked_out workers turns d calls desk server ends.Trouble old new left text = text
 worked_out workers turns d calls desk server ends.OutputRefused old new left text = (calls, desk, server, left, text)
+worked_out workers turns d calls desk server s old new left text = text

@@ -18,4 +18,4 @@ loop-number-preserved g c =
 
 pub returns : goal.returns
 returns g c = λ n rests absent.
-    c.loop-number.invariant n (ap (λ ks. is_in nat_cmp ks n) (take_all c.dependents-number-items.result.now c.loop-number.number-index c.loop-number-test.false) ∙ c.dependents-number-items.ensures.exact n ∙ rests) absent
+    c.loop-number.invariant n (ap (λ ks. is_in nat_cmp ks n) (take_all c.loop-number.number-index c.dependents-number-items.result.now c.loop-number-test.false) ∙ c.dependents-number-items.ensures.exact n ∙ rests) absent

@@ -23,4 +23,4 @@ loop-number-preserved g c =
 
 pub returns : goal.returns
 returns g c =
-    subst (λ xs. LetsGo c.args.index.now (is_in nat_cmp xs) c.args.kernel.now.slots c.loop-number.index) (take_all c.args.numbers.now c.loop-number.number-index c.loop-number-test.false) c.loop-number.invariant
+    subst (λ xs. LetsGo c.args.index.now (is_in nat_cmp xs) c.args.kernel.now.slots c.loop-number.index) (take_all c.loop-number.number-index c.args.numbers.now c.loop-number-test.false) c.loop-number.invariant

@@ -1,7 +1,7 @@
 -- One key more.
-use Rattle.sk_bytes.proofs.Names.{◌≡◌, ◌+◌, ◌++◌, ◌∷◌, [], map, take, sym, ap, ◌∙◌, vec_items, at_key, keys_of}
-use Rattle.sk_bytes.proofs.Names.{number_of, take_next}
-use Rattle.sk_bytes.proofs.Moves.{keys_push, map_push}
+use Rattle.sk_bytes.proofs.Names.{map_push, ◌≡◌, ◌+◌, ◌++◌, ◌∷◌, [], map, take, sym, ap, ◌∙◌, vec_items, at_key}
+use Rattle.sk_bytes.proofs.Names.{keys_of, number_of, take_next}
+use Rattle.sk_bytes.proofs.Moves.{keys_push}
 use Rattle.sk_bytes.proofs.numbers.number_looked.Goals as goal
 
 pub loop-key-preserved : goal.loop-key-preserved

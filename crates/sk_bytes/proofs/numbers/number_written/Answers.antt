@@ -1,7 +1,7 @@
 -- One key more.
-use Rattle.sk_bytes.proofs.Names.{◌≡◌, ◌+◌, ◌++◌, ◌∷◌, [], None, map, take, sym, ap, ◌∙◌, subst, vec_items, number_of}
-use Rattle.sk_bytes.proofs.Names.{take_next, names, AreNames, Gains}
-use Rattle.sk_bytes.proofs.Moves.{map_push, names_kept, names_more, names_push, one_more_comes}
+use Rattle.sk_bytes.proofs.Names.{map_push, ◌≡◌, ◌+◌, ◌++◌, ◌∷◌, [], None, map, take, sym, ap, ◌∙◌, subst, vec_items}
+use Rattle.sk_bytes.proofs.Names.{number_of, take_next, names, AreNames, Gains}
+use Rattle.sk_bytes.proofs.Moves.{names_kept, names_more, names_push, one_more_comes}
 use Rattle.sk_bytes.proofs.numbers.number_written.Goals as goal
 
 pub loop-write-preserved : goal.loop-write-preserved

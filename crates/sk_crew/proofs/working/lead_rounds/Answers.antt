@@ -1,5 +1,5 @@
 -- The turn is of the process at the worker's place, and what it carries are replies.
-use Rattle.sk_crew.proofs.Names.{refl, ◌∙◌, sym, subst, arith, WorkerView, Rounds, KeepsTo}
+use Rattle.sk_crew.proofs.Names.{refl, ◌∙◌, sym, subst, arith, Rounds}
 use Rattle.sk_crew.proofs.Ahead.{is_due}
 use Rattle.sk_crew.proofs.Turns.{Goes, begins_as, goes_on, new_begun, begun_one, over_begun}
 use Rattle.sk_crew.proofs.Duties.{turn_number, replies_keep, replies_go, replies_begun, round_keeps}

@@ -1,5 +1,5 @@
 -- The lease that was fresh has run some, and no more than so many.
-use Rattle.sk_crew.proofs.Names.{arith, subst, IfSome, LeaseView, IsLent}
+use Rattle.sk_crew.proofs.Names.{arith, subst, IfSome, IsLent}
 use Rattle.sk_crew.proofs.Ahead.{has_run}
 use Rattle.sk_crew.proofs.working.run_ahead.Goals as goal
 

@@ -1,7 +1,6 @@
 -- A store goes on, or it is told why none does.
-use Rattle.sk_handles.proofs.Names.{rules, ◌≡◌, ℕ, List, refl, subst, inl, inr, Entries, Limits, IsAgainst, Reopens}
-use Rattle.sk_handles.proofs.Names.{Refusal, Reading, Refused, StoreLimits, last_of, AreGiven, HasFound, IsCause}
-use Rattle.sk_handles.proofs.Names.{place_of}
+use Rattle.sk_handles.proofs.Names.{rules, ◌≡◌, ℕ, List, refl, subst, inr, Entries, Limits, IsAgainst, Reopens, Refusal}
+use Rattle.sk_handles.proofs.Names.{Reading, Refused, StoreLimits, last_of, AreGiven, HasFound, IsCause, place_of}
 use Rattle.sk_reopened.specs.declared.refusal.Refusal.TheVariants as refusals
 use Rattle.sk_handles.proofs.reopening.opened.Goals as goal
 
@@ -9,10 +8,8 @@ refused : (why : Refusal) (given : StoreLimits) (read : Reading) (limits : Limit
     → AreGiven given limits → HasFound read entries → IsAgainst why limits (last_of read) entries room → filled ≡ room
     → IsCause (Refused why) given read room filled
 refused refusals.Limits given read limits entries room filled are found against same = (inr (limits, are, entries, found, against), same)
-refused refusals.NoNumber given read limits entries room filled are found against same = ((limits, are, entries, found, against), same)
-refused refusals.Short given read limits entries room filled are found against same = ((limits, are, entries, found, against), same)
-refused refusals.Key given read limits entries room filled are found against same = ((limits, are, entries, found, against), same)
 refused refusals.Memory given read limits entries room filled are found against same = tt
+refused s given read limits entries room filled are found against same = ((limits, are, entries, found, against), same)
 
 pub returns-in-Err : goal.returns-in-Err
 returns-in-Err c =

@@ -1,5 +1,4 @@
 use Rattle.sk_log.proofs.Names.{Some, sym, ◌∙◌, ap, arith, false≢true}
-use Rattle.sk_log.proofs.Read.{frame_length}
 use Rattle.sk_log.proofs.Told.{no_first_as, short_as}
 use Rattle.sk_log.proofs.First.{first_is, first_stands}
 use Rattle.sk_log.proofs.front.first_number.Goals as goal

@@ -1,7 +1,7 @@
 -- One write is put back, the newest.
-use Rattle.sk_slots.proofs.Names.{◌≡◌, ◌≤◌, [], ◌∷◌, ◌++◌, length, suc, take, drop, sym, ◌∙◌, ap, subst, arith, rewound}
+use Rattle.sk_slots.proofs.Names.{drop_all, take_all, ◌≤◌, length, take, drop, sym, ◌∙◌, ap, subst, arith, rewound}
 use Rattle.sk_slots.proofs.Names.{CanGoBack}
-use Rattle.sk_slots.proofs.Undoing.{can_less, drop_all, drop_more, long_more, rewound_more, take_all, take_more}
+use Rattle.sk_slots.proofs.Undoing.{can_less, drop_more, long_more, rewound_more, take_more}
 use Rattle.sk_slots.proofs.notes.go_back.Goals as goal
 
 pub put_back-requires : goal.put_back-requires

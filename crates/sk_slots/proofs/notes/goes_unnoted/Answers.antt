@@ -1,5 +1,5 @@
 -- The newest note is the last.
-use Rattle.sk_slots.proofs.Names.{◌∙◌, ap, sym, arith, same_tags}
+use Rattle.sk_slots.proofs.Names.{◌∙◌, ap, same_tags}
 use Rattle.sk_slots.proofs.Undoing.{newest}
 use Rattle.sk_slots.proofs.notes.goes_unnoted.Goals as goal
 

@@ -1,7 +1,5 @@
 -- The note before puts back both writes, or there is none before.
-use Rattle.sk_slots.proofs.Names.{◌≡◌, suc, ◌<◌, ◌-◌, length, arith, subst, sym, ap, ◌∙◌, slice_index_or, slice_set}
-use Rattle.sk_slots.proofs.Names.{seen, CanGoBack}
-use Rattle.std.specs.List.{remove}
+use Rattle.sk_slots.proofs.Names.{◌≡◌, suc, ◌-◌, arith, subst, sym, ap, ◌∙◌, slice_index_or, slice_set, seen, CanGoBack}
 use Rattle.sk_slots.proofs.Undoing.{left_can_at, left_in_at, first_out_at}
 use Rattle.sk_slots.proofs.notes.leave_out.Goals as goal
 

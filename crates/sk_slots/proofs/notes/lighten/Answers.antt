@@ -1,8 +1,7 @@
 -- A note that rests on the guess alone is left out, and any other stays without it.
-use Rattle.sk_slots.proofs.Names.{◌≡◌, ◌<◌, ◌≤◌, ◌+◌, [], true, false, not, length, suc, take, sym, ◌∙◌, ap, subst}
-use Rattle.sk_slots.proofs.Names.{arith, slice_set, without, committed, seen, is_empty}
+use Rattle.sk_slots.proofs.Names.{take_all, ◌≡◌, ◌<◌, ◌≤◌, ◌+◌, [], not, length, suc, take, sym, ◌∙◌, ap}
+use Rattle.sk_slots.proofs.Names.{subst, arith, slice_set, without, committed, seen, is_empty}
 use Rattle.sk_slots.proofs.Joins.{AllFree, free_same, front_left, without_twice}
-use Rattle.sk_slots.proofs.Joins as joins
 use Rattle.sk_slots.proofs.Undoing.{bare_out, lighter, more_free, no_tags, seen_length, set_length, some_tags}
 use Rattle.sk_slots.proofs.notes.lighten.Goals as goal
 
@@ -73,7 +72,7 @@ returns-clause-seen g c = λ now can.
     let inv = c.loop-place.invariant.0 now can in
     let ns = seen g.I.Inversion.undone now c.loop-place.log.items in
     let far : length ns ≤ c.loop-place.place = omega (arith, c.loop-place-test.false, c.len.ensures, c.loop-place.log.ok.0, seen_length g.I.Inversion.undone now c.loop-place.log.items) in
-    sym (free_same id ns (subst (AllFree id) (joins.all_taken c.loop-place.place ns far) inv.2)) ∙ inv.1
+    sym (free_same id ns (subst (AllFree id) (take_all c.loop-place.place ns far) inv.2)) ∙ inv.1
 
 pub returns-clause-can : goal.returns-clause-can
 returns-clause-can g c = λ now can. (c.loop-place.invariant.0 now can).0

@@ -1,7 +1,7 @@
 -- A note with the tags of the one before it is left out, and any other stays.
-use Rattle.sk_slots.proofs.Names.{◌≡◌, ◌<◌, ◌≤◌, [], true, false, length, suc, ◌+◌, take, sym, ◌∙◌, ap, subst, arith}
-use Rattle.sk_slots.proofs.Names.{last_tags, merged, same_tags, newest_tags, seen}
-use Rattle.sk_slots.proofs.Joins.{IsJoined, front_left, left_out, joined_more, joined_same, all_taken}
+use Rattle.sk_slots.proofs.Names.{take_all, ◌≡◌, ◌<◌, ◌≤◌, [], true, false, length, suc, ◌+◌, take, sym, ◌∙◌, ap, subst}
+use Rattle.sk_slots.proofs.Names.{arith, last_tags, merged, same_tags, newest_tags, seen}
+use Rattle.sk_slots.proofs.Joins.{IsJoined, front_left, left_out, joined_more, joined_same}
 use Rattle.sk_slots.proofs.Undoing.{seen_at, seen_front_tags, seen_length}
 use Rattle.sk_slots.proofs.notes.merge.Goals as goal
 
@@ -59,7 +59,7 @@ returns-clause-seen g c = λ now can.
     let inv = c.loop-place.invariant.0 now can in
     let ns = seen g.I.Inversion.undone now c.loop-place.log.items in
     let far : length ns ≤ c.loop-place.place = omega (arith, c.loop-place-test.false, c.len.ensures, c.loop-place.log.ok.0, seen_length g.I.Inversion.undone now c.loop-place.log.items) in
-    sym (joined_same [] ns (subst (IsJoined []) (all_taken c.loop-place.place ns far) inv.2)) ∙ inv.1
+    sym (joined_same [] ns (subst (IsJoined []) (take_all c.loop-place.place ns far) inv.2)) ∙ inv.1
 
 pub returns-clause-can : goal.returns-clause-can
 returns-clause-can g c = λ now can. (c.loop-place.invariant.0 now can).0

@@ -1,6 +1,6 @@
 -- The newest note is the last.
 use Rattle.std.proofs.Common.{◌≡◌, suc, ◌-◌, length, arith}
-use Rattle.sk_slots.proofs.Undoing.{newest_can, newest_in, nothing_in}
+use Rattle.sk_slots.proofs.Undoing.{newest_can, newest_in}
 use Rattle.sk_slots.proofs.notes.take_in_newest.Goals as goal
 
 pub take_in-requires : goal.take_in-requires

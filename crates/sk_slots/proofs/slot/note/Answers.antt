@@ -1,6 +1,6 @@
 -- A write with the tags of the newest note is put back by that note, and any other has one of its own.
-use Rattle.sk_slots.proofs.Names.{◌≡◌, [], true, false, Some, sym, ◌∙◌, ap, subst, refl, unwrap_or, exact_bytes}
-use Rattle.sk_slots.proofs.Names.{last_tags, same_tags, value_before, newest_tags, seen, CanGoBack}
+use Rattle.sk_slots.proofs.Names.{◌≡◌, [], true, false, sym, ◌∙◌, ap, subst, refl, unwrap_or, exact_bytes, last_tags}
+use Rattle.sk_slots.proofs.Names.{same_tags, value_before, newest_tags, seen, CanGoBack}
 use Rattle.sk_slots.proofs.Undoing.{can_more, newest_more, noted_none, noted_one, seen_tags}
 use Rattle.sk_slots.proofs.slot.note.Goals as goal
 

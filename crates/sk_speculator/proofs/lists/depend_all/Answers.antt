@@ -1,8 +1,8 @@
 -- One key more is in the lists of all the guesses; without memory all are taken out again.
-use Rattle.sk_speculator.proofs.Names.{◌∷◌, [], take, refl, sym, ◌∙◌, ap, subst, IsTotalOrder, IsAntisymmetric}
-use Rattle.sk_speculator.proofs.Names.{AllAlmostExact, AllExact, tags_by, with_tags, keys_of, opens_of, last_tags}
-use Rattle.sk_speculator.proofs.Names.{almost_of, depends_exact, depends_opens, log_at}
-use Rattle.sk_speculator.proofs.Writing.{from_ok, from_err, in_front, in_place, keys_more, take_all, take_next}
+use Rattle.sk_speculator.proofs.Names.{take_all, ◌∷◌, [], take, refl, sym, ◌∙◌, ap, subst, IsTotalOrder}
+use Rattle.sk_speculator.proofs.Names.{IsAntisymmetric, AllAlmostExact, AllExact, tags_by, with_tags, keys_of, opens_of}
+use Rattle.sk_speculator.proofs.Names.{last_tags, almost_of, depends_exact, depends_opens, log_at}
+use Rattle.sk_speculator.proofs.Writing.{from_ok, from_err, in_front, in_place, keys_more, take_next}
 use Rattle.sk_speculator.proofs.lists.depend_all.Goals as goal
 
 pub relieve_written-requires-clause-almost : goal.relieve_written-requires-clause-almost
@@ -42,4 +42,4 @@ loop-write-preserved g c =
 pub returns-clause-ok : goal.returns-clause-ok
 returns-clause-ok g c =
     let R = g.K.Key.order in
-    subst (λ ws. AllExact R (with_tags R c.args.tags.now (keys_of ws) (tags_by (log_at R c.args.slots.now))) c.loop-write.guesses.opens) (take_all c.args.written.now c.loop-write.write-index c.loop-write-test.false) c.loop-write.invariant.2
+    subst (λ ws. AllExact R (with_tags R c.args.tags.now (keys_of ws) (tags_by (log_at R c.args.slots.now))) c.loop-write.guesses.opens) (take_all c.loop-write.write-index c.args.written.now c.loop-write-test.false) c.loop-write.invariant.2

@@ -1,8 +1,8 @@
 -- One key more is in the lists of its guesses alone.
-use Rattle.sk_speculator.proofs.Names.{◌+◌, drop, sym, ◌∙◌, ap, subst, IsTotalOrder, IsAntisymmetric, AllAlmostExact}
-use Rattle.sk_speculator.proofs.Names.{tags_by, left_to, opens_of, left_more, none_left, left_to_keeps, same_opens}
-use Rattle.sk_speculator.proofs.Names.{log_at}
-use Rattle.sk_speculator.proofs.Writing.{drop_all, drop_next}
+use Rattle.sk_speculator.proofs.Names.{drop_all, ◌+◌, drop, sym, ◌∙◌, ap, subst, IsTotalOrder, IsAntisymmetric}
+use Rattle.sk_speculator.proofs.Names.{AllAlmostExact, tags_by, left_to, opens_of, left_more, none_left, left_to_keeps}
+use Rattle.sk_speculator.proofs.Names.{same_opens, log_at}
+use Rattle.sk_speculator.proofs.Writing.{drop_next}
 use Rattle.sk_speculator.proofs.lists.relieve_all.Goals as goal
 
 pub loop-key-preserved : goal.loop-key-preserved
@@ -28,4 +28,4 @@ returns-clause-exact g c =
     let exact = subst IsAntisymmetric g.met.K.Key.same g.met.K.Key.exact in
     let base = tags_by (log_at R c.args.slots.now) in
     none_left total exact base c.loop-key.guesses.opens
-    (subst (λ xs. AllAlmostExact R base xs c.loop-key.guesses.opens) (drop_all c.args.keys.now c.loop-key.key-index c.loop-key-test.false) c.loop-key.invariant.2)
+    (subst (λ xs. AllAlmostExact R base xs c.loop-key.guesses.opens) (drop_all c.loop-key.key-index c.args.keys.now c.loop-key-test.false) c.loop-key.invariant.2)

@@ -1,8 +1,8 @@
 -- One key more is in the lists of its guesses alone.
-use Rattle.sk_speculator.proofs.Names.{◌+◌, drop, sym, ◌∙◌, ap, subst, IsTotalOrder, IsAntisymmetric, AllAlmostExact}
-use Rattle.sk_speculator.proofs.Names.{tags_by, keys_of, left_to, opens_of, left_more, none_left, left_to_keeps}
-use Rattle.sk_speculator.proofs.Names.{same_opens, log_at}
-use Rattle.sk_speculator.proofs.Writing.{drop_all, drop_next}
+use Rattle.sk_speculator.proofs.Names.{drop_all, ◌+◌, drop, sym, ◌∙◌, ap, subst, IsTotalOrder, IsAntisymmetric}
+use Rattle.sk_speculator.proofs.Names.{AllAlmostExact, tags_by, keys_of, left_to, opens_of, left_more, none_left}
+use Rattle.sk_speculator.proofs.Names.{left_to_keeps, same_opens, log_at}
+use Rattle.sk_speculator.proofs.Writing.{drop_next}
 use Rattle.sk_speculator.proofs.lists.relieve_written.Goals as goal
 
 pub loop-write-preserved : goal.loop-write-preserved
@@ -28,4 +28,4 @@ returns-clause-exact g c =
     let exact = subst IsAntisymmetric g.met.K.Key.same g.met.K.Key.exact in
     let base = tags_by (log_at R c.args.slots.now) in
     none_left total exact base c.loop-write.guesses.opens
-    (subst (λ xs. AllAlmostExact R base (keys_of xs) c.loop-write.guesses.opens) (drop_all c.args.written.now c.loop-write.write-index c.loop-write-test.false) c.loop-write.invariant.2)
+    (subst (λ xs. AllAlmostExact R base (keys_of xs) c.loop-write.guesses.opens) (drop_all c.loop-write.write-index c.args.written.now c.loop-write-test.false) c.loop-write.invariant.2)

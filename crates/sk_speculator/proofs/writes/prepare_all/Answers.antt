@@ -1,7 +1,7 @@
 -- One key more.
-use Rattle.sk_speculator.proofs.Names.{◌||◌, ◌∷◌, [], true, sym, ◌∙◌, ap, subst, take, IsTotalOrder, IsAntisymmetric}
-use Rattle.sk_speculator.proofs.Names.{eq_by_cmp, list_any-append, keys_of, is_in, IsReady}
-use Rattle.sk_speculator.proofs.Writing.{either_key, in_place, keys_more, none_more, take_all, take_next}
+use Rattle.sk_speculator.proofs.Names.{take_all, ◌||◌, ◌∷◌, [], sym, ◌∙◌, ap, subst, take, IsTotalOrder}
+use Rattle.sk_speculator.proofs.Names.{IsAntisymmetric, eq_by_cmp, list_any-append, keys_of, is_in, IsReady}
+use Rattle.sk_speculator.proofs.Writing.{either_key, in_place, keys_more, none_more, take_next}
 use Rattle.sk_speculator.proofs.writes.prepare_all.Goals as goal
 
 pub loop-write-preserved : goal.loop-write-preserved
@@ -24,7 +24,7 @@ loop-write-preserved g c =
 
 pub returns-clause-ready : goal.returns-clause-ready
 returns-clause-ready g c = λ q here.
-    c.loop-write.invariant.3 q (ap (λ xs. is_in g.K.Key.order (keys_of xs) q) (take_all c.args.written.now c.loop-write.write-index c.loop-write-test.false) ∙ here)
+    c.loop-write.invariant.3 q (ap (λ xs. is_in g.K.Key.order (keys_of xs) q) (take_all c.loop-write.write-index c.args.written.now c.loop-write-test.false) ∙ here)
 
 pub returns-in_err-prepare-clause-settled : goal.returns-in_err-prepare-clause-settled
 returns-in_err-prepare-clause-settled g c = λ before.

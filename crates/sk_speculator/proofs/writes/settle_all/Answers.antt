@@ -1,6 +1,6 @@
 -- One key more is settled.
-use Rattle.sk_speculator.proofs.Names.{◌+◌, drop, ◌∙◌, subst, keys_of, SettledBut}
-use Rattle.sk_speculator.proofs.Writing.{drop_all, drop_next}
+use Rattle.sk_speculator.proofs.Names.{drop_all, ◌+◌, drop, ◌∙◌, subst, keys_of, SettledBut}
+use Rattle.sk_speculator.proofs.Writing.{drop_next}
 use Rattle.sk_speculator.proofs.writes.settle_all.Goals as goal
 
 pub loop-write-preserved : goal.loop-write-preserved
@@ -16,4 +16,4 @@ loop-write-preserved g c =
 
 pub returns-clause-settled : goal.returns-clause-settled
 returns-clause-settled g c = λ before.
-    subst (λ xs. SettledBut g.K.Key.order (keys_of xs) c.loop-write.slots) (drop_all c.args.written.now c.loop-write.write-index c.loop-write-test.false) (c.loop-write.invariant.2 before)
+    subst (λ xs. SettledBut g.K.Key.order (keys_of xs) c.loop-write.slots) (drop_all c.loop-write.write-index c.args.written.now c.loop-write-test.false) (c.loop-write.invariant.2 before)

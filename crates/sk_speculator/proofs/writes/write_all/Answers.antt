@@ -1,8 +1,8 @@
 -- One write more.
-use Rattle.sk_speculator.proofs.Names.{◌≡◌, ◌<◌, ◌+◌, ◌∷◌, true, length, drop, arith, sym, ◌∙◌, ap, subst, IsTotalOrder}
-use Rattle.sk_speculator.proofs.Names.{eq_by_cmp_equiv, IsAntisymmetric, and_parts, or_left, keys_of, is_in, IsReady}
-use Rattle.sk_speculator.proofs.Names.{SettledBut}
-use Rattle.sk_speculator.proofs.Writing.{Writing, drop_all, drop_more, drop_next, drop_set, in_place, keys_set, set_length, writing_done, writing_more}
+use Rattle.sk_speculator.proofs.Names.{drop_all, drop_more_same, ◌≡◌, ◌<◌, ◌+◌, ◌∷◌, true, length, drop, arith, sym}
+use Rattle.sk_speculator.proofs.Names.{◌∙◌, ap, subst, IsTotalOrder, eq_by_cmp_equiv, IsAntisymmetric, and_parts}
+use Rattle.sk_speculator.proofs.Names.{or_left, keys_of, is_in, IsReady, SettledBut}
+use Rattle.sk_speculator.proofs.Writing.{Writing, drop_next, drop_set, in_place, keys_set, set_length, writing_done, writing_more}
 use Rattle.sk_speculator.proofs.writes.write_all.Goals as goal
 
 pub write-done-requires : goal.write-done-requires
@@ -25,7 +25,7 @@ loop-place-preserved g c =
     let w = c.index-written-place.result in
     let all = c.args.written.now in
     let lt : l.place < length l.written = omega (arith, c.loop-place-test.true, l.invariant.3) in
-    let behind : drop (l.place + 1) l.written ≡ drop (l.place + 1) all = drop_more l.written all l.place l.invariant.1 in
+    let behind : drop (l.place + 1) l.written ≡ drop (l.place + 1) all = drop_more_same l.written all l.place l.invariant.1 in
     let own : w.0 ≡ c.take_write-key.result.0 = ap (λ (p : _ × _). p.0) c.index-written-place.is ∙ sym c.take_write-key.ensures.key in
     let value : w.1 ≡ c.take_write-key.result.1 = ap (λ (p : _ × _). p.1) c.index-written-place.is ∙ sym c.take_write-key.ensures.value in
     let one : w ≡ c.take_write-key.result = λ i. (own i, value i) in
@@ -52,11 +52,11 @@ returns-clause-performed g c =
     let l = c.loop-place in
     let all = c.args.written.now in
     writing_done R g.I.Inversion.written c.args.tags.now c.args.slots.now all l.slots c.requires.clean
-    (subst (Writing R g.I.Inversion.written c.args.tags.now c.args.slots.now all l.slots) (drop_all all l.place c.loop-place-test.false) l.invariant.0)
+    (subst (Writing R g.I.Inversion.written c.args.tags.now c.args.slots.now all l.slots) (drop_all l.place all c.loop-place-test.false) l.invariant.0)
 
 pub returns-clause-done : goal.returns-clause-done
 returns-clause-done g c = λ done before.
     let R = g.K.Key.order in
     let l = c.loop-place in
     let all = c.args.written.now in
-    subst (λ xs. SettledBut R (keys_of xs) l.slots) (drop_all all l.place c.loop-place-test.false) (l.invariant.5 done before)
+    subst (λ xs. SettledBut R (keys_of xs) l.slots) (drop_all l.place all c.loop-place-test.false) (l.invariant.5 done before)

@@ -1,7 +1,8 @@
 -- One list has one terminal more, or there is one list more.
-use Rattle.sk_terminal.proofs.Names.{◌≡◌, ◌<◌, ◌≤◌, ◌++◌, ◌∷◌, [], List, true, length, refl, sym, ◌∙◌, ap, subst, arith}
-use Rattle.sk_terminal.proofs.Names.{prefix_len, or_right, eq-eqb, has, Listing, is_listed, AreTidy, HasNone}
-use Rattle.sk_terminal.proofs.Listed.{is_other, missing, on_err_given, set_listed, same_set, tidy_set, some_at, some_there, push_listed, tidy_push}
+use Rattle.sk_terminal.proofs.Names.{◌<◌, ◌≤◌, ◌++◌, ◌∷◌, [], List, true, length, refl, sym, ◌∙◌, ap, subst, arith}
+use Rattle.sk_terminal.proofs.Names.{or_right, eq-eqb, Listing, is_listed, AreTidy}
+use Rattle.sk_terminal.proofs.Listed.{missing, on_err_given, set_listed, same_set, tidy_set, some_at, some_there}
+use Rattle.sk_terminal.proofs.Listed.{push_listed, tidy_push}
 use Rattle.sk_terminal.proofs.listing.add.Goals as goal
 
 pub returns-in_err-add-clause-err : goal.returns-in_err-add-clause-err

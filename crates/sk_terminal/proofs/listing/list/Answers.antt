@@ -1,6 +1,6 @@
 -- One guess more has the terminal listed.
-use Rattle.sk_terminal.proofs.Names.{◌≡◌, ◌<◌, ◌≤◌, ◌+◌, ◌^◌, ◌||◌, ◌&&◌, length, take, sym, ◌∙◌, ap, subst, arith}
-use Rattle.sk_terminal.proofs.Names.{rules, prefix_len-le-length, ◌==◌, has, is_listed}
+use Rattle.sk_terminal.proofs.Names.{◌<◌, ◌≤◌, ◌+◌, ◌^◌, ◌||◌, ◌&&◌, length, take, sym, ◌∙◌, ap, subst, arith, rules}
+use Rattle.sk_terminal.proofs.Names.{prefix_len-le-length, ◌==◌, has, is_listed}
 use Rattle.sk_terminal.proofs.Listed.{at_most, has_more, on_err_given, one_more}
 use Rattle.sk_terminal.proofs.listing.list.Goals as goal
 

@@ -1,5 +1,5 @@
 -- The list at the hint is the guess's, and so the first that is.
-use Rattle.sk_terminal.proofs.Names.{◌≡◌, sym, ◌∙◌, eqb-true}
+use Rattle.sk_terminal.proofs.Names.{sym, ◌∙◌, eqb-true}
 use Rattle.sk_terminal.proofs.Listed.{place_of_own}
 use Rattle.sk_terminal.proofs.listing.place_from.Goals as goal
 

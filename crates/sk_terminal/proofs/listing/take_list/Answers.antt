@@ -1,6 +1,5 @@
 -- The list at the place is the guess's, or there is none.
-use Rattle.sk_terminal.proofs.Names.{◌≡◌, ◌<◌, ◌≤◌, length, refl, sym, ◌∙◌, ap, subst, arith, List, prefix_len, Listing}
-use Rattle.sk_terminal.proofs.Names.{is_listed, AreTidy}
+use Rattle.sk_terminal.proofs.Names.{◌≡◌, ◌<◌, ◌≤◌, length, sym, ◌∙◌, ap, subst, arith, prefix_len, is_listed, AreTidy}
 use Rattle.sk_terminal.proofs.Listed.{is_other, found, missing, none_listed, removed_other, tidy_removed, gone}
 use Rattle.sk_terminal.proofs.listing.take_list.Goals as goal
 

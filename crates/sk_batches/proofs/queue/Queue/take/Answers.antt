@@ -1,7 +1,7 @@
 -- The records move from the open batch to the last, and nothing more is undecided.
-use Rattle.sk_batches.proofs.Names.{◌≤◌, ◌++◌, ◌∷◌, [], ◌∙◌, length, ap, sym, subst, arith, sum_by, Kept, Batch}
-use Rattle.sk_batches.proofs.Names.{payload, QueueView, kept_records, next_records, send}
-use Rattle.sk_batches.proofs.Lists.{size, both_length, kept_size, sum_mapped, sum_pushed, sent_size}
+use Rattle.sk_batches.proofs.Names.{sum_by_push, ◌≤◌, ◌++◌, ◌∷◌, [], ◌∙◌, length, ap, sym, subst, arith, sum_by, Kept}
+use Rattle.sk_batches.proofs.Names.{Batch, payload, QueueView, kept_records, next_records, send}
+use Rattle.sk_batches.proofs.Lists.{size, both_length, kept_size, sum_mapped, sent_size}
 use Rattle.sk_batches.proofs.queue.Queue.take.Goals as goal
 
 pub fill-requires-clause-room : goal.fill-requires-clause-room
@@ -22,7 +22,7 @@ invariant_of-self-2 c =
     let batch : Batch = record { number = c.self.inside.number; frame = c.self.inside.frame; stage = Kept; records = c.replace.result } in
     let less = sum_mapped (send c.self.inside.frame) (sent_size c.self.inside.frame) c.push_reserved.new.self.items in
     let all = ap (sum_by size) (c.push_reserved.ensures.items ∙ ap (λ bs. bs ++ batch ∷ []) c.in_ok-reserve.ensures.items) in
-    let both = sum_pushed c.self.inside.batches.items batch in
+    let both = sum_by_push size c.self.inside.batches.items batch in
     let now = ap (sum_by size) c.send_all.ensures in
     let old = ap (λ rs. length (payload rs)) c.replace.ensures.value in
     let next = ap (λ rs. length (payload rs)) c.replace.ensures.after in

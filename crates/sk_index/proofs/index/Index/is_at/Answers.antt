@@ -1,6 +1,6 @@
 -- The string in a place.
-use Rattle.sk_index.proofs.Names.{Some, sym, ap, ◌∙◌, option_map, Vec, bytes_eq-Decides, string_of}
-use Rattle.sk_index.proofs.Strings.{string_at, some_none, true_false, same_list}
+use Rattle.sk_index.proofs.Names.{same_Some, Some, sym, ap, ◌∙◌, option_map, Vec, bytes_eq-Decides, string_of}
+use Rattle.sk_index.proofs.Strings.{string_at, some_none, true_false}
 use Rattle.sk_index.proofs.index.Index.is_at.Goals as goal
 
 pub returns-in-Some-clause-yes : goal.returns-in-Some-clause-yes
@@ -19,7 +19,7 @@ returns-in-Some-clause-no c = λ e is.
     ∙ sym (string_at c.self.inside.strings.slots c.args.place)
     ∙ ap (λ es. string_of es c.args.place) c.self.view_is ∙ is in
     true_false (sym ((bytes_eq-Decides c.as_slice.result.now c.args.bytes.now).1
-    (same_list c.as_slice.result.now c.args.bytes.now there)) ∙ sym c.eq.ensures ∙ e)
+    (same_Some c.as_slice.result.now c.args.bytes.now there)) ∙ sym c.eq.ensures ∙ e)
 
 pub returns-in-None-clause-no : goal.returns-in-None-clause-no
 returns-in-None-clause-no c = λ e is.

@@ -1,8 +1,7 @@
 -- There is room for the output, for its channel, and for its count.
-use Rattle.sk_outputs.proofs.Names.{sym, ap, subst, arith, SaidView, AreCounted, AreReady}
+use Rattle.sk_outputs.proofs.Names.{shorter, sym, ap, subst, arith, SaidView, AreCounted, AreReady}
 use Rattle.std.proofs.Common.{◌==◌}
 use Rattle.sk_outputs.proofs.Counted.{counted_more}
-use Rattle.sk_outputs.proofs.Ready.{fewer_kept}
 use Rattle.sk_outputs.proofs.outputs.Outputs.say.Goals as goal
 
 pub put_next-requires : goal.put_next-requires
@@ -11,7 +10,7 @@ put_next-requires g c = let room = ap (λ (v : SaidView _). v.room) c.self.view_
 pub count_up-requires-clause-more : goal.count_up-requires-clause-more
 count_up-requires-clause-more g c =
     let xs = c.self.inside.said.items in
-    let few = fewer_kept (λ x. x.0.0 == c.args.to) xs in
+    let few = shorter (λ x. x.0.0 == c.args.to) xs in
     omega (arith, c.self.invariant.2 c.args.to, few, c.self.inside.said.ok.0, c.self.inside.said.small.0, c.self.inside.said.small.1)
 
 pub push_back_reserved-requires : goal.push_back_reserved-requires

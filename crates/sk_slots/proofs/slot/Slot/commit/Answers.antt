@@ -1,5 +1,5 @@
 -- The notes are lightened, and then merged.
-use Rattle.sk_slots.proofs.Names.{◌≡◌, [], sym, ◌∙◌, ap, subst, arith, committed, merged, SlotView}
+use Rattle.sk_slots.proofs.Names.{[], ◌∙◌, ap, arith, committed, merged, SlotView}
 use Rattle.sk_slots.proofs.slot.Slot.commit.Goals as goal
 
 pub lighten-requires : goal.lighten-requires

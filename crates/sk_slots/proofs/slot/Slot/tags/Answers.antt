@@ -1,5 +1,5 @@
 -- The newest note is the last.
-use Rattle.sk_slots.proofs.Names.{[], ◌∙◌, ap, sym, arith, last_tags, SlotView, newest_tags}
+use Rattle.sk_slots.proofs.Names.{[], ◌∙◌, ap, sym, last_tags, SlotView, newest_tags}
 use Rattle.sk_slots.proofs.Undoing.{newest, seen_tags}
 use Rattle.sk_slots.proofs.slot.Slot.tags.Goals as goal
 

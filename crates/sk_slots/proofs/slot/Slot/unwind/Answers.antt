@@ -1,8 +1,8 @@
 -- What was there before the first note that rests on the guess is put back.
-use Rattle.sk_slots.proofs.Names.{◌≡◌, ◌≤◌, length, take, not, sym, ◌∙◌, ap, subst, arith, prefix_len, has, unwound}
-use Rattle.sk_slots.proofs.Names.{cut, seen, rewound, CanGoBack, SlotView}
+use Rattle.sk_slots.proofs.Names.{prefix_len-le-length, not, has, ◌≤◌, length, sym, ◌∙◌, ap, subst, arith, prefix_len}
+use Rattle.sk_slots.proofs.Names.{unwound, cut, seen, CanGoBack, SlotView}
 use Rattle.sk_slots.proofs.Logs.{cut_at}
-use Rattle.sk_slots.proofs.Undoing.{can_front, prefix_within, rewound_first, seen_front, seen_prefix}
+use Rattle.sk_slots.proofs.Undoing.{can_front, rewound_first, seen_front, seen_prefix}
 use Rattle.sk_slots.proofs.slot.Slot.unwind.Goals as goal
 
 pub go_back-requires-clause-can : goal.go_back-requires-clause-can
@@ -12,7 +12,7 @@ pub go_back-requires-clause-within : goal.go_back-requires-clause-within
 go_back-requires-clause-within g c =
     let ks = c.self.inside.log.items in
     let at = c.before_first-place.ensures ∙ ap (prefix_len (λ n. not (has c.args.id n.tags))) c.as_slice.ensures.value in
-    subst (λ p. p ≤ length ks) (sym at) (prefix_within c.args.id ks)
+    subst (λ p. p ≤ length ks) (sym at) (prefix_len-le-length (λ n. not (has c.args.id n.tags)) ks)
 
 pub invariant_of-self : goal.invariant_of-self
 invariant_of-self g c =

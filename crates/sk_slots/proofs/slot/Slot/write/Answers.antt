@@ -1,6 +1,6 @@
 -- What puts the write back is noted on the notes of the value before it.
-use Rattle.sk_slots.proofs.Names.{◌≡◌, [], true, sym, ◌∙◌, ap, subst, true≢false, same_tags, newest_tags, seen}
-use Rattle.sk_slots.proofs.Names.{CanGoBack, SlotView, goes_unnoted, noted_on}
+use Rattle.sk_slots.proofs.Names.{[], sym, ◌∙◌, ap, subst, true≢false, same_tags, seen, CanGoBack, SlotView}
+use Rattle.sk_slots.proofs.Names.{goes_unnoted, noted_on}
 use Rattle.sk_slots.proofs.Undoing.{seen_tags}
 use Rattle.sk_slots.proofs.slot.Slot.write.Goals as goal
 

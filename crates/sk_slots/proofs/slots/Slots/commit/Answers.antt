@@ -1,8 +1,8 @@
 -- One key more.
-use Rattle.sk_slots.proofs.Names.{◌≡◌, ℕ, ◌+◌, ◌<◌, ◌||◌, List, ◌∷◌, cond, sym, ◌∙◌, ap, subst, drop, length, [], refl}
-use Rattle.sk_slots.proofs.Names.{arith, eq_by_cmp, is_in, merged, Note, unwound, cut, committed, look_at, log_at}
+use Rattle.sk_slots.proofs.Names.{◌+◌, List, cond, sym, ◌∙◌, ap, drop, [], eq_by_cmp, is_in, merged, Note, committed}
+use Rattle.sk_slots.proofs.Names.{log_at}
 use Rattle.sk_slots.proofs.Joins.{lightened_twice}
-use Rattle.sk_slots.proofs.Maps.{pass_more, both_more, next_of, cut_twice, unwound_twice}
+use Rattle.sk_slots.proofs.Maps.{pass_more, next_of}
 use Rattle.sk_slots.proofs.slots.Slots.commit.Goals as goal
 
 pub loop-key-preserved : goal.loop-key-preserved

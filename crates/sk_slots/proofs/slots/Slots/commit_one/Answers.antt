@@ -1,5 +1,5 @@
 -- What is settled but for one key is settled once that is.
-use Rattle.sk_slots.proofs.Names.{◌||◌, [], ◌∷◌, refl, sym, ◌∙◌, subst, IsTotalOrder, eq_by_cmp_equiv, or_left}
+use Rattle.sk_slots.proofs.Names.{[], ◌∷◌, refl, ◌∙◌, subst, IsTotalOrder, eq_by_cmp_equiv, or_left}
 use Rattle.sk_slots.proofs.slots.Slots.commit_one.Goals as goal
 
 pub returns-then-commit_at-clause-settled : goal.returns-then-commit_at-clause-settled

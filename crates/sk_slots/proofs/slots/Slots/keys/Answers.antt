@@ -1,5 +1,5 @@
 -- A map has the keys that it has values for.
-use Rattle.sk_slots.proofs.Names.{◌≡◌, sym, ◌∙◌, ap, is_some, contains_key-keys, is_in, found}
+use Rattle.sk_slots.proofs.Names.{sym, ◌∙◌, ap, is_some, contains_key-keys, is_in, found}
 use Rattle.sk_map.specs.Seen.{seen}
 use Rattle.sk_slots.proofs.slots.Slots.keys.Goals as goal
 

@@ -1,10 +1,4 @@
-use Rattle.sk_slots.proofs.Names.{◌≡◌, ◌||◌, List, [], ◌∷◌, Option, Some, None, cond, refl, sym, ◌∙◌, ap, subst, drop}
-use Rattle.sk_slots.proofs.Names.{◌+◌, arith, eq_by_cmp, option_copied, option_copied_mut, IsTotalOrder, get-empty}
-use Rattle.sk_slots.proofs.Names.{IsAntisymmetric, get, insert, remove, is_in, last_tags, unwound, cut, committed}
-use Rattle.sk_slots.proofs.Names.{SlotView, noted_on, IsPrepared, is_bare, slot_in, look_at, log_at, IsReady}
-use Rattle.sk_slots.proofs.Names.{HasPrepared}
-use Rattle.sk_map.specs.Seen.{seen}
-use Rattle.sk_slots.proofs.Maps.{one_changed, none_changed, one_same, one_born, one_gone, bare_value, bare_log, still_ready, ready_at, when_ok, either, pass_more, cut_twice, unwound_twice}
+use Rattle.sk_slots.proofs.Names.{◌≡◌, Option, Some, None, sym, ◌∙◌, ap, get-empty, get, SlotView, slot_in}
 use Rattle.sk_slots.proofs.slots.Slots.new.Goals as goal
 
 pub returns-clause-look : goal.returns-clause-look

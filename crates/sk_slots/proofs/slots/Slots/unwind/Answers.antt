@@ -1,8 +1,7 @@
 -- One key more.
-use Rattle.sk_slots.proofs.Names.{IsTotalOrder, eq_by_cmp_equiv, or_left, ◌≡◌, ℕ, ◌+◌, ◌<◌, ◌||◌, List, ◌∷◌, cond, sym}
-use Rattle.sk_slots.proofs.Names.{◌∙◌, ap, subst, drop, length, [], refl, arith, eq_by_cmp, is_in, unwound, cut}
-use Rattle.sk_slots.proofs.Names.{committed, look_at, log_at}
-use Rattle.sk_slots.proofs.Maps.{pass_more, both_more, next_of, cut_twice, unwound_twice}
+use Rattle.sk_slots.proofs.Names.{IsTotalOrder, eq_by_cmp_equiv, or_left, ◌+◌, ◌∷◌, cond, sym, ◌∙◌, ap, subst, drop, []}
+use Rattle.sk_slots.proofs.Names.{refl, eq_by_cmp, is_in, unwound, cut, look_at, log_at}
+use Rattle.sk_slots.proofs.Maps.{both_more, next_of}
 use Rattle.sk_slots.proofs.slots.Slots.unwind.Goals as goal
 
 pub loop-key-preserved : goal.loop-key-preserved

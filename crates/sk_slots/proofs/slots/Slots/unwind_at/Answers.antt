@@ -1,13 +1,11 @@
-use Rattle.sk_slots.proofs.Names.{◌≡◌, ◌||◌, List, [], ◌∷◌, Option, Some, None, cond, refl, sym, ◌∙◌, ap, subst, drop}
-use Rattle.sk_slots.proofs.Names.{◌+◌, arith, option_copied_mut, eq_by_cmp, IsTotalOrder, IsAntisymmetric, get, insert}
-use Rattle.sk_slots.proofs.Names.{remove, is_in, last_tags, unwound, cut, committed, SlotView, noted_on, IsPrepared}
-use Rattle.sk_slots.proofs.Names.{slot_in, look_at, log_at, IsReady, HasPrepared, SettledBut}
+use Rattle.sk_slots.proofs.Names.{cond, refl, sym, ◌∙◌, ap, subst, option_copied_mut, eq_by_cmp, IsTotalOrder, rules}
+use Rattle.sk_slots.proofs.Names.{IsAntisymmetric, unwound, cut, SlotView, look_at, log_at, SettledBut}
 use Rattle.sk_map.specs.Seen.{seen}
-use Rattle.sk_slots.proofs.Maps.{one_changed, none_changed, one_same, one_born, one_gone, bare_value, bare_log, still_ready, ready_at, settled_kept}
+use Rattle.sk_slots.proofs.Maps.{one_changed, none_changed, settled_kept}
 use Rattle.sk_slots.proofs.slots.Slots.unwind_at.Goals as goal
 
-pub returns-clause-look : goal.returns-clause-look
-returns-clause-look g c =
+pub returns : goal.returns
+returns g c =
     let R = g.K.Key.order in
     let total = subst IsTotalOrder g.met.K.Key.same g.met.K.Ord.total in
     let exact = subst IsAntisymmetric g.met.K.Key.same g.met.K.Key.exact in
@@ -15,43 +13,21 @@ returns-clause-look g c =
     let m = seen R c.self.inside.slots in
     let all = rw c.in-Some.is at (c.get_mut.follows.holds c.unwind.new.self) in
     let here = sym c.in-Some.ensures.value in
-    λ q. one_changed total exact (λ (s : SlotView _). s.value) (λ (s : SlotView _). unwound c.args.id s.log s.value) m _ k _ c.unwind.new.self here all c.unwind.ensures.value q ∙ ap (λ es. cond (eq_by_cmp R q k) (unwound c.args.id (log_at R es q) (look_at R es q)) (look_at R es q)) c.self.view_is
+    record {
+      look = λ q. one_changed total exact (λ (s : SlotView _). s.value) (λ (s : SlotView _). unwound c.args.id s.log s.value) m _ k _ c.unwind.new.self here all c.unwind.ensures.value q ∙ ap (λ es. cond (eq_by_cmp R q k) (unwound c.args.id (log_at R es q) (look_at R es q)) (look_at R es q)) c.self.view_is;
+      log = λ q. one_changed total exact (λ (s : SlotView _). s.log) (λ (s : SlotView _). cut c.args.id s.log) m _ k _ c.unwind.new.self here all c.unwind.ensures.log q ∙ ap (λ es. cond (eq_by_cmp R q k) (cut c.args.id (log_at R es q)) (log_at R es q)) c.self.view_is;
+      settled = λ keys among settled. settled_kept total exact keys m _ k c.unwind.new.self all among (subst (SettledBut R keys) (sym c.self.view_is) settled);
+    }
 
-pub returns-clause-log : goal.returns-clause-log
-returns-clause-log g c =
+pub returns-in_default : goal.returns-in_default
+returns-in_default g c =
     let R = g.K.Key.order in
     let total = subst IsTotalOrder g.met.K.Key.same g.met.K.Ord.total in
     let exact = subst IsAntisymmetric g.met.K.Key.same g.met.K.Key.exact in
     let k = c.args.key.now in
     let m = seen R c.self.inside.slots in
-    let all = rw c.in-Some.is at (c.get_mut.follows.holds c.unwind.new.self) in
-    let here = sym c.in-Some.ensures.value in
-    λ q. one_changed total exact (λ (s : SlotView _). s.log) (λ (s : SlotView _). cut c.args.id s.log) m _ k _ c.unwind.new.self here all c.unwind.ensures.log q ∙ ap (λ es. cond (eq_by_cmp R q k) (cut c.args.id (log_at R es q)) (log_at R es q)) c.self.view_is
-
-pub returns-in_default-clause-look : goal.returns-in_default-clause-look
-returns-in_default-clause-look g c =
-    let R = g.K.Key.order in
-    let total = subst IsTotalOrder g.met.K.Key.same g.met.K.Ord.total in
-    let exact = subst IsAntisymmetric g.met.K.Key.same g.met.K.Key.exact in
-    let k = c.args.key.now in
-    let m = seen R c.self.inside.slots in
-    λ q. none_changed total exact (λ (s : SlotView _). s.value) (λ (s : SlotView _). unwound c.args.id s.log s.value) m _ k (sym c.get_mut.ensures.value ∙ ap option_copied_mut c.in_default.is) (ap (seen R) c.get_mut.follows.holds-at-none) refl q ∙ ap (λ es. cond (eq_by_cmp R q k) (unwound c.args.id (log_at R es q) (look_at R es q)) (look_at R es q)) c.self.view_is
-
-pub returns-in_default-clause-log : goal.returns-in_default-clause-log
-returns-in_default-clause-log g c =
-    let R = g.K.Key.order in
-    let total = subst IsTotalOrder g.met.K.Key.same g.met.K.Ord.total in
-    let exact = subst IsAntisymmetric g.met.K.Key.same g.met.K.Key.exact in
-    let k = c.args.key.now in
-    let m = seen R c.self.inside.slots in
-    λ q. none_changed total exact (λ (s : SlotView _). s.log) (λ (s : SlotView _). cut c.args.id s.log) m _ k (sym c.get_mut.ensures.value ∙ ap option_copied_mut c.in_default.is) (ap (seen R) c.get_mut.follows.holds-at-none) refl q ∙ ap (λ es. cond (eq_by_cmp R q k) (cut c.args.id (log_at R es q)) (log_at R es q)) c.self.view_is
-
-pub returns-clause-settled : goal.returns-clause-settled
-returns-clause-settled g c =
-    let R = g.K.Key.order in
-    let total = subst IsTotalOrder g.met.K.Key.same g.met.K.Ord.total in
-    let exact = subst IsAntisymmetric g.met.K.Key.same g.met.K.Key.exact in
-    let k = c.args.key.now in
-    let m = seen R c.self.inside.slots in
-    let all = rw c.in-Some.is at (c.get_mut.follows.holds c.unwind.new.self) in
-    λ keys among settled. settled_kept total exact keys m _ k c.unwind.new.self all among (subst (SettledBut R keys) (sym c.self.view_is) settled)
+    record {
+      look = λ q. none_changed total exact (λ (s : SlotView _). s.value) (λ (s : SlotView _). unwound c.args.id s.log s.value) m _ k (sym c.get_mut.ensures.value ∙ ap option_copied_mut c.in_default.is) (ap (seen R) c.get_mut.follows.holds-at-none) refl q ∙ ap (λ es. cond (eq_by_cmp R q k) (unwound c.args.id (log_at R es q) (look_at R es q)) (look_at R es q)) c.self.view_is;
+      log = λ q. none_changed total exact (λ (s : SlotView _). s.log) (λ (s : SlotView _). cut c.args.id s.log) m _ k (sym c.get_mut.ensures.value ∙ ap option_copied_mut c.in_default.is) (ap (seen R) c.get_mut.follows.holds-at-none) refl q ∙ ap (λ es. cond (eq_by_cmp R q k) (cut c.args.id (log_at R es q)) (log_at R es q)) c.self.view_is;
+      settled = search rules;
+    }

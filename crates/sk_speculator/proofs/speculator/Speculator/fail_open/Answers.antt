@@ -4,7 +4,9 @@ use Rattle.sk_speculator.proofs.Names.{AllAlmostExact, tags_by, struck_with, wit
 use Rattle.sk_speculator.proofs.Names.{opens_of, exact_at, failed_almost, taken_opens, is_in, has, cut, unwound}
 use Rattle.sk_speculator.proofs.Names.{not_struck, numbers, look_at, log_at, FailsIn, TookBack, Parts, Undone}
 use Rattle.sk_speculator.proofs.Afterwards.{cuts_so, fail_agrees, fails_so, grows, whole_failed}
+use Rattle.sk_speculator.proofs.speculator.Speculator.fail_open.Given.{Over}
 use Rattle.sk_speculator.proofs.speculator.Speculator.fail_open.Goals as goal
+use Rattle.sk_speculator.proofs.speculator.Speculator.fail_open.Goals.{After-drop_of}
 
 pub relieve_all-requires-clause-almost : goal.relieve_all-requires-clause-almost
 relieve_all-requires-clause-almost g c =
@@ -28,8 +30,14 @@ relieve_all-requires-clause-almost g c =
     (subst (AllAlmostExact R (tags_by (log_at R new)) l) (sym left)
     (failed_almost total exact id (log_at R a.slots) (log_at R new) (grows total exact a whole) (cuts_so total exact a whole id l just new log) l just os sound.exact))
 
-pub invariant_of-self : goal.invariant_of-self
-invariant_of-self g c =
+-- it is the machine's
+failed : (g : Over) (c : After-drop_of g) → FailsIn g.K.Key.order (record { slots = c.self.inside.slots; guesses = c.self.inside.guesses.view; opens = opens_of c.self.inside.guesses.opens; said = c.self.inside.said.said }) c.args.id (record {
+  slots = c.unwind.new.self;
+  guesses = c.relieve_all.new.guesses.view;
+  opens = opens_of c.relieve_all.new.guesses.opens;
+  said = c.drop_of.new.self.said;
+})
+failed g c =
     let R = g.K.Key.order in
     let total = subst IsTotalOrder g.met.K.Key.same g.met.K.Ord.total in
     let exact = subst IsAntisymmetric g.met.K.Key.same g.met.K.Key.exact in
@@ -51,7 +59,7 @@ invariant_of-self g c =
     let same : opens_of c.take_dependents-keys.new.self.opens ≡ a.opens = ap opens_of c.take_dependents-keys.ensures.opens ∙ taken_opens id os in
     let opens : b.opens ≡ not_struck id a.opens = c.relieve_all.ensures.opens ∙ c.fail-struck.ensures.machine ∙ ap (not_struck id) same in
     let guesses : b.guesses ≡ with_struck id a.opens a.guesses = c.relieve_all.ensures.view ∙ c.fail-struck.ensures.view ∙ (λ i. with_struck id (same i) (c.take_dependents-keys.ensures.view i)) in
-    let fails : FailsIn R a id b = record {
+    record {
       undecided = here;
       fails = λ status _. fails_so total exact a whole id l just b look cuts opens c.drop_of.ensures status;
       agrees = λ status are.
@@ -59,48 +67,25 @@ invariant_of-self g c =
           c.take_dependents-keys.ensures.view same c.relieve_all.ensures.view c.relieve_all.ensures.opens here (c.fail-struck.ensures.statuses status) are;
       guesses = guesses;
       opens = opens;
-    } in (
+    }
+
+pub invariant_of-self : goal.invariant_of-self
+invariant_of-self g c =
+    let total = subst IsTotalOrder g.met.K.Key.same g.met.K.Ord.total in
+    let exact = subst IsAntisymmetric g.met.K.Key.same g.met.K.Key.exact in
+    let sound = c.self.invariant.1 in (
       c.self.invariant.0,
       record {
         settled = c.unwind.ensures.settled sound.settled;
         exact = c.relieve_all.ensures.exact;
-        whole = whole_failed total exact a whole b id fails;
+        whole = whole_failed total exact _ sound.whole _ c.args.id (failed g (goal.at.invariant_of-self g c).After-drop_of);
       },
     )
 
 pub returns-clause-fails : goal.returns-clause-fails
 returns-clause-fails g c =
-    let R = g.K.Key.order in
-    let total = subst IsTotalOrder g.met.K.Key.same g.met.K.Ord.total in
-    let exact = subst IsAntisymmetric g.met.K.Key.same g.met.K.Key.exact in
-    let a : Parts _ _ _ = record { slots = c.self.inside.slots; guesses = c.self.inside.guesses.view; opens = opens_of c.self.inside.guesses.opens; said = c.self.inside.said.said } in
-    let sound = c.self.invariant.1 in
-    let os = c.self.inside.guesses.opens in
-    let id = c.args.id in
-    let whole = sound.whole in
-    let here : has id (numbers a.opens) ≡ true = ap (λ (p : Parts _ _ _). has id (numbers p.opens)) c.self.view_is ∙ c.requires in
-    let l = dependents_of id os in
-    let just = exact_at total exact (tags_by (log_at R a.slots)) id os sound.exact here in
-    let given : c.as_slice.result.now ≡ l = c.as_slice.ensures.entities ∙ c.take_dependents-keys.ensures.list in
     let b : Parts _ _ _ = record { slots = c.unwind.new.self; guesses = c.relieve_all.new.guesses.view; opens = opens_of c.relieve_all.new.guesses.opens; said = c.drop_of.new.self.said } in
-    let look : (q : _) → look_at R b.slots q ≡ cond (is_in R l q) (unwound id (log_at R a.slots q) (look_at R a.slots q)) (look_at R a.slots q) = λ q.
-    c.unwind.ensures.look q ∙ ap (λ es. cond (is_in R es q) (unwound id (log_at R a.slots q) (look_at R a.slots q)) (look_at R a.slots q)) given in
-    let log : (q : _) → log_at R b.slots q ≡ cond (is_in R l q) (cut id (log_at R a.slots q)) (log_at R a.slots q) = λ q.
-    c.unwind.ensures.log q ∙ ap (λ es. cond (is_in R es q) (cut id (log_at R a.slots q)) (log_at R a.slots q)) given in
-    let cuts = cuts_so total exact a whole id l just b.slots log in
-    let same : opens_of c.take_dependents-keys.new.self.opens ≡ a.opens = ap opens_of c.take_dependents-keys.ensures.opens ∙ taken_opens id os in
-    let opens : b.opens ≡ not_struck id a.opens = c.relieve_all.ensures.opens ∙ c.fail-struck.ensures.machine ∙ ap (not_struck id) same in
-    let guesses : b.guesses ≡ with_struck id a.opens a.guesses = c.relieve_all.ensures.view ∙ c.fail-struck.ensures.view ∙ (λ i. with_struck id (same i) (c.take_dependents-keys.ensures.view i)) in
-    let fails : FailsIn R a id b = record {
-      undecided = here;
-      fails = λ status _. fails_so total exact a whole id l just b look cuts opens c.drop_of.ensures status;
-      agrees = λ status are.
-          fail_agrees a.guesses b.guesses c.fail-struck.new.self.view c.take_dependents-keys.new.self.view a.opens b.opens (opens_of c.fail-struck.new.self.opens) (opens_of c.take_dependents-keys.new.self.opens) id status
-          c.take_dependents-keys.ensures.view same c.relieve_all.ensures.view c.relieve_all.ensures.opens here (c.fail-struck.ensures.statuses status) are;
-      guesses = guesses;
-      opens = opens;
-    } in
-    subst (λ (p : Parts _ _ _). FailsIn R p id b) c.self.view_is fails
+    subst (λ (p : Parts _ _ _). FailsIn g.K.Key.order p c.args.id b) c.self.view_is (failed g (goal.at.returns-clause-fails g c).After-drop_of)
 
 pub returns-clause-back : goal.returns-clause-back
 returns-clause-back g c =

@@ -1,10 +1,12 @@
 -- A step is taken as the machine takes it, and nothing is seen of one that is refused.
 use Rattle.sk_speculator.proofs.Names.{ℕ, ◌||◌, None, sym, ap, ◌∙◌, subst, IsTotalOrder, IsAntisymmetric, opens_of}
 use Rattle.sk_speculator.proofs.Names.{Deed, Takes, look_at, log_at, tags_by, with_tags, AllExact, is_in, is_marked}
-use Rattle.sk_speculator.proofs.Names.{any_rests, made_by, IsSame, Parts, Performed}
+use Rattle.sk_speculator.proofs.Names.{any_rests, made_by, IsSame, IsSound, Parts, Performed}
 use Rattle.sk_speculator.proofs.Writing.{keys_made}
 use Rattle.sk_speculator.proofs.Taking.{after_take, clean, sound_refused}
+use Rattle.sk_speculator.proofs.speculator.Speculator.take.Given.{Over}
 use Rattle.sk_speculator.proofs.speculator.Speculator.take.Goals as goal
+use Rattle.sk_speculator.proofs.speculator.Speculator.take.Goals.{After-perform}
 
 pub invariant_of-self : goal.invariant_of-self
 invariant_of-self g c =
@@ -32,8 +34,12 @@ perform-requires-clause-clean g c = λ q here none.
     let members = λ (n : ℕ). c.in-Ok.ensures.members n ∙ ap (λ ks. (is_marked None n || any_rests R a.slots n looked) || any_rests R a.slots n ks) (sym keys) in
     c.ask-asked.ensures.log q ∙ clean total exact a os c.self.invariant.1 d (None) c.in-Ok.both.tags members q (ap (λ ks. is_in R ks q) keys ∙ here) none
 
-pub invariant_of-self-2 : goal.invariant_of-self-2
-invariant_of-self-2 g c =
+taken : (g : Over) (c : After-perform g) →
+    let b : Parts _ _ _ = record { slots = c.perform.new.slots; guesses = c.ask-asked.new.guesses.view; opens = opens_of c.ask-asked.new.guesses.opens; said = c.perform.new.said.said } in
+    let written = made_by g.K.Key.order g.I.Inversion.written (look_at g.K.Key.order c.self.inside.slots) c.args.step.now.written.items in
+    Takes g.K.Key.order (record { slots = c.self.inside.slots; guesses = c.self.inside.guesses.view; opens = opens_of c.self.inside.guesses.opens; said = c.self.inside.said.said }) (record { looked = c.args.step.now.looked.items; written = written; said = c.args.step.now.said }) None b
+    × IsSound g.K.Key.order b c.ask-asked.new.guesses.opens
+taken g c =
     let R = g.K.Key.order in
     let total = subst IsTotalOrder g.met.K.Key.same g.met.K.Ord.total in
     let exact = subst IsAntisymmetric g.met.K.Key.same g.met.K.Key.exact in
@@ -47,28 +53,17 @@ invariant_of-self-2 g c =
     let members = λ (n : ℕ). c.in-Ok.ensures.members n ∙ ap (λ ks. (is_marked None n || any_rests R a.slots n looked) || any_rests R a.slots n ks) (sym keys) in
     let writes = subst (λ vs. Performed R c.ask-asked.new.slots c.in-Ok.both.tags vs c.perform.new.slots) (λ i. made_by R wr (λ q. c.ask-asked.ensures.look q i) ws) c.perform.ensures.writes in
     let exactly = subst (λ ks. AllExact R (with_tags R c.in-Ok.both.tags ks (tags_by (log_at R a.slots))) c.ask-asked.new.guesses.opens) (sym keys) c.in-Ok.ensures.exact in
-    let after = after_take total exact a os c.self.invariant.1 c.ask-asked.new.slots c.perform.new.slots d c.in-Ok.both.tags c.ask-asked.new.guesses.view c.ask-asked.new.guesses.opens c.ask-asked.new.said.said c.perform.new.said.said
+    after_take total exact a os c.self.invariant.1 c.ask-asked.new.slots c.perform.new.slots d c.in-Ok.both.tags c.ask-asked.new.guesses.view c.ask-asked.new.guesses.opens c.ask-asked.new.said.said c.perform.new.said.said
     c.ask-asked.ensures.look c.ask-asked.ensures.log c.ask-asked.ensures.view c.ask-asked.ensures.opens c.ask-asked.ensures.said c.in-Ok.ensures.rising writes c.perform.ensures.says c.perform.ensures.settled exactly
-    members in
-    (c.self.invariant.0, after.1)
+    members
+
+pub invariant_of-self-2 : goal.invariant_of-self-2
+invariant_of-self-2 g c = (c.self.invariant.0, (taken g (goal.at.invariant_of-self-2 g c).After-perform).1)
 
 pub returns-clause-ok : goal.returns-clause-ok
 returns-clause-ok g c =
     let R = g.K.Key.order in
-    let total = subst IsTotalOrder g.met.K.Key.same g.met.K.Ord.total in
-    let exact = subst IsAntisymmetric g.met.K.Key.same g.met.K.Key.exact in
-    let a : Parts _ _ _ = record { slots = c.self.inside.slots; guesses = c.self.inside.guesses.view; opens = opens_of c.self.inside.guesses.opens; said = c.self.inside.said.said } in
-    let os = c.self.inside.guesses.opens in
-    let wr = g.I.Inversion.written in
-    let ws = c.args.step.now.written.items in
-    let looked = c.args.step.now.looked.items in
-    let d : Deed _ _ _ = record { looked = looked; written = made_by R wr (look_at R a.slots) ws; said = c.args.step.now.said } in
-    let keys = keys_made R wr (look_at R a.slots) ws in
-    let members = λ (n : ℕ). c.in-Ok.ensures.members n ∙ ap (λ ks. (is_marked None n || any_rests R a.slots n looked) || any_rests R a.slots n ks) (sym keys) in
-    let writes = subst (λ vs. Performed R c.ask-asked.new.slots c.in-Ok.both.tags vs c.perform.new.slots) (λ i. made_by R wr (λ q. c.ask-asked.ensures.look q i) ws) c.perform.ensures.writes in
-    let exactly = subst (λ ks. AllExact R (with_tags R c.in-Ok.both.tags ks (tags_by (log_at R a.slots))) c.ask-asked.new.guesses.opens) (sym keys) c.in-Ok.ensures.exact in
     let b : Parts _ _ _ = record { slots = c.perform.new.slots; guesses = c.ask-asked.new.guesses.view; opens = opens_of c.ask-asked.new.guesses.opens; said = c.perform.new.said.said } in
-    let after = after_take total exact a os c.self.invariant.1 c.ask-asked.new.slots c.perform.new.slots d c.in-Ok.both.tags c.ask-asked.new.guesses.view c.ask-asked.new.guesses.opens c.ask-asked.new.said.said c.perform.new.said.said
-    c.ask-asked.ensures.look c.ask-asked.ensures.log c.ask-asked.ensures.view c.ask-asked.ensures.opens c.ask-asked.ensures.said c.in-Ok.ensures.rising writes c.perform.ensures.says c.perform.ensures.settled exactly
-    members in
-    subst (λ (p : Parts _ _ _). Takes R p (record { looked = looked; written = made_by R wr (look_at R p.slots) ws; said = c.args.step.now.said }) None b) c.self.view_is after.0
+    let made = λ (p : Parts _ _ _). made_by R g.I.Inversion.written (look_at R p.slots) c.args.step.now.written.items in
+    subst (λ (p : Parts _ _ _). Takes R p (record { looked = c.args.step.now.looked.items; written = made p; said = c.args.step.now.said }) None b)
+    c.self.view_is (taken g (goal.at.returns-clause-ok g c).After-perform).0

@@ -1,5 +1,5 @@
 -- The search tells.
-use Rattle.sk_terminal.proofs.Names.{sym, ◌∙◌, ap, subst, nat_cmp, IsBinarySearchResult, has, tells}
+use Rattle.sk_terminal.proofs.Names.{◌∙◌, ap, subst, nat_cmp, IsBinarySearchResult, has, tells}
 use Rattle.sk_terminal.proofs.number_set.NumberSet.contains.Goals as goal
 
 pub returns : goal.returns

@@ -1,9 +1,9 @@
 //! What a change is, what takes it back, and what each value promises of them.
 ghost use Rattle.std.specs.Prelude.{◌≡◌, ◌↔◌, Bool, true, false, IfOk, OnOk, OnErr, Err};
 
-use crate::{HeldBytes, HeldContent};
+use crate::HeldBytes;
 use sk_ids::Text;
-use sk_objects::{Blocks, Content, Patch};
+use sk_objects::{Blocks, Content, HeldContent, Patch};
 use std::alloc::{AllocError, Global};
 use thiserror::Error;
 

@@ -2,7 +2,6 @@
 ghost use Rattle.std.specs.Prelude.{◌≡◌, IfOk};
 
 use sk_ids::Text;
-use sk_objects::Content;
 use std::alloc::{AllocError, Global};
 use std::marker::Model;
 
@@ -34,38 +33,5 @@ impl HeldBytes {
         ensures { result.now ≡ self.now }
     {
         self.bytes.as_slice()
-    }
-}
-
-/// A content that a copy had; contracts see the content.
-#[derive(Drop)]
-pub struct HeldContent {
-    content: Box<Content>,
-}
-
-impl Model for HeldContent {
-    ghost use Rattle.sk_objects.specs.Content.{ContentView, content_code};
-
-    ghost Value = { ContentView };
-
-    ghost coded = { content_code };
-
-    ghost view = { λ c. c.content.value };
-}
-
-impl HeldContent {
-    /// Takes a content in.
-    pub fn new(alloc: Global, content: Content) -> Result<HeldContent, AllocError>
-        ensures { IfOk result (λ held. held ≡ content) }
-    {
-        let content = Box::new(alloc, content)?;
-        Ok(HeldContent { content })
-    }
-
-    /// The content.
-    pub fn content(&self) -> Content
-        ensures { result ≡ self.now }
-    {
-        *self.content
     }
 }

@@ -14,5 +14,5 @@ pub mod value;
 
 pub use alone::change_alone;
 pub use change::{Change, Invertible, NotApplied, Undo};
-pub use held::{HeldBytes, HeldContent};
+pub use held::HeldBytes;
 pub use noted::change_noted;

@@ -3,8 +3,8 @@ ghost use Rattle.std.specs.Prelude.{false, ◌≡◌};
 ghost use Rattle.sk_objects.specs.Value.{IsStatus, IsContent};
 ghost use Rattle.sk_changes.specs.Slots.{exit_fits, exit_after, exit_undo, CanUndoExit, exit_undone, copy_fits, copy_grows, copy_after, copy_undo, CanUndoCopy, copy_undone};
 
-use crate::{Change, HeldContent, Invertible, NotApplied, Undo};
-use sk_objects::Content;
+use crate::{Change, Invertible, NotApplied, Undo};
+use sk_objects::HeldContent;
 use std::alloc::Global;
 
 /// What holds of every exit slot, for proofs.
@@ -54,7 +54,7 @@ impl Invertible for Option<u8> {
     ghost restores = { exit_restores };
 }
 
-impl Invertible for Content {
+impl Invertible for HeldContent {
     ghost valid = { IsContent };
 
     ghost fits = { copy_fits };
@@ -70,18 +70,18 @@ impl Invertible for Content {
     ghost undone = { copy_undone };
 
     fn apply(&mut self, alloc: Global, change: Change) -> Result<Undo, NotApplied> {
-        self.known();
+        self.content().known();
         let Change::SetCopy(content) = change else {
             return Err(NotApplied::Unfit);
         };
-        let old = HeldContent::new(alloc, *self)?;
-        *self = content;
+        let new = HeldContent::new(alloc, content)?;
+        let old = std::mem::replace(self, new);
         Ok(Undo::Recopy(old))
     }
 
     fn undo(&mut self, undo: Undo) {
         if let Undo::Recopy(old) = undo {
-            *self = old.content();
+            *self = old;
         }
     }
 

@@ -41,7 +41,6 @@ fn is_same_run(ids: &[GuessId], others: &[GuessId]) -> bool
         return false;
     }
     match (ids, others) {
-        ([one], [other]) => one.number() == other.number(),
         ([oldest, .., newest], [first, .., last]) => {
             let from = oldest.number();
             let to = newest.number();
@@ -56,6 +55,16 @@ fn is_same_run(ids: &[GuessId], others: &[GuessId]) -> bool
         }
         _ => false,
     }
+}
+
+/// Whether two lists that rise are the same. Most have each number from their oldest to their newest, and then no others are
+/// looked at.
+fn are_same(ids: &[GuessId], others: &[GuessId]) -> bool
+    requires ids { IsStrictlySortedBy nat_cmp ids.now }
+    requires others { IsStrictlySortedBy nat_cmp others.now }
+    ensures { result ≡ same_tags ids.now others.now }
+{
+    is_same_run(ids, others) || ids == others
 }
 
 /// Whether a guess lies between the oldest and the newest of a list that rises. Most that are asked for do not.
@@ -149,14 +158,15 @@ impl TagSet {
         self.place_of(id).is_some()
     }
 
-    /// Whether both sets have the same guesses. Most sets have each guess from their oldest to their newest, and then no
-    /// others are looked at.
+    /// Whether both sets have the same guesses. Most have one.
+    #[inline(always)]
     pub fn is_same(&self, other: &TagSet) -> bool
         ensures { result ≡ same_tags self.now other.now }
     {
-        let ids = self.ids.as_slice();
-        let others = other.ids.as_slice();
-        is_same_run(ids, others) || ids == others
+        match (self.ids.as_slice(), other.ids.as_slice()) {
+            ([one], [same]) => one.number() == same.number(),
+            (ids, others) => are_same(ids, others),
+        }
     }
 
     /// Whether each guess of the other set is in this one. Most that are asked for have no guess, or are the same.

@@ -1,2 +1,3 @@
 pub mod KeyLemma
 pub mod Seen
+pub mod FoundLemma

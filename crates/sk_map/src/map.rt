@@ -3,7 +3,7 @@ ghost use Rattle.std.specs.Prelude.{◌≡◌, ◌↔◌, ◌<◌, ◌^◌, IsTr
 ghost use Rattle.std.specs.Option.{option_copied, option_copied_mut};
 ghost use Rattle.std.specs.Borrow.{LendsSo, sem};
 ghost use Rattle.std.specs.List.Sorted.{IsStrictlySortedBy};
-ghost use Rattle.std.specs.Map.Iter.{ShowsInOrder, deref};
+ghost use Rattle.std.specs.Map.Iter.{ShowsInOrder, deref, deref_pair};
 ghost use Rattle.std.specs.FinMap as map;
 ghost use Rattle.sk_record.specs.Same.{IsExact, same_map};
 ghost use Rattle.sk_map.specs.Seen.{seen};
@@ -13,7 +13,7 @@ use crate::Key;
 use std::alloc::{AllocError, Global};
 use std::cmp::Ordering;
 use std::collections::BTreeMap;
-use std::collections::btree_map::{Keys, Values};
+use std::collections::btree_map::{Iter, Keys, Values};
 use std::marker::Model;
 
 /// Values by keys. Contracts see the entries, and the finite map that they make (`seen`).
@@ -95,6 +95,18 @@ impl<K: Key, V> Map<K, V> {
         self.entries.get(key)
     }
 
+    /// The same as `get`, for a key that is mostly the first one: at that nothing is searched.
+    pub fn get_first(&self, key: &K) -> Option<&V>
+        ensures { option_copied result ≡ map.get (seen K.order self.now) key.now }
+    {
+        if let Some((first, value)) = self.entries.first_key_value() {
+            if let Ordering::Equal = key.cmp(first) {
+                return Some(value);
+            }
+        }
+        self.entries.get(key)
+    }
+
     /// The same as `get`, for a key that stands late: at the last one and behind it nothing is searched.
     pub fn get_late(&self, key: &K) -> Option<&V>
         ensures { option_copied result ≡ map.get (seen K.order self.now) key.now }
@@ -110,7 +122,7 @@ impl<K: Key, V> Map<K, V> {
     }
 
     /// Lends the value of a key; what it then becomes is the value of the key.
-    #[inline(never)]
+    #[inline(always)]
     pub fn get_mut(&mut self, key: &K) -> Option<&mut V>
         ensures* writes_back { sem 𝓛 (LendsSo
             (the_row K.row V.row
@@ -169,5 +181,13 @@ impl<K: Key, V> Map<K, V> {
         ensures runs { ShowsInOrder (deref {X = V}) }
     {
         self.entries.values()
+    }
+
+    /// The keys that have a value, with their values, by their order.
+    pub fn iter(&self) -> Iter<'_, K, V>
+        ensures rest { result ≡ map.entries (seen K.order self.now) }
+        ensures runs { ShowsInOrder (deref_pair {K = K} {X = V}) }
+    {
+        self.entries.iter()
     }
 }

@@ -4,6 +4,7 @@
 pub mod block;
 pub mod content;
 pub mod file;
+pub mod held;
 pub mod patch;
 pub mod pipe;
 pub mod signals;
@@ -13,6 +14,7 @@ pub mod value;
 pub use block::Block;
 pub use content::Content;
 pub use file::File;
+pub use held::HeldContent;
 pub use patch::Patch;
 pub use pipe::Pipe;
 pub use signals::Signals;

@@ -6,7 +6,7 @@ ghost use Rattle.sk_objects.specs.File.{part as bytes_part};
 ghost use Rattle.sk_objects.specs.declared.file.TheConstants.{FILE_LIMIT};
 ghost use Rattle.sk_objects.specs.Value.{kind_of, empty_of, bytes_from, size_of, shut_of, target_of, queued_at, status_of, version_of};
 
-use crate::{Content, File, Pipe, Signals};
+use crate::{Content, File, HeldContent, Pipe, Signals};
 use sk_ids::text::TEXT_LIMIT;
 use sk_ids::{ObjId, Text};
 use std::alloc::{AllocError, Global};
@@ -30,7 +30,7 @@ pub enum Value {
     /// An exit slot: the status of a process that has ended.
     Exit(Option<u8>),
     /// A cached copy of a file of the server.
-    Copy(Content),
+    Copy(HeldContent),
 }
 
 /// The kinds of values.
@@ -68,7 +68,7 @@ impl Value {
             Kind::Pipe => Value::Pipe(Pipe::new(alloc)?),
             Kind::Signals => Value::Signals(Signals::new(alloc)?),
             Kind::Exit => Value::Exit(None),
-            Kind::Copy => Value::Copy(Content::new(0, Text::empty()).unwrap()),
+            Kind::Copy => Value::content(alloc, Content::new(0, Text::empty()).unwrap())?,
         })
     }
 
@@ -77,6 +77,14 @@ impl Value {
         ensures { result ≡ Value.Link object }
     {
         Value::Link(object)
+    }
+
+    /// A cached copy of a content.
+    #[inline(always)]
+    pub fn content(alloc: Global, content: Content) -> Result<Value, AllocError>
+        ensures { IfOk result (λ value. value ≡ Value.Copy content) }
+    {
+        Ok(Value::Copy(HeldContent::new(alloc, content)?))
     }
 
     /// Another value that holds the same.
@@ -90,7 +98,7 @@ impl Value {
             Value::Pipe(pipe) => Value::Pipe(pipe.copy()?),
             Value::Signals(signals) => Value::Signals(signals.copy()?),
             Value::Exit(status) => Value::Exit(*status),
-            Value::Copy(content) => Value::Copy(*content),
+            Value::Copy(held) => Value::Copy(held.copy()?),
         })
     }
 
@@ -138,7 +146,7 @@ impl Value {
         match self {
             Value::File(file) => file.part_into(at, count, text),
             Value::Pipe(pipe) => *text = pipe.part(at, count),
-            Value::Copy(content) => part_into(content.text(), at, count, text),
+            Value::Copy(held) => part_into(held.content().text(), at, count, text),
             _ => text.set(&[]),
         }
     }
@@ -151,7 +159,7 @@ impl Value {
         match self {
             Value::File(file) => Some(file.len() as u32),
             Value::Pipe(pipe) => Some(pipe.len() as u32),
-            Value::Copy(content) => Some(content.text().len() as u32),
+            Value::Copy(held) => Some(held.content().text().len() as u32),
             _ => None,
         }
     }
@@ -203,7 +211,7 @@ impl Value {
         ensures limit { IfSome result (λ version. version ≤ LAST_VERSION) }
     {
         match self {
-            Value::Copy(content) => Some(content.version()),
+            Value::Copy(held) => Some(held.content().version()),
             _ => None,
         }
     }

@@ -103,6 +103,7 @@ impl Process {
 
     /// Does a private instruction in place; answers false, and changes nothing, where it is not
     /// private. The place must have a next one.
+    #[inline(always)]
     pub fn does(&mut self, instruction: &Instruction) -> bool
         requires { self.old.place + 1 < 2 ^ 32 }
         ensures { Becomes result (private_step self.old instruction.now) self.old self.new }

@@ -67,11 +67,11 @@ impl Scripts {
         }
     }
 
-    /// The script of this name.
+    /// The script of this name. Each step looks one up, and mostly there are few.
     pub fn get(&self, name: &Name) -> Option<&Script>
         ensures { option_copied result ≡ map.get self.now name.now }
     {
-        match self.scripts.get(name) {
+        match self.scripts.get_first(name) {
             Some(shared) => Some(shared.script()),
             None => None,
         }

@@ -4,6 +4,7 @@ pub mod Processes
 pub mod OthersLaw
 pub mod Start
 pub mod Names
+pub mod Present
 pub mod Back
 pub mod Same
 pub mod SameLemma

@@ -97,7 +97,7 @@ fn process_in(store: &Store, pid: Pid) -> &Process
     ensures { result.now ≡ process_in (map.get store.now (Proc pid)) }
 {
     match store.value(Entity::Proc(pid)) {
-        Some(EntityState::Process(process)) => process,
+        Some(EntityState::Process(held)) => held.process(),
         _ => unreachable!(),
     }
 }
@@ -132,6 +132,26 @@ fn change_both<C: Becoming>(
     ensures err { OnErr result (store.new ≡ store.old) }
 {
     change_alone_in(store, entity, change)?;
+    become_in(store, pid, by);
+    Ok(())
+}
+
+/// Sets what an entity has, and then changes a process where it stands. Without memory nothing has changed.
+fn write_beside<C: Becoming>(
+    store: &mut Store,
+    entity: &Entity,
+    stored: EntityState,
+    pid: Pid,
+    by: &C,
+) -> Result<(), AllocError>
+    requires can { CanBecome (C.can by.now) (map.get store.old (Proc pid)) }
+    requires apart { eq_by_cmp entity_cmp (Proc pid) entity.now ≡ false }
+    ensures ok { OnOk result
+        (store.new ≡ map.insert (map.insert store.old entity.now stored) (Proc pid)
+        (became (C.after by.now) (map.get store.old (Proc pid)))) }
+    ensures err { OnErr result (store.new ≡ store.old) }
+{
+    store.put(*entity, stored)?;
     become_in(store, pid, by);
     Ok(())
 }
@@ -248,6 +268,16 @@ impl Keeper for Store {
         by: &C,
     ) -> Result<(), AllocError> {
         change_both(self, entity, change, pid, by)
+    }
+
+    fn write_beside<C: Becoming>(
+        &mut self,
+        entity: &Entity,
+        stored: EntityState,
+        pid: Pid,
+        by: &C,
+    ) -> Result<(), AllocError> {
+        write_beside(self, entity, stored, pid, by)
     }
 
     fn remove_beside<C: Becoming>(

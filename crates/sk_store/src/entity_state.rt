@@ -1,16 +1,16 @@
 //! What an entity has.
 ghost use Rattle.std.specs.Prelude.{◌≡◌, IfOk, OnOk, OnErr, Some};
 
-use crate::Becoming;
+use crate::{Becoming, HeldProcess};
 use sk_changes::{Change, Invertible, Undo, change_alone, change_noted};
-use sk_objects::Value;
+use sk_objects::{Content, Value};
 use sk_script::Process;
 use std::alloc::{AllocError, Global};
 
 /// What an entity has: a process, or a value of a kernel object.
 #[derive(Drop, PartialEq, Eq)]
 pub enum EntityState {
-    Process(Process),
+    Process(HeldProcess),
     Value(Value),
 }
 
@@ -18,12 +18,28 @@ impl EntityState {
     ghost use Rattle.sk_store.specs.Changed.{FitsAt, changed, StateFits, state_undone};
     ghost use Rattle.sk_store.specs.Processes.{CanBecome, became};
 
+    /// A process.
+    #[inline(always)]
+    pub fn process(alloc: Global, process: Process) -> Result<EntityState, AllocError>
+        ensures { IfOk result (λ state. state ≡ EntityState.Process process) }
+    {
+        Ok(EntityState::Process(HeldProcess::new(alloc, process)?))
+    }
+
+    /// A cached copy of a content.
+    #[inline(always)]
+    pub fn content(alloc: Global, content: Content) -> Result<EntityState, AllocError>
+        ensures { IfOk result (λ state. state ≡ EntityState.Value (Value.Copy content)) }
+    {
+        Ok(EntityState::Value(Value::content(alloc, content)?))
+    }
+
     /// Another of equal content.
     pub fn copy(&self) -> Result<EntityState, AllocError>
         ensures { IfOk result (λ copy. copy ≡ self.now) }
     {
         match self {
-            EntityState::Process(process) => Ok(EntityState::Process(*process)),
+            EntityState::Process(held) => Ok(EntityState::Process(held.copy()?)),
             EntityState::Value(value) => Ok(EntityState::Value(value.copy()?)),
         }
     }
@@ -69,7 +85,7 @@ impl EntityState {
         ensures { self.new ≡ became (C.after by.now) (Some self.old) }
     {
         match self {
-            EntityState::Process(process) => by.change(process),
+            EntityState::Process(held) => held.become_by(by),
             EntityState::Value(_) => unreachable!(),
         }
     }

@@ -106,6 +106,23 @@ pub trait Keeper: Look {
             (Some (became (C.after by.now) (Self.look self.old (Proc pid))))) }
         ensures err { OnErr result (self.new ≡ self.old) };
 
+    /// Sets what an entity has and then changes a process, of which nothing is noted, as the last writes of a step.
+    /// Without memory nothing has changed.
+    fn write_beside<C: Becoming>(
+        &mut self,
+        entity: &Entity,
+        stored: EntityState,
+        pid: Pid,
+        by: &C,
+    ) -> Result<(), AllocError>
+        requires unnoted { goes_unnoted self.old pid ≡ true }
+        requires can { CanBecome (C.can by.now) (Self.look self.old (Proc pid)) }
+        requires apart { eq_by_cmp entity_cmp (Proc pid) entity.now ≡ false }
+        ensures ok { OnOk result
+            (self.new ≡ wrote (wrote self.old entity.now (Some stored)) (Proc pid)
+            (Some (became (C.after by.now) (Self.look self.old (Proc pid))))) }
+        ensures err { OnErr result (self.new ≡ self.old) };
+
     /// Changes a process, of which nothing is noted, and makes an entity beside it absent, as the last writes of
     /// a step. Without memory nothing has changed.
     fn remove_beside<C: Becoming>(

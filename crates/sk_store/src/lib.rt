@@ -4,14 +4,18 @@
 pub mod back;
 pub mod becoming;
 pub mod entity_state;
+pub mod held;
 pub mod keeper;
 pub mod look;
+pub mod present;
 pub mod start;
 pub mod store;
 
 pub use back::{Back, PutBack};
 pub use becoming::Becoming;
 pub use entity_state::EntityState;
+pub use held::HeldProcess;
 pub use keeper::Keeper;
 pub use look::Look;
+pub use present::Present;
 pub use store::Store;

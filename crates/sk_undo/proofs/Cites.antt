@@ -74,7 +74,7 @@ pub use Rattle.sk_undo.specs.Names.{made_for, recounted, with_count, count_in, w
 pub use Rattle.sk_undo.specs.Names.{IsCounted, NameMap, count_for}
 pub use Rattle.sk_undo.specs.Slot.{is_whole, committed_joined, own_tags, CanGoBackOnce, joined, is_stable_raw, Fits}
 pub use Rattle.sk_undo.specs.Slot.{noted_on, SlotView, slot_of, goes_unnoted, is_needless, goes_on, is_bare, undone}
-pub use Rattle.sk_undo.specs.Slot.{is_stable, slot_back, is_process, slot_wrote}
+pub use Rattle.sk_undo.specs.Slot.{is_stable, slot_back, is_held_whole, NoteFits, slot_wrote}
 pub use Rattle.sk_undo.specs.contracts.names.Names.{the_view}
 pub use Rattle.sk_undo.specs.declared.log.Note.{Note as RawNote}
 pub use Rattle.sk_undo.specs.declared.slots.TakeBack.{TakeBack}

@@ -2,9 +2,9 @@
 use Rattle.sk_undo.proofs.Cites.{◌≡◌, ℕ, zero, suc, ◌+◌, true, false, cond, not, ◌&&◌, ◌||◌, List, [], ◌∷◌, Option}
 use Rattle.sk_undo.proofs.Cites.{Some, None, refl, sym, ◌∙◌, ap, subst, arith, ◌==◌, reverse, list_all, prefix_len}
 use Rattle.sk_undo.proofs.Cites.{true≢false, or_left, or_parts, eq-eqb, reverse-reverse, Note, has, without, noted}
-use Rattle.sk_undo.proofs.Cites.{committed, same_tags, merged, IsGrowing, and_both, has_filter, StateFits, state_undone}
+use Rattle.sk_undo.proofs.Cites.{committed, same_tags, merged, IsGrowing, and_both, has_filter, NoteFits, state_undone}
 use Rattle.sk_undo.proofs.Cites.{EntityState, PutBack, RawNote, is_empty, seen, CanGoBack, EachRests, is_covered}
-use Rattle.sk_undo.proofs.Cites.{joined_from, lightened, dropped, carries, undone, Fits, is_process, is_whole}
+use Rattle.sk_undo.proofs.Cites.{joined_from, lightened, dropped, carries, undone, Fits, is_held_whole, is_whole}
 use Rattle.sk_undo.proofs.Cites.{is_needless, joined, committed_joined, is_apart}
 use Rattle.sk_undo.proofs.SeenNotes.{AllSeen, grow_head}
 use Rattle.sk_undo.proofs.Commits.{value_before, in_order, order_is, without_free, none_gone, light_before, commit_order, is_settled, all_settled, kept_one, not_true}
@@ -15,7 +15,7 @@ abbrev Raw : Type 0
 Raw = RawNote (PutBack EntityState)
 
 abbrev Can : Option EntityState → List Raw → Type 0
-Can = CanInOrder is_process state_undone StateFits
+Can = CanInOrder is_held_whole state_undone NoteFits
 
 -- a note that is there, seen over those after it
 abbrev seen_one : Option EntityState → Raw → List Raw → Note EntityState
@@ -23,23 +23,23 @@ seen_one now n ns = record { tags = n.tags; before = undone n.undo (value_before
 
 -- the one stands for the same later notes as the other
 abbrev Agree : Option Raw → Option (Note EntityState) → Type 0
-Agree p q = (tags : List ℕ) → is_covered is_process p tags ≡ is_needless q tags
+Agree p q = (tags : List ℕ) → is_covered is_held_whole p tags ≡ is_needless q tags
 
 agree_one : (now : Option EntityState) (n : Raw) (ns : List Raw) → Fits n.undo (value_before undone now ns) → Agree (Some n) (Some (seen_one now n ns))
 agree_one now n ns fits tags = ap (λ b. b && same_tags tags n.tags) (whole_is n.undo (value_before undone now ns) fits)
 
 -- ---- notes joined from one on
 joined_seen : (now : Option EntityState) (p : Option Raw) (q : Option (Note EntityState)) (ns : List Raw) → Agree p q → Can now ns
-    → in_order undone now (joined_from is_process p zero ns) ≡ joined q (in_order undone now ns)
+    → in_order undone now (joined_from is_held_whole p zero ns) ≡ joined q (in_order undone now ns)
 joined_seen now p q [] agree can = refl
 joined_seen now p q (n ∷ ns) agree can =
     let m = seen_one now n ns in
     let out = joined_seen now p q ns agree can.1 in
     let on = joined_seen now (Some n) (Some m) ns (agree_one now n ns can.0) can.1 in
-    elim (is_covered is_process p n.tags) as (λ b.
-    in_order undone now (cond b (joined_from is_process p zero ns) (n ∷ joined_from is_process (Some n) zero ns)) ≡ cond b (joined q (in_order undone now ns)) (m ∷ joined (Some m) (in_order undone now ns))) [
+    elim (is_covered is_held_whole p n.tags) as (λ b.
+    in_order undone now (cond b (joined_from is_held_whole p zero ns) (n ∷ joined_from is_held_whole (Some n) zero ns)) ≡ cond b (joined q (in_order undone now ns)) (m ∷ joined (Some m) (in_order undone now ns))) [
       | true ↦ out
-      | false ↦ (λ i. note_same is_process state_undone StateFits now n zero ns i ∷ on i)
+      | false ↦ (λ i. note_same is_held_whole state_undone NoteFits now n zero ns i ∷ on i)
     ]
     ∙ ap (λ b. cond b (joined q (in_order undone now ns)) (m ∷ joined (Some m) (in_order undone now ns))) (agree n.tags)
 
@@ -57,22 +57,22 @@ abbrev place : ℕ → List Raw → ℕ
 place g ns = prefix_len (λ n. not (has g n.tags)) ns
 
 front_seen : (g t : ℕ) (now : Option EntityState) (p : Option Raw) (q : Option (Note EntityState)) (ns : List Raw) → Agree p q → Can now ns → not (t == g) ≡ true → AllSeen t (in_order undone now ns)
-    → in_order undone now (joined_from is_process p (place g ns) (lightened g ns)) ≡ committed_joined g q (in_order undone now ns)
+    → in_order undone now (joined_from is_held_whole p (place g ns) (lightened g ns)) ≡ committed_joined g q (in_order undone now ns)
 front_seen g t now p q [] agree can other all = refl
 front_seen g t now p q (n ∷ ns) agree can other all =
     let both = and_both _ _ all in
     let m = seen_one now n ns in
     let light : Raw = record { tags = without g n.tags; undo = n.undo } in
     elim (has g n.tags) as (λ b. has g n.tags ≡ b
-    → in_order undone now (joined_from is_process p (cond (not b) (1 + place g ns) 0) (lightened g (n ∷ ns))) ≡ cond b (joined q (committed g (in_order undone now (n ∷ ns)))) (m ∷ committed_joined g (Some m) (in_order undone now ns))) [
+    → in_order undone now (joined_from is_held_whole p (cond (not b) (1 + place g ns) 0) (lightened g (n ∷ ns))) ≡ cond b (joined q (committed g (in_order undone now (n ∷ ns)))) (m ∷ committed_joined g (Some m) (in_order undone now ns))) [
       | true ↦ λ _. joined_seen now p q (lightened g (n ∷ ns)) agree (light_can g now (n ∷ ns) can) ∙ ap (joined q) (none_gone undone g t (n ∷ ns) now other all)
       | false ↦ λ free.
           let same = without_free g n.tags free in
           let next : 1 + place g ns ≡ suc (place g ns) = omega arith in
-          let was = same_before is_process state_undone StateFits now light (place g ns) (lightened g ns) ∙ ap (undone n.undo) (light_before undone g now ns) in
+          let was = same_before is_held_whole state_undone NoteFits now light (place g ns) (lightened g ns) ∙ ap (undone n.undo) (light_before undone g now ns) in
           let agreed : Agree (Some light) (Some m) = λ tags. ap (λ b. b && same_tags tags (without g n.tags)) (whole_is n.undo (value_before undone now ns) can.0) ∙ ap (λ ts. is_whole m.before && same_tags tags ts) same in
           let rest = front_seen g t now (Some light) (Some m) ns agreed can.1 other both.1 in
-          ap (λ k. in_order undone now (joined_from is_process p k (lightened g (n ∷ ns)))) next
+          ap (λ k. in_order undone now (joined_from is_held_whole p k (lightened g (n ∷ ns)))) next
           ∙ (λ i. record { tags = same i; before = was i } ∷ rest i)
     ] refl
 
@@ -85,14 +85,14 @@ another : (g t : ℕ) (tags : List ℕ) → has g tags ≡ false → has t tags 
 another g t tags free here = (and_both (not (t == g)) (has t tags) (sym (has_filter (λ t. not (t == g)) t tags) ∙ ap (has t) (without_free g tags free) ∙ here)).0
 
 whole_seen : (g : ℕ) (now : Option EntityState) (ns : List Raw) → Can now ns → IsGrowing (in_order undone now ns) → EachRests (in_order undone now ns)
-    → in_order undone now (joined_from is_process None (place g ns) (dropped (lightened g ns))) ≡ committed_joined g None (in_order undone now ns)
+    → in_order undone now (joined_from is_held_whole None (place g ns) (dropped (lightened g ns))) ≡ committed_joined g None (in_order undone now ns)
 whole_seen g now [] can grows rests = refl
 whole_seen g now (n ∷ ns) can grows rests =
     let m = seen_one now n ns in
     let some = (and_both _ _ rests).0 in
-    elim (has g n.tags) as (λ b. has g n.tags ≡ b → in_order undone now (joined_from is_process None (place g (n ∷ ns)) (dropped (lightened g (n ∷ ns)))) ≡ committed_joined g None (in_order undone now (n ∷ ns))) [
+    elim (has g n.tags) as (λ b. has g n.tags ≡ b → in_order undone now (joined_from is_held_whole None (place g (n ∷ ns)) (dropped (lightened g (n ∷ ns)))) ≡ committed_joined g None (in_order undone now (n ∷ ns))) [
       | true ↦ λ here.
-          ap (λ b. in_order undone now (joined_from is_process None (cond (not b) (1 + place g ns) 0) (dropped (lightened g (n ∷ ns))))) here
+          ap (λ b. in_order undone now (joined_from is_held_whole None (cond (not b) (1 + place g ns) 0) (dropped (lightened g (n ∷ ns))))) here
           ∙ joined_seen now None None (dropped (lightened g (n ∷ ns))) (λ _. refl) (drop_can now (lightened g (n ∷ ns)) (light_can g now (n ∷ ns) can))
           ∙ ap (joined None) (commit_order undone g (n ∷ ns) now grows)
           ∙ sym (ap (λ b. cond b (joined None (committed g (in_order undone now (n ∷ ns)))) (m ∷ committed_joined g (Some m) (in_order undone now ns))) here)
@@ -100,15 +100,15 @@ whole_seen g now (n ∷ ns) can grows rests =
           let one = some_tag n.tags some in
           let full : is_empty (without g n.tags) ≡ false = ap is_empty (without_free g n.tags free) ∙ not_true (is_empty n.tags) some in
           let all = grow_head m (in_order undone now ns) grows one.0 one.1 in
-          ap (λ b. in_order undone now (joined_from is_process None (place g (n ∷ ns)) (cond b (dropped (lightened g ns)) (lightened g (n ∷ ns))))) full
+          ap (λ b. in_order undone now (joined_from is_held_whole None (place g (n ∷ ns)) (cond b (dropped (lightened g ns)) (lightened g (n ∷ ns))))) full
           ∙ front_seen g one.0 now None None (n ∷ ns) (λ _. refl) can (another g one.0 n.tags free one.1) (λ i. one.1 i && all i)
     ] refl
 
 pub commit_joined : (g : ℕ) (now : Option EntityState) (ns : List Raw) → CanGoBack Fits undone now (reverse ns) → IsGrowing (reverse (seen undone now (reverse ns))) → EachRests (reverse (seen undone now (reverse ns)))
-    → reverse (seen undone now (reverse (joined_from is_process None (place g ns) (dropped (lightened g ns))))) ≡ committed_joined g None (reverse (seen undone now (reverse ns)))
+    → reverse (seen undone now (reverse (joined_from is_held_whole None (place g ns) (dropped (lightened g ns))))) ≡ committed_joined g None (reverse (seen undone now (reverse ns)))
 commit_joined g now ns can grows rests =
-    order_is undone now (joined_from is_process None (place g ns) (dropped (lightened g ns)))
-    ∙ whole_seen g now ns (subst (Can now) (reverse-reverse ns) (in_turn is_process state_undone StateFits now (reverse ns) can)) (subst IsGrowing (order_is undone now ns) grows) (subst EachRests (order_is undone now ns) rests)
+    order_is undone now (joined_from is_held_whole None (place g ns) (dropped (lightened g ns)))
+    ∙ whole_seen g now ns (subst (Can now) (reverse-reverse ns) (in_turn is_held_whole state_undone NoteFits now (reverse ns) can)) (subst IsGrowing (order_is undone now ns) grows) (subst EachRests (order_is undone now ns) rests)
     ∙ ap (committed_joined g None) (sym (order_is undone now ns))
 
 -- ---- a log of which no note rests on the guess

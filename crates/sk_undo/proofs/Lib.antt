@@ -7,6 +7,7 @@ pub mod Passes
 pub mod Opening
 pub mod Growing
 pub mod Present
+pub mod Listed
 mod NewestNotes
 pub mod Joined
 pub mod Joins
@@ -19,3 +20,4 @@ mod NameCounts
 mod Swaps
 mod ByKind
 mod FewNames
+mod Makers

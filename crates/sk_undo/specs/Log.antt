@@ -45,7 +45,7 @@ module _ {V : Type 0} where
   FitsBy fits (Changed undo) None = ⊥
   FitsBy fits (Changed undo) (Some v) = fits v undo
 
-  -- nothing, or what is only ever set
+  -- nothing, or what a note holds whole
   abbrev pub is_whole_at : (V → Bool) → Option V → Bool
   is_whole_at whole None = true
   is_whole_at whole (Some v) = whole v

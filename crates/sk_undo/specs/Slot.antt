@@ -3,6 +3,9 @@ use Rattle.std.specs.Prelude.{◌≡◌, ◌==◌, ℕ, Bool, true, false, ◌&&
 use Rattle.std.specs.Coded.{Coded, code_by, coded×, coded_ℕ, coded_list, coded_option}
 use Rattle.sk_record.specs.Notes.{Note, has, last_tags, committed}
 use Rattle.sk_record.specs.Merged.{same_tags}
+use Rattle.sk_objects.specs.declared.block.TheConstants.{BLOCK}
+use Rattle.sk_objects.specs.declared.value.Value.TheVariants as values
+use Rattle.sk_changes.specs.declared.change.Undo.{Undo}
 use Rattle.sk_store.specs.declared.entity_state.EntityState.{EntityState}
 use Rattle.sk_store.specs.declared.entity_state.EntityState.TheVariants as stored
 use Rattle.sk_store.specs.contracts.entity_state.EntityState as stored_row
@@ -11,17 +14,22 @@ use Rattle.sk_store.specs.declared.back.PutBack.{PutBack}
 use Rattle.sk_undo.specs.declared.log.Note.{Note as RawNote}
 use Rattle.sk_undo.specs.Log.{is_empty, before_last, less, HasNote, undone_by, FitsBy, is_whole_at, restores}
 
--- a process is only ever set
-abbrev pub is_process : EntityState → Bool
-is_process (stored.Process p) = true
-is_process (stored.Value v) = false
+-- whether a note holds it whole: a process, and a file of one block at most
+abbrev pub is_held_whole : EntityState → Bool
+is_held_whole (stored.Process p) = true
+is_held_whole (stored.Value (values.File f)) = nat_le (length f) BLOCK
+is_held_whole (stored.Value v) = false
 
 -- what was there before a write
 abbrev pub undone : PutBack EntityState → Option EntityState → Option EntityState
 undone = undone_by state_undone
 
+-- a noted change can be undone, and leaves nothing that a note would hold whole
+abbrev pub NoteFits : EntityState → Undo → Type 0
+NoteFits s undo = StateFits s undo × (is_held_whole (state_undone s undo) ≡ false)
+
 abbrev pub Fits : PutBack EntityState → Option EntityState → Type 0
-Fits = FitsBy StateFits
+Fits = FitsBy NoteFits
 
 pub record SlotView : Type 0 where
   pub now : Option EntityState
@@ -43,7 +51,7 @@ is_bare s = is_none s.now && is_empty s.log
 
 -- whether what was there before a write is put back whatever stands there now
 abbrev pub is_whole : Option EntityState → Bool
-is_whole = is_whole_at is_process
+is_whole = is_whole_at is_held_whole
 
 -- whether a write is not noted: it has no tags, and there are no notes; or the newest note puts back what was there before it, too
 abbrev pub goes_unnoted : List ℕ → List (Note EntityState) → Bool
@@ -87,7 +95,7 @@ is_stable (n ∷ ns) = is_whole n.before
 -- the same of the notes that are there, the newest first
 abbrev pub is_stable_raw : List (RawNote (PutBack EntityState)) → Bool
 is_stable_raw [] = true
-is_stable_raw (n ∷ ns) = restores is_process n.undo
+is_stable_raw (n ∷ ns) = restores is_held_whole n.undo
 
 -- one write
 abbrev pub slot_wrote : List ℕ → SlotView → Option EntityState → SlotView
@@ -100,4 +108,4 @@ slot_back s (Some undo) = record { now = undone undo s.now; log = s.log }
 
 abbrev pub CanGoBackOnce : SlotView → Option (PutBack EntityState) → Type 0
 CanGoBackOnce s None = HasNote s.log
-CanGoBackOnce s (Some undo) = (is_stable s.log ≡ true) × Fits undo s.now
+CanGoBackOnce s (Some undo) = (is_stable s.log ≡ true) × FitsBy StateFits undo s.now

@@ -2,6 +2,7 @@
 ghost use Rattle.std.specs.Prelude.{◌≡◌, ◌≤◌, ◌<◌, ◌^◌, [], true, false, min, ◌-◌, OnOk, OnErr, IfOk, IfSome, Some, None, is_some};
 ghost use Rattle.std.specs.Option.{option_copied, unwrap_or};
 ghost use Rattle.std.specs.FinMap as map;
+ghost use Rattle.std.specs.List.{All};
 ghost use Rattle.std.specs.List.Sorted.{IsStrictlySortedBy};
 ghost use Rattle.std.specs.Ordering.{eq_by_cmp, nat_cmp};
 ghost use Rattle.sk_ids.specs.Entity.{entity_cmp};
@@ -11,17 +12,18 @@ ghost use Rattle.sk_record.specs.Effects.{is_in};
 ghost use Rattle.sk_record.specs.Notes.{last_tags};
 ghost use Rattle.sk_store.specs.Changed.{FitsAt, changed};
 ghost use Rattle.sk_store.specs.Names.{IsCount, name_there};
+ghost use Rattle.sk_store.specs.Present.{IsPresent, entities_of};
 ghost use Rattle.sk_store.specs.Processes.{CanBecome, IsProcess, became, process_in};
 ghost use Rattle.sk_undo.specs.Count.{notes_in};
 ghost use Rattle.sk_undo.specs.Logs.{look_at, log_at, goes_on_at, is_unnoted, moved, slots_wrote, slots_back, CanTakeBack};
 ghost use Rattle.sk_undo.specs.Names.{IsCounted, count_for, link_there, recounted};
 ghost use Rattle.sk_undo.specs.Decisions.{ChangedAt, SlotUnwound, Unwound, Lightened, AreListed, AllRest, AllGrow, NoneBare};
 
-use crate::{BoxedState, Names, Slots, TakeBack, Written};
+use crate::{Names, Slots, TakeBack, Written};
 use sk_changes::Change;
 use sk_ids::{Entity, GuessId, ObjId, Pid, TagSet};
 use sk_script::Process;
-use sk_store::{Becoming, EntityState, Store};
+use sk_store::{Becoming, EntityState, Present, Store};
 use std::alloc::{AllocError, Global};
 use std::marker::Model;
 
@@ -73,7 +75,6 @@ fn move_over(
     let Some(state) = store.remove(*entity) else {
         return Ok(());
     };
-    let state = BoxedState::new(slots.alloc(), state)?;
     slots.set(entity, untagged, state)?;
     Ok(())
 }
@@ -154,6 +155,19 @@ impl CountedSlots {
         self.slots.entities()
     }
 
+    /// The entities that are present, by their order, each once, with what they have and the guesses of their newest notes.
+    pub fn entries(&self) -> Result<Vec<Present<'_>>, AllocError>
+        ensures rising { IfOk result
+            (λ all. IsStrictlySortedBy entity_cmp (entities_of all.items)) }
+        ensures present { IfOk result (λ all. (e : Entity)
+            → is_in entity_cmp (entities_of all.items) e ≡ is_some (look_at self.now e)) }
+        ensures each { IfOk result (λ all. All
+            (IsPresent (look_at self.now) (λ e. last_tags [] (log_at self.now e)))
+            all.items) }
+    {
+        self.slots.entries()
+    }
+
     /// How many notes there are, or the largest number where there are more. This takes no memory.
     pub fn notes(&self) -> usize
         ensures { result ≡ min (notes_in self.now) (2 ^ 64 - 1) }
@@ -166,7 +180,7 @@ impl CountedSlots {
         &mut self,
         entity: &Entity,
         tags: &TagSet,
-        value: BoxedState,
+        value: EntityState,
     ) -> Result<TakeBack, AllocError>
         ensures ok { OnOk result
             (self.new ≡ slots_wrote tags.now self.old entity.now (Some value)) }
@@ -181,6 +195,32 @@ impl CountedSlots {
             Ok(Written { was: true, back }) => {
                 self.names.take(entity);
                 Ok(back)
+            }
+            Err(why) => {
+                self.names.take(entity);
+                Err(why)
+            }
+        }
+    }
+
+    /// The same, and answers nothing that takes it back.
+    fn set_alone(
+        &mut self,
+        entity: &Entity,
+        tags: &TagSet,
+        value: EntityState,
+    ) -> Result<(), AllocError>
+        ensures ok { OnOk result
+            (self.new ≡ slots_wrote tags.now self.old entity.now (Some value)) }
+        ensures err { OnErr result (self.new ≡ self.old) }
+    {
+        let _most = self.slots.most_names();
+        self.names.put(entity)?;
+        match self.slots.set_alone(entity, tags, value) {
+            Ok(false) => Ok(()),
+            Ok(true) => {
+                self.names.take(entity);
+                Ok(())
             }
             Err(why) => {
                 self.names.take(entity);
@@ -300,6 +340,30 @@ impl CountedSlots {
         ensures err { OnErr result (self.new ≡ self.old) }
     {
         self.slots.change_both(entity, tags, change, pid, by)
+    }
+
+    /// Sets what an entity has and then changes a process, of which nothing is noted. Without memory nothing
+    /// has changed.
+    pub fn set_beside<C: Becoming>(
+        &mut self,
+        entity: &Entity,
+        tags: &TagSet,
+        value: EntityState,
+        pid: Pid,
+        by: &C,
+    ) -> Result<(), AllocError>
+        requires unnoted { is_unnoted tags.now self.old (Proc pid) ≡ true }
+        requires can { CanBecome (C.can by.now) (look_at self.old (Proc pid)) }
+        requires apart { eq_by_cmp entity_cmp (Proc pid) entity.now ≡ false }
+        ensures ok { OnOk result
+            (self.new ≡ slots_wrote tags.now
+            (slots_wrote tags.now self.old entity.now (Some value)) (Proc pid)
+            (Some (became (C.after by.now) (look_at self.old (Proc pid))))) }
+        ensures err { OnErr result (self.new ≡ self.old) }
+    {
+        self.set_alone(entity, tags, value)?;
+        self.become_unnoted::<C>(pid, tags, by);
+        Ok(())
     }
 
     /// Changes a process, of which nothing is noted, and makes an entity beside it absent: that first, since it

@@ -3,18 +3,19 @@ ghost use Rattle.std.specs.Prelude.{◌≡◌, ◌<◌, ◌^◌, ◌++◌, OnOk,
 ghost use Rattle.std.specs.Option.{option_copied, option_copied_mut};
 ghost use Rattle.std.specs.Borrow.{LendsSo, sem};
 ghost use Rattle.std.specs.List.Sorted.{IsStrictlySortedBy};
+ghost use Rattle.std.specs.Ordering.{nat_cmp};
 ghost use Rattle.std.specs.FinMap as map;
 ghost use Rattle.sk_ids.specs.Entity.{entity_cmp};
 ghost use Rattle.sk_ids.specs.declared.entity.Entity.TheVariants.{Proc, Sig, Exit, Obj, Copy};
 ghost use Rattle.sk_map.specs.Seen.{seen};
-ghost use Rattle.sk_undo.specs.Kinds.{link_of, HasAtMost};
+ghost use Rattle.sk_undo.specs.Kinds.{link_of, lifted, HasAtMost};
 ghost use Rattle.sk_undo.specs.contracts.entity_map.EntityMap.{the_row};
 
 use crate::keys::{LinkKey, ObjectKey, ProcessKey};
 use sk_ids::{Entity, Name, ObjId, Pid};
 use sk_map::{Key, Map};
 use std::alloc::{AllocError, Global};
-use std::collections::btree_map::{Keys, Values};
+use std::collections::btree_map::{Iter, Keys, Values};
 use std::marker::Model;
 
 /// Values by entities: a map for each kind. Contracts see one finite map.
@@ -57,6 +58,17 @@ pub(crate) struct ValuesByKind<'a, V> {
     pub(crate) copies: Values<'a, Name, V>,
 }
 
+/// The entries of a map, kind by kind.
+#[derive(Drop)]
+pub(crate) struct EntriesByKind<'a, V> {
+    pub(crate) processes: Iter<'a, ProcessKey, V>,
+    pub(crate) signals: Iter<'a, ProcessKey, V>,
+    pub(crate) exits: Iter<'a, ProcessKey, V>,
+    pub(crate) objects: Iter<'a, ObjectKey, V>,
+    pub(crate) links: Iter<'a, LinkKey, V>,
+    pub(crate) copies: Iter<'a, Name, V>,
+}
+
 #[inline(always)]
 fn process(pid: Pid) -> ProcessKey
     ensures { result ≡ pid }
@@ -89,12 +101,30 @@ fn found<'a, K: Key, V>(values: &'a Map<K, V>, key: &K) -> Option<&'a V>
     values.get(key)
 }
 
+/// The same for a process, its signals or its exit slot. Each step looks its process and its signals up, so it is inlined.
+#[inline(always)]
+fn own<'a, V>(values: &'a Map<ProcessKey, V>, pid: Pid) -> Option<&'a V>
+    ensures { option_copied result ≡ map.get (seen nat_cmp values.now) pid }
+{
+    values.get(&process(pid))
+}
+
 /// The same, for a key that stands late.
 #[inline(never)]
 fn found_late<'a, K: Key, V>(values: &'a Map<K, V>, key: &K) -> Option<&'a V>
     ensures { option_copied result ≡ map.get (seen K.order values.now) key.now }
 {
     values.get_late(key)
+}
+
+/// Sets the value of a key. It stands by itself, so that what is put pays for the map of its kind alone.
+#[inline(never)]
+fn put<K: Key, V: Drop>(values: &mut Map<K, V>, key: K, value: V) -> Result<(), AllocError>
+    ensures ok { OnOk result
+        (seen K.order values.new ≡ map.insert (seen K.order values.old) key value) }
+    ensures err { OnErr result (values.new ≡ values.old) }
+{
+    values.put(key, value)
 }
 
 /// Adds processes to entities.
@@ -183,9 +213,9 @@ impl<V> EntityMap<V> {
         ensures { option_copied result ≡ map.get self.now entity.now }
     {
         match entity {
-            Entity::Proc(pid) => found(&self.processes, &process(*pid)),
-            Entity::Sig(pid) => found(&self.signals, &process(*pid)),
-            Entity::Exit(pid) => found(&self.exits, &process(*pid)),
+            Entity::Proc(pid) => own(&self.processes, *pid),
+            Entity::Sig(pid) => own(&self.signals, *pid),
+            Entity::Exit(pid) => own(&self.exits, *pid),
             Entity::Obj(id) => found(&self.objects, &object(id)),
             Entity::Link(directory, name) => found(&self.links, &link(directory, name)),
             Entity::Copy(name) => found(&self.copies, name),
@@ -194,6 +224,7 @@ impl<V> EntityMap<V> {
 
     /// The same as `get`, for an entity that is about to be born, or just was: it mostly stands behind all others of its
     /// kind.
+    #[inline(always)]
     pub(crate) fn get_late(&self, entity: &Entity) -> Option<&V>
         ensures { option_copied result ≡ map.get self.now entity.now }
     {
@@ -205,16 +236,6 @@ impl<V> EntityMap<V> {
             Entity::Link(directory, name) => found(&self.links, &link(directory, name)),
             Entity::Copy(name) => found(&self.copies, name),
         }
-    }
-
-    /// The values of a process and of its signal queue.
-    #[inline(always)]
-    pub(crate) fn own(&self, pid: Pid) -> (Option<&V>, Option<&V>)
-        ensures process { option_copied result.0 ≡ map.get self.now (Proc pid) }
-        ensures signals { option_copied result.1 ≡ map.get self.now (Sig pid) }
-    {
-        let key = process(pid);
-        (found(&self.processes, &key), found(&self.signals, &key))
     }
 
     /// Lends the value of an entity; what it then becomes is the value of the entity.
@@ -242,27 +263,28 @@ impl<V> EntityMap<V> {
         ensures err { OnErr result (self.new ≡ self.old) }
     {
         match entity {
-            Entity::Proc(pid) => self.processes.put(process(*pid), value),
-            Entity::Sig(pid) => self.signals.put(process(*pid), value),
-            Entity::Exit(pid) => self.exits.put(process(*pid), value),
-            Entity::Obj(id) => self.objects.put(object(id), value),
-            Entity::Link(directory, name) => self.links.put(link(directory, name), value),
-            Entity::Copy(name) => self.copies.put(*name, value),
+            Entity::Proc(pid) => put(&mut self.processes, process(*pid), value),
+            Entity::Sig(pid) => put(&mut self.signals, process(*pid), value),
+            Entity::Exit(pid) => put(&mut self.exits, process(*pid), value),
+            Entity::Obj(id) => put(&mut self.objects, object(id), value),
+            Entity::Link(directory, name) => put(&mut self.links, link(directory, name), value),
+            Entity::Copy(name) => put(&mut self.copies, *name, value),
         }
     }
 
-    /// Makes an entity absent, which takes no memory, and answers the value that it had.
-    pub(crate) fn remove(&mut self, entity: &Entity) -> Option<V>
-        ensures old { result ≡ map.get self.old entity.now }
-        ensures new { self.new ≡ map.remove self.old entity.now }
+    /// Makes an entity absent, which takes no memory.
+    pub(crate) fn remove(&mut self, entity: &Entity)
+    where
+        V: Drop,
+        ensures { self.new ≡ map.remove self.old entity.now }
     {
         match entity {
-            Entity::Proc(pid) => self.processes.remove(&process(*pid)),
-            Entity::Sig(pid) => self.signals.remove(&process(*pid)),
-            Entity::Exit(pid) => self.exits.remove(&process(*pid)),
-            Entity::Obj(id) => self.objects.remove(&object(id)),
-            Entity::Link(directory, name) => self.links.remove(&link(directory, name)),
-            Entity::Copy(name) => self.copies.remove(name),
+            Entity::Proc(pid) => drop(self.processes.remove(&process(*pid))),
+            Entity::Sig(pid) => drop(self.signals.remove(&process(*pid))),
+            Entity::Exit(pid) => drop(self.exits.remove(&process(*pid))),
+            Entity::Obj(id) => drop(self.objects.remove(&object(id))),
+            Entity::Link(directory, name) => drop(self.links.remove(&link(directory, name))),
+            Entity::Copy(name) => drop(self.copies.remove(name)),
         }
     }
 
@@ -276,7 +298,7 @@ impl<V> EntityMap<V> {
     }
 
     /// How many entities have a value, or the largest number where there are more.
-    fn len(&self) -> usize {
+    pub(crate) fn len(&self) -> usize {
         let own = self.processes.len().saturating_add(self.signals.len());
         let left = own.saturating_add(self.exits.len());
         let objects = left.saturating_add(self.objects.len());
@@ -311,6 +333,22 @@ impl<V> EntityMap<V> {
             objects: self.objects.values(),
             links: self.links.values(),
             copies: self.copies.values(),
+        }
+    }
+
+    /// The entities that have a value, with their values, by their order.
+    pub(crate) fn iter(&self) -> EntriesByKind<'_, V>
+        ensures { lifted Proc result.processes ++ (lifted Sig result.signals
+            ++ (lifted Exit result.exits ++ (lifted Obj result.objects
+            ++ (lifted link_of result.links ++ lifted Copy result.copies)))) ≡ map.entries self.now }
+    {
+        EntriesByKind {
+            processes: self.processes.iter(),
+            signals: self.signals.iter(),
+            exits: self.exits.iter(),
+            objects: self.objects.iter(),
+            links: self.links.iter(),
+            copies: self.copies.iter(),
         }
     }
 }

@@ -1,5 +1,6 @@
 //! What entities of one kind are found by.
-ghost use Rattle.std.specs.Prelude.{◌≡◌, refl};
+ghost use Rattle.std.specs.Prelude.{◌≡◌, ◌<◌, IsSome, refl};
+ghost use Rattle.std.specs.Option.{unwrap_or};
 ghost use Rattle.std.specs.Ordering.{nat_cmp, ordering_then};
 ghost use Rattle.sk_ids.specs.Entity.{object_cmp};
 
@@ -113,7 +114,7 @@ fn counts_compared(one: u32, other: u32) -> Ordering
     Ordering::Equal
 }
 
-/// How two objects that have makers compare.
+/// How two objects compare whose makers have these paths: 0 is that of no maker.
 #[inline(always)]
 fn made_compared(maker: u64, count: u32, other_maker: u64, other_count: u32) -> Ordering
     ensures { result ≡ ordering_then (nat_cmp maker other_maker) (nat_cmp count other_count) }
@@ -127,19 +128,24 @@ fn made_compared(maker: u64, count: u32, other_maker: u64, other_count: u32) -> 
     Ordering::Less
 }
 
-/// How two objects compare.
+/// The path of an object's maker, or 0. The object is copied, so that no jump stands before its path is read.
+#[inline(always)]
+fn maker_path(id: ObjId) -> u64
+    ensures value { result ≡ unwrap_or id.maker 0 }
+    ensures some { IsSome id.maker → 0 < result }
+{
+    match id.maker {
+        Some(maker) => maker.path(),
+        None => 0,
+    }
+}
+
+/// How two objects compare. No path is 0, so those without a maker are first.
 #[inline(always)]
 fn objects_compared(one: &ObjId, other: &ObjId) -> Ordering
     ensures { result ≡ object_cmp one.now other.now }
 {
-    match (one.maker, other.maker) {
-        (None, None) => counts_compared(one.count, other.count),
-        (Some(maker), Some(other_maker)) => {
-            made_compared(maker.path(), one.count, other_maker.path(), other.count)
-        }
-        (Some(_), None) => Ordering::Greater,
-        (None, Some(_)) => Ordering::Less,
-    }
+    made_compared(maker_path(*one), one.count, maker_path(*other), other.count)
 }
 
 impl PartialOrd for ObjectKey {

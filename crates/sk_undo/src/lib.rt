@@ -5,7 +5,7 @@
 pub mod counted_slots;
 pub mod entity_logs;
 mod entity_map;
-pub mod held;
+mod entries;
 mod keys;
 pub mod laws;
 pub mod log;
@@ -16,8 +16,7 @@ pub mod slots;
 
 pub use counted_slots::CountedSlots;
 pub use entity_logs::{ObjectLog, ProcessLog};
-pub use held::BoxedState;
-pub use log::{Log, Logged, Note, put_back};
+pub use log::{Log, Logged, Note};
 pub use logs::{EntityUndo, Logs};
 pub use names::Names;
 pub use slot::Slot;

@@ -13,10 +13,12 @@ ghost use Rattle.sk_undo.specs.Log.{is_empty, seen, log_of, CanGoBack, HasNote, 
 
 use sk_changes::Undo;
 use sk_ids::{GuessId, TagSet};
-use sk_store::PutBack;
+use sk_objects::Value;
+use sk_objects::block::BLOCK;
+use sk_store::{EntityState, PutBack};
 use std::alloc::{AllocError, Global};
 
-/// What is kept with a log of its writes. Some of it is only ever set, and some is changed in place, too.
+/// What is kept with a log of its writes. A note holds some of it whole, and of the rest what takes a change back.
 pub trait Logged: Drop {
     ghost use Rattle.std.specs.Prelude.{◌≡◌, Bool};
     ghost use Rattle.sk_changes.specs.declared.change.Undo.{Undo};
@@ -27,7 +29,7 @@ pub trait Logged: Drop {
     /// What was there before the change.
     ghost undone: { Self → Undo → Self };
 
-    /// Whether it is only ever set.
+    /// Whether a note holds it whole.
     ghost is_whole: { Self → Bool };
 
     /// What was there before a change stands again, which takes no memory.
@@ -35,14 +37,14 @@ pub trait Logged: Drop {
         requires { fits self.old undo }
         ensures { self.new ≡ undone self.old undo };
 
-    /// Whether it is only ever set, and never changed in place.
+    /// Whether a note holds it whole.
     fn is_whole(&self) -> bool
         ensures { result ≡ is_whole self.now };
 }
 
 /// Puts back what was there before a write, which takes no memory.
 #[inline(always)]
-pub fn put_back<V: Logged>(undo: PutBack<V>, value: &mut Option<V>)
+fn put_back<V: Logged>(undo: PutBack<V>, value: &mut Option<V>)
     requires { FitsBy V.fits undo value.old }
     ensures { value.new ≡ undone_by V.undone undo value.old }
 {
@@ -56,7 +58,7 @@ pub fn put_back<V: Logged>(undo: PutBack<V>, value: &mut Option<V>)
     }
 }
 
-/// Whether what was there is put back whatever stands there now: nothing was, or what is only ever set.
+/// Whether what was there is put back whatever stands there now: nothing was, or what a note holds whole.
 fn restores<V: Logged>(undo: &PutBack<V>) -> bool
     ensures { result ≡ restores V.is_whole undo.now }
 {
@@ -64,6 +66,29 @@ fn restores<V: Logged>(undo: &PutBack<V>) -> bool
         PutBack::Was(Some(before)) => before.is_whole(),
         PutBack::Was(None) => true,
         PutBack::Changed(_) => false,
+    }
+}
+
+impl Logged for EntityState {
+    ghost use Rattle.sk_store.specs.Changed.{state_undone};
+    ghost use Rattle.sk_undo.specs.Slot.{NoteFits, is_held_whole};
+
+    ghost fits = { NoteFits };
+
+    ghost undone = { state_undone };
+
+    ghost is_whole = { is_held_whole };
+
+    fn change_back(&mut self, undo: Undo) {
+        self.undo(undo);
+    }
+
+    fn is_whole(&self) -> bool {
+        match self {
+            EntityState::Process(_) => true,
+            EntityState::Value(Value::File(file)) => file.len() <= BLOCK,
+            EntityState::Value(_) => false,
+        }
     }
 }
 
@@ -188,6 +213,10 @@ impl<V: Logged> Log<V> {
         }
     }
 
+    pub fn alloc(&self) -> Global {
+        *self.notes.allocator()
+    }
+
     pub fn is_empty(&self) -> bool
         ensures { result ≡ is_empty self.now.notes.items }
     {
@@ -203,6 +232,7 @@ impl<V: Logged> Log<V> {
 
     /// Whether a write with these tags is not noted: it has none, and there are no notes; or the newest note
     /// stands for it.
+    #[inline(always)]
     pub fn goes_unnoted(&self, tags: &TagSet) -> bool
         ensures { result ≡ goes_unnoted_raw V.is_whole tags.now (reverse self.now.notes.items) }
     {

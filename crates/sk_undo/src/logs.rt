@@ -1,10 +1,12 @@
 //! What performs the writes of steps, and notes what takes them back with the guesses that they rest on.
 ghost use Rattle.std.specs.Prelude.{◌≡◌, ◌↔◌, [], min, ◌-◌, ◌^◌, true, false, not, Some, is_some, IfOk, OnOk, OnErr};
 ghost use Rattle.std.specs.FinMap as map;
+ghost use Rattle.std.specs.List.{All};
 ghost use Rattle.std.specs.List.Sorted.{IsStrictlySortedBy};
 ghost use Rattle.sk_ids.specs.Entity.{entity_cmp};
 ghost use Rattle.sk_ids.specs.declared.entity.Entity.{Entity};
 ghost use Rattle.sk_ids.specs.declared.entity.Entity.TheVariants.{Proc};
+ghost use Rattle.sk_store.specs.Present.{IsPresent, entities_of};
 ghost use Rattle.sk_store.specs.Processes.{CanBecome, became};
 ghost use Rattle.sk_undo.specs.Logs.{look_at, log_at, goes_on_at, slots_wrote};
 ghost use Rattle.std.specs.Option.{option_copied, unwrap_or};
@@ -16,11 +18,11 @@ ghost use Rattle.sk_store.specs.Names.{IsCount, name_there};
 ghost use Rattle.sk_undo.specs.Log.{is_empty};
 ghost use Rattle.sk_undo.specs.Decisions.{Unwound, Lightened, AreListed, AllRest, AllGrow, NoneBare};
 
-use crate::{BoxedState, CountedSlots, TakeBack};
+use crate::{CountedSlots, TakeBack};
 use sk_changes::Change;
 use sk_ids::{Entity, GuessId, ObjId, Pid, TagSet};
 use sk_script::Process;
-use sk_store::{Becoming, EntityState, Keeper, Look, Store};
+use sk_store::{Becoming, EntityState, Keeper, Look, Present, Store};
 use std::alloc::{AllocError, Global};
 use std::marker::Model;
 
@@ -113,6 +115,19 @@ impl Logs {
             → is_in entity_cmp all.items e ≡ is_some (look_at self.now.slots e)) }
     {
         self.slots.entities()
+    }
+
+    /// The entities that are present, by their order, each once, with what they have and the guesses of their newest notes.
+    pub fn entries(&self) -> Result<Vec<Present<'_>>, AllocError>
+        ensures rising { IfOk result
+            (λ all. IsStrictlySortedBy entity_cmp (entities_of all.items)) }
+        ensures present { IfOk result (λ all. (e : Entity)
+            → is_in entity_cmp (entities_of all.items) e ≡ is_some (look_at self.now.slots e)) }
+        ensures each { IfOk result (λ all. All
+            (IsPresent (look_at self.now.slots) (λ e. last_tags [] (log_at self.now.slots e)))
+            all.items) }
+    {
+        self.slots.entries()
     }
 
     /// How many names of a directory are there. This takes no memory.
@@ -247,7 +262,6 @@ impl Keeper for Logs {
 
     #[inline(always)]
     fn write(&mut self, entity: Entity, stored: EntityState) -> Result<EntityUndo, AllocError> {
-        let stored = BoxedState::new(self.slots.alloc(), stored)?;
         let how = self.slots.set(&entity, &self.tags, stored)?;
         Ok(EntityUndo { entity, how })
     }
@@ -282,6 +296,17 @@ impl Keeper for Logs {
         by: &C,
     ) -> Result<(), AllocError> {
         self.slots.change_both(entity, &self.tags, change, pid, by)
+    }
+
+    #[inline(always)]
+    fn write_beside<C: Becoming>(
+        &mut self,
+        entity: &Entity,
+        stored: EntityState,
+        pid: Pid,
+        by: &C,
+    ) -> Result<(), AllocError> {
+        self.slots.set_beside(entity, &self.tags, stored, pid, by)
     }
 
     fn remove_beside<C: Becoming>(

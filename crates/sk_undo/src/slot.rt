@@ -6,14 +6,14 @@ ghost use Rattle.std.specs.Ordering.{nat_cmp};
 ghost use Rattle.sk_record.specs.Notes.{last_tags, unwound, cut, committed};
 ghost use Rattle.sk_record.specs.Merged.{Merges};
 ghost use Rattle.sk_record.specs.UndoState.{IsGrowing};
-ghost use Rattle.sk_store.specs.Changed.{FitsAt, changed};
+ghost use Rattle.sk_store.specs.Changed.{FitsAt, StateFits, changed};
 ghost use Rattle.sk_store.specs.Processes.{CanBecome, IsProcess, became, process_in};
 ghost use Rattle.sk_store.specs.declared.back.PutBack.TheVariants as PutBack;
 ghost use Rattle.sk_undo.specs.Count.{note_count};
-ghost use Rattle.sk_undo.specs.Log.{is_empty, seen, CanGoBack, EachRests};
+ghost use Rattle.sk_undo.specs.Log.{is_empty, seen, CanGoBack, EachRests, FitsBy};
 ghost use Rattle.sk_undo.specs.Slot.{committed_joined, undone, Fits, is_bare, slot_of, slot_wrote, slot_back, CanGoBackOnce, goes_on, goes_unnoted, own_tags, is_stable_raw};
 
-use crate::{BoxedState, Log, put_back};
+use crate::{Log, Logged};
 use sk_changes::{Change, Undo};
 use sk_ids::{GuessId, TagSet};
 use sk_script::Process;
@@ -24,8 +24,8 @@ use std::marker::Model;
 /// What an entity has, and the writes that can be undone.
 #[derive(Drop)]
 pub struct Slot {
-    value: Option<BoxedState>,
-    log: Log<BoxedState>,
+    value: Option<EntityState>,
+    log: Log<EntityState>,
 }
 
 impl Model for Slot {
@@ -44,7 +44,7 @@ impl Model for Slot {
 }
 
 /// Whether nothing is noted.
-fn is_unnoted(value: &Option<BoxedState>, log: &Log<BoxedState>) -> bool
+fn is_unnoted(value: &Option<EntityState>, log: &Log<EntityState>) -> bool
     ensures seen { result ≡ is_empty (seen undone value.now (reverse log.now.notes.items)) }
     ensures none { result ≡ true → log.now.notes.items ≡ [] }
 {
@@ -52,7 +52,8 @@ fn is_unnoted(value: &Option<BoxedState>, log: &Log<BoxedState>) -> bool
 }
 
 /// Whether a write is not noted.
-fn goes_unnoted(tags: &TagSet, value: &Option<BoxedState>, log: &Log<BoxedState>) -> bool
+#[inline(always)]
+fn goes_unnoted(tags: &TagSet, value: &Option<EntityState>, log: &Log<EntityState>) -> bool
     requires { CanGoBack Fits undone value.now (reverse log.now.notes.items) }
     ensures seen { result ≡ goes_unnoted tags.now
         (seen undone value.now (reverse log.now.notes.items)) }
@@ -62,7 +63,7 @@ fn goes_unnoted(tags: &TagSet, value: &Option<BoxedState>, log: &Log<BoxedState>
 }
 
 /// Where a write is not noted, the log is the same whatever stands there now; for proofs.
-fn stands(tags: &TagSet, value: &Option<BoxedState>, log: &Log<BoxedState>)
+fn stands(tags: &TagSet, value: &Option<EntityState>, log: &Log<EntityState>)
     requires can { CanGoBack Fits undone value.now (reverse log.now.notes.items) }
     requires unnoted { goes_unnoted tags.now
         (seen undone value.now (reverse log.now.notes.items)) ≡ true }
@@ -70,7 +71,7 @@ fn stands(tags: &TagSet, value: &Option<BoxedState>, log: &Log<BoxedState>)
 {}
 
 /// Whether a write with the tags of the newest note is not noted, which are at least so many.
-fn goes_on(least: usize, value: &Option<BoxedState>, log: &Log<BoxedState>) -> bool
+fn goes_on(least: usize, value: &Option<EntityState>, log: &Log<EntityState>) -> bool
     requires { CanGoBack Fits undone value.now (reverse log.now.notes.items) }
     ensures exact { result
         ≡ goes_on least (seen undone value.now (reverse log.now.notes.items)) }
@@ -82,7 +83,7 @@ fn goes_on(least: usize, value: &Option<BoxedState>, log: &Log<BoxedState>) -> b
 }
 
 /// Whether there is neither a value nor a note.
-fn is_bare(value: &Option<BoxedState>, log: &Log<BoxedState>) -> bool
+fn is_bare(value: &Option<EntityState>, log: &Log<EntityState>) -> bool
     ensures { result ≡ (is_none value.now
         && is_empty (seen undone value.now (reverse log.now.notes.items))) }
 {
@@ -90,16 +91,20 @@ fn is_bare(value: &Option<BoxedState>, log: &Log<BoxedState>) -> bool
 }
 
 /// Changes a value where it stands. Without memory nothing has changed.
-fn change_in(value: &mut Option<BoxedState>, change: &Change) -> Result<Undo, AllocError>
+fn change_in(
+    value: &mut Option<EntityState>,
+    alloc: Global,
+    change: &Change,
+) -> Result<Undo, AllocError>
     requires { FitsAt value.old change.now }
     ensures ok { OnOk result (value.new ≡ Some (changed value.old change.now)) }
-    ensures can { IfOk result (λ undo. Fits (PutBack.Changed undo) value.new) }
+    ensures can { IfOk result (λ undo. FitsBy StateFits (PutBack.Changed undo) value.new) }
     ensures back { IfOk result (λ undo. undone (PutBack.Changed undo) value.new ≡ value.old) }
     ensures err { OnErr result (value.new ≡ value.old) }
 {
     match value {
         Some(state) => {
-            let undo = state.change(change)?;
+            let undo = state.change(alloc, change)?;
             Ok(undo)
         }
         None => unreachable!(),
@@ -108,22 +113,80 @@ fn change_in(value: &mut Option<BoxedState>, change: &Change) -> Result<Undo, Al
 
 /// Changes a value where it stands, and keeps nothing that takes that back. Without memory nothing has
 /// changed.
-fn change_alone_in(value: &mut Option<BoxedState>, change: &Change) -> Result<(), AllocError>
+fn change_alone_in(
+    value: &mut Option<EntityState>,
+    alloc: Global,
+    change: &Change,
+) -> Result<(), AllocError>
     requires { FitsAt value.old change.now }
     ensures ok { OnOk result (value.new ≡ Some (changed value.old change.now)) }
     ensures err { OnErr result (value.new ≡ value.old) }
 {
     match value {
         Some(state) => {
-            state.change_alone(change)?;
+            state.change_alone(alloc, change)?;
             Ok(())
         }
         None => unreachable!(),
     }
 }
 
+/// Changes a value where it stands, and answers what a note keeps: the value whole, or what takes the change back. Without
+/// memory nothing has changed.
+fn note_in(
+    state: &mut EntityState,
+    alloc: Global,
+    change: &Change,
+) -> Result<PutBack<EntityState>, AllocError>
+    requires { FitsAt (Some state.old) change.now }
+    ensures ok { OnOk result (state.new ≡ changed (Some state.old) change.now) }
+    ensures can { IfOk result (λ undo. Fits undo (Some state.new)) }
+    ensures back { IfOk result (λ undo. undone undo (Some state.new) ≡ Some state.old) }
+    ensures err { OnErr result (state.new ≡ state.old) }
+{
+    if !state.is_whole() {
+        let undo = state.change(alloc, change)?;
+        return Ok(PutBack::Changed(undo));
+    }
+    let before = state.copy()?;
+    state.change_alone(alloc, change)?;
+    Ok(PutBack::Was(Some(before)))
+}
+
+/// The same of a value that is there.
+fn change_noted_in(
+    value: &mut Option<EntityState>,
+    alloc: Global,
+    change: &Change,
+) -> Result<PutBack<EntityState>, AllocError>
+    requires { FitsAt value.old change.now }
+    ensures ok { OnOk result (value.new ≡ Some (changed value.old change.now)) }
+    ensures can { IfOk result (λ undo. Fits undo value.new) }
+    ensures back { IfOk result (λ undo. undone undo value.new ≡ value.old) }
+    ensures err { OnErr result (value.new ≡ value.old) }
+{
+    match value {
+        Some(state) => note_in(state, alloc, change),
+        None => unreachable!(),
+    }
+}
+
+/// Puts back what was there before a change that is not noted, which takes no memory.
+fn put_back_in(value: &mut Option<EntityState>, undo: PutBack<EntityState>)
+    requires { FitsBy StateFits undo value.old }
+    ensures { value.new ≡ undone undo value.old }
+{
+    match undo {
+        PutBack::Was(before) => *value = before,
+        PutBack::Changed(undo) => match value {
+            Some(state) => state.undo(undo),
+            None => unreachable!(),
+        },
+    }
+}
+
 /// Changes the process that is there, where it stands.
-fn become_in<C: Becoming>(value: &mut Option<BoxedState>, by: &C)
+fn become_in<C: Becoming>(value: &mut Option<EntityState>, by: &C)
     requires { CanBecome (C.can by.now) value.old }
     ensures { value.new ≡ Some (became (C.after by.now) value.old) }
 {
@@ -134,30 +197,33 @@ fn become_in<C: Becoming>(value: &mut Option<BoxedState>, by: &C)
 }
 
 /// Another of the process that is there, in a box of its own.
-fn process_copy(alloc: Global, value: &Option<BoxedState>) -> Result<Option<BoxedState>, AllocError>
+fn process_copy(
+    alloc: Global,
+    value: &Option<EntityState>,
+) -> Result<Option<EntityState>, AllocError>
     requires { IsProcess value.now }
     ensures { IfOk result (λ copy. copy ≡ value.now) }
 {
     match value {
-        Some(held) => Ok(Some(held.process_copy(alloc)?)),
-        None => unreachable!(),
+        Some(EntityState::Process(held)) => Ok(Some(EntityState::process(alloc, *held.process())?)),
+        _ => unreachable!(),
     }
 }
 
 /// The process that is there.
-fn process_in(value: &Option<BoxedState>) -> &Process
+fn process_in(value: &Option<EntityState>) -> &Process
     requires { IsProcess value.now }
     ensures { result.now ≡ process_in value.now }
 {
     match value {
-        Some(held) => held.process(),
-        None => unreachable!(),
+        Some(EntityState::Process(held)) => held.process(),
+        _ => unreachable!(),
     }
 }
 
 /// The tags of the newest note; `None` is as none.
 #[tactic(auto, using(crate::proofs::SeenNotes::tags_seen))]
-fn tags_in<'a>(value: &Option<BoxedState>, log: &'a Log<BoxedState>) -> Option<&'a TagSet>
+fn tags_in<'a>(value: &Option<EntityState>, log: &'a Log<EntityState>) -> Option<&'a TagSet>
     ensures { unwrap_or (option_copied result) []
         ≡ last_tags [] (reverse (seen undone value.now (reverse log.now.notes.items))) }
 {
@@ -166,7 +232,7 @@ fn tags_in<'a>(value: &Option<BoxedState>, log: &'a Log<BoxedState>) -> Option<&
 
 /// How many notes there are.
 #[tactic(auto, using(crate::proofs::Counted::as_many_seen))]
-fn count(value: &Option<BoxedState>, log: &Log<BoxedState>) -> usize
+fn count(value: &Option<EntityState>, log: &Log<EntityState>) -> usize
     ensures { result ≡ length (seen undone value.now (reverse log.now.notes.items)) }
 {
     log.len()
@@ -174,7 +240,7 @@ fn count(value: &Option<BoxedState>, log: &Log<BoxedState>) -> usize
 
 impl Slot {
     /// The slot of an entity that has this, of which nothing is noted.
-    pub fn new(alloc: Global, value: Option<BoxedState>) -> Slot
+    pub fn new(alloc: Global, value: Option<EntityState>) -> Slot
         ensures { result ≡ slot_of value }
     {
         Slot {
@@ -187,7 +253,7 @@ impl Slot {
         ensures { option_copied result ≡ self.now.now }
     {
         match &self.value {
-            Some(held) => Some(held.state()),
+            Some(state) => Some(state),
             None => None,
         }
     }
@@ -196,8 +262,8 @@ impl Slot {
     pub fn set(
         &mut self,
         tags: &TagSet,
-        value: Option<BoxedState>,
-    ) -> Result<Option<PutBack<BoxedState>>, AllocError>
+        value: Option<EntityState>,
+    ) -> Result<Option<PutBack<EntityState>>, AllocError>
         ensures ok { OnOk result (self.new ≡ slot_wrote tags.now self.old value) }
         ensures can { IfOk result (λ back. CanGoBackOnce self.new back) }
         ensures back { IfOk result (λ back. slot_back self.new back ≡ self.old) }
@@ -273,7 +339,7 @@ impl Slot {
         &mut self,
         tags: &TagSet,
         change: &Change,
-    ) -> Result<Option<PutBack<BoxedState>>, AllocError>
+    ) -> Result<Option<PutBack<EntityState>>, AllocError>
         requires { FitsAt self.old.now change.now }
         ensures ok { OnOk result
             (self.new ≡ slot_wrote tags.now self.old (Some (changed self.old.now change.now))) }
@@ -282,7 +348,7 @@ impl Slot {
         ensures err { OnErr result (self.new ≡ self.old) }
     {
         if goes_unnoted(tags, &self.value, &self.log) {
-            let undo = change_in(&mut self.value, change)?;
+            let undo = change_in(&mut self.value, self.log.alloc(), change)?;
             return Ok(Some(PutBack::Changed(undo)));
         }
         self.note_change(tags, change)?;
@@ -302,7 +368,7 @@ impl Slot {
     {
         let tags = tags.copy()?;
         self.log.reserve()?;
-        let undo = PutBack::Changed(change_in(&mut self.value, change)?);
+        let undo = change_noted_in(&mut self.value, self.log.alloc(), change)?;
         self.log.note_reserved(tags, undo);
         Ok(())
     }
@@ -337,7 +403,7 @@ impl Slot {
         if !goes_unnoted(tags, &self.value, &self.log) {
             return self.note_change(tags, change);
         }
-        change_alone_in(&mut self.value, change)?;
+        change_alone_in(&mut self.value, self.log.alloc(), change)?;
         Ok(())
     }
 
@@ -371,12 +437,12 @@ impl Slot {
     }
 
     /// Takes the newest write back, which takes no memory.
-    pub fn take_back(&mut self, back: Option<PutBack<BoxedState>>)
+    pub fn take_back(&mut self, back: Option<PutBack<EntityState>>)
         requires { CanGoBackOnce self.old back }
         ensures { self.new ≡ slot_back self.old back }
     {
         match back {
-            Some(undo) => put_back(undo, &mut self.value),
+            Some(undo) => put_back_in(&mut self.value, undo),
             None => self.log.undo_last(&mut self.value),
         }
     }

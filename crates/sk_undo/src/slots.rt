@@ -13,7 +13,8 @@ ghost use Rattle.sk_record.specs.Run.{put};
 ghost use Rattle.sk_record.specs.Notes.{last_tags};
 ghost use Rattle.sk_store.specs.Changed.{FitsAt, changed};
 ghost use Rattle.sk_store.specs.Processes.{CanBecome, IsProcess, became, process_in};
-ghost use Rattle.std.specs.List.{list_all, sum_by};
+ghost use Rattle.sk_store.specs.Present.{IsPresent, entities_of};
+ghost use Rattle.std.specs.List.{All, list_all, sum_by};
 ghost use Rattle.sk_undo.specs.Count.{note_count, notes_in};
 ghost use Rattle.sk_undo.specs.Kinds.{HasAtMost};
 ghost use Rattle.sk_undo.specs.Log.{is_empty};
@@ -23,12 +24,13 @@ ghost use Rattle.sk_undo.specs.Decisions.{ChangedAt, SlotUnwound, SlotCommitted,
 ghost use Rattle.sk_undo.specs.contracts.slots.Slots.{the_row as slots_row};
 ghost use Rattle.sk_undo.specs.contracts.slot.Slot.{the_row as slot_row};
 
+use crate::Slot;
 use crate::entity_map::EntityMap;
-use crate::{BoxedState, Slot};
+use crate::entries::present;
 use sk_changes::Change;
 use sk_ids::{Entity, GuessId, Pid, TagSet};
 use sk_script::Process;
-use sk_store::{Becoming, EntityState, PutBack, Store};
+use sk_store::{Becoming, EntityState, Present, PutBack, Store};
 use std::alloc::{AllocError, Global};
 use std::collections::btree_map::Values;
 use std::marker::Model;
@@ -38,7 +40,7 @@ use std::marker::Model;
 pub enum TakeBack {
     /// The entity had no slot.
     DropSlot,
-    UndoLast(Option<PutBack<BoxedState>>),
+    UndoLast(Option<PutBack<EntityState>>),
 }
 
 /// What takes a write back, and whether there was something before it.
@@ -65,7 +67,7 @@ impl Model for Slots {
 }
 
 /// The slot of an entity that had none.
-fn born(alloc: Global, tags: &TagSet, value: Option<BoxedState>) -> Result<Slot, AllocError>
+fn born(alloc: Global, tags: &TagSet, value: Option<EntityState>) -> Result<Slot, AllocError>
     ensures { IfOk result (λ slot. slot ≡ slot_wrote tags.now (slot_of None) value) }
 {
     if tags.ids().is_empty() {
@@ -206,6 +208,19 @@ impl Slots {
         Ok(self.present_among(all))
     }
 
+    /// The entities that are present, by their order, each once, with what they have and the guesses of their newest notes.
+    pub fn entries(&self) -> Result<Vec<Present<'_>>, AllocError>
+        ensures rising { IfOk result
+            (λ all. IsStrictlySortedBy entity_cmp (entities_of all.items)) }
+        ensures present { IfOk result (λ all. (e : Entity)
+            → is_in entity_cmp (entities_of all.items) e ≡ is_some (look_at self.now e)) }
+        ensures each { IfOk result (λ all. All
+            (IsPresent (look_at self.now) (λ e. last_tags [] (log_at self.now e)))
+            all.items) }
+    {
+        present(&self.slots)
+    }
+
     /// How many notes there are, or the largest number where there are more. This takes no memory.
     pub fn notes(&self) -> usize
         ensures { result ≡ min (notes_in self.now) (2 ^ 64 - 1) }
@@ -253,34 +268,26 @@ impl Slots {
         self.slots.remove(entity);
     }
 
-    /// The same, and answers whether the entity was there.
-    fn take(&mut self, entity: &Entity) -> bool
-        ensures was { result ≡ is_some (look_at self.old entity.now) }
-        ensures gone { self.new ≡ map.remove self.old entity.now }
+    /// Whether an entity was there of which nothing is left when it is made absent.
+    fn leaves_nothing(&self, entity: &Entity, tags: &TagSet) -> Option<bool>
+        ensures was { IfSome result (λ was. was ≡ is_some (look_at self.now entity.now)) }
+        ensures bare { OnSome result
+            (is_bare (slot_wrote tags.now (slot_in (map.get self.now entity.now)) None) ≡ true) }
     {
-        match self.slots.remove(entity) {
-            Some(slot) => slot.value().is_some(),
-            None => false,
+        let slot = self.slots.get(entity)?;
+        if !tags.ids().is_empty() || !slot.is_unnoted() {
+            return None;
         }
-    }
-
-    /// Whether nothing is left of an entity that is made absent.
-    fn goes_whole(&self, entity: &Entity, tags: &TagSet) -> bool
-        ensures { result ≡ true
-            → is_bare (slot_wrote tags.now (slot_in (map.get self.now entity.now)) None) ≡ true }
-    {
-        match self.slots.get(entity) {
-            Some(slot) => tags.ids().is_empty() && slot.is_unnoted(),
-            None => false,
-        }
+        Some(slot.value().is_some())
     }
 
     /// Sets what an entity has. Without memory nothing has changed.
+    #[inline(always)]
     pub fn set(
         &mut self,
         entity: &Entity,
         tags: &TagSet,
-        value: BoxedState,
+        value: EntityState,
     ) -> Result<Written, AllocError>
         ensures ok { OnOk result
             (self.new ≡ slots_wrote tags.now self.old entity.now (Some value)) }
@@ -303,6 +310,43 @@ impl Slots {
             was: false,
             back: TakeBack::DropSlot,
         })
+    }
+
+    /// The same, and answers just whether there was something before it. What is born of a step that rests on no guess is put
+    /// at once.
+    pub fn set_alone(
+        &mut self,
+        entity: &Entity,
+        tags: &TagSet,
+        value: EntityState,
+    ) -> Result<bool, AllocError>
+        ensures ok { OnOk result
+            (self.new ≡ slots_wrote tags.now self.old entity.now (Some value)) }
+        ensures was { IfOk result (λ was. was ≡ is_some (look_at self.old entity.now)) }
+        ensures err { OnErr result (self.new ≡ self.old) }
+    {
+        if tags.ids().is_empty() && self.slots.get_late(entity).is_none() {
+            let slot = Slot::new(self.alloc(), Some(value));
+            self.slots.put(entity, slot)?;
+            return Ok(false);
+        }
+        self.set_apart(entity, tags, value)
+    }
+
+    /// The same, where something may be there, or a note is kept.
+    #[inline(never)]
+    fn set_apart(
+        &mut self,
+        entity: &Entity,
+        tags: &TagSet,
+        value: EntityState,
+    ) -> Result<bool, AllocError>
+        ensures ok { OnOk result
+            (self.new ≡ slots_wrote tags.now self.old entity.now (Some value)) }
+        ensures was { IfOk result (λ was. was ≡ is_some (look_at self.old entity.now)) }
+        ensures err { OnErr result (self.new ≡ self.old) }
+    {
+        Ok(self.set(entity, tags, value)?.was)
     }
 
     /// Changes a process where it stands. Without memory nothing has changed.
@@ -335,9 +379,20 @@ impl Slots {
         ensures was { IfOk result (λ was. was ≡ is_some (look_at self.old entity.now)) }
         ensures err { OnErr result (self.new ≡ self.old) }
     {
-        if self.goes_whole(entity, tags) {
-            return Ok(self.take(entity));
+        if let Some(was) = self.leaves_nothing(entity, tags) {
+            self.remove(entity);
+            return Ok(was);
         }
+        self.clear_apart(entity, tags)
+    }
+
+    /// The same, where something may be left of the entity.
+    #[inline(never)]
+    fn clear_apart(&mut self, entity: &Entity, tags: &TagSet) -> Result<bool, AllocError>
+        ensures ok { OnOk result (self.new ≡ slots_wrote tags.now self.old entity.now None) }
+        ensures was { IfOk result (λ was. was ≡ is_some (look_at self.old entity.now)) }
+        ensures err { OnErr result (self.new ≡ self.old) }
+    {
         if let Some(slot) = self.slot_mut(entity) {
             let was = slot.value().is_some();
             slot.clear(tags)?;

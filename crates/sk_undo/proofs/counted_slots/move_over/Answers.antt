@@ -21,9 +21,5 @@ returns-clause-here c =
     let m = c.args.slots.now in
     let e = c.args.entity.now in
     c.in_ok-set.ensures.ok
-    ∙ ap (λ tags. slots_wrote tags m e (Some c.in_ok-state.state)) c.requires
-    ∙ ap (λ v. moved m e (Some v)) c.in_ok-state.ensures
+    ∙ ap (λ tags. slots_wrote tags m e (Some c.in-Some.state)) c.requires
     ∙ ap (moved m e) c.in-Some.ensures.old
-
-pub returns-in_err-state-clause-others : goal.returns-in_err-state-clause-others
-returns-in_err-state-clause-others c e apart = elsewhere c.args.store.now c.remove.new.self c.args.entity.now e c.remove.ensures.new apart

@@ -8,31 +8,28 @@ use Rattle.sk_undo.proofs.entity_map.EntityMap.get.Goals as goal
 
 pub returns-in-Proc : goal.returns-in-Proc
 returns-in-Proc g c =
-    c.found.ensures
-    ∙ ap (map.get (seen nat_cmp c.self.inside.processes)) c.process.ensures
+    c.own.ensures
     ∙ sym (joined_get (seen nat_cmp c.self.inside.processes) (seen nat_cmp c.self.inside.signals) (seen nat_cmp c.self.inside.exits) (seen object_cmp c.self.inside.objects) (seen link_cmp c.self.inside.links) (seen name_order c.self.inside.copies) (Proc c.in-Proc.pid))
     ∙ (λ i. map.get (c.self.view_is i) (Proc c.in-Proc.pid))
     ∙ ap (map.get c.args.self.now) (sym c.in-Proc.is)
 
 pub returns-in-Sig : goal.returns-in-Sig
 returns-in-Sig g c =
-    c.found-in-Sig.ensures
-    ∙ ap (map.get (seen nat_cmp c.self.inside.signals)) c.process-in-Sig.ensures
+    c.own-in-Sig.ensures
     ∙ sym (joined_get (seen nat_cmp c.self.inside.processes) (seen nat_cmp c.self.inside.signals) (seen nat_cmp c.self.inside.exits) (seen object_cmp c.self.inside.objects) (seen link_cmp c.self.inside.links) (seen name_order c.self.inside.copies) (Sig c.in-Sig.pid))
     ∙ (λ i. map.get (c.self.view_is i) (Sig c.in-Sig.pid))
     ∙ ap (map.get c.args.self.now) (sym c.in-Sig.is)
 
 pub returns-in-Exit : goal.returns-in-Exit
 returns-in-Exit g c =
-    c.found-in-Exit.ensures
-    ∙ ap (map.get (seen nat_cmp c.self.inside.exits)) c.process-in-Exit.ensures
+    c.own-in-Exit.ensures
     ∙ sym (joined_get (seen nat_cmp c.self.inside.processes) (seen nat_cmp c.self.inside.signals) (seen nat_cmp c.self.inside.exits) (seen object_cmp c.self.inside.objects) (seen link_cmp c.self.inside.links) (seen name_order c.self.inside.copies) (Exit c.in-Exit.pid))
     ∙ (λ i. map.get (c.self.view_is i) (Exit c.in-Exit.pid))
     ∙ ap (map.get c.args.self.now) (sym c.in-Exit.is)
 
 pub returns-in-Obj : goal.returns-in-Obj
 returns-in-Obj g c =
-    c.found-in-Obj.ensures
+    c.found.ensures
     ∙ ap (map.get (seen object_cmp c.self.inside.objects)) c.object.ensures
     ∙ sym (joined_get (seen nat_cmp c.self.inside.processes) (seen nat_cmp c.self.inside.signals) (seen nat_cmp c.self.inside.exits) (seen object_cmp c.self.inside.objects) (seen link_cmp c.self.inside.links) (seen name_order c.self.inside.copies) (Obj c.in-Obj.id))
     ∙ (λ i. map.get (c.self.view_is i) (Obj c.in-Obj.id))

@@ -1,7 +1,7 @@
 use Rattle.sk_undo.proofs.Cites.{◌≡◌, true, Some, None, ap, sym, ◌∙◌, rules, is_empty, slot_wrote, slot_in, placed}
 use Rattle.std.specs.FinMap as map
 use Rattle.sk_undo.proofs.Maps.{insert_same, placed_untouched, placed_gone, placed_full}
-use Rattle.sk_undo.proofs.slots.Slots.clear.Goals as goal
+use Rattle.sk_undo.proofs.slots.Slots.clear_apart.Goals as goal
 
 pub returns-in_err-clear-clause-err : goal.returns-in_err-clear-clause-err
 returns-in_err-clear-clause-err c =

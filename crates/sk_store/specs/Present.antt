@@ -1,0 +1,23 @@
+-- Entities that are present, each with what it has and the guesses that it rests on.
+use Rattle.std.specs.Prelude.{◌≡◌, ℕ, List, [], map, Option, Some}
+use Rattle.sk_ids.specs.declared.entity.Entity.{Entity}
+use Rattle.sk_store.specs.declared.entity_state.EntityState.{EntityState}
+use Rattle.sk_store.specs.declared.present.Present.{Present}
+
+-- it has what the entity has, and rests on what the entity rests on
+abbrev pub IsPresent : (Entity → Option EntityState) → (Entity → List ℕ) → Present → Type 0
+IsPresent look tags p = (look p.entity ≡ Some p.state.now) × (tags p.entity ≡ p.tags.now)
+
+abbrev pub entities_of : List Present → List Entity
+entities_of all = map (λ p. p.entity) all
+
+-- what is listed of one, in values
+abbrev pub Shown : Type 0
+Shown = Entity × (EntityState × List ℕ)
+
+abbrev pub shown : Present → Shown
+shown p = (p.entity, (p.state.now, p.tags.now))
+
+-- what an entity has that rests on no guess
+abbrev pub shown_alone : Entity × EntityState → Shown
+shown_alone e = (e.0, (e.1, []))

@@ -349,7 +349,7 @@ impl Desk {
         ensures { result ≡ cached self.now.kernel name.now }
     {
         match self.kernel().value(&Entity::Copy(*name)) {
-            Some(View::Value(Value::Copy(content))) => Some(content.version()),
+            Some(View::Value(Value::Copy(held))) => Some(held.content().version()),
             _ => None,
         }
     }

@@ -43,6 +43,7 @@ fn find<E: Key>(entities: &[E], entity: &E) -> Result<usize, usize>
 }
 
 /// Puts an entity at a place, for which there is room. Mostly that is behind all others.
+#[inline(always)]
 fn put_at<E: Key>(entities: &mut Vec<E>, place: usize, entity: &E)
     requires place { place ≤ length entities.old.items }
     requires room { length entities.old.items < vec_capacity entities.old }

@@ -184,6 +184,7 @@ impl<E: Key> Guesses<E> {
     }
 
     /// Moves out the list of the entities that rest on a guess, for its decision.
+    #[inline(always)]
     pub fn take_dependents(&mut self, id: GuessId) -> EntitySet<E>
         ensures list { result.entities ≡ dependents_of id self.old.opens }
         ensures view { self.new.view ≡ self.old.view }
@@ -211,6 +212,7 @@ impl<E: Key> Guesses<E> {
     }
 
     /// What became of a guess; `None` where it was never drawn.
+    #[inline(always)]
     pub fn status(&self, id: GuessId) -> Option<Status>
         ensures { result ≡ status_of self.now.view id }
     {

@@ -373,6 +373,7 @@ impl<E: Key> Opens<E> {
     }
 
     /// Takes the guess at a place out; those behind it move up.
+    #[inline(always)]
     pub(crate) fn remove(&mut self, place: usize)
         requires { place < length self.old.items }
         ensures items { self.new.items ≡ remove self.old.items place }

@@ -41,6 +41,7 @@ impl Model for Holder {
 }
 
 /// Takes the token at a place out; those behind it move up. Mostly none is.
+#[inline(always)]
 #[tactic(auto, using(std::proofs::lemmas::List::drop_all))]
 fn take_token(tokens: &mut Vec<Guess>, place: usize) -> Guess
     requires { place < length tokens.old.items }

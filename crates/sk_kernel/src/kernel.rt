@@ -1,6 +1,7 @@
 //! The speculative kernel.
 ghost use Rattle.std.specs.Prelude.{◌≡◌, ◌↔◌, ℕ, true, is_some, length, IfOk, IfSome, MatchOption, None, Some, []};
 ghost use Rattle.std.specs.FinMap as map;
+ghost use Rattle.std.specs.List.{All};
 ghost use Rattle.std.specs.List.Sorted.{IsStrictlySortedBy};
 ghost use Rattle.sk_ids.specs.Entity.{entity_cmp};
 ghost use Rattle.sk_record.specs.Effects.{is_in};
@@ -12,6 +13,7 @@ ghost use Rattle.sk_plain.specs.Refusal.{cause};
 ghost use Rattle.sk_plain.specs.View.{Shows};
 ghost use Rattle.sk_script.specs.declared.instruction.Input.TheVariants as inputs;
 ghost use Rattle.sk_store.specs.Names.{names_in};
+ghost use Rattle.sk_store.specs.Present.{IsPresent, entities_of};
 ghost use Rattle.sk_trace.specs.Kept.{input_in};
 ghost use Rattle.sk_trace.specs.declared.event.Event.TheVariants as events;
 ghost use Rattle.sk_kernel.specs.Kernel.{booted, state_at, undecided_at, tags_at, room, next_guess, settled, effect_at, is_other, next_at, no_room, step_misfit, or_else, guess_misfits, too_many, step_refused, guess_refused, HasStatus, RestsOn};
@@ -32,7 +34,7 @@ use sk_plain::{
     Event, InputRef, Next, Plan, Refusal, Trace, View, heading_of, next_of, plan_into, plan_step,
 };
 use sk_script::{Boot, Input};
-use sk_store::Look;
+use sk_store::{Look, Present};
 use sk_terminal::{Terminal, Texts};
 use std::alloc::{AllocError, Global};
 use std::marker::Model;
@@ -110,6 +112,7 @@ fn plan_at(
 }
 
 /// What a guess with an input will do, or why it is refused.
+#[inline(always)]
 fn plan_guess(
     machine: &Machine,
     opening: &Opening,
@@ -218,6 +221,17 @@ impl Kernel {
         ensures rising { IfOk result (λ entities. IsStrictlySortedBy entity_cmp entities.items) }
     {
         self.machine.entities()
+    }
+
+    /// The entities that are present, each once, by rising order, with what they have and the undecided guesses that they
+    /// rest on.
+    pub fn entries(&self) -> Result<Vec<Present<'_>>, AllocError>
+        ensures present { IfOk result
+            (λ all. entities_of all.items ≡ map.keys (state_at self.now)) }
+        ensures each { IfOk result (λ all. All
+            (IsPresent (map.get (state_at self.now)) (tags_at self.now)) all.items) }
+    {
+        self.machine.entries()
     }
 
     /// How many guesses are undecided.

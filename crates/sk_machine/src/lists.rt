@@ -42,8 +42,37 @@ fn depend(
     guesses.depend(&added, entity)
 }
 
+/// Adds entities to the lists of guesses, whether or not these are undecided. Without memory the lists have what they had.
+#[inline(never)]
+fn depend_each(
+    guesses: &mut Guesses<Entity>,
+    logs: &Logs,
+    untagged: &TagSet,
+    tags: &TagSet,
+    entities: &[Entity],
+) -> Result<(), AllocError>
+    requires exact { AllExact (tags_in logs.now.slots) guesses.old.opens }
+    requires covers { Covers tags.now entities.now (tags_in logs.now.slots) }
+    requires untagged { untagged.now ≡ [] }
+    ensures view { guesses.new.view ≡ guesses.old.view }
+    ensures opens { opens_of guesses.new.opens ≡ opens_of guesses.old.opens }
+    ensures ok { OnOk result
+        (AllExact (with_tags tags.now entities.now (tags_in logs.now.slots)) guesses.new.opens) }
+    ensures err { OnErr result (AllExact (tags_in logs.now.slots) guesses.new.opens) }
+{
+    for entity in entities {
+        let own = tags_of(logs, untagged, entity);
+        if depend(guesses, own, tags, entity).is_err() {
+            relieve_all(guesses, logs, untagged, entities);
+            return Err(AllocError);
+        }
+    }
+    Ok(())
+}
+
 /// Adds what a step writes to the lists of the guesses that the step rests on. Without memory the lists
 /// have what they had.
+#[inline(always)]
 pub(crate) fn depend_all(
     guesses: &mut Guesses<Entity>,
     logs: &Logs,
@@ -63,14 +92,7 @@ pub(crate) fn depend_all(
     if guesses.are_later(tags) {
         return Ok(());
     }
-    for entity in entities {
-        let own = tags_of(logs, untagged, entity);
-        if depend(guesses, own, tags, entity).is_err() {
-            relieve_all(guesses, logs, untagged, entities);
-            return Err(AllocError);
-        }
-    }
-    Ok(())
+    depend_each(guesses, logs, untagged, tags, entities)
 }
 
 /// Takes entities out of the lists of the guesses that they do not rest on.

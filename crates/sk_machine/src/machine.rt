@@ -1,5 +1,6 @@
 //! Values in place with their undo logs, the open guesses, statuses and texts.
 ghost use Rattle.std.specs.Prelude.{◌≡◌, [], ◌∷◌, ◌++◌, ◌||◌, ◌&&◌, ◌==◌, if◌then◌else◌, ℕ, length, get_or, true, false, is_some, IfOk, IfSome, OnOk, OnErr, Ok, Some, None};
+ghost use Rattle.std.specs.List.{All};
 ghost use Rattle.std.specs.List.Sorted.{IsStrictlySortedBy};
 ghost use Rattle.std.specs.Ordering.{nat_cmp};
 ghost use Rattle.sk_record.specs.Notes.{has};
@@ -20,12 +21,13 @@ ghost use Rattle.sk_ids.specs.Entity.{entity_cmp};
 ghost use Rattle.sk_ids.specs.declared.entity.Entity.{Entity};
 ghost use Rattle.sk_ids.specs.declared.entity.Entity.TheVariants.{Proc};
 ghost use Rattle.sk_store.specs.Names.{IsCount, name_there};
+ghost use Rattle.sk_store.specs.Present as listed;
 ghost use Rattle.sk_store.specs.Start.{start_of};
 ghost use Rattle.sk_undo.specs.Logs.{look_at};
 ghost use Rattle.sk_trace.specs.Kept.{input_in};
 ghost use Rattle.sk_plain.specs.Act.{plain};
-ghost use Rattle.sk_plain.specs.Planned.{said_by, texts_after, writes_of};
-ghost use Rattle.sk_plain.specs.Seen.{CanPerform, DoesNext, seen_with, written_in};
+ghost use Rattle.sk_plain.specs.Planned.{read_by, said_by, texts_after, writes_of};
+ghost use Rattle.sk_plain.specs.Seen.{CanPerform, DoesNext, looked, looks_of, seen_with, written_in};
 ghost use Rattle.sk_machine.specs.Parts.{IsPlanned, any_rests, machine_of, planned_effect, undo_state_of};
 ghost use Rattle.sk_guesses.specs.Room.{HasRoom};
 ghost use Rattle.sk_machine.specs.Dependents.{Covers, tags_in};
@@ -35,9 +37,9 @@ use crate::alike::set_alike;
 use crate::lists::{depend_all, is_alone, relieve_all, relieve_freed, tags_of};
 use sk_guesses::{Guess, Guesses, Redeemed, Status};
 use sk_ids::{Entity, GuessId, ObjId, Pid, TagSet};
-use sk_plain::{Beside, Entities, InputRef, Plan, Scratch, perform_plan, perform_with};
+use sk_plain::{Beside, Entities, InputRef, Plan, Scratch, perform_with};
 use sk_script::{Boot, Instruction, Scripts};
-use sk_store::{EntityState, Look, Store};
+use sk_store::{EntityState, Look, Present, Store};
 use sk_terminal::{Terminal, Terminals, Texts};
 use sk_undo::Logs;
 use std::alloc::{AllocError, Global};
@@ -87,6 +89,7 @@ impl Look for Machine {
 }
 
 /// Performs a plan, whose writes and text rest on these guesses. Without memory nothing has changed.
+#[inline(always)]
 #[tactic(auto, using(crate::proofs::Writes::performed))]
 fn perform(
     logs: &mut Logs,
@@ -96,6 +99,7 @@ fn perform(
     input: InputRef<'_>,
     plan: &Plan,
     tags: TagSet,
+    scratch: &mut Scratch,
 ) -> Result<(), AllocError>
     requires can { CanPerform (look_at logs.old.slots) scripts.now pid (input_in input) plan.now }
     requires apart { AreApart (entities_of
@@ -119,10 +123,11 @@ fn perform(
     ensures unsaid { OnErr result (terminals.new ≡ terminals.old) }
 {
     logs.set_tags(tags);
-    perform_plan(logs, terminals, scripts, pid, input, plan)
+    perform_next(logs, terminals, scripts, pid, input, plan, scratch)
 }
 
 /// Performs a plan, whose writes and text rest on the guesses of the next step. Without memory nothing has changed.
+#[inline(always)]
 #[tactic(auto, using(crate::proofs::Writes::performed))]
 fn perform_next(
     logs: &mut Logs,
@@ -169,6 +174,7 @@ fn perform_guess(
     plan: &Plan,
     tags: TagSet,
     count: usize,
+    scratch: &mut Scratch,
 ) -> Result<(), AllocError>
     requires can { CanPerform (look_at logs.old.slots) scripts.now pid (input_in input) plan.now }
     requires apart { AreApart (entities_of
@@ -195,20 +201,29 @@ fn perform_guess(
     ensures unsaid { OnErr result (terminals.new ≡ terminals.old) }
 {
     guesses.reserve(count)?;
-    perform(logs, terminals, scripts, pid, input, plan, tags)
+    perform(logs, terminals, scripts, pid, input, plan, tags, scratch)
 }
 
-/// Puts the entities that a plan writes into a list that has the process alone. Most guesses write nothing else.
+/// Puts the entities that a plan writes into a list. It stands by itself, so that a guess that writes its process alone has no
+/// place for more in its frame.
+#[inline(never)]
+fn put_all(plan: &Plan, pid: Pid, all: &mut Entities)
+    ensures { all.new ≡ written_in pid plan.now }
+{
+    *all = plan.writes(pid);
+}
+
+/// The same, where the list has the process alone. Most guesses write nothing else.
 fn put_written(plan: &Plan, pid: Pid, all: &mut Entities)
     requires { all.old ≡ Proc pid ∷ [] }
     ensures { all.new ≡ written_in pid plan.now }
 {
     match plan {
         Plan::Private | Plan::Speaks => {}
-        Plan::Received(_) | Plan::Forks(..) => *all = plan.writes(pid),
+        Plan::Received(_) | Plan::Forks(..) => put_all(plan, pid, all),
         Plan::Acts(row) => match row.beside {
             Beside::Nothing => {}
-            Beside::One(..) | Beside::Gone(_) => *all = plan.writes(pid),
+            Beside::One(..) | Beside::Gone(_) => put_all(plan, pid, all),
         },
     }
 }
@@ -275,8 +290,31 @@ impl Machine {
         }
     }
 
+    /// Adds to a set the guesses of all that a planned step touches. It stands by itself, so that a step while no guess is open
+    /// has no place for what it reads in its frame.
+    #[inline(never)]
+    fn add_touched(
+        &self,
+        own: TagSet,
+        pid: Pid,
+        input: InputRef<'_>,
+        plan: &Plan,
+        written: &[Entity],
+    ) -> Result<TagSet, AllocError>
+        ensures members { IfOk result (λ all. (g : ℕ)
+            → has g all
+            ≡ ((has g own
+            || any_rests self.now g (read_by pid (input_in input.entry) (looked (looks_of plan.now))))
+            || any_rests self.now g written.now)) }
+        ensures rising { IfOk result (λ all. IsStrictlySortedBy nat_cmp all) }
+    {
+        let read = self.add_tags(own, plan.reads(pid, input).as_slice())?;
+        self.add_tags(read, written)
+    }
+
     /// The guesses that a planned step rests on: those of all that it touches, of which there are none where no guess is
     /// open, and its own.
+    #[inline(always)]
     fn step_tags(
         &self,
         scripts: &Scripts,
@@ -305,8 +343,7 @@ impl Machine {
             let _rising = own.ids();
             return Ok(own);
         }
-        let read = self.add_tags(own, plan.reads(pid, input).as_slice())?;
-        self.add_tags(read, written)
+        self.add_touched(own, pid, input, plan, written)
     }
 
     /// Takes a planned step that is no guess, whose private instruction was found, or none. Without memory nothing has changed.
@@ -415,6 +452,7 @@ impl Machine {
             input,
             plan,
             tags,
+            &mut self.scratch,
         )
         .is_err()
         {
@@ -476,6 +514,7 @@ impl Machine {
             plan,
             tags,
             entities.len(),
+            &mut self.scratch,
         );
         if performed.is_err() {
             relieve_all(&mut self.guesses, &self.logs, &self.untagged, entities);
@@ -535,6 +574,21 @@ impl Machine {
             → is_in entity_cmp all.items e ≡ is_some (look_at self.now.slots e)) }
     {
         self.logs.entities()
+    }
+
+    /// The entities that are present, by their order, each once, with what they have and the undecided guesses that they
+    /// rest on.
+    pub fn entries(&self) -> Result<Vec<Present<'_>>, AllocError>
+        ensures rising { IfOk result
+            (λ all. IsStrictlySortedBy entity_cmp (listed.entities_of all.items)) }
+        ensures present { IfOk result (λ all. (e : Entity)
+            → is_in entity_cmp (listed.entities_of all.items) e
+            ≡ is_some (look_at self.now.slots e)) }
+        ensures each { IfOk result (λ all. All
+            (listed.IsPresent (look_at self.now.slots) (tags_at (undo_state_of self.now)))
+            all.items) }
+    {
+        self.logs.entries()
     }
 
     /// The undecided guesses that an entity rests on.

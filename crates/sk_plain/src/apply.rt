@@ -32,7 +32,7 @@ fn process_at<K: Look>(keeper: &K, pid: Pid) -> &Process
     ensures { result.now ≡ process_in (K.look keeper.now (Proc pid)) }
 {
     match keeper.value(Entity::Proc(pid)) {
-        Some(EntityState::Process(process)) => process,
+        Some(EntityState::Process(held)) => held.process(),
         _ => unreachable!(),
     }
 }
@@ -97,7 +97,8 @@ fn write_first<K: Keeper>(keeper: &mut K, pid: Pid, entity: Entity) -> Result<K:
     ensures err { OnErr result (keeper.new ≡ keeper.old) }
 {
     let content = version_of(keeper, pid, 1);
-    keeper.write(entity, EntityState::Value(Value::Copy(content)))
+    let copy = EntityState::content(keeper.memory(), content)?;
+    keeper.write(entity, copy)
 }
 
 /// A name of an object.
@@ -238,7 +239,8 @@ fn write_noted_gone<K: Keeper, C: Becoming>(
     ensures err { OnErr result (keeper.new ≡ keeper.old) }
 {
     let process = changed(process_at(keeper, pid), by);
-    let back = keeper.write(Entity::Proc(pid), EntityState::Process(process))?;
+    let process = EntityState::process(keeper.memory(), process)?;
+    let back = keeper.write(Entity::Proc(pid), process)?;
     if keeper.remove(entity).is_err() {
         keeper.take_back(back);
         return Err(AllocError);
@@ -339,6 +341,60 @@ fn make_apart<K: Keeper, C: Becoming>(
     let value = Value::empty(keeper.memory(), kind)?;
     let back = keeper.write(*entity, EntityState::Value(value))?;
     write_last(keeper, back, pid, by)
+}
+
+/// A name of an object, and then the process changes. Where nothing is noted of the process, nothing is kept that takes
+/// the name back.
+#[inline(never)]
+#[tactic(auto, using(crate::proofs::Others::apart_from))]
+fn link_beside<K: Keeper, C: Becoming>(
+    keeper: &mut K,
+    pid: Pid,
+    entity: &Entity,
+    object: &ObjId,
+    by: &C,
+) -> Result<(), AllocError>
+    requires process { CanBecomeThere (C.can by.now) (K.look keeper.old (Proc pid)) }
+    requires apart { IsNoProcess entity.now }
+    ensures ok { OnOk result
+        (keeper.new
+        ≡ K.wrote (K.wrote keeper.old entity.now
+        (Some (stored.Value (values.Link object.now)))) (Proc pid)
+        (Some (became (C.after by.now) (K.look keeper.old (Proc pid))))) }
+    ensures err { OnErr result (keeper.new ≡ keeper.old) }
+{
+    if keeper.goes_unnoted(pid) {
+        let name = EntityState::Value(Value::link(*object));
+        return keeper.write_beside(entity, name, pid, by);
+    }
+    link_apart(keeper, pid, entity, object, by)
+}
+
+/// The same for a value of a kind with nothing in it.
+#[inline(never)]
+#[tactic(auto, using(crate::proofs::Others::apart_from))]
+fn make_beside<K: Keeper, C: Becoming>(
+    keeper: &mut K,
+    pid: Pid,
+    entity: &Entity,
+    kind: Kind,
+    by: &C,
+) -> Result<(), AllocError>
+    requires process { CanBecomeThere (C.can by.now) (K.look keeper.old (Proc pid)) }
+    requires apart { IsNoProcess entity.now }
+    requires kind { kind ≢ Kind.Link }
+    ensures ok { OnOk result
+        (keeper.new
+        ≡ K.wrote (K.wrote keeper.old entity.now
+        (Some (stored.Value (empty_of kind)))) (Proc pid)
+        (Some (became (C.after by.now) (K.look keeper.old (Proc pid))))) }
+    ensures err { OnErr result (keeper.new ≡ keeper.old) }
+{
+    if keeper.goes_unnoted(pid) {
+        let value = EntityState::Value(Value::empty(keeper.memory(), kind)?);
+        return keeper.write_beside(entity, value, pid, by);
+    }
+    make_apart(keeper, pid, entity, kind, by)
 }
 
 /// The buffer of a process, to be put at an end.
@@ -460,8 +516,8 @@ fn write_both<K: Keeper, C: Becoming>(
         Writes::At(offset) => write_over(keeper, pid, entity, *offset, by, change),
         Writes::Put => write_behind(keeper, pid, entity, by),
         Writes::Take(count) => take_off(keeper, pid, entity, *count, by),
-        Writes::Linked(object) => link_apart(keeper, pid, entity, object, by),
-        Writes::Empty(kind) => make_apart(keeper, pid, entity, *kind, by),
+        Writes::Linked(object) => link_beside(keeper, pid, entity, object, by),
+        Writes::Empty(kind) => make_beside(keeper, pid, entity, *kind, by),
         _ => write_apart(keeper, pid, entity, writes, by),
     }
 }
@@ -533,6 +589,7 @@ fn fill<K: Keeper>(
 }
 
 /// A row, as it was planned.
+#[inline(never)]
 fn act<K: Keeper>(
     keeper: &mut K,
     pid: Pid,
@@ -582,10 +639,8 @@ fn write_copy<K: Keeper, C: Becoming>(
         (Some (became (C.after by.now) (K.look keeper.old (Proc pid))))) }
     ensures err { OnErr result (keeper.new ≡ keeper.old) }
 {
-    let back = keeper.write(
-        Entity::Copy(*name),
-        EntityState::Value(Value::Copy(*content)),
-    )?;
+    let copy = EntityState::content(keeper.memory(), *content)?;
+    let back = keeper.write(Entity::Copy(*name), copy)?;
     write_last(keeper, back, pid, by)
 }
 
@@ -701,7 +756,8 @@ fn bear<K: Keeper>(keeper: &mut K, pid: Pid, by: &Forking, place: u32) -> Result
     ensures err { OnErr result (keeper.new ≡ keeper.old) }
 {
     let first = child_of(process_at(keeper, pid), by.child, place);
-    let back = keeper.write(Entity::Proc(by.child), EntityState::Process(first))?;
+    let child = EntityState::process(keeper.memory(), first)?;
+    let back = keeper.write(Entity::Proc(by.child), child)?;
     if write_child_queue(keeper, pid, by).is_err() {
         keeper.take_back(back);
         return Err(AllocError);
@@ -769,7 +825,8 @@ fn speak<K: Keeper>(
     ensures unsaid { OnErr result (terminals.new ≡ terminals.old) }
 {
     let tags = keeper.step_tags()?;
-    let back = keeper.write(Entity::Proc(pid), EntityState::Process(*process))?;
+    let spoken = EntityState::process(keeper.memory(), *process)?;
+    let back = keeper.write(Entity::Proc(pid), spoken)?;
     if terminals
         .say(process.terminal, &process.buffer, tags)
         .is_err()
@@ -901,43 +958,9 @@ pub fn perform_plan<K: Keeper>(
     }
 }
 
-/// Performs any plan, with places that the caller keeps.
-#[inline(never)]
-#[tactic(auto, using(crate::proofs::Plans::row_quiet))]
-fn perform_any_with<K: Keeper>(
-    keeper: &mut K,
-    terminals: &mut Terminals,
-    scripts: &Scripts,
-    pid: Pid,
-    input: InputRef<'_>,
-    plan: &Plan,
-    scratch: &mut Scratch,
-) -> Result<(), AllocError>
-    requires { CanPerform (K.look keeper.old) scripts.now pid (input_in input) plan.now }
-    ensures writes { OnOk result
-        (keeper.new
-        ≡ wrote_all K.wrote
-        (writes_of (K.look keeper.old) pid
-        (seen_with (K.look keeper.old) scripts.now pid (input_in input.entry) plan.now))
-        keeper.old) }
-    ensures says { OnOk result
-        (terminals.new
-        ≡ texts_after terminals.old (K.step_tags keeper.old)
-        (said_by (seen_with (K.look keeper.old) scripts.now pid (input_in input.entry) plan.now))) }
-    ensures unwritten { OnErr result (keeper.new ≡ keeper.old) }
-    ensures unsaid { OnErr result (terminals.new ≡ terminals.old) }
-{
-    match plan {
-        Plan::Acts(row) => act(keeper, pid, row, scratch),
-        Plan::Speaks => say_buffer(keeper, terminals, pid),
-        Plan::Private | Plan::Received(_) | Plan::Forks(..) => {
-            apply_plan(keeper, scripts, pid, input, plan)
-        }
-    }
-}
-
 /// The same as `perform_plan`, with places that the caller keeps.
 #[inline(always)]
+#[tactic(auto, using(crate::proofs::Plans::row_quiet))]
 pub fn perform_with<K: Keeper>(
     keeper: &mut K,
     terminals: &mut Terminals,
@@ -969,6 +992,9 @@ pub fn perform_with<K: Keeper>(
                 ..
             },
         ) => keeper.change_process(pid, what),
-        _ => perform_any_with(keeper, terminals, scripts, pid, input, plan, scratch),
+        Plan::Acts(row) => act(keeper, pid, row, scratch),
+        Plan::Private | Plan::Speaks | Plan::Received(_) | Plan::Forks(..) => {
+            perform_any(keeper, terminals, scripts, pid, input, plan)
+        }
     }
 }

@@ -1,5 +1,5 @@
 //! What the instructions on new objects and on files will do.
-ghost use Rattle.std.specs.Prelude.{◌≡◌, ◌≢◌, ◌+◌, ◌<◌, ◌^◌, [], Some, Ok, Option};
+ghost use Rattle.std.specs.Prelude.{◌≡◌, ◌≢◌, ◌+◌, ◌<◌, ◌^◌, [], IfSome, Some, Ok, Option};
 ghost use Rattle.sk_record.specs.Step.{Ask};
 ghost use Rattle.sk_ids.specs.declared.entity.Entity.TheVariants.{Obj};
 ghost use Rattle.sk_objects.specs.declared.value.Value.TheVariants as values;
@@ -117,6 +117,77 @@ pub(crate) fn read<S: Look>(
     looked(change, Entity::Obj(*object))
 }
 
+/// The row of a file and a place in it, which is the frequent one.
+#[inline(always)]
+fn read_found<S: Look>(
+    store: &S,
+    pid: Pid,
+    process: &Process,
+    file: Register,
+    at: Register,
+) -> Option<Row>
+    requires { process.now.place + 1 < 2 ^ 32 }
+    ensures { IfSome result
+        (λ row. PlansRow (S.look store.now) process.now pid
+        (read_row pid process.now (object_in (held process.now.registers file))
+        (number_in (held process.now.registers at))) (Ok row)) }
+{
+    let object = object_at(process, file)?;
+    if file_at(store, &object).is_err() {
+        return None;
+    }
+    let from = number_at(process, at)?;
+    let change = ProcessChange::Fills {
+        from,
+        count: TEXT_LIMIT as u32,
+        number: None,
+    };
+    Some(looked(change, Entity::Obj(object)))
+}
+
+/// Any row of `read`, put into a plan.
+#[inline(never)]
+#[tactic(auto, using(crate::proofs::Plans::rows))]
+fn put_any_read<S: Look>(
+    store: &S,
+    pid: Pid,
+    process: &Process,
+    file: Register,
+    at: Register,
+    plan: &mut Plan,
+)
+    requires { process.now.place + 1 < 2 ^ 32 }
+    ensures { (i : Option Instruction)
+        → PlansAfter (S.look store.now) i Input.None process.now [] pid
+        (read_row pid process.now (object_in (held process.now.registers file))
+        (number_in (held process.now.registers at))) (Ok plan.new) }
+{
+    *plan = Plan::Acts(read(store, pid, process, file, at));
+}
+
+/// The same. A frequent row stands by itself, so that no other one has a place in its frame.
+#[inline(never)]
+#[tactic(auto, using(crate::proofs::Plans::rows))]
+pub(crate) fn put_read<S: Look>(
+    store: &S,
+    pid: Pid,
+    process: &Process,
+    file: Register,
+    at: Register,
+    plan: &mut Plan,
+)
+    requires { process.now.place + 1 < 2 ^ 32 }
+    ensures { (i : Option Instruction)
+        → PlansAfter (S.look store.now) i Input.None process.now [] pid
+        (read_row pid process.now (object_in (held process.now.registers file))
+        (number_in (held process.now.registers at))) (Ok plan.new) }
+{
+    match read_found(store, pid, process, file, at) {
+        Some(row) => *plan = Plan::Acts(row),
+        None => put_any_read(store, pid, process, file, at, plan),
+    }
+}
+
 /// The buffer written at a place of a file.
 fn written_at<S: Look>(
     _store: &S,
@@ -168,6 +239,77 @@ pub(crate) fn write<S: Look>(
         Err(error) => error,
     };
     looked(failed(error), Entity::Obj(object))
+}
+
+/// The row of bytes that a file has room for, which is the frequent one.
+#[inline(always)]
+fn write_fitting<S: Look>(
+    store: &S,
+    pid: Pid,
+    process: &Process,
+    file: Register,
+    at: Register,
+) -> Option<Row>
+    requires { process.now.place + 1 < 2 ^ 32 }
+    ensures { IfSome result
+        (λ row. PlansRow (S.look store.now) process.now pid
+        (write_row pid process.now (object_in (held process.now.registers file))
+        (number_in (held process.now.registers at))) (Ok row)) }
+{
+    let object = object_at(process, file)?;
+    if file_at(store, &object).is_err() {
+        return None;
+    }
+    let at = number_at(process, at)?;
+    let len = process.buffer.len() as u64;
+    if len == 0 || at > FILE_LIMIT as u64 - len {
+        return None;
+    }
+    let written = Writes::At(at as u32);
+    Some(changed(answered(len), &Entity::Obj(object), written))
+}
+
+/// Any row of `write`, put into a plan.
+#[inline(never)]
+#[tactic(auto, using(crate::proofs::Plans::rows))]
+fn put_any_write<S: Look>(
+    store: &S,
+    pid: Pid,
+    process: &Process,
+    file: Register,
+    at: Register,
+    plan: &mut Plan,
+)
+    requires { process.now.place + 1 < 2 ^ 32 }
+    ensures { (i : Option Instruction)
+        → PlansAfter (S.look store.now) i Input.None process.now [] pid
+        (write_row pid process.now (object_in (held process.now.registers file))
+        (number_in (held process.now.registers at))) (Ok plan.new) }
+{
+    *plan = Plan::Acts(write(store, pid, process, file, at));
+}
+
+/// The same. A frequent row stands by itself, so that no other one has a place in its frame.
+#[inline(never)]
+#[tactic(auto, using(crate::proofs::Plans::rows))]
+pub(crate) fn put_write<S: Look>(
+    store: &S,
+    pid: Pid,
+    process: &Process,
+    file: Register,
+    at: Register,
+    plan: &mut Plan,
+)
+    requires { process.now.place + 1 < 2 ^ 32 }
+    ensures { (i : Option Instruction)
+        → PlansAfter (S.look store.now) i Input.None process.now [] pid
+        (write_row pid process.now (object_in (held process.now.registers file))
+        (number_in (held process.now.registers at))) (Ok plan.new) }
+{
+    match write_fitting(store, pid, process, file, at) {
+        Some(row) => *plan = Plan::Acts(row),
+        None => put_any_write(store, pid, process, file, at, plan),
+    }
 }
 
 /// A file of this length cut to a size.

@@ -22,9 +22,10 @@ pub fn is_as_lent<S: Look>(store: &S, scripts: &Scripts, lease: &Lease) -> bool
     ensures { IsTrue result ↔ IsAsLent (S.look store.now) scripts.now lease.now }
 {
     let lent = lease.lent();
-    let Some(EntityState::Process(process)) = store.value(Entity::Proc(lent.pid)) else {
+    let Some(EntityState::Process(held)) = store.value(Entity::Proc(lent.pid)) else {
         return false;
     };
+    let process = held.process();
     if !is_same(process, lent) {
         return false;
     }
@@ -49,7 +50,7 @@ pub fn lease_of<S: Look>(store: &S, scripts: &Scripts, pid: Pid) -> Result<Lease
     ensures { Lends result (lease_of (S.look store.now) scripts.now pid) }
 {
     let process = match store.value(Entity::Proc(pid)) {
-        Some(EntityState::Process(process)) => process,
+        Some(EntityState::Process(held)) => held.process(),
         _ => return Err(Refusal::NoProcess),
     };
     if process.ended {

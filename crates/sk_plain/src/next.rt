@@ -91,7 +91,7 @@ pub fn next_of<S: Look>(store: &S, scripts: &Scripts, pid: Pid) -> Result<Next, 
     ensures { result ≡ next_of (S.look store.now) scripts.now pid }
 {
     let process = match store.value(Entity::Proc(pid)) {
-        Some(EntityState::Process(process)) => process,
+        Some(EntityState::Process(held)) => held.process(),
         _ => return Err(Refusal::NoProcess),
     };
     if process.ended {
@@ -121,7 +121,7 @@ pub fn heading_of<S: Look>(store: &S, scripts: &Scripts, pid: Pid) -> Result<Nex
     ensures { result ≡ unplanned (next_of (S.look store.now) scripts.now pid) }
 {
     let process = match store.value(Entity::Proc(pid)) {
-        Some(EntityState::Process(process)) => process,
+        Some(EntityState::Process(held)) => held.process(),
         _ => return Err(Refusal::NoProcess),
     };
     if process.ended {

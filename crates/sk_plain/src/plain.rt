@@ -1,9 +1,11 @@
 //! The plain kernel: it takes steps, and knows no guesses.
-ghost use Rattle.std.specs.Prelude.{◌≡◌, ◌↔◌, IsTrue, IfOk, option_map};
+ghost use Rattle.std.specs.Prelude.{◌≡◌, ◌↔◌, [], IsTrue, IfOk, option_map};
+ghost use Rattle.std.specs.List.{All};
 ghost use Rattle.std.specs.List.Sorted.{IsStrictlySortedBy};
 ghost use Rattle.std.specs.FinMap as map;
 ghost use Rattle.sk_ids.specs.Entity.{entity_cmp};
 ghost use Rattle.sk_ids.specs.declared.entity.Entity.TheVariants.{Proc};
+ghost use Rattle.sk_store.specs.Present.{IsPresent, entities_of};
 ghost use Rattle.sk_store.specs.Processes.{IsProcess};
 ghost use Rattle.sk_trace.specs.Kept.{input_in};
 ghost use Rattle.sk_plain.specs.Planned.{said_by};
@@ -14,7 +16,7 @@ ghost use Rattle.sk_plain.specs.Plain.{plain_start, texts_said, all_said, step_o
 use crate::{InputRef, Plan, Refusal, View, perform_plan, plan_step};
 use sk_ids::{Entity, Pid, Text};
 use sk_script::{Boot, Input, Scripts};
-use sk_store::{EntityState, Look, Store};
+use sk_store::{EntityState, Look, Present, Store};
 use sk_terminal::Terminals;
 use std::alloc::{AllocError, Global};
 use std::marker::Model;
@@ -89,7 +91,7 @@ fn text_of(
         return None;
     };
     match store.value(Entity::Proc(pid)) {
-        Some(EntityState::Process(process)) => Some(process.buffer),
+        Some(EntityState::Process(held)) => Some(held.process().buffer),
         _ => unreachable!(),
     }
 }
@@ -181,5 +183,14 @@ impl Plain {
         ensures rising { IfOk result (λ entities. IsStrictlySortedBy entity_cmp entities.items) }
     {
         self.store.entities()
+    }
+
+    /// The entities that are present, each once, by rising order, with what they have.
+    pub fn entries(&self) -> Result<Vec<Present<'_>>, AllocError>
+        ensures present { IfOk result (λ all. entities_of all.items ≡ map.keys self.now.state) }
+        ensures each { IfOk result
+            (λ all. All (IsPresent (map.get self.now.state) (λ e. [])) all.items) }
+    {
+        self.store.entries()
     }
 }

@@ -1,5 +1,5 @@
 //! What the instructions with a reply of the server will do.
-ghost use Rattle.std.specs.Prelude.{◌≡◌, ◌+◌, ◌<◌, ◌^◌, [], Some, None, IfOk, IsSome};
+ghost use Rattle.std.specs.Prelude.{◌≡◌, ◌+◌, ◌<◌, ◌^◌, [], Ok, Some, None, IfOk, IfSome, IsSome};
 ghost use Rattle.std.specs.Option.{option_copied};
 ghost use Rattle.sk_record.specs.Step.{Ask};
 ghost use Rattle.sk_ids.specs.declared.entity.Entity.TheVariants.{Copy};
@@ -7,7 +7,7 @@ ghost use Rattle.sk_ids.specs.declared.text.TheConstants.{TEXT_LIMIT};
 ghost use Rattle.sk_script.specs.declared.instruction.Input.TheVariants as Input;
 ghost use Rattle.sk_plain.specs.Replies.{from_copy, over_copy, good as good_row, fresh as fresh_row, stale as stale_row};
 ghost use Rattle.sk_plain.specs.Planned.{said_by};
-ghost use Rattle.sk_plain.specs.Seen.{PlansAfter, PlansRow, seen};
+ghost use Rattle.sk_plain.specs.Seen.{PlansAfter, PlansRow, seen, told};
 
 use crate::shapes::{answered, changed, looked};
 use crate::{Plan, ProcessChange, Refusal, Row, Writes};
@@ -37,7 +37,8 @@ fn from_copy<S: Look>(store: &S, pid: Pid, process: &Process, name: Name) -> Res
         (Ask (Copy name) (from_copy pid process.now)) result }
 {
     match store.value(Entity::Copy(name)) {
-        Some(EntityState::Value(Value::Copy(content))) => {
+        Some(EntityState::Value(Value::Copy(held))) => {
+            let content = held.content();
             content.known();
             Ok(looked(fetched(content.version()), Entity::Copy(name)))
         }
@@ -54,7 +55,7 @@ fn over_copy<S: Look>(store: &S, pid: Pid, process: &Process, name: Name) -> Res
     match store.value(Entity::Copy(name)) {
         None => Ok(changed(answered(1), &Entity::Copy(name), Writes::First)),
         Some(EntityState::Value(Value::Copy(old))) => {
-            let version = old.version() + 1;
+            let version = old.content().version() + 1;
             if version > LAST_VERSION {
                 return Err(Refusal::Mismatch);
             }
@@ -69,8 +70,7 @@ fn over_copy<S: Look>(store: &S, pid: Pid, process: &Process, name: Name) -> Res
 }
 
 /// A step whose cached copy is said to be good.
-#[inline(always)]
-pub(crate) fn good<S: Look>(
+fn good<S: Look>(
     store: &S,
     pid: Pid,
     process: &Process,
@@ -84,6 +84,81 @@ pub(crate) fn good<S: Look>(
         Some(Instruction::Fetch(name)) => from_copy(store, pid, process, *name),
         Some(Instruction::Store(name)) => over_copy(store, pid, process, *name),
         _ => Err(Refusal::Mismatch),
+    }
+}
+
+/// The row of a fetch of a copy that is there, which is the frequent one.
+#[inline(always)]
+fn fetch_found<S: Look>(
+    store: &S,
+    pid: Pid,
+    process: &Process,
+    instruction: Option<&Instruction>,
+) -> Option<Row>
+    requires { IsSome instruction → process.now.place + 1 < 2 ^ 32 }
+    ensures { IfSome result
+        (λ row. PlansRow (S.look store.now) process.now pid
+        (good_row pid process.now (option_copied instruction.entry)) (Ok row)) }
+{
+    let Some(Instruction::Fetch(name)) = instruction else {
+        return None;
+    };
+    from_copy(store, pid, process, *name).ok()
+}
+
+/// Any step whose cached copy is said to be good, put into a plan.
+#[inline(never)]
+#[tactic(auto, using(crate::proofs::Plans::rows))]
+fn put_any_good<S: Look>(
+    store: &S,
+    pid: Pid,
+    process: &Process,
+    instruction: Option<&Instruction>,
+    plan: &mut Plan,
+) -> Result<(), Refusal>
+    requires { IsSome instruction → process.now.place + 1 < 2 ^ 32 }
+    ensures row { PlansAfter (S.look store.now) (option_copied instruction.entry) Input.Good
+        process.now [] pid (good_row pid process.now (option_copied instruction.entry))
+        (told result plan.new) }
+    ensures quiet { IfOk (told result plan.new)
+        (λ plan. said_by
+        (seen (S.look store.now) (option_copied instruction.entry) Input.Good process.now
+        plan) ≡ None) }
+{
+    match good(store, pid, process, instruction) {
+        Ok(row) => {
+            *plan = Plan::Acts(row);
+            Ok(())
+        }
+        Err(why) => Err(why),
+    }
+}
+
+/// The same. The frequent row stands by itself, so that no other one has a place in its frame.
+#[inline(always)]
+#[tactic(auto, using(crate::proofs::Plans::rows))]
+pub(crate) fn put_good<S: Look>(
+    store: &S,
+    pid: Pid,
+    process: &Process,
+    instruction: Option<&Instruction>,
+    plan: &mut Plan,
+) -> Result<(), Refusal>
+    requires { IsSome instruction → process.now.place + 1 < 2 ^ 32 }
+    ensures row { PlansAfter (S.look store.now) (option_copied instruction.entry) Input.Good
+        process.now [] pid (good_row pid process.now (option_copied instruction.entry))
+        (told result plan.new) }
+    ensures quiet { IfOk (told result plan.new)
+        (λ plan. said_by
+        (seen (S.look store.now) (option_copied instruction.entry) Input.Good process.now
+        plan) ≡ None) }
+{
+    match fetch_found(store, pid, process, instruction) {
+        Some(row) => {
+            *plan = Plan::Acts(row);
+            Ok(())
+        }
+        None => put_any_good(store, pid, process, instruction, plan),
     }
 }
 

@@ -100,12 +100,8 @@ fn frequent<S: Look>(
         (row pid process.now instruction.now) (Ok plan.new) }
 {
     match instruction {
-        Instruction::Read(file, at) => {
-            *plan = Plan::Acts(files::read(store, pid, process, *file, *at));
-        }
-        Instruction::Write(file, at) => {
-            *plan = Plan::Acts(files::write(store, pid, process, *file, *at));
-        }
+        Instruction::Read(file, at) => files::put_read(store, pid, process, *file, *at, plan),
+        Instruction::Write(file, at) => files::put_write(store, pid, process, *file, *at, plan),
         Instruction::Say => *plan = Plan::Speaks,
         Instruction::MakeFile(to) => files::put_made(store, pid, process, *to, Kind::File, plan),
         Instruction::Look(to, at, name) => {
@@ -331,13 +327,7 @@ fn replied<S: Look>(
         process.now plan) ≡ None) }
 {
     match input {
-        InputRef::Good => match replies::good(store, pid, process, instruction) {
-            Ok(row) => {
-                *plan = Plan::Acts(row);
-                Ok(())
-            }
-            Err(why) => Err(why),
-        },
+        InputRef::Good => replies::put_good(store, pid, process, instruction, plan),
         InputRef::Fresh(content) => {
             let planned = replies::fresh(store, pid, process, instruction, content);
             keep(plan, planned)
@@ -430,7 +420,7 @@ pub fn plan_into<'a, S: Look>(
         (λ i. DoesNext (S.look store.now) scripts.now pid plan.new i.now)) }
 {
     let process = match store.value(Entity::Proc(pid)) {
-        Some(EntityState::Process(process)) => process,
+        Some(EntityState::Process(held)) => held.process(),
         _ => return Err(Refusal::NoProcess),
     };
     if process.ended {

@@ -1,5 +1,5 @@
 //! The server of remote files.
-ghost use Rattle.std.specs.Prelude.{◌≡◌, ◌<◌, ◌++◌, nat_le, length, IfOk, OnOk, OnErr, is_some, true, vec_len, vec_capacity};
+ghost use Rattle.std.specs.Prelude.{◌≡◌, ◌<◌, ◌++◌, ◌∷◌, [], nat_le, length, IfOk, OnOk, OnErr, is_some, true, vec_len, vec_capacity};
 ghost use Rattle.std.specs.VecDeque.{deque_capacity};
 ghost use Rattle.std.specs.Option.{option_copied};
 ghost use Rattle.std.specs.List.Sorted.{IsStrictlySortedBy};
@@ -137,16 +137,32 @@ impl Server {
             replies.new.items }
     {
         let verdict = self.decide(request)?;
-        let number = request.number;
         // Most requests are answered so, and that reply needs no content.
         if let Verdict::Yes = verdict {
-            let answer = Answer::Yes;
-            replies.push_back_reserved(Reply { number, answer });
+            replies.push_back_reserved(Reply {
+                number: request.number,
+                answer: Answer::Yes,
+            });
             return Ok(());
         }
+        self.push_reply(request, verdict, replies);
+        Ok(())
+    }
+
+    /// Puts the reply of a verdict behind these others, for which there is room. It stands apart, since a content is large.
+    #[inline(never)]
+    fn push_reply(&self, request: &RequestRef<'_>, verdict: Verdict, replies: &mut VecDeque<Reply>)
+        requires { length replies.old.items < deque_capacity replies.old }
+        ensures { replies.new.items
+            ≡ replies.old.items
+            ++ record {
+              number = request.now.number;
+              answer = said self.now.files (ask_in request.now.ask) verdict;
+            } ∷ [] }
+    {
+        let number = request.number;
         let answer = self.answer_of(&request.ask, verdict);
         replies.push_back_reserved(Reply { number, answer });
-        Ok(())
     }
 
     /// Decides how the next request is answered, and does what the answer says; or refuses it.

@@ -1,39 +1,7 @@
--- One entity more is in the lists of all the guesses; without memory all are taken out again.
-use Rattle.sk_machine.proofs.Names.{take, sym, ◌∙◌, ap, subst, opens_of, AllAlmostExact, AllExact, tags_in, with_tags}
-use Rattle.sk_machine.proofs.Given.{from_ok, from_err}
-use Rattle.sk_machine.proofs.Listed.{almost_of, depends_exact, depends_opens, in_front, in_place, later_exact, take_all, take_next}
+-- Guesses that were drawn later have no list yet.
+use Rattle.sk_machine.proofs.Names.{tags_in}
+use Rattle.sk_machine.proofs.Listed.{later_exact}
 use Rattle.sk_machine.proofs.lists.depend_all.Goals as goal
-
-pub relieve_all-requires-clause-almost : goal.relieve_all-requires-clause-almost
-relieve_all-requires-clause-almost c =
-    let base = tags_in c.args.logs.now.slots in
-    let es = c.args.entities.now in
-    subst (AllAlmostExact base es) (sym (from_err c.depend.result c.if-is_err.ensures.value c.depend.ensures.err))
-    (almost_of c.args.tags.now (take c.loop-entity.entity-index es) es base c.requires.covers (in_front es c.loop-entity.entity-index) c.loop-entity.guesses.opens c.loop-entity.invariant.exact)
-
-pub returns-then-is_err-clause-opens : goal.returns-then-is_err-clause-opens
-returns-then-is_err-clause-opens c =
-    c.relieve_all.ensures.opens ∙ ap opens_of (from_err c.depend.result c.if-is_err.ensures.value c.depend.ensures.err) ∙ c.loop-entity.invariant.opens
-
-pub loop-entity-preserved : goal.loop-entity-preserved
-loop-entity-preserved c =
-    let base = tags_in c.args.logs.now.slots in
-    let es = c.args.entities.now in
-    let i = c.loop-entity.entity-index in
-    let x = c.entity-item.result in
-    let tags = c.args.tags.now in
-    let depends = from_ok c.depend.result c.if-is_err.ensures.value c.depend.ensures.ok in
-    let here = in_place es i x c.loop-entity-test.true c.entity-item.is in
-    record {
-      view = c.depend.ensures.view ∙ c.loop-entity.invariant.view;
-      opens = depends_opens c.tags_of-own.result.now tags x c.loop-entity.guesses.opens c.depend.new.guesses.opens depends ∙ c.loop-entity.invariant.opens;
-      exact = subst (λ ys. AllExact (with_tags tags ys base) c.depend.new.guesses.opens) (sym (take_next es i x c.loop-entity-test.true c.entity-item.is))
-          (depends_exact tags (take i es) x base c.tags_of-own.result.now c.tags_of-own.ensures (λ g. c.requires.covers x g here) c.loop-entity.guesses.opens c.depend.new.guesses.opens depends c.loop-entity.invariant.exact);
-    }
-
-pub returns-clause-ok : goal.returns-clause-ok
-returns-clause-ok c =
-    subst (λ ys. AllExact (with_tags c.args.tags.now ys (tags_in c.args.logs.now.slots)) c.loop-entity.guesses.opens) (take_all c.args.entities.now c.loop-entity.entity-index c.loop-entity-test.false) c.loop-entity.invariant.exact
 
 pub returns-then-are_later-clause-ok : goal.returns-then-are_later-clause-ok
 returns-then-are_later-clause-ok c =

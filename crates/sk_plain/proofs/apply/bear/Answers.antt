@@ -14,7 +14,8 @@ returns-clause-ok g c =
     let k = c.args.keeper.now in
     let child = c.args.by.now.child in
     let first = c.child_of-first.ensures ∙ ap (λ (q : Process). child_of q (record { pid = child; place = c.args.place; registers = q.registers })) c.process_at.ensures in
-    let born = c.in_ok-back.ensures.ok ∙ ap (λ q. g.K.Keeper.wrote k (Proc child) (Some (stored.Process q))) first in
+    let held = c.in_ok-child.ensures ∙ ap stored.Process first in
+    let born = c.in_ok-back.ensures.ok ∙ ap (λ s. g.K.Keeper.wrote k (Proc child) (Some s)) held in
     then_more g.K.Look.look g.K.Keeper.wrote g.met.K.Keeper.others (forked c.args.by.now) k c.write.new.self c.write_child_queue.new.keeper (Proc child) _ c.args.pid
     (λ m. g.K.Keeper.wrote (g.K.Keeper.wrote m (Sig child) (Some (stored.Value (values.Signals [])))) (Exit child) (Some (stored.Value (values.Exit None))))
     born (apart_from_child c.args.pid child c.requires.apart)

@@ -1,6 +1,7 @@
 -- The bytes of the copy that is there are read whole.
 use Rattle.sk_plain.proofs.Cites.{◌≡◌, ◌<◌, ◌^◌, Ok, Some, sym, ◌∙◌, ap, subst, arith, rules, Ask, Copy, from_copy}
 use Rattle.sk_plain.proofs.Cites.{PlansRow, Row, ProcessChange, Fills}
+use Rattle.sk_objects.specs.Content.{ContentView}
 use Rattle.sk_objects.specs.declared.value.Value.TheVariants as values
 use Rattle.sk_store.specs.declared.entity_state.EntityState.TheVariants as stored
 use Rattle.sk_plain.specs.declared.plan.Looks.TheVariants as looks
@@ -12,9 +13,10 @@ pub returns-in-Some-Value-Copy : goal.returns-in-Some-Value-Copy
 returns-in-Some-Value-Copy g c =
     let look = g.S.Look.look c.args.store.now in
     let p = c.args.process.now in
-    let content = c.in-Some-Value-Copy.content in
+    let content = c.content-content.result.now in
     let below : content.version < 2 ^ 63 = omega (arith, c.version.ensures.value, c.version.ensures.limit) in
-    let here : look (Copy c.args.name) ≡ Some (stored.Value (values.Copy content)) = search rules in
+    let held : look (Copy c.args.name) ≡ Some (stored.Value (values.Copy c.in-Some-Value-Copy.held)) = search rules in
+    let here = held ∙ ap (λ (h : ContentView). Some (stored.Value (values.Copy h))) (sym c.content-content.ensures) in
     let row = c.looked.ensures ∙ ap (λ (ch : ProcessChange). let r : Row = record { change = ch; looks = looks.At (Copy c.args.name); beside = beside.Nothing } in r) (c.fetched.ensures ∙ ap (λ v. Fills 0 512 (Some v)) c.version.ensures.value) in
     subst (λ r. PlansRow look p c.args.pid (Ask (Copy c.args.name) (from_copy c.args.pid p)) (Ok r)) (sym row)
     (fetch_plans look p c.args.pid c.args.name content here c.known.ensures.1 below c.requires)

@@ -12,3 +12,9 @@ returns-in-Link g c = rw c.in-Link.is (c.put_link.ensures _)
 
 pub returns-in-Unlink : goal.returns-in-Unlink
 returns-in-Unlink g c = rw c.in-Unlink.is (c.put_unlink.ensures _)
+
+pub returns-in-Read : goal.returns-in-Read
+returns-in-Read g c = rw c.in-Read.is (c.put_read.ensures _)
+
+pub returns-in-Write : goal.returns-in-Write
+returns-in-Write g c = rw c.in-Write.is (c.put_write.ensures _)

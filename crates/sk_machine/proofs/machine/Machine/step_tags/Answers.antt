@@ -1,6 +1,6 @@
 -- The tags of what is read and of what is written, with the step's own, are the step's tags.
 use Rattle.sk_machine.proofs.Names.{◌≡◌, ℕ, false, ◌||◌, List, sym, ◌∙◌, subst, nat_cmp, IsStrictlySortedBy, is_marked}
-use Rattle.sk_machine.proofs.Names.{Entity, read_by, written_by, has, seen_with, written_in, written_is, look_at}
+use Rattle.sk_machine.proofs.Names.{Entity, read_by, written_by, has, looked, looks_of, seen_with, written_in, written_is, look_at}
 use Rattle.sk_machine.proofs.Names.{input_in, EntryView, tags_in, any_rests}
 use Rattle.sk_machine.proofs.Given.{if_ok}
 use Rattle.sk_machine.proofs.Listed.{any_of, no_length, none_covered}
@@ -33,23 +33,23 @@ returns-clause-exact c =
     let n : EntryView = record { pid = c.args.pid; input = (input_in c.args.input); guess = c.args.own.now } in
     let scripts = c.args.scripts.now in
     let plan = seen_with (look_at m.slots) scripts n.pid n.input c.args.plan.now in
-    let read = c.as_slice.ensures.value ∙ c.reads.ensures in
     let written = c.requires.written ∙ sym (written_is (look_at m.slots) scripts n.pid n.input c.args.plan.now) in
-    if_ok c.add_tags-2.result c.add_tags-2.ensures.members c.add_tags-2.ensures.rising (λ tags members rising.
+    if_ok c.add_touched.result c.add_touched.ensures.members c.add_touched.ensures.rising (λ tags members rising.
     tags_are m n plan tags c.requires.tidy c.requires.rising rising
-    (λ g. members g ∙ (λ i. ((c.in_ok-read.ensures.members g ∙ (λ j. c.own_tags-own.ensures g j || any_rests m g (read j))) i) || any_rests m g (written i))))
+    (λ g. members g ∙ (λ i. (c.own_tags-own.ensures g i || any_rests m g (read_by n.pid n.input plan.looks)) || any_rests m g (written i))))
 
 pub returns-clause-own : goal.returns-clause-own
 returns-clause-own c =
     let m = c.args.self.now in
-    if_ok c.add_tags-2.result c.add_tags-2.ensures.members c.add_tags-2.ensures.rising (λ tags members rising. λ g is.
-    members g ∙ (λ i. (c.in_ok-read.ensures.members g i) || any_rests m g c.args.written.now)
-    ∙ own_among (has g c.own_tags-own.result) (any_rests m g c.as_slice.result.now) (any_rests m g c.args.written.now) (c.own_tags-own.ensures g ∙ is))
+    let read = read_by c.args.pid (input_in c.args.input) (looked (looks_of c.args.plan.now)) in
+    if_ok c.add_touched.result c.add_touched.ensures.members c.add_touched.ensures.rising (λ tags members rising. λ g is.
+    members g ∙ own_among (has g c.own_tags-own.result) (any_rests m g read) (any_rests m g c.args.written.now) (c.own_tags-own.ensures g ∙ is))
 
 pub returns-clause-covers : goal.returns-clause-covers
 returns-clause-covers c =
     let m = c.args.self.now in
+    let read = read_by c.args.pid (input_in c.args.input) (looked (looks_of c.args.plan.now)) in
     let written = c.requires.written in
-    if_ok c.add_tags-2.result c.add_tags-2.ensures.members c.add_tags-2.ensures.rising (λ tags members rising. λ e g there rests.
-    members g ∙ (λ i. (c.in_ok-read.ensures.members g i) || any_rests m g (written i))
-    ∙ last_among (has g c.own_tags-own.result) (any_rests m g c.as_slice.result.now) (any_rests m g (written_in c.args.pid c.args.plan.now)) (any_of (tags_in m.slots) g (written_in c.args.pid c.args.plan.now) e there rests))
+    if_ok c.add_touched.result c.add_touched.ensures.members c.add_touched.ensures.rising (λ tags members rising. λ e g there rests.
+    members g ∙ (λ i. (has g c.own_tags-own.result || any_rests m g read) || any_rests m g (written i))
+    ∙ last_among (has g c.own_tags-own.result) (any_rests m g read) (any_rests m g (written_in c.args.pid c.args.plan.now)) (any_of (tags_in m.slots) g (written_in c.args.pid c.args.plan.now) e there rests))

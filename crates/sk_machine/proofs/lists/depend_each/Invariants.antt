@@ -1,5 +1,5 @@
 use Rattle.sk_machine.proofs.Names.{◌≡◌, take, opens_of, AllExact, tags_in, with_tags}
-use Rattle.sk_machine.proofs.lists.depend_all.Given as goal
+use Rattle.sk_machine.proofs.lists.depend_each.Given as goal
 
 abbrev pub invariant-loop-entity : goal.invariant-loop-entity
 invariant-loop-entity l = record {

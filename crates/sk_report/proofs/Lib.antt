@@ -3,7 +3,8 @@ pub mod Shown
 pub mod Counted
 pub mod Spelled
 mod Sideways
-mod Untagged
 mod Regrouped
+pub mod Listed
 mod Ended
+pub mod Rising
 pub mod Numbers

@@ -33,9 +33,6 @@ pub use Rattle.sk_machine.specs.Parts.{said_at}
 pub use Rattle.sk_objects.specs.File.{part}
 pub use Rattle.sk_objects.specs.declared.value.Value.{Value}
 pub use Rattle.sk_objects.specs.declared.value.Value.TheVariants.{Dir}
-pub use Rattle.sk_plain.specs.View.{IsView, Shows}
-pub use Rattle.sk_plain.specs.declared.view.View.{View}
-pub use Rattle.sk_plain.specs.declared.view.View.TheVariants.{Process as ShownProcess, Value as ShownValue}
 pub use Rattle.sk_report.specs.Directories.{is_name_of, is_before, link_text, names_under}
 pub use Rattle.sk_report.specs.Printed.{entity_text}
 pub use Rattle.sk_report.specs.Report.{remote_line, line_of, desk_line, counts_of, desk_report_text, texts_lines}
@@ -43,5 +40,7 @@ pub use Rattle.sk_report.specs.Report.{counts_line, said_there, with_terminals}
 pub use Rattle.sk_store.specs.declared.entity_state.EntityState.{EntityState}
 pub use Rattle.sk_store.specs.declared.entity_state.EntityState.TheVariants.{Process as StoredProcess}
 pub use Rattle.sk_store.specs.declared.entity_state.EntityState.TheVariants.{Value as StoredValue}
+pub use Rattle.sk_store.specs.Present.{entities_of}
+pub use Rattle.sk_store.specs.declared.present.Present.{Present}
 pub use Rattle.sk_terminal.specs.Terminal.{TaggedText}
 pub use Rattle.sk_words.specs.Spelling.{spelled_byte}

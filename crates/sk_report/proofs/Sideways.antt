@@ -1,11 +1,11 @@
--- Among entities that rise, the names of one directory stand side by side.
+-- Among what is listed of entities that rise, the names of one directory stand side by side.
 use Rattle.sk_report.proofs.Names.{◌≡◌, ◌≤◌, ◌<◌, ℕ, zero, suc, ◌+◌, Bool, true, false, cond, List, [], ◌∷◌, length}
 use Rattle.sk_report.proofs.Names.{take, drop, refl, sym, ◌∙◌, ap, subst, arith, Ordering, Less, Equal, Greater, is_lt}
 use Rattle.sk_report.proofs.Names.{is_eq, ordering_then, ordering_reverse, IsTotalOrder, filter, AllByRecursion}
 use Rattle.sk_report.proofs.Names.{slice_index_or, IsStrictlySortedBy, IsPartitionedBy, IsPartitionPoint, get_or-drop}
 use Rattle.sk_report.proofs.Names.{length-drop, true≢false, sorted_head, sorted_tail, name_order, entity_cmp}
 use Rattle.sk_report.proofs.Names.{object_cmp, ObjId, Entity, Proc, Sig, Exit, Obj, Link, Copy, total-law, is_before}
-use Rattle.sk_report.proofs.Names.{is_name_of, names_under}
+use Rattle.sk_report.proofs.Names.{is_name_of, Present, entities_of}
 use Rattle.sk_ids.specs.contracts.pid.ObjIdOrd.TheImpl as object_ord
 
 computed_is : (a b : ObjId) → (object_ord.ghosts).cmp a b ≡ object_cmp a b
@@ -75,17 +75,20 @@ rises d (Copy n) (Obj o) less = cc
 rises d (Copy n) (Link u m) less = cc
 
 -- ---- along a rising list
-head_below : (d : ObjId) (x : Entity) (xs : List Entity) (j : ℕ) (z : Entity) → AllByRecursion (λ y. entity_cmp x y ≡ Less) xs → j < length xs → rank d x ≤ rank d (slice_index_or xs j z)
+abbrev rank_at : ObjId → List Present → ℕ → Present → ℕ
+rank_at d xs i z = rank d (slice_index_or xs i z).entity
+
+head_below : (d : ObjId) (x : Present) (xs : List Present) (j : ℕ) (z : Present) → AllByRecursion (λ y. entity_cmp x.entity y ≡ Less) (entities_of xs) → j < length xs → rank d x.entity ≤ rank_at d xs j z
 head_below d x [] j z below in_it = absurd (omega (arith, in_it))
-head_below d x (y ∷ ys) zero z below in_it = rises d x y below.0
+head_below d x (y ∷ ys) zero z below in_it = rises d x.entity y.entity below.0
 head_below d x (y ∷ ys) (suc j) z below in_it = head_below d x ys j z below.1 (omega (arith, in_it))
 
-ranked : (d : ObjId) (xs : List Entity) → IsStrictlySortedBy entity_cmp xs → (i j : ℕ) (z : Entity) → i ≤ j → j < length xs → rank d (slice_index_or xs i z) ≤ rank d (slice_index_or xs j z)
+ranked : (d : ObjId) (xs : List Present) → IsStrictlySortedBy entity_cmp (entities_of xs) → (i j : ℕ) (z : Present) → i ≤ j → j < length xs → rank_at d xs i z ≤ rank_at d xs j z
 ranked d [] sorted i j z le in_it = absurd (omega (arith, in_it))
 ranked d (x ∷ xs) sorted zero zero z le in_it = omega arith
-ranked d (x ∷ xs) sorted zero (suc j) z le in_it = head_below d x xs j z (sorted_head entity_cmp x xs sorted) (omega (arith, in_it))
+ranked d (x ∷ xs) sorted zero (suc j) z le in_it = head_below d x xs j z (sorted_head entity_cmp x.entity (entities_of xs) sorted) (omega (arith, in_it))
 ranked d (x ∷ xs) sorted (suc i) zero z le in_it = absurd (omega (arith, le))
-ranked d (x ∷ xs) sorted (suc i) (suc j) z le in_it = ranked d xs (sorted_tail entity_cmp x xs sorted) i j z (omega (arith, le)) (omega (arith, in_it))
+ranked d (x ∷ xs) sorted (suc i) (suc j) z le in_it = ranked d xs (sorted_tail entity_cmp x.entity (entities_of xs) sorted) i j z (omega (arith, le)) (omega (arith, in_it))
 
 before_is : (d : ObjId) (e : Entity) → is_before d e ≡ true → rank d e ≡ 0
 before_is d (Proc p) h = refl
@@ -128,41 +131,41 @@ not_both d e h =
       | false ↦ λ _. refl
     ] refl
 
-pub parted_before : (d : ObjId) (xs : List Entity) → IsStrictlySortedBy entity_cmp xs → IsPartitionedBy (is_before d) xs
+pub parted_before : (d : ObjId) (xs : List Present) → IsStrictlySortedBy entity_cmp (entities_of xs) → IsPartitionedBy (λ p. is_before d p.entity) xs
 parted_before d xs sorted i j z le in_it h =
-    let later : rank d (slice_index_or xs j z) ≡ 0 = before_is d (slice_index_or xs j z) h in
-    let nearer : rank d (slice_index_or xs i z) ≤ rank d (slice_index_or xs j z) = ranked d xs sorted i j z le in_it in
-    is_first d (slice_index_or xs i z) (omega (arith, later, nearer))
+    let later : rank_at d xs j z ≡ 0 = before_is d (slice_index_or xs j z).entity h in
+    let nearer : rank_at d xs i z ≤ rank_at d xs j z = ranked d xs sorted i j z le in_it in
+    is_first d (slice_index_or xs i z).entity (omega (arith, later, nearer))
 
 -- a list of which the first so many fail a test
-skipped : (p : Entity → Bool) (xs : List Entity) (i : ℕ) → i ≤ length xs → ((k : ℕ) (z : Entity) → k < i → p (slice_index_or xs k z) ≡ false) → filter p xs ≡ filter p (drop i xs)
+skipped : (p : Present → Bool) (xs : List Present) (i : ℕ) → i ≤ length xs → ((k : ℕ) (z : Present) → k < i → p (slice_index_or xs k z) ≡ false) → filter p xs ≡ filter p (drop i xs)
 skipped p xs zero le fails = refl
 skipped p [] (suc i) le fails = absurd (omega (arith, le))
 skipped p (x ∷ xs) (suc i) le fails = ap (λ b. cond b (x ∷ filter p xs) (filter p xs)) (fails 0 x (omega arith)) ∙ skipped p xs i (omega (arith, le)) (λ k z less. fails (suc k) z (omega (arith, less)))
 
 -- and one of which the first so many pass it, and the others fail it
-kept : (p : Entity → Bool) (xs : List Entity) (i : ℕ) → i ≤ length xs → ((k : ℕ) (z : Entity) → k < i → p (slice_index_or xs k z) ≡ true) → ((k : ℕ) (z : Entity) → i ≤ k → k < length xs → p (slice_index_or xs k z) ≡ false) → filter p xs ≡ take i xs
+kept : (p : Present → Bool) (xs : List Present) (i : ℕ) → i ≤ length xs → ((k : ℕ) (z : Present) → k < i → p (slice_index_or xs k z) ≡ true) → ((k : ℕ) (z : Present) → i ≤ k → k < length xs → p (slice_index_or xs k z) ≡ false) → filter p xs ≡ take i xs
 kept p [] zero le passes fails = refl
 kept p [] (suc i) le passes fails = absurd (omega (arith, le))
 kept p (x ∷ xs) zero le passes fails = ap (λ b. cond b (x ∷ filter p xs) (filter p xs)) (fails 0 x (omega arith) (omega arith)) ∙ kept p xs zero (omega arith) (λ k z less. absurd (omega (arith, less))) (λ k z le less. fails (suc k) z (omega arith) (omega (arith, less)))
 kept p (x ∷ xs) (suc i) le passes fails =
     ap (λ b. cond b (x ∷ filter p xs) (filter p xs)) (passes 0 x (omega arith))
-    ∙ ap (λ (ys : List Entity). x ∷ ys) (kept p xs i (omega (arith, le)) (λ k z less. passes (suc k) z (omega (arith, less))) (λ k z le less. fails (suc k) z (omega (arith, le)) (omega (arith, less))))
+    ∙ ap (λ (ys : List Present). x ∷ ys) (kept p xs i (omega (arith, le)) (λ k z less. passes (suc k) z (omega (arith, less))) (λ k z le less. fails (suc k) z (omega (arith, le)) (omega (arith, less))))
 
-module _ (d : ObjId) (xs : List Entity) (sorted : IsStrictlySortedBy entity_cmp xs) (i : ℕ) (bound : i ≤ length xs) (at : IsPartitionPoint (λ e. is_before d e ≡ true) (λ e. is_before d e ≡ false) xs i) where
-  rest_at : (k : ℕ) (z : Entity) → slice_index_or (drop i xs) k z ≡ slice_index_or xs (i + k) z
+module _ (d : ObjId) (xs : List Present) (sorted : IsStrictlySortedBy entity_cmp (entities_of xs)) (i : ℕ) (bound : i ≤ length xs) (at : IsPartitionPoint (λ p. is_before d p.entity ≡ true) (λ p. is_before d p.entity ≡ false) xs i) where
+  rest_at : (k : ℕ) (z : Present) → slice_index_or (drop i xs) k z ≡ slice_index_or xs (i + k) z
   rest_at k z = get_or-drop i xs k z
 
-  pub parted_rest : IsPartitionedBy (is_name_of d) (drop i xs)
+  pub parted_rest : IsPartitionedBy (λ p. is_name_of d p.entity) (drop i xs)
   parted_rest j k z le in_it h =
       let far : i + k < length xs = omega (arith, in_it, length-drop i xs) in
-      let named : is_name_of d (slice_index_or xs (i + k) z) ≡ true = ap (is_name_of d) (sym (rest_at k z)) ∙ h in
-      let later : rank d (slice_index_or xs (i + k) z) ≡ 1 = named_is d (slice_index_or xs (i + k) z) named in
-      let nearer : rank d (slice_index_or xs (i + j) z) ≤ rank d (slice_index_or xs (i + k) z) = ranked d xs sorted (i + j) (i + k) z (omega (arith, le)) far in
-      ap (is_name_of d) (rest_at j z)
-      ∙ is_named d (slice_index_or xs (i + j) z) (at.1 (i + j) z (omega arith) (omega (arith, le, far))) (omega (arith, later, nearer))
+      let named : is_name_of d (slice_index_or xs (i + k) z).entity ≡ true = ap (λ (p : Present). is_name_of d p.entity) (sym (rest_at k z)) ∙ h in
+      let later : rank_at d xs (i + k) z ≡ 1 = named_is d (slice_index_or xs (i + k) z).entity named in
+      let nearer : rank_at d xs (i + j) z ≤ rank_at d xs (i + k) z = ranked d xs sorted (i + j) (i + k) z (omega (arith, le)) far in
+      ap (λ (p : Present). is_name_of d p.entity) (rest_at j z)
+      ∙ is_named d (slice_index_or xs (i + j) z).entity (at.1 (i + j) z (omega arith) (omega (arith, le, far))) (omega (arith, later, nearer))
 
-  pub side_by_side : (k : ℕ) → k ≤ length (drop i xs) → IsPartitionPoint (λ e. is_name_of d e ≡ true) (λ e. is_name_of d e ≡ false) (drop i xs) k → take k (drop i xs) ≡ names_under d xs
+  pub side_by_side : (k : ℕ) → k ≤ length (drop i xs) → IsPartitionPoint (λ p. is_name_of d p.entity ≡ true) (λ p. is_name_of d p.entity ≡ false) (drop i xs) k → take k (drop i xs) ≡ filter (λ p. is_name_of d p.entity) xs
   side_by_side k low point =
-      sym (skipped (is_name_of d) xs i bound (λ j z less. not_both d (slice_index_or xs j z) (at.0 j z (omega arith) less))
-      ∙ kept (is_name_of d) (drop i xs) k low (λ j z less. point.0 j z (omega arith) less) (λ j z le less. point.1 j z le less))
+      sym (skipped (λ p. is_name_of d p.entity) xs i bound (λ j z less. not_both d (slice_index_or xs j z).entity (at.0 j z (omega arith) less))
+      ∙ kept (λ p. is_name_of d p.entity) (drop i xs) k low (λ j z less. point.0 j z (omega arith) less) (λ j z le less. point.1 j z le less))

@@ -10,7 +10,7 @@ use Rattle.sk_objects.specs.declared.value.Value.{Value}
 use Rattle.sk_objects.specs.declared.value.Value.TheVariants as value
 use Rattle.sk_store.specs.declared.entity_state.EntityState.{EntityState}
 use Rattle.sk_store.specs.declared.entity_state.EntityState.TheVariants as stored
-use Rattle.sk_report.specs.Printed.{dash, joined, process_text, value_text}
+use Rattle.sk_report.specs.Printed.{joined, process_text, value_text}
 
 -- a name of this directory
 abbrev pub is_name_of : ObjId → Entity → Bool

@@ -2,3 +2,4 @@ pub mod Footprints
 pub mod Printed
 pub mod Directories
 pub mod Report
+pub mod Listed

@@ -28,8 +28,11 @@ abbrev pub line_of : (Entity → Option EntityState) → (Entity → List ℕ) �
 line_of look end es e = line_with look es (look e) e (end e)
 
 -- the guesses that an entity depends on
+abbrev pub tags_end : List ℕ → List ℕ
+tags_end tags = codes " tags " ++ tags_text tags
+
 abbrev pub entity_end : KernelView → Entity → List ℕ
-entity_end k e = codes " tags " ++ tags_text (tags_at k e)
+entity_end k e = tags_end (tags_at k e)
 
 -- the released texts, a literal a line
 abbrev pub texts_lines : List (List ℕ) → List ℕ

@@ -3,13 +3,16 @@ ghost use Rattle.std.specs.Prelude.{◌≡◌, ◌∷◌, OnOk, flat_map, [], So
 ghost use Rattle.std.specs.Io.KnownBytes.{Appends};
 ghost use Rattle.std.specs.List.Sorted.{IsStrictlySortedBy};
 ghost use Rattle.sk_ids.specs.Entity.{entity_cmp};
-ghost use Rattle.sk_report.specs.Directories.{is_before, is_name_of, names_under, link_text, directory_text, gathered_at, held_there};
+ghost use Rattle.sk_report.specs.Directories.{is_before, is_name_of};
+ghost use Rattle.sk_store.specs.Present.{entities_of};
+ghost use Rattle.sk_report.specs.Listed.{link_said, directory_said, names_said, held_said};
+ghost use Rattle.std.specs.List.{filter};
 
-use crate::{PrintedValue, PrintedView, Subject};
+use crate::{PrintedProcess, PrintedValue};
 use sk_ids::{Entity, ObjId};
 use sk_objects::Value;
-use sk_plain::View;
 use sk_script::words::Printed;
+use sk_store::{EntityState, Present};
 use std::io;
 use std::io::Write;
 
@@ -37,101 +40,85 @@ fn is_name_of(entity: &Entity, directory: &ObjId) -> bool
 }
 
 /// The names of a directory among entities, which stand side by side.
-fn names_of<'a>(entities: &'a [Entity], directory: &ObjId) -> &'a [Entity]
-    requires { IsStrictlySortedBy entity_cmp entities.now }
-    ensures { result.now ≡ names_under directory.now entities.now }
+fn names_of<'a, 'b>(all: &'a [Present<'b>], directory: &ObjId) -> &'a [Present<'b>]
+    requires { IsStrictlySortedBy entity_cmp (entities_of all.now) }
+    ensures { result.now ≡ filter (λ p. is_name_of directory.now p.entity) all.now }
 {
-    let first = entities.partition_point(|entity: &Entity| is_before(entity, directory));
-    let rest = &entities[first..];
-    let count = rest.partition_point(|entity: &Entity| is_name_of(entity, directory));
+    let first = all.partition_point(|one: &Present<'_>| is_before(&one.entity, directory));
+    let rest = &all[first..];
+    let count = rest.partition_point(|one: &Present<'_>| is_name_of(&one.entity, directory));
     &rest[..count]
 }
 
 /// Writes a name and its object.
-fn write_link<S: Subject, W: Write>(subject: &S, link: &Entity, out: &mut W) -> io::Result<()>
-    ensures { OnOk result
-        (Appends (W.contents out.old) (W.contents out.new)
-        (link_text (S.look subject.now) link.now)) }
+fn write_link<W: Write>(link: &Present<'_>, out: &mut W) -> io::Result<()>
+    ensures { OnOk result (Appends (W.contents out.old) (W.contents out.new)
+        (link_said link.now.entity link.now.state.now)) }
 {
-    if let Entity::Link(_, name) = link {
+    if let Entity::Link(_, name) = &link.entity {
         write!(out, "{}", Printed(*name))?;
     }
     write!(out, "=")?;
-    match subject.show(link) {
-        Some(View::Value(value)) => write!(out, "{}", PrintedValue(value)),
-        _ => Ok(()),
+    match link.state {
+        EntityState::Value(value) => write!(out, "{}", PrintedValue(value)),
+        EntityState::Process(_) => Ok(()),
     }
 }
 
 /// Writes the names of a directory behind the first, each behind a space.
-fn write_more<S: Subject, W: Write>(subject: &S, links: &[Entity], out: &mut W) -> io::Result<()>
-    ensures { OnOk result
-        (Appends (W.contents out.old) (W.contents out.new)
-        (flat_map (λ link. 32 ∷ link_text (S.look subject.now) link) links.now)) }
+fn write_more<W: Write>(links: &[Present<'_>], out: &mut W) -> io::Result<()>
+    ensures { OnOk result (Appends (W.contents out.old) (W.contents out.new)
+        (flat_map (λ link. 32 ∷ link_said link.entity link.state.now) links.now)) }
 {
     for link in links {
         write!(out, " ")?;
-        write_link(subject, link, out)?;
+        write_link(link, out)?;
     }
     Ok(())
 }
 
 /// Writes the names of a directory; `-` where there is none.
-fn write_directory<S: Subject, W: Write>(
-    subject: &S,
-    links: &[Entity],
-    out: &mut W,
-) -> io::Result<()>
-    ensures { OnOk result
-        (Appends (W.contents out.old) (W.contents out.new)
-        (directory_text (S.look subject.now) links.now)) }
+fn write_directory<W: Write>(links: &[Present<'_>], out: &mut W) -> io::Result<()>
+    ensures { OnOk result (Appends (W.contents out.old) (W.contents out.new)
+        (directory_said links.now)) }
 {
     write!(out, "dir ")?;
     match links {
         [] => write!(out, "-"),
         [first, others @ ..] => {
-            write_link(subject, first, out)?;
-            write_more(subject, others, out)
+            write_link(first, out)?;
+            write_more(others, out)
         }
     }
 }
 
-/// Writes what a directory has.
-fn write_gathered<S: Subject, W: Write>(
-    subject: &S,
-    entities: &[Entity],
-    entity: &Entity,
-    out: &mut W,
-) -> io::Result<()>
-    requires { IsStrictlySortedBy entity_cmp entities.now }
-    ensures { OnOk result
-        (Appends (W.contents out.old) (W.contents out.new)
-        (gathered_at (S.look subject.now) entities.now entity.now)) }
+/// Writes the names of a directory, which are among these entities, with their objects.
+pub fn write_names<W: Write>(all: &[Present<'_>], entity: &Entity, out: &mut W) -> io::Result<()>
+    requires { IsStrictlySortedBy entity_cmp (entities_of all.now) }
+    ensures { OnOk result (Appends (W.contents out.old) (W.contents out.new)
+        (names_said all.now entity.now)) }
 {
     match entity {
-        Entity::Obj(directory) => write_directory(subject, names_of(entities, directory), out),
+        Entity::Obj(directory) => write_directory(names_of(all, directory), out),
         Entity::Proc(_) | Entity::Sig(_) | Entity::Exit(_) | Entity::Link(..) | Entity::Copy(_) => {
-            write_directory(subject, &[], out)
+            write_directory(&[], out)
         }
     }
 }
 
-/// Writes what an entity has behind its name, and nothing where it is absent. The names of a directory are
-/// those among these entities.
-pub fn write_held<S: Subject, W: Write>(
-    subject: &S,
-    entities: &[Entity],
-    entity: &Entity,
+/// Writes what an entity has behind its name. The names of a directory are those among these entities.
+pub(crate) fn write_held<W: Write>(
+    all: &[Present<'_>],
+    one: &Present<'_>,
     out: &mut W,
 ) -> io::Result<()>
-    requires { IsStrictlySortedBy entity_cmp entities.now }
-    ensures { OnOk result
-        (Appends (W.contents out.old) (W.contents out.new)
-        (held_there (S.look subject.now) entities.now entity.now)) }
+    requires { IsStrictlySortedBy entity_cmp (entities_of all.now) }
+    ensures { OnOk result (Appends (W.contents out.old) (W.contents out.new)
+        (held_said all.now one.now.entity one.now.state.now)) }
 {
-    match subject.show(entity) {
-        None => Ok(()),
-        Some(View::Value(Value::Dir)) => write_gathered(subject, entities, entity, out),
-        Some(view) => write!(out, "{}", PrintedView(view)),
+    match one.state {
+        EntityState::Value(Value::Dir) => write_names(all, &one.entity, out),
+        EntityState::Value(value) => write!(out, "{}", PrintedValue(value)),
+        EntityState::Process(process) => write!(out, "{}", PrintedProcess(process.process())),
     }
 }

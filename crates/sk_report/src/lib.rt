@@ -13,7 +13,7 @@ pub mod subject;
 mod tags;
 pub mod world_report;
 
-pub use directories::write_held;
+pub use directories::write_names;
 pub use footprints::{PrintedEntities, write_footprint};
 pub use printed::{
     PrintedEntity, PrintedProcess, PrintedTags, PrintedValue, PrintedVersion, PrintedView,

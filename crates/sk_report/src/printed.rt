@@ -35,7 +35,19 @@ impl fmt::Display for PrintedTags<'_> {
     ghost output = { λ s. Some (tags_text s.0.now) };
 
     fn fmt<W: fmt::Write>(&self, f: &mut fmt::Formatter<W>) -> fmt::Result {
-        match self.0.ids() {
+        write!(f, "{}", PrintedIds(self.0.ids()))
+    }
+}
+
+/// The same of guesses by rising number.
+#[derive(Drop)]
+pub(crate) struct PrintedIds<'a>(pub(crate) &'a [GuessId]);
+
+impl fmt::Display for PrintedIds<'_> {
+    ghost output = { λ s. Some (tags_text s.0.now) };
+
+    fn fmt<W: fmt::Write>(&self, f: &mut fmt::Formatter<W>) -> fmt::Result {
+        match self.0 {
             [] => write!(f, "-"),
             [first, others @ ..] => {
                 let first = first.number();
@@ -252,7 +264,7 @@ impl fmt::Display for PrintedValue<'_> {
             }
             Value::Signals(signals) => write!(f, "{}", PrintedSignals(signals)),
             Value::Exit(status) => write!(f, "{}", PrintedOption(status.map(u32::from))),
-            Value::Copy(content) => write!(f, "{}", PrintedVersion(content)),
+            Value::Copy(held) => write!(f, "{}", PrintedVersion(held.content())),
         }
     }
 }

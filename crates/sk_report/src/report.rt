@@ -1,19 +1,23 @@
 //! The report of a kernel, and that of a plain kernel.
-ghost use Rattle.std.specs.Prelude.{◌≡◌, ◌≤◌, ◌++◌, flat_map, drop, OnOk, IfSome};
+ghost use Rattle.std.specs.Prelude.{◌≡◌, ◌≤◌, ◌++◌, List, flat_map, drop, OnOk, IfSome};
 ghost use Rattle.std.specs.Io.KnownBytes.{Appends};
 ghost use Rattle.std.specs.BTreeSet.{insert_key};
 ghost use Rattle.std.specs.List.Sorted.{IsStrictlySortedBy};
 ghost use Rattle.std.specs.Ordering.{nat_cmp};
 ghost use Rattle.sk_ids.specs.Entity.{entity_cmp};
-ghost use Rattle.sk_plain.specs.View.{Shows};
+ghost use Rattle.std.specs.List.{All};
+ghost use Rattle.sk_store.specs.Present.{IsPresent, entities_of};
+ghost use Rattle.sk_store.specs.declared.present.Present.{Present};
+ghost use Rattle.sk_report.specs.Listed.{line_said, lines_said, terminals_said};
 ghost use Rattle.sk_report.specs.declared.line.TheConstants.{ROOM};
-ghost use Rattle.sk_report.specs.Report.{last_line, steps_line, line_of, with_terminals, body_text, kernel_text, report_text, plain_report_text};
+ghost use Rattle.sk_report.specs.Report.{last_line, steps_line, body_text, kernel_text, report_text, plain_report_text};
 
+use crate::directories::write_held;
 use crate::line::{ROOM, put_with_process, put_with_value};
-use crate::{PrintedEntity, Stop, Subject, write_held};
-use sk_ids::Entity;
+use crate::{PrintedEntity, Stop, Subject};
 use sk_kernel::Kernel;
-use sk_plain::{Plain, View};
+use sk_plain::Plain;
+use sk_store::{EntityState, Present};
 use std::alloc::{AllocError, Global};
 use std::collections::BTreeSet;
 use std::io;
@@ -38,8 +42,8 @@ pub(crate) fn write_kernel<W: Write>(
     ensures { OnOk result
         (Appends (W.contents out.old) (W.contents out.new) (kernel_text kernel.now)) }
 {
-    let entities = kernel.entities()?;
-    write_body(alloc, kernel, &entities, out)
+    let all = kernel.entries()?;
+    write_body(alloc, kernel, &all, out)
 }
 
 /// Writes the terminals and the entities of a plain kernel, and how many steps were run.
@@ -52,8 +56,8 @@ pub fn write_plain_report<W: Write>(
     ensures { OnOk result (Appends (W.contents out.old) (W.contents out.new)
         (plain_report_text plain.now steps)) }
 {
-    let entities = plain.entities()?;
-    write_body(alloc, plain, &entities, out)?;
+    let all = plain.entries()?;
+    write_body(alloc, plain, &all, out)?;
     writeln!(out, "steps {steps}")?;
     Ok(())
 }
@@ -62,17 +66,18 @@ pub fn write_plain_report<W: Write>(
 fn write_body<S: Subject, W: Write>(
     alloc: Global,
     subject: &S,
-    entities: &[Entity],
+    all: &[Present<'_>],
     out: &mut W,
 ) -> Result<(), Stop>
-    requires { IsStrictlySortedBy entity_cmp entities.now }
+    requires sorted { IsStrictlySortedBy entity_cmp (entities_of all.now) }
+    requires present { All (IsPresent (S.look subject.now) (S.tags subject.now)) all.now }
     ensures { OnOk result (Appends (W.contents out.old) (W.contents out.new)
-        (body_text (S.look subject.now) (S.terminal_lines subject.now) (S.end_of subject.now)
-        entities.now)) }
+        (body_text (S.look subject.now) (S.terminal_lines subject.now)
+        (λ e. S.end_with (S.tags subject.now e)) (entities_of all.now))) }
 {
     let mut numbers = BTreeSet::new(alloc);
     let mut lines = Vec::new(alloc);
-    gather(subject, entities, &mut numbers, &mut lines)?;
+    gather::<S>(all, &mut numbers, &mut lines)?;
     let terminals: Vec<u16> = numbers.iter().copied().collect(alloc)?;
     write_terminals(subject, &terminals, out)?;
     out.write_all(&lines)?;
@@ -115,95 +120,79 @@ fn add_terminal(
     Ok(())
 }
 
-/// Adds the terminals of the processes among these entities to numbers, and the lines of these entities to lines. Each
-/// entity is looked up once.
+/// Adds the terminals of the processes among these entities to numbers, and the lines of these entities to lines. No entity
+/// is looked up.
 fn gather<S: Subject>(
-    subject: &S,
-    entities: &[Entity],
+    all: &[Present<'_>],
     numbers: &mut BTreeSet<u16>,
     lines: &mut Vec<u8>,
 ) -> Result<(), AllocError>
-    requires { IsStrictlySortedBy entity_cmp entities.now }
-    ensures terminals { OnOk result (numbers.new.keys
-        ≡ with_terminals (S.look subject.now) numbers.old.keys entities.now) }
-    ensures lines { OnOk result (lines.new.items ≡ lines.old.items
-        ++ flat_map (line_of (S.look subject.now) (S.end_of subject.now) entities.now)
-        entities.now) }
+    requires { IsStrictlySortedBy entity_cmp (entities_of all.now) }
+    ensures terminals { OnOk result
+        (numbers.new.keys ≡ terminals_said numbers.old.keys all.now) }
+    ensures lines { OnOk result
+        (lines.new.items ≡ lines.old.items ++ lines_said S.end_with all.now) }
 {
     let mut room = [0; ROOM];
     let mut last = None;
-    for entity in entities {
-        let seen = subject.show(entity);
-        if let Some(View::Process(process)) = seen {
-            add_terminal(numbers, &mut last, process.terminal)?;
+    for one in all {
+        if let EntityState::Process(process) = one.state {
+            add_terminal(numbers, &mut last, process.process().terminal)?;
         }
-        add_line(subject, entities, entity, seen, &mut room, lines)?;
+        add_line::<S>(all, one, &mut room, lines)?;
     }
     Ok(())
 }
 
-/// Adds the line of an entity, of which this is shown.
+/// Adds the line of one of these entities.
 fn add_line<S: Subject>(
-    subject: &S,
-    entities: &[Entity],
-    entity: &Entity,
-    seen: Option<View<'_>>,
+    all: &[Present<'_>],
+    one: &Present<'_>,
     room: &mut [u8; ROOM],
     lines: &mut Vec<u8>,
 ) -> Result<(), AllocError>
-    requires sorted { IsStrictlySortedBy entity_cmp entities.now }
-    requires seen { Shows (S.look subject.now entity.now) seen }
-    ensures { OnOk result (lines.new.items ≡ lines.old.items
-        ++ line_of (S.look subject.now) (S.end_of subject.now) entities.now entity.now) }
+    requires { IsStrictlySortedBy entity_cmp (entities_of all.now) }
+    ensures { OnOk result
+        (lines.new.items ≡ lines.old.items ++ line_said S.end_with all.now one.now) }
 {
-    if let Some(start) = put_line(subject, entities, entity, seen, room) {
+    if let Some(start) = put_line::<S>(one, room) {
         return lines.extend_from_slice(&room[start..]);
     }
-    match write_entity(subject, entities, entity, lines) {
+    match write_entity::<S, _>(all, one, lines) {
         Ok(()) => Ok(()),
         Err(_) => Err(AllocError),
     }
 }
 
-/// Puts the line of an entity at the end of a room, and returns where it starts; `None` where it isn't there, and where its line
-/// may be longer than the room.
-fn put_line<S: Subject>(
-    subject: &S,
-    entities: &[Entity],
-    entity: &Entity,
-    seen: Option<View<'_>>,
-    room: &mut [u8; ROOM],
-) -> Option<usize>
-    requires { Shows (S.look subject.now entity.now) seen }
+/// Puts the line of an entity at the end of a room, and returns where it starts; `None` where it may be longer than the room.
+fn put_line<S: Subject>(one: &Present<'_>, room: &mut [u8; ROOM]) -> Option<usize>
     ensures start { IfSome result (λ start. start ≤ ROOM) }
-    ensures line { IfSome result (λ start. drop start room.new
-        ≡ line_of (S.look subject.now) (S.end_of subject.now) entities.now entity.now) }
+    ensures line { IfSome result (λ start. (all : List Present)
+        → drop start room.new ≡ line_said S.end_with all one.now) }
 {
-    let end = subject.put_end(entity, room, ROOM)?;
-    match seen? {
-        View::Process(process) => put_with_process(entity, process, room, end),
-        View::Value(value) => put_with_value(entity, value, room, end),
+    let end = S::put_end(one.tags, room, ROOM)?;
+    match one.state {
+        EntityState::Process(process) => {
+            put_with_process(&one.entity, process.process(), room, end)
+        }
+        EntityState::Value(value) => put_with_value(&one.entity, value, room, end),
     }
 }
 
-/// Writes an entity and what it has, where it is there.
+/// Writes the line of one of these entities.
 fn write_entity<S: Subject, W: Write>(
-    subject: &S,
-    entities: &[Entity],
-    entity: &Entity,
+    all: &[Present<'_>],
+    one: &Present<'_>,
     out: &mut W,
 ) -> io::Result<()>
-    requires { IsStrictlySortedBy entity_cmp entities.now }
+    requires { IsStrictlySortedBy entity_cmp (entities_of all.now) }
     ensures { OnOk result (Appends (W.contents out.old) (W.contents out.new)
-        (line_of (S.look subject.now) (S.end_of subject.now) entities.now entity.now)) }
+        (line_said S.end_with all.now one.now)) }
 {
-    if subject.show(entity).is_none() {
-        return Ok(());
-    }
-    let printed = PrintedEntity(*entity);
+    let printed = PrintedEntity(one.entity);
     write!(out, "{printed} ")?;
-    write_held(subject, entities, entity, out)?;
-    subject.write_end(entity, out)?;
+    write_held(all, one, out)?;
+    S::write_end(one.tags, out)?;
     writeln!(out)
 }
 

@@ -5,13 +5,13 @@ ghost use Rattle.std.specs.FinMap as map;
 ghost use Rattle.sk_kernel.specs.Kernel.{state_at, tags_at};
 ghost use Rattle.sk_report.specs.declared.subject.TheConstants.{TEXT_ROOM};
 ghost use Rattle.sk_words.specs.Spelling.{spelled};
-ghost use Rattle.sk_report.specs.Report.{counts_line, terminal_lines, terminal_said, texts_lines, entity_end, plain_terminal_said};
+ghost use Rattle.sk_report.specs.Report.{counts_line, terminal_lines, terminal_said, texts_lines, tags_end, plain_terminal_said};
 
 use crate::placed::{put_literal, put_words};
 use crate::tags::write_tags;
-use sk_ids::{Entity, Text};
+use sk_ids::{GuessId, Text};
 use sk_kernel::Kernel;
-use sk_plain::{Plain, View};
+use sk_plain::Plain;
 use sk_script::words::Literal;
 use sk_terminal::Terminal;
 use std::io;
@@ -27,7 +27,6 @@ pub trait Subject {
     ghost use Rattle.std.specs.Io.KnownBytes.{Appends};
     ghost use Rattle.sk_ids.specs.declared.entity.Entity.{Entity};
     ghost use Rattle.sk_store.specs.declared.entity_state.EntityState.{EntityState};
-    ghost use Rattle.sk_plain.specs.View.{Shows};
 
     /// What each entity has.
     ghost look: { Self → Entity → Option EntityState };
@@ -35,30 +34,30 @@ pub trait Subject {
     /// The lines of a terminal.
     ghost terminal_lines: { Self → ℕ → List ℕ };
 
-    /// What stands at the end of the line of an entity.
-    ghost end_of: { Self → Entity → List ℕ };
+    /// The guesses that each entity rests on.
+    ghost tags: { Self → Entity → List ℕ };
 
-    /// What an entity has; `None` where it is absent.
-    fn show(&self, entity: &Entity) -> Option<View<'_>>
-        ensures { Shows (look self.now entity.now) result };
+    /// What stands at the end of the line of an entity that rests on these guesses.
+    ghost end_with: { List ℕ → List ℕ };
 
     /// Writes how many texts a terminal has, and those that are out.
     fn write_terminal<W: Write>(&self, number: u16, out: &mut W) -> io::Result<()>
         ensures { OnOk result (Appends (W.contents out.old) (W.contents out.new)
             (terminal_lines self.now number)) };
 
-    /// Puts the end of the line of an entity in a line, before a place, and returns where it starts; `None` for a longer one.
-    fn put_end(&self, entity: &Entity, line: &mut [u8], end: usize) -> Option<usize>
+    /// Puts the end of the line of an entity that rests on these guesses in a line, before a place, and returns where it starts;
+    /// `None` for a longer one.
+    fn put_end(ids: &[GuessId], line: &mut [u8], end: usize) -> Option<usize>
         requires { (END ≤ end) × (end ≤ length line.old) }
         ensures line { IfSome result (λ start.
-            drop start line.new ≡ end_of self.now entity.now ++ 10 ∷ drop end line.old) }
+            drop start line.new ≡ end_with ids.now ++ 10 ∷ drop end line.old) }
         ensures start { IfSome result (λ start. (start ≤ end) × (end ≤ start + END)) }
         ensures length { length line.new ≡ length line.old };
 
-    /// Writes the end of the line of an entity.
-    fn write_end<W: Write>(&self, entity: &Entity, out: &mut W) -> io::Result<()>
+    /// Writes that end.
+    fn write_end<W: Write>(ids: &[GuessId], out: &mut W) -> io::Result<()>
         ensures { OnOk result (Appends (W.contents out.old) (W.contents out.new)
-            (end_of self.now entity.now)) };
+            (end_with ids.now)) };
 }
 
 impl Subject for Kernel {
@@ -66,11 +65,9 @@ impl Subject for Kernel {
 
     ghost terminal_lines = { terminal_said };
 
-    ghost end_of = { entity_end };
+    ghost tags = { tags_at };
 
-    fn show(&self, entity: &Entity) -> Option<View<'_>> {
-        self.value(entity)
-    }
+    ghost end_with = { tags_end };
 
     fn write_terminal<W: Write>(&self, number: u16, out: &mut W) -> io::Result<()> {
         match self.terminal(number) {
@@ -79,15 +76,15 @@ impl Subject for Kernel {
         }
     }
 
-    fn put_end(&self, entity: &Entity, line: &mut [u8], end: usize) -> Option<usize> {
-        if !rests_on_none(self, entity) {
-            return None;
+    fn put_end(ids: &[GuessId], line: &mut [u8], end: usize) -> Option<usize> {
+        match ids {
+            [] => Some(put_words(b" tags -\n", line, end)),
+            _ => None,
         }
-        Some(put_words(b" tags -\n", line, end))
     }
 
-    fn write_end<W: Write>(&self, entity: &Entity, out: &mut W) -> io::Result<()> {
-        write_tags(self.tags_of(entity), out)
+    fn write_end<W: Write>(ids: &[GuessId], out: &mut W) -> io::Result<()> {
+        write_tags(ids, out)
     }
 }
 
@@ -96,11 +93,9 @@ impl Subject for Plain {
 
     ghost terminal_lines = { plain_terminal_said };
 
-    ghost end_of = { λ k e. [] };
+    ghost tags = { λ k e. [] };
 
-    fn show(&self, entity: &Entity) -> Option<View<'_>> {
-        self.value(entity)
-    }
+    ghost end_with = { λ tags. [] };
 
     fn write_terminal<W: Write>(&self, number: u16, out: &mut W) -> io::Result<()> {
         let texts = self.said(number);
@@ -109,26 +104,12 @@ impl Subject for Plain {
         write_texts(texts, out)
     }
 
-    fn put_end(&self, _entity: &Entity, line: &mut [u8], end: usize) -> Option<usize> {
+    fn put_end(_ids: &[GuessId], line: &mut [u8], end: usize) -> Option<usize> {
         Some(put_words(b"\n", line, end))
     }
 
-    fn write_end<W: Write>(&self, _entity: &Entity, _out: &mut W) -> io::Result<()> {
+    fn write_end<W: Write>(_ids: &[GuessId], _out: &mut W) -> io::Result<()> {
         Ok(())
-    }
-}
-
-/// Whether an entity rests on no undecided guess. It is looked up where there is one.
-#[tactic(auto, using(crate::proofs::Untagged::untagged))]
-fn rests_on_none(kernel: &Kernel, entity: &Entity) -> bool
-    ensures { result ≡ true → tags_at kernel.now entity.now ≡ [] }
-{
-    if kernel.undecided() == 0 {
-        return true;
-    }
-    match kernel.tags_of(entity).ids() {
-        [] => true,
-        _ => false,
     }
 }
 

@@ -4,9 +4,9 @@ ghost use Rattle.std.specs.Io.KnownBytes.{Appends};
 ghost use Rattle.sk_report.specs.Printed.{tags_text};
 ghost use Rattle.sk_report.specs.declared.tags.TheConstants.{ROOM, TAG};
 
-use crate::PrintedTags;
 use crate::placed::{DIGITS, put_number, put_words};
-use sk_ids::{GuessId, TagSet};
+use crate::printed::PrintedIds;
+use sk_ids::GuessId;
 use std::io;
 use std::io::Write;
 
@@ -49,13 +49,12 @@ fn put_tags(ids: &[GuessId], line: &mut [u8], end: usize) -> usize
 }
 
 /// Writes the guesses that an entity rests on, behind ` tags `.
-pub(crate) fn write_tags<W: Write>(tags: &TagSet, out: &mut W) -> io::Result<()>
+pub(crate) fn write_tags<W: Write>(ids: &[GuessId], out: &mut W) -> io::Result<()>
     ensures { OnOk result (Appends (W.contents out.old) (W.contents out.new)
-        (codes " tags " ++ tags_text tags.now)) }
+        (codes " tags " ++ tags_text ids.now)) }
 {
-    let ids = tags.ids();
     if ids.len() > 64 {
-        let tags = PrintedTags(tags);
+        let tags = PrintedIds(ids);
         return write!(out, " tags {tags}");
     }
     let mut room = [0; ROOM];

@@ -6,7 +6,7 @@ ghost use Rattle.std.specs.Io.KnownBytes.{Appends};
 ghost use Rattle.sk_ids.specs.declared.entity.Entity.{Entity};
 ghost use Rattle.sk_questions.specs.Named.{entity, IsEntity};
 ghost use Rattle.sk_kernel.specs.Kernel.{KernelView, state_at};
-ghost use Rattle.sk_report.specs.Directories.{held_there};
+ghost use Rattle.sk_report.specs.Directories.{held_there, gathered_at};
 ghost use Rattle.sk_report.specs.Printed.{entity_text};
 ghost use Rattle.sk_report.specs.Report.{terminal_said};
 ghost use Rattle.sk_words.specs.Words.{words};
@@ -21,7 +21,7 @@ use sk_objects::Value;
 use sk_plain::View;
 use sk_questions::{Question, entity};
 use sk_report::{
-    PrintedEntities, PrintedEntity, PrintedTags, PrintedView, Stop, Subject, write_held,
+    PrintedEntities, PrintedEntity, PrintedTags, PrintedView, Stop, Subject, write_names,
 };
 use sk_words::Words;
 use std::alloc::{AllocError, Global};
@@ -74,7 +74,7 @@ pub fn write_value<W: Write>(kernel: &Kernel, entity: &Entity, out: &mut W) -> R
 {
     match kernel.value(entity) {
         None => Ok(()),
-        Some(View::Value(Value::Dir)) => write_names(kernel, entity, out),
+        Some(View::Value(Value::Dir)) => write_directory(kernel, entity, out),
         Some(view) => {
             write!(out, "{}", PrintedView(view))?;
             Ok(())
@@ -82,13 +82,13 @@ pub fn write_value<W: Write>(kernel: &Kernel, entity: &Entity, out: &mut W) -> R
     }
 }
 
-/// The same, gathered from all entities.
-fn write_names<W: Write>(kernel: &Kernel, entity: &Entity, out: &mut W) -> Result<(), Stop>
+/// Writes the names of the directory that an entity is, gathered from all entities.
+fn write_directory<W: Write>(kernel: &Kernel, entity: &Entity, out: &mut W) -> Result<(), Stop>
     ensures { OnOk result (Appends (W.contents out.old) (W.contents out.new)
-        (held_there (map.get (state_at kernel.now)) (map.keys (state_at kernel.now)) entity.now)) }
+        (gathered_at (map.get (state_at kernel.now)) (map.keys (state_at kernel.now)) entity.now)) }
 {
-    let entities = kernel.entities()?;
-    write_held(kernel, &entities, entity, out)?;
+    let all = kernel.entries()?;
+    write_names(&all, entity, out)?;
     Ok(())
 }
 

@@ -1,35 +1,31 @@
--- What is shown is what the entity has, and the end of its line was put before.
-use Rattle.sk_report.proofs.Names.{◌≡◌, ◌≤◌, ◌∙◌, ◌++◌, ◌∷◌, ℕ, List, [], Some, IfSome, drop, length, ap, subst, arith}
-use Rattle.sk_report.proofs.Names.{drop_all, ShownProcess, ShownValue, Shows}
-use Rattle.sk_report.proofs.Ended.{line_ended, put_as}
+-- Behind what the entity has stands the end of its line, which was put before.
+use Rattle.sk_report.proofs.Names.{◌≡◌, ◌≤◌, ◌∙◌, ◌++◌, ◌∷◌, ℕ, List, [], drop, length, ap, sym, arith, drop_all}
+use Rattle.sk_report.proofs.Ended.{put_before, known_alone}
+use Rattle.sk_report.proofs.Listed.{value_alone}
+use Rattle.sk_report.specs.Listed.{held_said}
+use Rattle.sk_report.specs.Printed.{process_text, value_text}
 use Rattle.sk_report.specs.declared.line.TheConstants.{ROOM}
 use Rattle.sk_report.proofs.report.put_line.Goals as goal
 
 pub returns-in-Process-clause-line : goal.returns-in-Process-clause-line
 returns-in-Process-clause-line g c =
-    let look = g.S.Subject.look c.args.subject.now in
-    let e = c.args.entity.now in
-    let w = ShownProcess c.in-Process.process in
-    let end = g.S.Subject.end_of c.args.subject.now e in
+    let p = c.args.one.now in
+    let end = g.S.Subject.end_with in
     let full : length c.args.room.now ≤ ROOM = omega arith in
-    let rest : drop c.in_ok-end.end c.put_end.new.line ≡ end ++ 10 ∷ [] =
-    c.in_ok-end.ensures.line ∙ ap (λ (l : List ℕ). end ++ 10 ∷ l) (drop_all ROOM c.args.room.now full) in
-    let shows : Shows (look e) (Some w) =
-    subst (Shows (look e)) (c.in_ok-process.was ∙ ap Some c.in-Process.is) c.requires in
-    subst (λ (l : List ℕ). IfSome c.put_with_process.result (λ start. drop start c.put_with_process.new.line ≡ l))
-    (line_ended look c.args.entities.now e (look e) w end _ shows tt rest) c.put_with_process.ensures.line
+    let rest : drop c.in_ok-end.end c.put_end.new.line ≡ end p.tags.now ++ 10 ∷ [] =
+    c.in_ok-end.ensures.line ∙ ap (λ (l : List ℕ). end p.tags.now ++ 10 ∷ l) (drop_all ROOM c.args.room.now full) in
+    put_before {K = Unit {0}} end p c.put_with_process.result c.put_with_process.new.line (process_text c.process.result.now) _
+    (λ _ all. ap process_text c.process.ensures ∙ ap (held_said all p.entity) (sym c.in-Process.is)) rest
+    (known_alone c.put_with_process.result) c.put_with_process.ensures.line
 
 pub returns-in-Value-clause-line : goal.returns-in-Value-clause-line
 returns-in-Value-clause-line g c =
-    let look = g.S.Subject.look c.args.subject.now in
-    let e = c.args.entity.now in
-    let w = ShownValue c.in-Value.value in
-    let end = g.S.Subject.end_of c.args.subject.now e in
+    let p = c.args.one.now in
+    let end = g.S.Subject.end_with in
     let full : length c.args.room.now ≤ ROOM = omega arith in
-    let rest : drop c.in_ok-end.end c.put_end.new.line ≡ end ++ 10 ∷ [] =
-    c.in_ok-end.ensures.line ∙ ap (λ (l : List ℕ). end ++ 10 ∷ l) (drop_all ROOM c.args.room.now full) in
-    let shows : Shows (look e) (Some w) =
-    subst (Shows (look e)) (c.in_ok-process.was ∙ ap Some c.in-Value.is) c.requires in
-    put_as c.put_with_value.result c.put_with_value.new.line _ _
-    (λ other. line_ended look c.args.entities.now e (look e) w end _ shows other rest)
+    let rest : drop c.in_ok-end.end c.put_end.new.line ≡ end p.tags.now ++ 10 ∷ [] =
+    c.in_ok-end.ensures.line ∙ ap (λ (l : List ℕ). end p.tags.now ++ 10 ∷ l) (drop_all ROOM c.args.room.now full) in
+    let v = c.in-Value.value in
+    put_before end p c.put_with_value.result c.put_with_value.new.line (value_text v) _
+    (λ other all. value_alone all p.entity v other ∙ ap (held_said all p.entity) (sym c.in-Value.is)) rest
     c.put_with_value.ensures.kind c.put_with_value.ensures.line

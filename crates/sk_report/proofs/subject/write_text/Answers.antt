@@ -1,5 +1,5 @@
 -- The room is as long as the longest text, so that nothing stands behind the literal.
-use Rattle.sk_report.proofs.Names.{◌≡◌, ◌≤◌, ◌∙◌, ◌++◌, ◌∷◌, ℕ, List, [], OnOk, drop, length, subst, sym, arith, rules}
+use Rattle.sk_report.proofs.Names.{◌≡◌, ◌≤◌, ◌∙◌, ◌++◌, ◌∷◌, ℕ, List, [], OnOk, drop, length, subst, sym, arith}
 use Rattle.sk_report.proofs.Names.{◌-◌, take, append-nil, drop_all, length-drop, take_all, ap₂}
 use Rattle.std.specs.Io.KnownBytes.{Appends}
 use Rattle.sk_report.specs.declared.subject.TheConstants.{TEXT_ROOM}

@@ -1,5 +1,5 @@
 -- Nothing stands behind the guesses.
-use Rattle.sk_report.proofs.Names.{◌≡◌, ◌≤◌, ◌∙◌, ◌++◌, ◌∷◌, ℕ, List, [], OnOk, drop, length, subst, sym, arith, ap, codes}
+use Rattle.sk_report.proofs.Names.{◌≡◌, ◌≤◌, ◌∙◌, ◌++◌, ℕ, List, [], OnOk, drop, length, subst, sym, arith, ap, codes}
 use Rattle.sk_report.proofs.Names.{◌-◌, take, append-nil, drop_all, length-drop, take_all}
 use Rattle.std.specs.Io.KnownBytes.{Appends}
 use Rattle.sk_report.specs.declared.tags.TheConstants.{ROOM}

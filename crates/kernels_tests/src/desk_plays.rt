@@ -267,7 +267,7 @@ fn buffers(kernel: &Kernel, number: u16, bytes: &[u8]) -> Result<bool, Wrong> {
 fn caches(kernel: &Kernel, at: &[u8], version: u64, bytes: &[u8]) -> Result<bool, Wrong> {
     let want = content(version, bytes)?;
     match kernel.value(&Entity::Copy(name(at)?)) {
-        Some(View::Value(Value::Copy(copy))) => Ok(*copy == want),
+        Some(View::Value(Value::Copy(held))) => Ok(*held.content() == want),
         _ => Ok(false),
     }
 }

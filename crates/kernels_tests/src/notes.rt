@@ -39,9 +39,16 @@ fn merged_notes_are_one(rt: HostRuntime) {
     }
 }
 
+/// A small file, and copies to write to it.
+const SMALL: Start<'static> = Start {
+    number: 1,
+    copies: &[(b"/x", 3, b"new"), (b"/y", 1, b"new")],
+    objects: &[(b"f", ObjectKind::File, b"f0")],
+    ..BARE
+};
+
 /// A process that writes what it fetches to a file, three times, and one that reads the file, and says something.
 const WRITTEN: &Start<'static> = &Start {
-    number: 1,
     scripts: &[
         &[(
             b"look r1 r7 f\nfetch /x\nwrite r1 r2\nwrite r1 r2\nwrite r1 r2\n",
@@ -49,12 +56,10 @@ const WRITTEN: &Start<'static> = &Start {
         )],
         &[(b"look r1 r7 f\nread r1 r3\ntext \"c\"\nsay\n", 1)],
     ],
-    copies: &[(b"/x", 3, b"new"), (b"/y", 1, b"new")],
-    objects: &[(b"f", ObjectKind::File, b"f0")],
-    ..BARE
+    ..SMALL
 };
 
-/// Each write of a file is noted, and both processes are, once; the steps before the guess are not.
+/// A small file is noted once, and both processes are; the steps before the guess are not.
 const NOTED: &[KernelPlay] = &[
     KernelPlay::Steps(1, 1, Ok(())),
     KernelPlay::Steps(2, 1, Ok(())),
@@ -62,9 +67,28 @@ const NOTED: &[KernelPlay] = &[
     KernelPlay::Guesses(1, 1, 1),
     KernelPlay::Has(Count::Notes, 1),
     KernelPlay::Steps(1, 3, Ok(())),
-    KernelPlay::Has(Count::Notes, 4),
+    KernelPlay::Has(Count::Notes, 2),
     KernelPlay::Steps(2, 3, Ok(())),
-    KernelPlay::Has(Count::Notes, 5),
+    KernelPlay::Has(Count::Notes, 3),
+];
+
+/// A process that writes behind the first block of a file, and then three times what it fetches.
+const WRITTEN_FAR: &Start<'static> = &Start {
+    scripts: &[&[(
+        b"look r1 r7 f\nset r2 600\ntext \"c\"\nwrite r1 r2\nfetch /x\nwrite r1 r2\nwrite r1 r2\nwrite r1 r2\n",
+        1,
+    )]],
+    ..SMALL
+};
+
+/// Each write of a larger file is noted, and its process is, once.
+const EACH_NOTED: &[KernelPlay] = &[
+    KernelPlay::Steps(1, 4, Ok(())),
+    NONE,
+    KernelPlay::Guesses(1, 1, 1),
+    KernelPlay::Has(Count::Notes, 1),
+    KernelPlay::Steps(1, 3, Ok(())),
+    KernelPlay::Has(Count::Notes, 4),
 ];
 
 #[test]
@@ -73,6 +97,10 @@ fn notes_of_files_and_processes(rt: HostRuntime) {
         passes(
             &rt,
             plays_until(&rt, rt.alloc(), WRITTEN, NOTED, decision, &[NONE]),
+        );
+        passes(
+            &rt,
+            plays_until(&rt, rt.alloc(), WRITTEN_FAR, EACH_NOTED, decision, &[NONE]),
         );
     }
 }

@@ -1,7 +1,7 @@
 //! What is passed about for each step, and what is kept of it, is small.
 use sk_plain::{Event, Plan};
-use sk_store::PutBack;
-use sk_undo::{BoxedState, Note, Slot};
+use sk_store::{EntityState, PutBack};
+use sk_undo::{Note, Slot};
 use std::mem::size_of;
 
 #[test]
@@ -16,7 +16,7 @@ fn an_event_is_a_few_words(rt: HostRuntime) {
 
 #[test]
 fn a_note_is_a_few_words(rt: HostRuntime) {
-    assert!(rt; size_of::<Note<PutBack<BoxedState>>>() <= 136);
+    assert!(rt; size_of::<Note<PutBack<EntityState>>>() <= 136);
 }
 
 #[test]

@@ -227,13 +227,18 @@ fn a_status_is_set_once(rt: HostRuntime) {
     stays(&rt, rt.alloc(), &mut value, Change::SetExit(3));
 }
 
+/// A cached copy of a content.
+fn cached(rt: &impl Abort, alloc: Global, content: Content) -> Value {
+    Value::content(alloc, content).expect(rt, "memory")
+}
+
 /// A copy of the old content has the new one behind the change.
 fn copy_leaves(rt: &impl Abort, alloc: Global, old: Content, new: Content) {
-    let want = Value::Copy(new);
+    let want = cached(rt, alloc, new);
     leaves(
         rt,
         alloc,
-        &mut Value::Copy(old),
+        &mut cached(rt, alloc, old),
         Change::SetCopy(new),
         &want,
     );

@@ -113,16 +113,17 @@ fn exit_slots(rt: HostRuntime) {
 }
 
 /// The version of a cached copy, where there can be such a copy.
-fn version(number: u64) -> Option<Option<u64>> {
+fn version(rt: &impl Abort, alloc: Global, number: u64) -> Option<Option<u64>> {
     let content = Content::new(number, Text::empty())?;
-    Some(Value::Copy(content).version())
+    let copy = Value::content(alloc, content).expect(rt, "memory");
+    Some(copy.version())
 }
 
 #[test]
 fn versions_of_copies(rt: HostRuntime) {
     let last = 9_223_372_036_854_775_807;
-    check(&rt, 14, version(last) == Some(Some(last)));
-    check(&rt, 15, version(last + 1).is_none());
+    check(&rt, 14, version(&rt, rt.alloc(), last) == Some(Some(last)));
+    check(&rt, 15, version(&rt, rt.alloc(), last + 1).is_none());
 }
 
 /// The file of `written` with another byte at a place.

@@ -51,7 +51,7 @@ pub fn names_in(entities: &[Entity], directory: &ObjId) -> usize {
 /// The terminal of a process; 0 where there is none.
 fn terminal_of(store: &Store, pid: Pid) -> u16 {
     match store.value(Entity::Proc(pid)) {
-        Some(EntityState::Process(process)) => process.terminal,
+        Some(EntityState::Process(held)) => held.process().terminal,
         _ => 0,
     }
 }

@@ -291,7 +291,7 @@ fn is_guess_of(last: Option<&Event>, pid: Pid, id: GuessId) -> bool {
 /// The copy of a name.
 fn copy_of(plain: &Plain, name: Name) -> Option<Content> {
     match plain.value(&Entity::Copy(name)) {
-        Some(View::Value(Value::Copy(content))) => Some(*content),
+        Some(View::Value(Value::Copy(held))) => Some(*held.content()),
         _ => None,
     }
 }

@@ -62,6 +62,7 @@ fn asks_trace(alloc: Global, kernel: &Kernel, trace: &Trace) -> Result<(), Stop>
 
 fn sees(kernel: &Kernel) -> Result<(), Stop> {
     drop(kernel.entities()?);
+    drop(kernel.entries()?);
     drop(kernel.opening().copy()?);
     Ok(())
 }

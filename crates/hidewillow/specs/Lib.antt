@@ -41,6 +41,7 @@ pub use Rattle.sk_trace.specs.Trace
 pub use Rattle.sk_trace.specs.Lines as TraceLines
 pub use Rattle.sk_trace.specs.Text
 pub use Rattle.sk_store.specs.State
+pub use Rattle.sk_store.specs.Present
 pub use Rattle.sk_store.specs.Names
 pub use Rattle.sk_store.specs.Start
 pub use Rattle.sk_guesses.specs.Token

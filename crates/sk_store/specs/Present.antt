@@ -8,6 +8,7 @@ use Rattle.sk_store.specs.declared.present.Present.{Present}
 abbrev pub IsPresent : (Entity → Option EntityState) → (Entity → List ℕ) → Present → Type 0
 IsPresent look tags p = (look p.entity ≡ Some p.state.now) × (tags p.entity ≡ p.tags.now)
 
+-- the entities that are listed
 abbrev pub entities_of : List Present → List Entity
 entities_of all = map (λ p. p.entity) all
 

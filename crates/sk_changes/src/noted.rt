@@ -31,8 +31,10 @@ fn note_one<V: Invertible>(
     }
 }
 
-/// Writes bytes at a place. Of few just those are kept that they go over.
-fn note_write(file: &mut File, at: usize, bytes: &[u8]) -> Result<Undo, AllocError>
+/// Writes bytes at a place of a file, and answers what takes them back: of few just those that they go over. Without memory
+/// nothing has changed.
+#[inline(always)]
+pub fn write_noted(file: &mut File, at: usize, bytes: &[u8]) -> Result<Undo, AllocError>
     requires some { 1 ≤ length bytes.now }
     requires short { length bytes.now ≤ TEXT_LIMIT }
     requires end { at + length bytes.now ≤ FILE_LIMIT }
@@ -58,7 +60,7 @@ fn note_file(file: &mut File, alloc: Global, change: &Change) -> Result<Undo, Al
     ensures memory { OnErr result (file_grows file.old change.now ≡ true) }
 {
     match change {
-        Change::WriteAt { offset, bytes } => note_write(file, *offset as usize, bytes.as_slice()),
+        Change::WriteAt { offset, bytes } => write_noted(file, *offset as usize, bytes.as_slice()),
         _ => note_one(file, alloc, change),
     }
 }

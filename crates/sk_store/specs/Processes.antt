@@ -1,5 +1,7 @@
 -- A process among what entities have.
 use Rattle.std.specs.Prelude.{◌<◌, ◌+◌, ◌^◌, Option, Some, None, [], unwrap_or}
+use Rattle.sk_ids.specs.declared.entity.Entity.{Entity}
+use Rattle.sk_ids.specs.declared.entity.Entity.TheVariants.{Proc, Sig, Exit, Obj, Link, Copy}
 use Rattle.sk_script.specs.Process.{beginning}
 use Rattle.sk_script.specs.Private.{private_step}
 use Rattle.sk_script.specs.declared.process.Process.{Process}
@@ -25,6 +27,15 @@ CanBecome can now = IsProcess now × can (process_in now)
 -- and what is there when it has
 abbrev pub became : (Process → Process) → Option EntityState → EntityState
 became after now = stored.Process (after (process_in now))
+
+-- an object or a cached copy, of which a process can read
+abbrev pub IsReadable : Entity → Type 0
+IsReadable (Obj o) = Unit {0}
+IsReadable (Copy name) = Unit {0}
+IsReadable (Proc pid) = ⊥
+IsReadable (Sig pid) = ⊥
+IsReadable (Exit pid) = ⊥
+IsReadable (Link directory name) = ⊥
 
 -- the process after a private instruction
 abbrev pub done : Instruction → Process → Process

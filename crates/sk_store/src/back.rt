@@ -3,14 +3,15 @@ ghost use Rattle.std.specs.Prelude.{◌≡◌, OnOk, OnErr, IsSome, IfOk, Some, 
 ghost use Rattle.std.specs.Ordering.{eq_by_cmp};
 ghost use Rattle.std.specs.FinMap as map;
 ghost use Rattle.sk_ids.specs.Entity.{entity_cmp};
-ghost use Rattle.sk_ids.specs.declared.entity.Entity.TheVariants.{Proc};
+ghost use Rattle.sk_ids.specs.declared.entity.Entity.TheVariants.{Proc, Obj};
+ghost use Rattle.sk_changes.specs.declared.change.Change.TheVariants as changes;
 ghost use Rattle.sk_store.specs.Changed.{FitsAt, changed};
 ghost use Rattle.sk_store.specs.Processes.{CanBecome, IsProcess, became, process_in};
 ghost use Rattle.sk_store.specs.Back.{put_back_at, CanPutBack};
 
-use crate::{Becoming, EntityState, Keeper, Look, Store};
+use crate::{Becoming, BecomingBy, EntityState, Keeper, Look, Store};
 use sk_changes::{Change, Undo};
-use sk_ids::{Entity, Pid, TagSet};
+use sk_ids::{Entity, ObjId, Pid, TagSet};
 use sk_script::Process;
 use std::alloc::{AllocError, Global};
 use std::marker::Model;
@@ -136,6 +137,43 @@ fn change_both<C: Becoming>(
     Ok(())
 }
 
+/// Changes a process by what an entity has.
+fn change_by<C: BecomingBy>(store: &mut Store, pid: Pid, entity: &Entity, by: &C)
+    requires { CanBecome (C.can by.now (map.get store.old entity.now))
+        (map.get store.old (Proc pid)) }
+    ensures { store.new ≡ map.insert store.old (Proc pid)
+        (became (C.after by.now (map.get store.old entity.now)) (map.get store.old (Proc pid))) }
+{
+    let mut process = *process_in(store, pid);
+    by.change(store.value(*entity), &mut process);
+    become_in(store, pid, &process);
+}
+
+/// Writes the buffer of a process at a place of a file, and then changes the process. Without memory nothing has changed.
+fn write_buffer<C: Becoming>(
+    store: &mut Store,
+    object: &ObjId,
+    at: u32,
+    pid: Pid,
+    by: &C,
+) -> Result<(), AllocError>
+    requires fits { FitsAt (map.get store.old (Obj object.now))
+        (changes.WriteAt at (process_in (map.get store.old (Proc pid))).buffer) }
+    requires can { CanBecome (C.can by.now) (map.get store.old (Proc pid)) }
+    ensures ok { OnOk result
+        (store.new ≡ map.insert
+        (map.insert store.old (Obj object.now) (changed (map.get store.old (Obj object.now))
+        (changes.WriteAt at (process_in (map.get store.old (Proc pid))).buffer)))
+        (Proc pid) (became (C.after by.now) (map.get store.old (Proc pid)))) }
+    ensures err { OnErr result (store.new ≡ store.old) }
+{
+    let change = Change::WriteAt {
+        offset: at,
+        bytes: process_in(store, pid).buffer,
+    };
+    change_both(store, &Entity::Obj(*object), &change, pid, by)
+}
+
 /// Sets what an entity has, and then changes a process where it stands. Without memory nothing has changed.
 fn write_beside<C: Becoming>(
     store: &mut Store,
@@ -245,6 +283,26 @@ impl Keeper for Store {
     fn change_process<C: Becoming>(&mut self, pid: Pid, by: &C) -> Result<(), AllocError> {
         become_in(self, pid, by);
         Ok(())
+    }
+
+    fn change_by<C: BecomingBy>(
+        &mut self,
+        pid: Pid,
+        entity: &Entity,
+        by: &C,
+    ) -> Result<(), AllocError> {
+        change_by(self, pid, entity, by);
+        Ok(())
+    }
+
+    fn write_buffer<C: Becoming>(
+        &mut self,
+        object: &ObjId,
+        at: u32,
+        pid: Pid,
+        by: &C,
+    ) -> Result<(), AllocError> {
+        write_buffer(self, object, at, pid, by)
     }
 
     /// A store has no notes.

@@ -1,7 +1,7 @@
 //! Writing to what entities have.
-use crate::{Becoming, EntityState, Look};
+use crate::{Becoming, BecomingBy, EntityState, Look};
 use sk_changes::Change;
-use sk_ids::{Entity, Pid, TagSet};
+use sk_ids::{Entity, ObjId, Pid, TagSet};
 use sk_script::Process;
 use std::alloc::{AllocError, Global};
 
@@ -9,12 +9,13 @@ use std::alloc::{AllocError, Global};
 pub trait Keeper: Look {
     ghost use Rattle.std.specs.Prelude.{◌≡◌, OnOk, OnErr, IfOk, IfSome, is_some, ℕ, List, Option, Some, None};
     ghost use Rattle.sk_ids.specs.declared.entity.Entity.{Entity};
-    ghost use Rattle.sk_ids.specs.declared.entity.Entity.TheVariants.{Proc};
+    ghost use Rattle.sk_ids.specs.declared.entity.Entity.TheVariants.{Proc, Obj};
+    ghost use Rattle.sk_changes.specs.declared.change.Change.TheVariants as changes;
     ghost use Rattle.sk_store.specs.declared.entity_state.EntityState.{EntityState};
     ghost use Rattle.std.specs.Prelude.{Bool, true, false};
     ghost use Rattle.std.specs.Ordering.{eq_by_cmp};
     ghost use Rattle.sk_ids.specs.Entity.{entity_cmp};
-    ghost use Rattle.sk_store.specs.Processes.{CanBecome, IsProcess, became, process_in};
+    ghost use Rattle.sk_store.specs.Processes.{CanBecome, IsProcess, IsReadable, became, process_in};
     ghost use Rattle.sk_store.specs.Changed.{FitsAt, changed};
 
     /// What takes one write back.
@@ -64,6 +65,43 @@ pub trait Keeper: Look {
         requires { CanBecome (C.can by.now) (Self.look self.old (Proc pid)) }
         ensures ok { OnOk result
             (self.new ≡ wrote self.old (Proc pid)
+            (Some (became (C.after by.now) (Self.look self.old (Proc pid))))) }
+        ensures err { OnErr result (self.new ≡ self.old) };
+
+    /// Changes a process where it stands by what an object or a copy has, as the last write of a step. Without memory
+    /// nothing has changed.
+    fn change_by<C: BecomingBy>(
+        &mut self,
+        pid: Pid,
+        entity: &Entity,
+        by: &C,
+    ) -> Result<(), AllocError>
+        requires readable { IsReadable entity.now }
+        requires can { CanBecome (C.can by.now (Self.look self.old entity.now))
+            (Self.look self.old (Proc pid)) }
+        ensures ok { OnOk result
+            (self.new ≡ wrote self.old (Proc pid)
+            (Some (became (C.after by.now (Self.look self.old entity.now))
+            (Self.look self.old (Proc pid))))) }
+        ensures err { OnErr result (self.new ≡ self.old) };
+
+    /// Writes the buffer of a process at a place of a file, and then changes the process, as the last writes of a step.
+    /// Without memory nothing has changed.
+    fn write_buffer<C: Becoming>(
+        &mut self,
+        object: &ObjId,
+        at: u32,
+        pid: Pid,
+        by: &C,
+    ) -> Result<(), AllocError>
+        requires fits { FitsAt (Self.look self.old (Obj object.now))
+            (changes.WriteAt at (process_in (Self.look self.old (Proc pid))).buffer) }
+        requires can { CanBecome (C.can by.now) (Self.look self.old (Proc pid)) }
+        ensures ok { OnOk result
+            (self.new ≡ wrote
+            (wrote self.old (Obj object.now)
+            (Some (changed (Self.look self.old (Obj object.now))
+            (changes.WriteAt at (process_in (Self.look self.old (Proc pid))).buffer)))) (Proc pid)
             (Some (became (C.after by.now) (Self.look self.old (Proc pid))))) }
         ensures err { OnErr result (self.new ≡ self.old) };
 

@@ -12,7 +12,7 @@ pub mod start;
 pub mod store;
 
 pub use back::{Back, PutBack};
-pub use becoming::Becoming;
+pub use becoming::{Becoming, BecomingBy, Seeing};
 pub use entity_state::EntityState;
 pub use held::HeldProcess;
 pub use keeper::Keeper;

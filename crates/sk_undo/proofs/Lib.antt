@@ -19,5 +19,6 @@ mod Copying
 mod NameCounts
 mod Swaps
 mod ByKind
+mod Both
 mod FewNames
 mod Makers

@@ -7,13 +7,14 @@ ghost use Rattle.std.specs.List.Sorted.{IsStrictlySortedBy};
 ghost use Rattle.std.specs.Ordering.{eq_by_cmp, nat_cmp};
 ghost use Rattle.sk_ids.specs.Entity.{entity_cmp};
 ghost use Rattle.sk_ids.specs.declared.entity.Entity.{Entity};
-ghost use Rattle.sk_ids.specs.declared.entity.Entity.TheVariants.{Proc};
+ghost use Rattle.sk_ids.specs.declared.entity.Entity.TheVariants.{Proc, Obj};
+ghost use Rattle.sk_changes.specs.declared.change.Change.TheVariants as changes;
 ghost use Rattle.sk_record.specs.Effects.{is_in};
 ghost use Rattle.sk_record.specs.Notes.{last_tags};
 ghost use Rattle.sk_store.specs.Changed.{FitsAt, changed};
 ghost use Rattle.sk_store.specs.Names.{IsCount, name_there};
 ghost use Rattle.sk_store.specs.Present.{IsPresent, entities_of};
-ghost use Rattle.sk_store.specs.Processes.{CanBecome, IsProcess, became, process_in};
+ghost use Rattle.sk_store.specs.Processes.{CanBecome, IsProcess, IsReadable, became, process_in};
 ghost use Rattle.sk_undo.specs.Count.{notes_in};
 ghost use Rattle.sk_undo.specs.Logs.{look_at, log_at, goes_on_at, is_unnoted, moved, slots_wrote, slots_back, CanTakeBack};
 ghost use Rattle.sk_undo.specs.Names.{IsCounted, count_for, link_there, recounted};
@@ -23,7 +24,7 @@ use crate::{Names, Slots, TakeBack, Written};
 use sk_changes::Change;
 use sk_ids::{Entity, GuessId, ObjId, Pid, TagSet};
 use sk_script::Process;
-use sk_store::{Becoming, EntityState, Present, Store};
+use sk_store::{Becoming, BecomingBy, EntityState, Present, Store};
 use std::alloc::{AllocError, Global};
 use std::marker::Model;
 
@@ -246,6 +247,52 @@ impl CountedSlots {
         self.slots.change_process(pid, tags, by)
     }
 
+    /// Changes a process where it stands by what an object or a copy has. Without memory nothing has changed.
+    #[inline(always)]
+    pub fn change_by<C: BecomingBy>(
+        &mut self,
+        pid: Pid,
+        entity: &Entity,
+        tags: &TagSet,
+        by: &C,
+    ) -> Result<(), AllocError>
+        requires readable { IsReadable entity.now }
+        requires can { CanBecome (C.can by.now (look_at self.old entity.now))
+            (look_at self.old (Proc pid)) }
+        ensures ok { OnOk result
+            (self.new ≡ slots_wrote tags.now self.old (Proc pid)
+            (Some (became (C.after by.now (look_at self.old entity.now))
+            (look_at self.old (Proc pid))))) }
+        ensures err { OnErr result (self.new ≡ self.old) }
+    {
+        self.slots.change_by(pid, entity, tags, by)
+    }
+
+    /// Writes the buffer of a process at a place of a file, and then changes the process. Without memory nothing has
+    /// changed.
+    #[inline(always)]
+    pub fn write_buffer<C: Becoming>(
+        &mut self,
+        object: &ObjId,
+        at: u32,
+        pid: Pid,
+        tags: &TagSet,
+        by: &C,
+    ) -> Result<(), AllocError>
+        requires fits { FitsAt (look_at self.old (Obj object.now))
+            (changes.WriteAt at (process_in (look_at self.old (Proc pid))).buffer) }
+        requires can { CanBecome (C.can by.now) (look_at self.old (Proc pid)) }
+        ensures ok { OnOk result
+            (self.new ≡ slots_wrote tags.now
+            (slots_wrote tags.now self.old (Obj object.now)
+            (Some (changed (look_at self.old (Obj object.now))
+            (changes.WriteAt at (process_in (look_at self.old (Proc pid))).buffer)))) (Proc pid)
+            (Some (became (C.after by.now) (look_at self.old (Proc pid))))) }
+        ensures err { OnErr result (self.new ≡ self.old) }
+    {
+        self.slots.write_buffer(object, at, pid, tags, by)
+    }
+
     /// Makes an entity absent. Without memory nothing has changed.
     pub fn clear(&mut self, entity: &Entity, tags: &TagSet) -> Result<(), AllocError>
         ensures ok { OnOk result (self.new ≡ slots_wrote tags.now self.old entity.now None) }
@@ -292,6 +339,7 @@ impl CountedSlots {
     }
 
     /// Whether nothing is noted of a write of a process with these tags.
+    #[inline(always)]
     pub fn goes_unnoted(&self, pid: Pid, tags: &TagSet) -> bool
         ensures { result ≡ is_unnoted tags.now self.now (Proc pid) }
     {

@@ -1,19 +1,27 @@
 //! A finite map by entities.
-ghost use Rattle.std.specs.Prelude.{◌≡◌, ◌<◌, ◌^◌, ◌++◌, OnOk, OnErr, OnSome, IfOk, map as each};
+ghost use Rattle.std.specs.Prelude.{◌≡◌, ◌<◌, ◌^◌, ◌++◌, OnOk, OnErr, OnSome, IfOk, Some, map as each};
 ghost use Rattle.std.specs.Option.{option_copied, option_copied_mut};
 ghost use Rattle.std.specs.Borrow.{LendsSo, sem};
 ghost use Rattle.std.specs.List.Sorted.{IsStrictlySortedBy};
 ghost use Rattle.std.specs.Ordering.{nat_cmp};
 ghost use Rattle.std.specs.FinMap as map;
-ghost use Rattle.sk_ids.specs.Entity.{entity_cmp};
+ghost use Rattle.sk_ids.specs.Entity.{entity_cmp, object_cmp};
 ghost use Rattle.sk_ids.specs.declared.entity.Entity.TheVariants.{Proc, Sig, Exit, Obj, Copy};
 ghost use Rattle.sk_map.specs.Seen.{seen};
-ghost use Rattle.sk_undo.specs.Kinds.{link_of, lifted, HasAtMost};
+ghost use Rattle.sk_changes.specs.declared.change.Change.TheVariants as changes;
+ghost use Rattle.sk_store.specs.Changed.{FitsAt, changed};
+ghost use Rattle.sk_store.specs.Processes.{CanBecome, IsReadable, became, process_in};
+ghost use Rattle.sk_ids.specs.Name.{name_order};
+ghost use Rattle.sk_undo.specs.Kinds.{joined, link_cmp, link_of, lifted, HasAtMost};
+ghost use Rattle.sk_undo.specs.Logs.{look_at, slot_in, slots_wrote};
+ghost use Rattle.sk_undo.specs.Slot.{SlotView};
 ghost use Rattle.sk_undo.specs.contracts.entity_map.EntityMap.{the_row};
 
+use crate::Slot;
 use crate::keys::{LinkKey, ObjectKey, ProcessKey};
-use sk_ids::{Entity, Name, ObjId, Pid};
+use sk_ids::{Entity, Name, ObjId, Pid, TagSet};
 use sk_map::{Key, Map};
+use sk_store::{Becoming, BecomingBy, EntityState, Seeing};
 use std::alloc::{AllocError, Global};
 use std::collections::btree_map::{Iter, Keys, Values};
 use std::marker::Model;
@@ -125,6 +133,14 @@ fn put<K: Key, V: Drop>(values: &mut Map<K, V>, key: K, value: V) -> Result<(), 
     ensures err { OnErr result (values.new ≡ values.old) }
 {
     values.put(key, value)
+}
+
+/// Makes a key absent. It stands by itself for the same reason.
+#[inline(never)]
+fn remove<K: Key, V: Drop>(values: &mut Map<K, V>, key: &K)
+    ensures { seen K.order values.new ≡ map.remove (seen K.order values.old) key.now }
+{
+    let _gone = values.remove(key);
 }
 
 /// Adds processes to entities.
@@ -256,6 +272,7 @@ impl<V> EntityMap<V> {
     }
 
     /// Sets the value of an entity. Without memory nothing has changed.
+    #[inline(always)]
     pub(crate) fn put(&mut self, entity: &Entity, value: V) -> Result<(), AllocError>
     where
         V: Drop,
@@ -273,18 +290,19 @@ impl<V> EntityMap<V> {
     }
 
     /// Makes an entity absent, which takes no memory.
+    #[inline(always)]
     pub(crate) fn remove(&mut self, entity: &Entity)
     where
         V: Drop,
         ensures { self.new ≡ map.remove self.old entity.now }
     {
         match entity {
-            Entity::Proc(pid) => drop(self.processes.remove(&process(*pid))),
-            Entity::Sig(pid) => drop(self.signals.remove(&process(*pid))),
-            Entity::Exit(pid) => drop(self.exits.remove(&process(*pid))),
-            Entity::Obj(id) => drop(self.objects.remove(&object(id))),
-            Entity::Link(directory, name) => drop(self.links.remove(&link(directory, name))),
-            Entity::Copy(name) => drop(self.copies.remove(name)),
+            Entity::Proc(pid) => remove(&mut self.processes, &process(*pid)),
+            Entity::Sig(pid) => remove(&mut self.signals, &process(*pid)),
+            Entity::Exit(pid) => remove(&mut self.exits, &process(*pid)),
+            Entity::Obj(id) => remove(&mut self.objects, &object(id)),
+            Entity::Link(directory, name) => remove(&mut self.links, &link(directory, name)),
+            Entity::Copy(name) => remove(&mut self.copies, name),
         }
     }
 
@@ -350,5 +368,92 @@ impl<V> EntityMap<V> {
             links: self.links.iter(),
             copies: self.copies.iter(),
         }
+    }
+}
+
+/// What the entity of a key has.
+#[inline(always)]
+fn held<'a, K: Key>(slots: &'a Map<K, Slot>, key: &K) -> Option<&'a EntityState>
+    ensures { option_copied result ≡ (slot_in (map.get (seen K.order slots.now) key.now)).now }
+{
+    match found(slots, key) {
+        Some(slot) => slot.value(),
+        None => None,
+    }
+}
+
+/// What an object or a copy has, whatever stands at the other kinds.
+#[inline(always)]
+fn readable<'a>(
+    objects: &'a Map<ObjectKey, Slot>,
+    copies: &'a Map<Name, Slot>,
+    entity: &Entity,
+) -> Option<&'a EntityState>
+    requires { IsReadable entity.now }
+    ensures { (ps ss xs : map.FinMap nat_cmp SlotView) (ls : map.FinMap link_cmp SlotView)
+        → option_copied result ≡ look_at (joined ps ss xs (seen object_cmp objects.now) ls
+        (seen name_order copies.now)) entity.now }
+{
+    match entity {
+        Entity::Obj(id) => held(objects, &object(id)),
+        Entity::Copy(name) => held(copies, name),
+        _ => unreachable!(),
+    }
+}
+
+/// Changes a process where it stands by what an object or a copy has. Without memory nothing has changed.
+#[inline(always)]
+pub(crate) fn change_by<C: BecomingBy>(
+    slots: &mut EntityMap<Slot>,
+    pid: Pid,
+    entity: &Entity,
+    tags: &TagSet,
+    by: &C,
+) -> Result<(), AllocError>
+    requires readable { IsReadable entity.now }
+    requires can { CanBecome (C.can by.now (look_at slots.old entity.now))
+        (look_at slots.old (Proc pid)) }
+    ensures ok { OnOk result
+        (slots.new ≡ slots_wrote tags.now slots.old (Proc pid)
+        (Some (became (C.after by.now (look_at slots.old entity.now))
+        (look_at slots.old (Proc pid))))) }
+    ensures err { OnErr result (slots.new ≡ slots.old) }
+{
+    let alloc = slots.alloc();
+    let there = readable(&slots.objects, &slots.copies, entity);
+    match slots.processes.get_mut(&process(pid)) {
+        Some(slot) => slot.change_process(alloc, tags, &Seeing { by, there }),
+        None => unreachable!(),
+    }
+}
+
+/// Writes the buffer of a process at a place of a file, and then changes the process. Without memory nothing has
+/// changed.
+#[inline(always)]
+pub(crate) fn write_buffer<C: Becoming>(
+    slots: &mut EntityMap<Slot>,
+    id: &ObjId,
+    at: u32,
+    pid: Pid,
+    tags: &TagSet,
+    by: &C,
+) -> Result<(), AllocError>
+    requires fits { FitsAt (look_at slots.old (Obj id.now))
+        (changes.WriteAt at (process_in (look_at slots.old (Proc pid))).buffer) }
+    requires can { CanBecome (C.can by.now) (look_at slots.old (Proc pid)) }
+    ensures ok { OnOk result
+        (slots.new ≡ slots_wrote tags.now
+        (slots_wrote tags.now slots.old (Obj id.now)
+        (Some (changed (look_at slots.old (Obj id.now))
+        (changes.WriteAt at (process_in (look_at slots.old (Proc pid))).buffer)))) (Proc pid)
+        (Some (became (C.after by.now) (look_at slots.old (Proc pid))))) }
+    ensures err { OnErr result (slots.new ≡ slots.old) }
+{
+    match slots.processes.get_mut(&process(pid)) {
+        Some(slot) => match slots.objects.get_mut(&object(id)) {
+            Some(file) => slot.write_buffer(file, tags, at, by),
+            None => unreachable!(),
+        },
+        None => unreachable!(),
     }
 }

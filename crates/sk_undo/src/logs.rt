@@ -22,7 +22,7 @@ use crate::{CountedSlots, TakeBack};
 use sk_changes::Change;
 use sk_ids::{Entity, GuessId, ObjId, Pid, TagSet};
 use sk_script::Process;
-use sk_store::{Becoming, EntityState, Keeper, Look, Present, Store};
+use sk_store::{Becoming, BecomingBy, EntityState, Keeper, Look, Present, Store};
 use std::alloc::{AllocError, Global};
 use std::marker::Model;
 
@@ -276,6 +276,28 @@ impl Keeper for Logs {
         self.slots.change_process(pid, &self.tags, by)
     }
 
+    #[inline(always)]
+    fn change_by<C: BecomingBy>(
+        &mut self,
+        pid: Pid,
+        entity: &Entity,
+        by: &C,
+    ) -> Result<(), AllocError> {
+        self.slots.change_by(pid, entity, &self.tags, by)
+    }
+
+    #[inline(always)]
+    fn write_buffer<C: Becoming>(
+        &mut self,
+        object: &ObjId,
+        at: u32,
+        pid: Pid,
+        by: &C,
+    ) -> Result<(), AllocError> {
+        self.slots.write_buffer(object, at, pid, &self.tags, by)
+    }
+
+    #[inline(always)]
     fn goes_unnoted(&self, pid: Pid) -> bool {
         self.slots.goes_unnoted(pid, &self.tags)
     }

@@ -90,7 +90,9 @@ impl Names {
         }
     }
 
-    /// A directory has one name more, for which a number is made where it has none.
+    /// A directory has one name more, for which a number is made where it has none. It stands by itself, since most of what is
+    /// put is no name.
+    #[inline(never)]
     fn put_one(&mut self, directory: &ObjId) -> Result<(), AllocError>
         requires { count_in self.old directory.now < 2 ^ 63 }
         ensures ok { OnOk result
@@ -105,6 +107,7 @@ impl Names {
     }
 
     /// Counts a name more, which was not there and is, and makes a number for its directory where there is none.
+    #[inline(always)]
     pub fn put(&mut self, entity: &Entity) -> Result<(), AllocError>
         requires { count_for self.old entity.now < 2 ^ 63 }
         ensures ok { OnOk result

@@ -6,6 +6,7 @@ ghost use Rattle.std.specs.Ordering.{nat_cmp};
 ghost use Rattle.sk_record.specs.Notes.{last_tags, unwound, cut, committed};
 ghost use Rattle.sk_record.specs.Merged.{Merges};
 ghost use Rattle.sk_record.specs.UndoState.{IsGrowing};
+ghost use Rattle.sk_changes.specs.declared.change.Change.TheVariants as changes;
 ghost use Rattle.sk_store.specs.Changed.{FitsAt, StateFits, changed};
 ghost use Rattle.sk_store.specs.Processes.{CanBecome, IsProcess, became, process_in};
 ghost use Rattle.sk_store.specs.declared.back.PutBack.TheVariants as PutBack;
@@ -15,7 +16,7 @@ ghost use Rattle.sk_undo.specs.Slot.{committed_joined, undone, Fits, is_bare, sl
 
 use crate::{Log, Logged};
 use sk_changes::{Change, Undo};
-use sk_ids::{GuessId, TagSet};
+use sk_ids::{GuessId, TagSet, Text};
 use sk_script::Process;
 use sk_store::{Becoming, EntityState, PutBack};
 use std::alloc::{AllocError, Global};
@@ -131,6 +132,23 @@ fn change_alone_in(
     }
 }
 
+/// Writes bytes at a place of the file that is there, and keeps nothing that takes that back. Without memory nothing has
+/// changed.
+fn overwrite_in(value: &mut Option<EntityState>, at: u32, bytes: &Text) -> Result<(), AllocError>
+    requires { FitsAt value.old (changes.WriteAt at bytes.now) }
+    ensures ok { OnOk result
+        (value.new ≡ Some (changed value.old (changes.WriteAt at bytes.now))) }
+    ensures err { OnErr result (value.new ≡ value.old) }
+{
+    match value {
+        Some(state) => {
+            state.overwrite(at, bytes)?;
+            Ok(())
+        }
+        None => unreachable!(),
+    }
+}
+
 /// Changes a value where it stands, and answers what a note keeps: the value whole, or what takes the change back. Without
 /// memory nothing has changed.
 fn note_in(
@@ -167,6 +185,48 @@ fn change_noted_in(
 {
     match value {
         Some(state) => note_in(state, alloc, change),
+        None => unreachable!(),
+    }
+}
+
+/// Writes bytes at a place of a file, and answers what a note keeps: the file whole, or what takes the write back. Without
+/// memory nothing has changed.
+fn note_write_in(
+    state: &mut EntityState,
+    at: u32,
+    bytes: &Text,
+) -> Result<PutBack<EntityState>, AllocError>
+    requires { FitsAt (Some state.old) (changes.WriteAt at bytes.now) }
+    ensures ok { OnOk result
+        (state.new ≡ changed (Some state.old) (changes.WriteAt at bytes.now)) }
+    ensures can { IfOk result (λ undo. Fits undo (Some state.new)) }
+    ensures back { IfOk result (λ undo. undone undo (Some state.new) ≡ Some state.old) }
+    ensures err { OnErr result (state.new ≡ state.old) }
+{
+    if !state.is_whole() {
+        let undo = state.write_noted(at, bytes)?;
+        return Ok(PutBack::Changed(undo));
+    }
+    let file = state.copy()?;
+    state.overwrite(at, bytes)?;
+    Ok(PutBack::Was(Some(file)))
+}
+
+/// The same of a file that is there.
+fn write_noted_in(
+    value: &mut Option<EntityState>,
+    at: u32,
+    bytes: &Text,
+) -> Result<PutBack<EntityState>, AllocError>
+    requires { FitsAt value.old (changes.WriteAt at bytes.now) }
+    ensures ok { OnOk result
+        (value.new ≡ Some (changed value.old (changes.WriteAt at bytes.now))) }
+    ensures can { IfOk result (λ undo. Fits undo value.new) }
+    ensures back { IfOk result (λ undo. undone undo value.new ≡ value.old) }
+    ensures err { OnErr result (value.new ≡ value.old) }
+{
+    match value {
+        Some(state) => note_write_in(state, at, bytes),
         None => unreachable!(),
     }
 }
@@ -404,6 +464,101 @@ impl Slot {
             return self.note_change(tags, change);
         }
         change_alone_in(&mut self.value, self.log.alloc(), change)?;
+        Ok(())
+    }
+
+    /// Writes bytes at a place of the file that is there, and answers nothing that takes it back. Without memory nothing
+    /// has changed.
+    #[inline(always)]
+    fn overwrite(&mut self, tags: &TagSet, at: u32, bytes: &Text) -> Result<(), AllocError>
+        requires { FitsAt self.old.now (changes.WriteAt at bytes.now) }
+        ensures ok { OnOk result
+            (self.new ≡ slot_wrote tags.now self.old
+            (Some (changed self.old.now (changes.WriteAt at bytes.now)))) }
+        ensures err { OnErr result (self.new ≡ self.old) }
+    {
+        if !goes_unnoted(tags, &self.value, &self.log) {
+            return self.note_overwrite(tags, at, bytes);
+        }
+        overwrite_in(&mut self.value, at, bytes)?;
+        Ok(())
+    }
+
+    /// The same, where it is noted.
+    #[inline(never)]
+    fn note_overwrite(&mut self, tags: &TagSet, at: u32, bytes: &Text) -> Result<(), AllocError>
+        requires fits { FitsAt self.old.now (changes.WriteAt at bytes.now) }
+        requires noted { goes_unnoted tags.now self.old.log ≡ false }
+        ensures ok { OnOk result
+            (self.new ≡ slot_wrote tags.now self.old
+            (Some (changed self.old.now (changes.WriteAt at bytes.now)))) }
+        ensures err { OnErr result (self.new ≡ self.old) }
+    {
+        let tags = tags.copy()?;
+        self.log.reserve()?;
+        let undo = write_noted_in(&mut self.value, at, bytes)?;
+        self.log.note_reserved(tags, undo);
+        Ok(())
+    }
+
+    /// Writes the buffer of the process that is there at a place of a file, and then changes the process. Without memory
+    /// nothing has changed.
+    #[inline(always)]
+    pub fn write_buffer<C: Becoming>(
+        &mut self,
+        file: &mut Slot,
+        tags: &TagSet,
+        at: u32,
+        by: &C,
+    ) -> Result<(), AllocError>
+        requires fits { FitsAt file.old.now
+            (changes.WriteAt at (process_in self.old.now).buffer) }
+        requires can { CanBecome (C.can by.now) self.old.now }
+        ensures file { OnOk result
+            (file.new ≡ slot_wrote tags.now file.old
+            (Some (changed file.old.now (changes.WriteAt at (process_in self.old.now).buffer)))) }
+        ensures process { OnOk result
+            (self.new ≡ slot_wrote tags.now self.old
+            (Some (became (C.after by.now) self.old.now))) }
+        ensures same_file { OnErr result (file.new ≡ file.old) }
+        ensures same_process { OnErr result (self.new ≡ self.old) }
+    {
+        if !goes_unnoted(tags, &self.value, &self.log) {
+            return self.write_noted(file, tags, at, by);
+        }
+        file.overwrite(tags, at, &process_in(&self.value).buffer)?;
+        become_in(&mut self.value, by);
+        Ok(())
+    }
+
+    /// The same, where the process is noted: what that wants is taken first.
+    #[inline(never)]
+    fn write_noted<C: Becoming>(
+        &mut self,
+        file: &mut Slot,
+        tags: &TagSet,
+        at: u32,
+        by: &C,
+    ) -> Result<(), AllocError>
+        requires fits { FitsAt file.old.now
+            (changes.WriteAt at (process_in self.old.now).buffer) }
+        requires can { CanBecome (C.can by.now) self.old.now }
+        requires noted { goes_unnoted tags.now self.old.log ≡ false }
+        ensures file { OnOk result
+            (file.new ≡ slot_wrote tags.now file.old
+            (Some (changed file.old.now (changes.WriteAt at (process_in self.old.now).buffer)))) }
+        ensures process { OnOk result
+            (self.new ≡ slot_wrote tags.now self.old
+            (Some (became (C.after by.now) self.old.now))) }
+        ensures same_file { OnErr result (file.new ≡ file.old) }
+        ensures same_process { OnErr result (self.new ≡ self.old) }
+    {
+        let noted = tags.copy()?;
+        self.log.reserve()?;
+        let undo = PutBack::Was(process_copy(self.log.alloc(), &self.value)?);
+        file.overwrite(tags, at, &process_in(&self.value).buffer)?;
+        become_in(&mut self.value, by);
+        self.log.note_reserved(noted, undo);
         Ok(())
     }
 

@@ -7,12 +7,13 @@ ghost use Rattle.std.specs.Borrow.{LendsSo, sem};
 ghost use Rattle.std.specs.Ordering.{eq_by_cmp, nat_cmp};
 ghost use Rattle.sk_ids.specs.Entity.{entity_cmp};
 ghost use Rattle.sk_ids.specs.declared.entity.Entity.{Entity};
-ghost use Rattle.sk_ids.specs.declared.entity.Entity.TheVariants.{Proc};
+ghost use Rattle.sk_ids.specs.declared.entity.Entity.TheVariants.{Proc, Obj};
+ghost use Rattle.sk_changes.specs.declared.change.Change.TheVariants as changes;
 ghost use Rattle.sk_record.specs.Effects.{is_in};
 ghost use Rattle.sk_record.specs.Run.{put};
 ghost use Rattle.sk_record.specs.Notes.{last_tags};
 ghost use Rattle.sk_store.specs.Changed.{FitsAt, changed};
-ghost use Rattle.sk_store.specs.Processes.{CanBecome, IsProcess, became, process_in};
+ghost use Rattle.sk_store.specs.Processes.{CanBecome, IsProcess, IsReadable, became, process_in};
 ghost use Rattle.sk_store.specs.Present.{IsPresent, entities_of};
 ghost use Rattle.std.specs.List.{All, list_all, sum_by};
 ghost use Rattle.sk_undo.specs.Count.{note_count, notes_in};
@@ -25,12 +26,12 @@ ghost use Rattle.sk_undo.specs.contracts.slots.Slots.{the_row as slots_row};
 ghost use Rattle.sk_undo.specs.contracts.slot.Slot.{the_row as slot_row};
 
 use crate::Slot;
-use crate::entity_map::EntityMap;
+use crate::entity_map::{self, EntityMap};
 use crate::entries::present;
 use sk_changes::Change;
-use sk_ids::{Entity, GuessId, Pid, TagSet};
+use sk_ids::{Entity, GuessId, ObjId, Pid, TagSet};
 use sk_script::Process;
-use sk_store::{Becoming, EntityState, Present, PutBack, Store};
+use sk_store::{Becoming, BecomingBy, EntityState, Present, PutBack, Store};
 use std::alloc::{AllocError, Global};
 use std::collections::btree_map::Values;
 use std::marker::Model;
@@ -373,7 +374,54 @@ impl Slots {
         }
     }
 
+    /// Changes a process where it stands by what an object or a copy has. Without memory nothing has changed.
+    #[inline(always)]
+    pub fn change_by<C: BecomingBy>(
+        &mut self,
+        pid: Pid,
+        entity: &Entity,
+        tags: &TagSet,
+        by: &C,
+    ) -> Result<(), AllocError>
+        requires readable { IsReadable entity.now }
+        requires can { CanBecome (C.can by.now (look_at self.old entity.now))
+            (look_at self.old (Proc pid)) }
+        ensures ok { OnOk result
+            (self.new ≡ slots_wrote tags.now self.old (Proc pid)
+            (Some (became (C.after by.now (look_at self.old entity.now))
+            (look_at self.old (Proc pid))))) }
+        ensures err { OnErr result (self.new ≡ self.old) }
+    {
+        entity_map::change_by(&mut self.slots, pid, entity, tags, by)
+    }
+
+    /// Writes the buffer of a process at a place of a file, and then changes the process. Without memory nothing has
+    /// changed.
+    #[inline(always)]
+    pub fn write_buffer<C: Becoming>(
+        &mut self,
+        object: &ObjId,
+        at: u32,
+        pid: Pid,
+        tags: &TagSet,
+        by: &C,
+    ) -> Result<(), AllocError>
+        requires fits { FitsAt (look_at self.old (Obj object.now))
+            (changes.WriteAt at (process_in (look_at self.old (Proc pid))).buffer) }
+        requires can { CanBecome (C.can by.now) (look_at self.old (Proc pid)) }
+        ensures ok { OnOk result
+            (self.new ≡ slots_wrote tags.now
+            (slots_wrote tags.now self.old (Obj object.now)
+            (Some (changed (look_at self.old (Obj object.now))
+            (changes.WriteAt at (process_in (look_at self.old (Proc pid))).buffer)))) (Proc pid)
+            (Some (became (C.after by.now) (look_at self.old (Proc pid))))) }
+        ensures err { OnErr result (self.new ≡ self.old) }
+    {
+        entity_map::write_buffer(&mut self.slots, object, at, pid, tags, by)
+    }
+
     /// Makes an entity absent, and answers whether it was there. Without memory nothing has changed.
+    #[inline(always)]
     pub fn clear(&mut self, entity: &Entity, tags: &TagSet) -> Result<bool, AllocError>
         ensures ok { OnOk result (self.new ≡ slots_wrote tags.now self.old entity.now None) }
         ensures was { IfOk result (λ was. was ≡ is_some (look_at self.old entity.now)) }
@@ -434,6 +482,7 @@ impl Slots {
     }
 
     /// Whether nothing is noted of a write of a process with these tags.
+    #[inline(always)]
     pub fn goes_unnoted(&self, pid: Pid, tags: &TagSet) -> bool
         ensures { result ≡ is_unnoted tags.now self.now (Proc pid) }
     {

@@ -67,6 +67,8 @@ pub struct Kernel {
     pub(crate) opening: Opening,
     pub(crate) trace: Trace,
     pub(crate) machine: Machine,
+    /// The place for the plan of a step, so that none is cleared at each. What it holds says nothing.
+    plan: Plan,
 }
 
 impl Model for Kernel {
@@ -120,7 +122,6 @@ fn plan_guess(
     input: InputRef<'_>,
     plan: &mut Plan,
 ) -> Result<(), Refusal>
-    requires { plan.old ≡ Plan.Private }
     ensures { PlansGuess (look_at machine.now.slots) opening.now.start.scripts pid
         (input_in input.entry) (told result plan.new) }
 {
@@ -154,6 +155,7 @@ impl Kernel {
             opening,
             trace: Trace::new(alloc),
             machine,
+            plan: Plan::Private,
         })
     }
 
@@ -384,12 +386,12 @@ impl Kernel {
             (events.Step pid (input_in input.entry)) self.old self.new }
     {
         let room = self.room();
-        let mut plan = Plan::Private;
-        let found = match plan_into(&self.machine, self.opening.scripts(), pid, input, &mut plan) {
+        let scripts = self.opening.scripts();
+        let found = match plan_into(&self.machine, scripts, pid, input, &mut self.plan) {
             Ok(found) => found,
             Err(why) => return Err(why),
         };
-        if is_crowded(&self.machine, &plan) {
+        if is_crowded(&self.machine, &self.plan) {
             return Err(Refusal::NoRoom);
         }
         let _limit = self.opening.limit();
@@ -405,7 +407,7 @@ impl Kernel {
         };
         if self
             .machine
-            .take_found(self.opening.scripts(), pid, input, &plan, found)
+            .take_found(scripts, pid, input, &self.plan, found)
             .is_err()
         {
             return Err(Refusal::Memory);
@@ -425,13 +427,13 @@ impl Kernel {
               guess = Some (next_guess self.old);
             })) pid (input_in input.entry) self.old self.new }
     {
-        let mut plan = Plan::Private;
-        plan_guess(&self.machine, &self.opening, pid, input, &mut plan)?;
+        let room = self.room();
+        plan_guess(&self.machine, &self.opening, pid, input, &mut self.plan)?;
         let _limit = self.opening.limit();
         if self.machine.is_full() {
             return Err(Refusal::TooMany);
         }
-        if self.room() < 2 {
+        if room < 2 {
             return Err(Refusal::TraceFull);
         }
         if self.trace.reserve(self.machine.open_count() + 2).is_err() {
@@ -443,7 +445,7 @@ impl Kernel {
         };
         let Ok(guess) = self
             .machine
-            .take_guess(self.opening.scripts(), pid, input, &plan)
+            .take_guess(self.opening.scripts(), pid, input, &self.plan)
         else {
             return Err(Refusal::Memory);
         };

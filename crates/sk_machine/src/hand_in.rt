@@ -15,24 +15,10 @@ use crate::Machine;
 use crate::lists::{depend_all, relieve_all};
 use sk_ids::{Entity, Pid, TagSet};
 use sk_script::Process;
-use sk_store::{Becoming, Keeper};
+use sk_store::Keeper;
 use sk_undo::Logs;
 use std::alloc::AllocError;
 use std::slice;
-
-/// It becomes this process, whatever it was.
-#[derive(Clone, Copy)]
-struct Whole<'a>(&'a Process);
-
-impl Becoming for Whole<'_> {
-    ghost can = { λ whole p. Unit {0} };
-
-    ghost after = { λ whole p. whole.0.now };
-
-    fn change(&self, process: &mut Process) {
-        *process = *self.0;
-    }
-}
 
 /// Sets what a process has become, where it stands, which rests on these guesses. Without memory nothing has changed.
 #[tactic(auto, using(crate::proofs::Writes::performed))]
@@ -43,7 +29,7 @@ fn set_process(logs: &mut Logs, tags: TagSet, pid: Pid, process: &Process) -> Re
     ensures err { OnErr result (logs.new.slots ≡ logs.old.slots) }
 {
     logs.set_tags(tags);
-    logs.change_process(pid, &Whole(process))
+    logs.change_process(pid, process)
 }
 
 impl Machine {

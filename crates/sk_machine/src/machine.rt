@@ -37,7 +37,7 @@ use crate::alike::set_alike;
 use crate::lists::{depend_all, is_alone, relieve_all, relieve_freed, tags_of};
 use sk_guesses::{Guess, Guesses, Redeemed, Status};
 use sk_ids::{Entity, GuessId, ObjId, Pid, TagSet};
-use sk_plain::{Beside, Entities, InputRef, Plan, Scratch, perform_with};
+use sk_plain::{Beside, Entities, InputRef, Plan, perform_plan};
 use sk_script::{Boot, Instruction, Scripts};
 use sk_store::{EntityState, Look, Present, Store};
 use sk_terminal::{Terminal, Terminals, Texts};
@@ -54,7 +54,6 @@ pub struct Machine {
     pub(crate) guesses: Guesses<Entity>,
     terminals: Terminals,
     pub(crate) untagged: TagSet,
-    scratch: Scratch,
 }
 
 impl Model for Machine {
@@ -99,7 +98,6 @@ fn perform(
     input: InputRef<'_>,
     plan: &Plan,
     tags: TagSet,
-    scratch: &mut Scratch,
 ) -> Result<(), AllocError>
     requires can { CanPerform (look_at logs.old.slots) scripts.now pid (input_in input) plan.now }
     requires apart { AreApart (entities_of
@@ -123,7 +121,7 @@ fn perform(
     ensures unsaid { OnErr result (terminals.new ≡ terminals.old) }
 {
     logs.set_tags(tags);
-    perform_next(logs, terminals, scripts, pid, input, plan, scratch)
+    perform_next(logs, terminals, scripts, pid, input, plan)
 }
 
 /// Performs a plan, whose writes and text rest on the guesses of the next step. Without memory nothing has changed.
@@ -136,7 +134,6 @@ fn perform_next(
     pid: Pid,
     input: InputRef<'_>,
     plan: &Plan,
-    scratch: &mut Scratch,
 ) -> Result<(), AllocError>
     requires can { CanPerform (look_at logs.old.slots) scripts.now pid (input_in input) plan.now }
     requires apart { AreApart (entities_of
@@ -159,7 +156,7 @@ fn perform_next(
     ensures unwritten { OnErr result (logs.new.slots ≡ logs.old.slots) }
     ensures unsaid { OnErr result (terminals.new ≡ terminals.old) }
 {
-    perform_with(logs, terminals, scripts, pid, input, plan, scratch)
+    perform_plan(logs, terminals, scripts, pid, input, plan)
 }
 
 /// Makes room for the next guess and so many dependents of it, and performs its plan. Without memory
@@ -174,7 +171,6 @@ fn perform_guess(
     plan: &Plan,
     tags: TagSet,
     count: usize,
-    scratch: &mut Scratch,
 ) -> Result<(), AllocError>
     requires can { CanPerform (look_at logs.old.slots) scripts.now pid (input_in input) plan.now }
     requires apart { AreApart (entities_of
@@ -201,7 +197,7 @@ fn perform_guess(
     ensures unsaid { OnErr result (terminals.new ≡ terminals.old) }
 {
     guesses.reserve(count)?;
-    perform(logs, terminals, scripts, pid, input, plan, tags, scratch)
+    perform(logs, terminals, scripts, pid, input, plan, tags)
 }
 
 /// Puts the entities that a plan writes into a list. It stands by itself, so that a guess that writes its process alone has no
@@ -260,7 +256,6 @@ impl Machine {
             guesses: Guesses::new(alloc, number),
             terminals: Terminals::new(alloc),
             untagged: TagSet::new(alloc),
-            scratch: Scratch::new(),
         })
     }
 
@@ -409,7 +404,6 @@ impl Machine {
                 pid,
                 input,
                 plan,
-                &mut self.scratch,
             );
         }
         self.take_apart(scripts, pid, input, plan)
@@ -452,7 +446,6 @@ impl Machine {
             input,
             plan,
             tags,
-            &mut self.scratch,
         )
         .is_err()
         {
@@ -514,7 +507,6 @@ impl Machine {
             plan,
             tags,
             entities.len(),
-            &mut self.scratch,
         );
         if performed.is_err() {
             relieve_all(&mut self.guesses, &self.logs, &self.untagged, entities);

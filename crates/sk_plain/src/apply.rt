@@ -15,9 +15,8 @@ ghost use Rattle.sk_plain.specs.Planned.{CanBecome, CanDo, IsBeside, IsNoProcess
 ghost use Rattle.sk_plain.specs.Seen.{CanChange, CanPerform, HasContent, IsWritable, beside_of, content_in, process_given, row_seen, written, text_in, seen_with};
 ghost use Rattle.sk_plain.specs.Forked.{CanFork, forked};
 
-use crate::becomes::{Doing, Filling, Forking};
-use crate::scratch::set_write;
-use crate::{Becomes, Beside, Errno, InputRef, Looks, Plan, ProcessChange, Row, Scratch, Writes};
+use crate::becomes::{Doing, Filling, Forking, Reading, read_there};
+use crate::{Becomes, Beside, Errno, InputRef, Looks, Plan, ProcessChange, Row, Writes};
 use sk_changes::Change;
 use sk_ids::{Entity, Name, ObjId, Pid, Text};
 use sk_objects::{Content, Kind, Value};
@@ -41,17 +40,9 @@ fn process_at<K: Look>(keeper: &K, pid: Pid) -> &Process
 fn read<K: Look>(keeper: &K, looks: &Looks, from: u64, count: u32, text: &mut Text)
     ensures { text.new ≡ text_in (K.look keeper.now) looks.now from count }
 {
-    let Looks::At(entity) = looks else {
-        text.set(&[]);
-        return;
-    };
-    let there = match entity {
-        Entity::Obj(object) => keeper.value(Entity::Obj(*object)),
-        _ => keeper.value(*entity),
-    };
-    match there {
-        Some(EntityState::Value(value)) => value.read_into(from, count as usize, text),
-        _ => text.set(&[]),
+    match looks {
+        Looks::At(entity) => read_there(keeper.value(*entity), from, count, text),
+        Looks::Nowhere | Looks::AtName(..) => text.set(&[]),
     }
 }
 
@@ -405,16 +396,14 @@ fn buffer_behind(process: &Process) -> Change
     Change::Put(process.buffer)
 }
 
-/// The buffer of a process is written at a place of a file, and then the process changes. Where nothing is noted of
-/// the process, nothing is kept that takes the first back; so it is at the next two.
-#[tactic(auto, using(crate::proofs::Others::apart_from))]
+/// The buffer of a process is written at a place of a file, and then the process changes.
+#[inline(never)]
 fn write_over<K: Keeper, C: Becoming>(
     keeper: &mut K,
     pid: Pid,
     entity: &Entity,
     offset: u32,
     by: &C,
-    change: &mut Change,
 ) -> Result<(), AllocError>
     requires process { CanBecomeThere (C.can by.now) (K.look keeper.old (Proc pid)) }
     requires can { CanBecome (K.look keeper.old entity.now)
@@ -428,14 +417,14 @@ fn write_over<K: Keeper, C: Becoming>(
         (Some (became (C.after by.now) (K.look keeper.old (Proc pid))))) }
     ensures err { OnErr result (keeper.new ≡ keeper.old) }
 {
-    let Some(process) = keeper.unnoted(pid) else {
-        return write_apart(keeper, pid, entity, &Writes::At(offset), by);
-    };
-    set_write(change, process, offset);
-    keeper.change_both(entity, change, pid, by)
+    match entity {
+        Entity::Obj(object) => keeper.write_buffer(object, offset, pid, by),
+        _ => write_apart(keeper, pid, entity, &Writes::At(offset), by),
+    }
 }
 
-/// It is put at the end of a pipe, and then the process changes.
+/// It is put at the end of a pipe, and then the process changes. Where nothing is noted of the process, nothing is kept
+/// that takes the first back; so it is at the next.
 #[tactic(auto, using(crate::proofs::Others::apart_from))]
 fn write_behind<K: Keeper, C: Becoming>(
     keeper: &mut K,
@@ -497,7 +486,6 @@ fn write_both<K: Keeper, C: Becoming>(
     entity: &Entity,
     writes: &Writes,
     by: &C,
-    change: &mut Change,
 ) -> Result<(), AllocError>
     requires process { CanBecomeThere (C.can by.now) (K.look keeper.old (Proc pid)) }
     requires can { CanBecome (K.look keeper.old entity.now)
@@ -513,7 +501,7 @@ fn write_both<K: Keeper, C: Becoming>(
     ensures err { OnErr result (keeper.new ≡ keeper.old) }
 {
     match writes {
-        Writes::At(offset) => write_over(keeper, pid, entity, *offset, by, change),
+        Writes::At(offset) => write_over(keeper, pid, entity, *offset, by),
         Writes::Put => write_behind(keeper, pid, entity, by),
         Writes::Take(count) => take_off(keeper, pid, entity, *count, by),
         Writes::Linked(object) => link_beside(keeper, pid, entity, object, by),
@@ -528,7 +516,6 @@ fn write_beside<K: Keeper, C: Becoming>(
     pid: Pid,
     beside: &Beside,
     by: &C,
-    change: &mut Change,
 ) -> Result<(), AllocError>
     requires process { CanBecomeThere (C.can by.now) (K.look keeper.old (Proc pid)) }
     requires can { CanDo (K.look keeper.old)
@@ -550,20 +537,21 @@ fn write_beside<K: Keeper, C: Becoming>(
 {
     match beside {
         Beside::Nothing => keeper.change_process(pid, by),
-        Beside::One(entity, writes) => write_both(keeper, pid, entity, writes, by, change),
+        Beside::One(entity, writes) => write_both(keeper, pid, entity, writes, by),
         Beside::Gone(entity) => write_gone(keeper, pid, entity, by),
     }
 }
 
-/// A row that fills the process's buffer.
-fn fill<K: Keeper>(
+/// A row that fills the process's buffer, from whatever there is. It stands by itself, so that the frequent one has no place
+/// of a text in its frame.
+#[inline(never)]
+fn fill_any<K: Keeper>(
     keeper: &mut K,
     pid: Pid,
     row: &Row,
     from: u64,
     count: u32,
     number: Option<u64>,
-    scratch: &mut Scratch,
 ) -> Result<(), AllocError>
     requires there { IsProcess (K.look keeper.old (Proc pid)) }
     requires fills { row.now.change ≡ ProcessChange.Fills from count number }
@@ -581,21 +569,57 @@ fn fill<K: Keeper>(
         keeper.old) }
     ensures err { OnErr result (keeper.new ≡ keeper.old) }
 {
-    let Scratch { text, change } = scratch;
-    read(keeper, &row.looks, from, count, text);
+    let mut text = Text::empty();
+    read(keeper, &row.looks, from, count, &mut text);
     let number = number.unwrap_or(text.len() as u64);
-    let filling = Filling { text, number };
-    write_beside(keeper, pid, &row.beside, &filling, change)
+    let filling = Filling {
+        text: &text,
+        number,
+    };
+    write_beside(keeper, pid, &row.beside, &filling)
+}
+
+/// The same. What an object or a copy has is read where it stands.
+fn fill<K: Keeper>(
+    keeper: &mut K,
+    pid: Pid,
+    row: &Row,
+    from: u64,
+    count: u32,
+    number: Option<u64>,
+) -> Result<(), AllocError>
+    requires there { IsProcess (K.look keeper.old (Proc pid)) }
+    requires fills { row.now.change ≡ ProcessChange.Fills from count number }
+    requires change { CanChange (process_in (K.look keeper.old (Proc pid))) row.now.change }
+    requires can { CanDo (K.look keeper.old)
+        (beside_of (process_in (K.look keeper.old (Proc pid))) row.now.beside) }
+    requires apart { IsBeside pid
+        (beside_of (process_in (K.look keeper.old (Proc pid))) row.now.beside) }
+    requires version { IsWritable row.now.beside }
+    ensures ok { OnOk result
+        (keeper.new
+        ≡ wrote_all K.wrote
+        (writes_of (K.look keeper.old) pid
+        (row_seen (K.look keeper.old) (process_in (K.look keeper.old (Proc pid))) row.now))
+        keeper.old) }
+    ensures err { OnErr result (keeper.new ≡ keeper.old) }
+{
+    match (&row.looks, &row.beside) {
+        (Looks::At(entity @ (Entity::Obj(_) | Entity::Copy(_))), Beside::Nothing) => {
+            let reading = Reading {
+                from,
+                count,
+                number,
+            };
+            keeper.change_by(pid, entity, &reading)
+        }
+        _ => fill_any(keeper, pid, row, from, count, number),
+    }
 }
 
 /// A row, as it was planned.
 #[inline(never)]
-fn act<K: Keeper>(
-    keeper: &mut K,
-    pid: Pid,
-    row: &Row,
-    scratch: &mut Scratch,
-) -> Result<(), AllocError>
+fn act<K: Keeper>(keeper: &mut K, pid: Pid, row: &Row) -> Result<(), AllocError>
     requires there { IsProcess (K.look keeper.old (Proc pid)) }
     requires change { CanChange (process_in (K.look keeper.old (Proc pid))) row.now.change }
     requires can { CanDo (K.look keeper.old)
@@ -612,14 +636,12 @@ fn act<K: Keeper>(
     ensures err { OnErr result (keeper.new ≡ keeper.old) }
 {
     match &row.change {
-        ProcessChange::Does(becomes) => {
-            write_beside(keeper, pid, &row.beside, becomes, &mut scratch.change)
-        }
+        ProcessChange::Does(becomes) => write_beside(keeper, pid, &row.beside, becomes),
         ProcessChange::Fills {
             from,
             count,
             number,
-        } => fill(keeper, pid, row, *from, *count, *number, scratch),
+        } => fill(keeper, pid, row, *from, *count, *number),
     }
 }
 
@@ -794,7 +816,7 @@ pub fn apply_plan<K: Keeper>(
             };
             bear(keeper, pid, &forking, *place)
         }
-        Plan::Acts(row) => act(keeper, pid, row, &mut Scratch::new()),
+        Plan::Acts(row) => act(keeper, pid, row),
     }
 }
 
@@ -924,6 +946,7 @@ fn perform_any<K: Keeper>(
 /// Performs what was planned for the next step of a process: its writes, and the text that it says,
 /// which rests on what the step rests on. Without memory nothing has changed.
 #[inline(always)]
+#[tactic(auto, using(crate::proofs::Plans::row_quiet))]
 pub fn perform_plan<K: Keeper>(
     keeper: &mut K,
     terminals: &mut Terminals,
@@ -949,50 +972,12 @@ pub fn perform_plan<K: Keeper>(
     match plan {
         Plan::Acts(
             Row {
-                change: ProcessChange::Does(becomes),
-                beside: Beside::Nothing,
-                ..
-            },
-        ) => keeper.change_process(pid, becomes),
-        _ => perform_any(keeper, terminals, scripts, pid, input, plan),
-    }
-}
-
-/// The same as `perform_plan`, with places that the caller keeps.
-#[inline(always)]
-#[tactic(auto, using(crate::proofs::Plans::row_quiet))]
-pub fn perform_with<K: Keeper>(
-    keeper: &mut K,
-    terminals: &mut Terminals,
-    scripts: &Scripts,
-    pid: Pid,
-    input: InputRef<'_>,
-    plan: &Plan,
-    scratch: &mut Scratch,
-) -> Result<(), AllocError>
-    requires { CanPerform (K.look keeper.old) scripts.now pid (input_in input) plan.now }
-    ensures writes { OnOk result
-        (keeper.new
-        ≡ wrote_all K.wrote
-        (writes_of (K.look keeper.old) pid
-        (seen_with (K.look keeper.old) scripts.now pid (input_in input.entry) plan.now))
-        keeper.old) }
-    ensures says { OnOk result
-        (terminals.new
-        ≡ texts_after terminals.old (K.step_tags keeper.old)
-        (said_by (seen_with (K.look keeper.old) scripts.now pid (input_in input.entry) plan.now))) }
-    ensures unwritten { OnErr result (keeper.new ≡ keeper.old) }
-    ensures unsaid { OnErr result (terminals.new ≡ terminals.old) }
-{
-    match plan {
-        Plan::Acts(
-            Row {
                 change: ProcessChange::Does(what),
                 beside: Beside::Nothing,
                 ..
             },
         ) => keeper.change_process(pid, what),
-        Plan::Acts(row) => act(keeper, pid, row, scratch),
+        Plan::Acts(row) => act(keeper, pid, row),
         Plan::Private | Plan::Speaks | Plan::Received(_) | Plan::Forks(..) => {
             perform_any(keeper, terminals, scripts, pid, input, plan)
         }

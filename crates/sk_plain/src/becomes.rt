@@ -1,13 +1,15 @@
 //! What becomes of a process at a step, told in a few words.
 ghost use Rattle.std.specs.Prelude.{◌≡◌, ◌+◌, ◌<◌, ◌^◌};
+ghost use Rattle.std.specs.Option.{option_copied};
 ghost use Rattle.sk_script.specs.Private.{given};
 ghost use Rattle.sk_plain.specs.Processes.{handling, returned};
+ghost use Rattle.sk_plain.specs.Seen.{text_at};
 
 use crate::Errno;
 use crate::step::instruction_at;
 use sk_ids::{ObjId, Pid, Text};
 use sk_script::{Process, Register, Scripts, Val};
-use sk_store::Becoming;
+use sk_store::{Becoming, BecomingBy, EntityState};
 
 /// What a process becomes.
 #[derive(Clone, Copy)]
@@ -108,6 +110,43 @@ impl<'a> Becoming for Filling<'a> {
     fn change(&self, process: &mut Process) {
         process.buffer.set(self.text.as_slice());
         give(process, Register::ANSWER, Val::Num(self.number as i64));
+    }
+}
+
+/// Reads bytes of what is there into a text, up to so many from a place on.
+#[inline(always)]
+pub(crate) fn read_there(there: Option<&EntityState>, from: u64, count: u32, text: &mut Text)
+    ensures { text.new ≡ text_at (option_copied there.entry) from count }
+{
+    match there {
+        Some(EntityState::Value(value)) => value.read_into(from, count as usize, text),
+        _ => text.set(&[]),
+    }
+}
+
+/// Bytes of what an entity has that come to a process's buffer, up to so many from a place on; it is answered a
+/// number, or how many there are.
+#[derive(Clone, Copy)]
+pub(crate) struct Reading {
+    pub(crate) from: u64,
+    pub(crate) count: u32,
+    pub(crate) number: Option<u64>,
+}
+
+impl BecomingBy for Reading {
+    ghost use Rattle.std.specs.Prelude.{◌+◌, ◌<◌, ◌^◌, []};
+    ghost use Rattle.sk_plain.specs.Rows.{filled};
+    ghost use Rattle.sk_plain.specs.Seen.{number_of, text_at};
+
+    ghost can = { λ r _ p. (p.place + 1 < 2 ^ 32) × (number_of r.number [] < 2 ^ 63) };
+
+    ghost after = { λ r there p. filled p (text_at there r.from r.count)
+        (number_of r.number (text_at there r.from r.count)) };
+
+    fn change(&self, there: Option<&EntityState>, process: &mut Process) {
+        read_there(there, self.from, self.count, &mut process.buffer);
+        let number = self.number.unwrap_or(process.buffer.len() as u64);
+        give(process, Register::ANSWER, Val::Num(number as i64));
     }
 }
 

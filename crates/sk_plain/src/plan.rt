@@ -91,6 +91,16 @@ pub enum Plan {
 }
 
 impl Plan {
+    /// Becomes that of the next instruction, which is private. Mostly it is so already, and nothing is cleared.
+    #[inline(always)]
+    pub(crate) fn set_private(&mut self)
+        ensures { self.new ≡ Plan.Private }
+    {
+        if !matches!(self, Plan::Private) {
+            *self = Plan::Private;
+        }
+    }
+
     /// The entities that the step reads, with this input.
     pub fn reads(&self, pid: Pid, input: InputRef<'_>) -> Entities
         ensures { result ≡ read_by pid (input_in input.entry) (looked (looks_of self.now)) }

@@ -1,10 +1,11 @@
 //! What the instructions with a reply of the server will do.
-ghost use Rattle.std.specs.Prelude.{◌≡◌, ◌+◌, ◌<◌, ◌^◌, [], Ok, Some, None, IfOk, IfSome, IsSome};
+ghost use Rattle.std.specs.Prelude.{◌≡◌, ◌+◌, ◌<◌, ◌^◌, [], true, Ok, Some, None, Option, IfOk, IsSome};
 ghost use Rattle.std.specs.Option.{option_copied};
 ghost use Rattle.sk_record.specs.Step.{Ask};
 ghost use Rattle.sk_ids.specs.declared.entity.Entity.TheVariants.{Copy};
 ghost use Rattle.sk_ids.specs.declared.text.TheConstants.{TEXT_LIMIT};
 ghost use Rattle.sk_script.specs.declared.instruction.Input.TheVariants as Input;
+ghost use Rattle.sk_script.specs.declared.instruction.Instruction.{Instruction};
 ghost use Rattle.sk_plain.specs.Replies.{from_copy, over_copy, good as good_row, fresh as fresh_row, stale as stale_row};
 ghost use Rattle.sk_plain.specs.Planned.{said_by};
 ghost use Rattle.sk_plain.specs.Seen.{PlansAfter, PlansRow, seen, told};
@@ -87,23 +88,27 @@ fn good<S: Look>(
     }
 }
 
-/// The row of a fetch of a copy that is there, which is the frequent one.
+/// Puts a fetch of a copy that is there into a plan, and answers whether there is one. It is the frequent row.
 #[inline(always)]
-fn fetch_found<S: Look>(
-    store: &S,
-    pid: Pid,
-    process: &Process,
-    instruction: Option<&Instruction>,
-) -> Option<Row>
-    requires { IsSome instruction → process.now.place + 1 < 2 ^ 32 }
-    ensures { IfSome result
-        (λ row. PlansRow (S.look store.now) process.now pid
-        (good_row pid process.now (option_copied instruction.entry)) (Ok row)) }
+fn puts_fetch<S: Look>(store: &S, pid: Pid, process: &Process, name: &Name, plan: &mut Plan) -> bool
+    requires { process.now.place + 1 < 2 ^ 32 }
+    ensures row { result ≡ true
+        → (i : Option Instruction)
+        → PlansAfter (S.look store.now) i Input.Good process.now [] pid
+        (Ask (Copy name.now) (from_copy pid process.now)) (Ok plan.new) }
+    ensures quiet { result ≡ true
+        → (i : Option Instruction)
+        → said_by (seen (S.look store.now) i Input.Good process.now plan.new) ≡ None }
 {
-    let Some(Instruction::Fetch(name)) = instruction else {
-        return None;
-    };
-    from_copy(store, pid, process, *name).ok()
+    match store.value(Entity::Copy(*name)) {
+        Some(EntityState::Value(Value::Copy(held))) => {
+            let content = held.content();
+            content.known();
+            *plan = Plan::Acts(looked(fetched(content.version()), Entity::Copy(*name)));
+            true
+        }
+        _ => false,
+    }
 }
 
 /// Any step whose cached copy is said to be good, put into a plan.
@@ -153,13 +158,12 @@ pub(crate) fn put_good<S: Look>(
         (seen (S.look store.now) (option_copied instruction.entry) Input.Good process.now
         plan) ≡ None) }
 {
-    match fetch_found(store, pid, process, instruction) {
-        Some(row) => {
-            *plan = Plan::Acts(row);
-            Ok(())
+    if let Some(Instruction::Fetch(name)) = instruction {
+        if puts_fetch(store, pid, process, name, plan) {
+            return Ok(());
         }
-        None => put_any_good(store, pid, process, instruction, plan),
     }
+    put_any_good(store, pid, process, instruction, plan)
 }
 
 /// A fetch of the server's content.

@@ -388,6 +388,7 @@ fn goes_alone<S: Look>(
 }
 
 /// The next instruction of a process, where it stands; `None` past the end of its script.
+#[inline(always)]
 pub(crate) fn instruction_at<'a>(scripts: &'a Scripts, process: &Process) -> Option<&'a Instruction>
     ensures value { option_copied result ≡ next_in scripts.now process.now }
     ensures small { IsSome result → process.now.place + 1 < 2 ^ 32 }
@@ -398,9 +399,8 @@ pub(crate) fn instruction_at<'a>(scripts: &'a Scripts, process: &Process) -> Opt
     }
 }
 
-/// Puts what the next step of a process will do with an input into a plan, which is `Private` before; or answers the
-/// first refusal that applies. A private step that takes no signal is answered with its instruction. This takes no
-/// memory.
+/// Puts what the next step of a process will do with an input into a plan; or answers the first refusal that applies. A
+/// private step that takes no signal is answered with its instruction. This takes no memory.
 #[inline(always)]
 pub fn plan_into<'a, S: Look>(
     store: &S,
@@ -409,7 +409,6 @@ pub fn plan_into<'a, S: Look>(
     input: InputRef<'_>,
     plan: &mut Plan,
 ) -> Result<Option<&'a Instruction>, Refusal>
-    requires { plan.old ≡ Plan.Private }
     ensures step { PlansStep (S.look store.now) scripts.now pid (input_in input.entry)
         (told result plan.new) }
     ensures quiet { IsReply (input_in input.entry)
@@ -428,6 +427,7 @@ pub fn plan_into<'a, S: Look>(
     }
     let instruction = instruction_at(scripts, process);
     if goes_alone(store, pid, process, instruction, input) {
+        plan.set_private();
         return Ok(instruction);
     }
     with_input(store, pid, process, instruction, input, plan)?;
@@ -443,7 +443,6 @@ fn plan_apart<S: Look>(
     input: InputRef<'_>,
     plan: &mut Plan,
 ) -> Result<(), Refusal>
-    requires { plan.old ≡ Plan.Private }
     ensures step { PlansStep (S.look store.now) scripts.now pid (input_in input.entry)
         (told result plan.new) }
     ensures quiet { IsReply (input_in input.entry)

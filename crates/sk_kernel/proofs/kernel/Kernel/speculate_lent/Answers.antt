@@ -1,5 +1,5 @@
 -- The plan is what the plain kernel does on the trace's record; the machine draws the next guess and takes it.
-use Rattle.sk_kernel.proofs.Names.{◌+◌, ◌<◌, ◌^◌, ◌≡◌, Some, None, [], ◌∷◌, ◌++◌, refl, sym, ◌∙◌, ap, subst, arith}
+use Rattle.sk_kernel.proofs.Names.{◌+◌, ◌<◌, ◌^◌, ◌≡◌, Some, None, [], ◌∷◌, ◌++◌, sym, ◌∙◌, ap, subst, arith}
 use Rattle.sk_kernel.proofs.Names.{rules, MergedTakes, next_of, machine_of, plain, EntryView, input_in, TooMany}
 use Rattle.sk_kernel.proofs.Names.{TraceFull, KernelView, guess_refused, next_guess, room, with_event, IsNew, the_view}
 use Rattle.sk_kernel.proofs.Names.{from_ok}
@@ -17,7 +17,7 @@ returns-in_err-plan_guess c =
     let refused = subst (λ (k : KernelView). guess_refused k n ≡ Some why) c.self.view_is
     (guess_misfit (the_view c.self.inside) c.self.inside.machine c.self.inside.trace.room c.self.invariant.0 n why c.in_err-plan_guess.ensures.0) in
     let told = c.in_err-plan_guess.ensures.1 in
-    search (rules, refused, told)
+    search (rules, refused, told, c.self.view_is)
 
 pub take_guess-requires-clause-tidy : goal.take_guess-requires-clause-tidy
 take_guess-requires-clause-tidy c = tidy (the_view c.self.inside) c.self.inside.machine c.self.invariant.0.stands
@@ -30,7 +30,7 @@ returns-then-is_full c =
     let n : EntryView = record { pid = c.args.pid; input = (input_in c.args.input); guess = Some (next_guess c.args.self.now) } in (
       subst (λ (k : KernelView). guess_refused k n ≡ Some TooMany) c.self.view_is
           (guess_too_many (the_view c.self.inside) c.self.inside.machine c.self.inside.trace.room c.self.invariant.0 n c.in_ok-plan_guess.ensures.1 (sym c.is_full.ensures ∙ c.if-is_full.true)),
-      refl,
+      c.self.view_is,
     )
 
 pub returns-then-room-lt2 : goal.returns-then-room-lt2
@@ -38,8 +38,8 @@ returns-then-room-lt2 c =
     let n : EntryView = record { pid = c.args.pid; input = (input_in c.args.input); guess = Some (next_guess c.args.self.now) } in (
       subst (λ (k : KernelView). guess_refused k n ≡ Some TraceFull) c.self.view_is
           (guess_without_room (the_view c.self.inside) c.self.inside.machine c.self.inside.trace.room c.self.invariant.0 n c.in_ok-plan_guess.ensures.1 (sym c.is_full.ensures ∙ c.if-is_full.false)
-          c.room.result (c.room.ensures ∙ ap room (sym c.self.view_is)) c.if-room-lt2.true),
-      refl,
+          c.room-room.result (c.room-room.ensures ∙ ap room (sym c.self.view_is)) c.if-room-lt2.true),
+      c.self.view_is,
     )
 
 pub returns-then-is_err : goal.returns-then-is_err
@@ -47,7 +47,7 @@ returns-then-is_err c =
     let n : EntryView = record { pid = c.args.pid; input = (input_in c.args.input); guess = Some (next_guess c.args.self.now) } in (
       subst (λ (k : KernelView). guess_refused k n ≡ None) c.self.view_is
           (guess_free (the_view c.self.inside) c.self.inside.machine c.self.inside.trace.room c.self.invariant.0 n c.in_ok-plan_guess.ensures.1 (sym c.is_full.ensures ∙ c.if-is_full.false)
-          c.room.result (c.room.ensures ∙ ap room (sym c.self.view_is)) c.if-room-lt2.false),
+          c.room-room.result (c.room-room.ensures ∙ ap room (sym c.self.view_is)) c.if-room-lt2.false),
       (λ i. record { number = c.self.inside.machine.guesses.kernel; scripts = c.self.inside.opening.start.scripts; start = c.self.inside.opening.start.state; limit = c.self.inside.opening.limit; earlier = c.self.inside.machine.guesses.earlier; trace = c.reserve.ensures.events i })
           ∙ c.self.view_is,
     )
@@ -57,7 +57,7 @@ returns-in-Err c =
     let n : EntryView = record { pid = c.args.pid; input = (input_in c.args.input); guess = Some (next_guess c.args.self.now) } in (
       subst (λ (k : KernelView). guess_refused k n ≡ None) c.self.view_is
           (guess_free (the_view c.self.inside) c.self.inside.machine c.self.inside.trace.room c.self.invariant.0 n c.in_ok-plan_guess.ensures.1 (sym c.is_full.ensures ∙ c.if-is_full.false)
-          c.room.result (c.room.ensures ∙ ap room (sym c.self.view_is)) c.if-room-lt2.false),
+          c.room-room.result (c.room-room.ensures ∙ ap room (sym c.self.view_is)) c.if-room-lt2.false),
       (λ i. record { number = c.self.inside.machine.guesses.kernel; scripts = c.self.inside.opening.start.scripts; start = c.self.inside.opening.start.state; limit = c.self.inside.opening.limit; earlier = c.self.inside.machine.guesses.earlier; trace = c.reserve.ensures.events i })
           ∙ c.self.view_is,
     )
@@ -68,7 +68,7 @@ returns-in_default c =
     let same = c.in_default.ensures.err in (
       subst (λ (k : KernelView). guess_refused k n ≡ None) c.self.view_is
           (guess_free (the_view c.self.inside) c.self.inside.machine c.self.inside.trace.room c.self.invariant.0 n c.in_ok-plan_guess.ensures.1 (sym c.is_full.ensures ∙ c.if-is_full.false)
-          c.room.result (c.room.ensures ∙ ap room (sym c.self.view_is)) c.if-room-lt2.false),
+          c.room-room.result (c.room-room.ensures ∙ ap room (sym c.self.view_is)) c.if-room-lt2.false),
       (λ i. record { number = (same i).guesses.kernel; scripts = c.self.inside.opening.start.scripts; start = c.self.inside.opening.start.state; limit = c.self.inside.opening.limit; earlier = (same i).guesses.earlier; trace = c.reserve.ensures.events i })
           ∙ c.self.view_is,
     )
@@ -104,7 +104,7 @@ returns c =
     (guess_new (the_view c.self.inside) c.self.inside.machine c.self.inside.trace.room c.self.invariant.0 c.take_guess.new.self c.args.pid (input_in c.args.input) takes) in (
       subst (λ (k : KernelView). guess_refused k n ≡ None) c.self.view_is
           (guess_free (the_view c.self.inside) c.self.inside.machine c.self.inside.trace.room c.self.invariant.0 n c.in_ok-plan_guess.ensures.1 (sym c.is_full.ensures ∙ c.if-is_full.false)
-          c.room.result (c.room.ensures ∙ ap room (sym c.self.view_is)) c.if-room-lt2.false),
+          c.room-room.result (c.room-room.ensures ∙ ap room (sym c.self.view_is)) c.if-room-lt2.false),
       c.in-Ok-take_guess.ensures.token ∙ (λ i. record { kernel = (ap (λ (k : KernelView). k.number) c.self.view_is) i; id = next i }),
       left,
       subst (λ (k : KernelView). IsNew c.args.self.now k) (sym left) fresh,
@@ -112,6 +112,6 @@ returns c =
 
 pub overflow_add-open_count : goal.overflow_add-open_count
 overflow_add-open_count c =
-    let few = few_open (the_view c.self.inside) c.self.inside.machine c.self.invariant.0.stands c.room.result (c.room.ensures ∙ ap room (sym c.self.view_is)) (omega (arith, c.if-room-lt2.false)) in
+    let few = few_open (the_view c.self.inside) c.self.inside.machine c.self.invariant.0.stands c.room-room.result (c.room-room.ensures ∙ ap room (sym c.self.view_is)) (omega (arith, c.if-room-lt2.false)) in
     let below : c.open_count.result + 2 < 2 ^ 33 = omega (arith, few, c.open_count.ensures, c.limit-limit.ensures, c.limit-limit.type_inv) in
     search (rules, below)

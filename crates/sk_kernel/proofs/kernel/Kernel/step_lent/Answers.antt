@@ -1,5 +1,5 @@
 -- The plan is what the plain kernel does on the trace's record; the machine takes it, and stands for the trace with one event more.
-use Rattle.sk_kernel.proofs.Names.{◌+◌, ◌<◌, ◌^◌, ◌≡◌, Some, None, ◌∷◌, ◌++◌, [], refl, sym, ◌∙◌, ap, subst, arith}
+use Rattle.sk_kernel.proofs.Names.{◌+◌, ◌<◌, ◌^◌, ◌≡◌, Some, None, ◌∷◌, ◌++◌, [], sym, ◌∙◌, ap, subst, arith}
 use Rattle.sk_kernel.proofs.Names.{rules, MergedTakes, machine_of, ScriptMap, Input, SlotMap, look_at, plain, PlansStep}
 use Rattle.sk_kernel.proofs.Names.{Plan, Refusal, EntryView, input_in, NoRoom, TraceFull, KernelView, step_refused}
 use Rattle.sk_kernel.proofs.Names.{room, with_event, the_view, from_ok, from_err}
@@ -20,16 +20,16 @@ returns-in-Err c =
     let n : EntryView = record { pid = c.args.pid; input = (input_in c.args.input); guess = None } in
     let why = c.in-Err.why in
     let refused = subst (λ (k : KernelView). step_refused k n ≡ Some why) c.self.view_is
-    (step_misfits (the_view c.self.inside) c.self.inside.machine c.self.inside.trace.room c.self.invariant.0 n why (by_scripts c.self.inside.machine.slots c.args.pid (input_in c.args.input) (Err why) c.scripts.result.now c.self.inside.opening.start.scripts c.scripts.ensures c.in-Err.ensures.step).plans) in
-    search (rules, refused)
+    (step_misfits (the_view c.self.inside) c.self.inside.machine c.self.inside.trace.room c.self.invariant.0 n why (by_scripts c.self.inside.machine.slots c.args.pid (input_in c.args.input) (Err why) c.scripts-scripts.result.now c.self.inside.opening.start.scripts c.scripts-scripts.ensures c.in-Err.ensures.step).plans) in
+    search (rules, refused, c.self.view_is)
 
 pub returns-then-is_crowded : goal.returns-then-is_crowded
 returns-then-is_crowded c =
     let n : EntryView = record { pid = c.args.pid; input = (input_in c.args.input); guess = None } in
     let none = crowded_by (the_view c.self.inside) c.self.inside.machine c.self.inside.trace.room c.self.invariant.0 n c.plan_into.new.plan c.is_crowded.result c.is_crowded.ensures c.if-is_crowded.true in (
       subst (λ (k : KernelView). step_refused k n ≡ Some NoRoom) c.self.view_is
-          (step_crowded (the_view c.self.inside) c.self.inside.machine c.self.inside.trace.room c.self.invariant.0 n _ (by_scripts c.self.inside.machine.slots c.args.pid (input_in c.args.input) (Ok c.plan_into.new.plan) c.scripts.result.now c.self.inside.opening.start.scripts c.scripts.ensures c.in-Ok.ensures.step).plans none),
-      refl,
+          (step_crowded (the_view c.self.inside) c.self.inside.machine c.self.inside.trace.room c.self.invariant.0 n _ (by_scripts c.self.inside.machine.slots c.args.pid (input_in c.args.input) (Ok c.plan_into.new.plan) c.scripts-scripts.result.now c.self.inside.opening.start.scripts c.scripts-scripts.ensures c.in-Ok.ensures.step).plans none),
+      c.self.view_is,
     )
 
 pub returns-then-room-lt1 : goal.returns-then-room-lt1
@@ -37,8 +37,8 @@ returns-then-room-lt1 c =
     let n : EntryView = record { pid = c.args.pid; input = (input_in c.args.input); guess = None } in
     let free = roomy (the_view c.self.inside) c.self.inside.machine c.self.inside.trace.room c.self.invariant.0 n c.plan_into.new.plan c.is_crowded.result c.is_crowded.ensures c.if-is_crowded.false in (
       subst (λ (k : KernelView). step_refused k n ≡ Some TraceFull) c.self.view_is
-          (step_without_room (the_view c.self.inside) c.self.inside.machine c.self.inside.trace.room c.self.invariant.0 n _ c.room-room.result (by_scripts c.self.inside.machine.slots c.args.pid (input_in c.args.input) (Ok c.plan_into.new.plan) c.scripts.result.now c.self.inside.opening.start.scripts c.scripts.ensures c.in-Ok.ensures.step).plans free (c.room-room.ensures ∙ ap room (sym c.self.view_is)) c.if-room-lt1.true),
-      refl,
+          (step_without_room (the_view c.self.inside) c.self.inside.machine c.self.inside.trace.room c.self.invariant.0 n _ c.room-room.result (by_scripts c.self.inside.machine.slots c.args.pid (input_in c.args.input) (Ok c.plan_into.new.plan) c.scripts-scripts.result.now c.self.inside.opening.start.scripts c.scripts-scripts.ensures c.in-Ok.ensures.step).plans free (c.room-room.ensures ∙ ap room (sym c.self.view_is)) c.if-room-lt1.true),
+      c.self.view_is,
     )
 
 pub returns-then-is_err : goal.returns-then-is_err
@@ -46,7 +46,7 @@ returns-then-is_err c =
     let n : EntryView = record { pid = c.args.pid; input = (input_in c.args.input); guess = None } in
     let free = roomy (the_view c.self.inside) c.self.inside.machine c.self.inside.trace.room c.self.invariant.0 n c.plan_into.new.plan c.is_crowded.result c.is_crowded.ensures c.if-is_crowded.false in (
       subst (λ (k : KernelView). step_refused k n ≡ None) c.self.view_is
-          (step_free (the_view c.self.inside) c.self.inside.machine c.self.inside.trace.room c.self.invariant.0 n _ c.room-room.result (by_scripts c.self.inside.machine.slots c.args.pid (input_in c.args.input) (Ok c.plan_into.new.plan) c.scripts.result.now c.self.inside.opening.start.scripts c.scripts.ensures c.in-Ok.ensures.step).plans free (c.room-room.ensures ∙ ap room (sym c.self.view_is)) c.if-room-lt1.false),
+          (step_free (the_view c.self.inside) c.self.inside.machine c.self.inside.trace.room c.self.invariant.0 n _ c.room-room.result (by_scripts c.self.inside.machine.slots c.args.pid (input_in c.args.input) (Ok c.plan_into.new.plan) c.scripts-scripts.result.now c.self.inside.opening.start.scripts c.scripts-scripts.ensures c.in-Ok.ensures.step).plans free (c.room-room.ensures ∙ ap room (sym c.self.view_is)) c.if-room-lt1.false),
       (λ i. record { number = c.self.inside.machine.guesses.kernel; scripts = c.self.inside.opening.start.scripts; start = c.self.inside.opening.start.state; limit = c.self.inside.opening.limit; earlier = c.self.inside.machine.guesses.earlier; trace = c.reserve.ensures.events i })
           ∙ c.self.view_is,
     )
@@ -56,7 +56,7 @@ returns-in-Err-keep c =
     let n : EntryView = record { pid = c.args.pid; input = (input_in c.args.input); guess = None } in
     let free = roomy (the_view c.self.inside) c.self.inside.machine c.self.inside.trace.room c.self.invariant.0 n c.plan_into.new.plan c.is_crowded.result c.is_crowded.ensures c.if-is_crowded.false in (
       subst (λ (k : KernelView). step_refused k n ≡ None) c.self.view_is
-          (step_free (the_view c.self.inside) c.self.inside.machine c.self.inside.trace.room c.self.invariant.0 n _ c.room-room.result (by_scripts c.self.inside.machine.slots c.args.pid (input_in c.args.input) (Ok c.plan_into.new.plan) c.scripts.result.now c.self.inside.opening.start.scripts c.scripts.ensures c.in-Ok.ensures.step).plans free (c.room-room.ensures ∙ ap room (sym c.self.view_is)) c.if-room-lt1.false),
+          (step_free (the_view c.self.inside) c.self.inside.machine c.self.inside.trace.room c.self.invariant.0 n _ c.room-room.result (by_scripts c.self.inside.machine.slots c.args.pid (input_in c.args.input) (Ok c.plan_into.new.plan) c.scripts-scripts.result.now c.self.inside.opening.start.scripts c.scripts-scripts.ensures c.in-Ok.ensures.step).plans free (c.room-room.ensures ∙ ap room (sym c.self.view_is)) c.if-room-lt1.false),
       (λ i. record { number = c.self.inside.machine.guesses.kernel; scripts = c.self.inside.opening.start.scripts; start = c.self.inside.opening.start.state; limit = c.self.inside.opening.limit; earlier = c.self.inside.machine.guesses.earlier; trace = c.reserve.ensures.events i })
           ∙ c.self.view_is,
     )
@@ -73,7 +73,7 @@ returns-then-is_err-2 c =
     let free = roomy (the_view c.self.inside) c.self.inside.machine c.self.inside.trace.room c.self.invariant.0 n c.plan_into.new.plan c.is_crowded.result c.is_crowded.ensures c.if-is_crowded.false in
     let same = from_err c.take_found.result c.if-is_err-2.ensures.value c.take_found.ensures.err in (
       subst (λ (k : KernelView). step_refused k n ≡ None) c.self.view_is
-          (step_free (the_view c.self.inside) c.self.inside.machine c.self.inside.trace.room c.self.invariant.0 n _ c.room-room.result (by_scripts c.self.inside.machine.slots c.args.pid (input_in c.args.input) (Ok c.plan_into.new.plan) c.scripts.result.now c.self.inside.opening.start.scripts c.scripts.ensures c.in-Ok.ensures.step).plans free (c.room-room.ensures ∙ ap room (sym c.self.view_is)) c.if-room-lt1.false),
+          (step_free (the_view c.self.inside) c.self.inside.machine c.self.inside.trace.room c.self.invariant.0 n _ c.room-room.result (by_scripts c.self.inside.machine.slots c.args.pid (input_in c.args.input) (Ok c.plan_into.new.plan) c.scripts-scripts.result.now c.self.inside.opening.start.scripts c.scripts-scripts.ensures c.in-Ok.ensures.step).plans free (c.room-room.ensures ∙ ap room (sym c.self.view_is)) c.if-room-lt1.false),
       (λ i. record { number = (same i).guesses.kernel; scripts = c.self.inside.opening.start.scripts; start = c.self.inside.opening.start.state; limit = c.self.inside.opening.limit; earlier = (same i).guesses.earlier; trace = c.reserve.ensures.events i })
           ∙ c.self.view_is,
     )
@@ -81,7 +81,7 @@ returns-then-is_err-2 c =
 pub invariant_of-self-2 : goal.invariant_of-self-2
 invariant_of-self-2 c =
     let n : EntryView = record { pid = c.args.pid; input = (input_in c.args.input); guess = None } in
-    let takes = subst (λ s. MergedTakes (plain s) (machine_of c.self.inside.machine) n (machine_of c.take_found.new.self)) c.scripts-2.ensures (from_ok c.take_found.result c.if-is_err-2.ensures.value c.take_found.ensures.ok) in
+    let takes = subst (λ s. MergedTakes (plain s) (machine_of c.self.inside.machine) n (machine_of c.take_found.new.self)) c.scripts-scripts.ensures (from_ok c.take_found.result c.if-is_err-2.ensures.value c.take_found.ensures.ok) in
     let opens = no_more_opens c.self.inside.opening.start.scripts c.self.inside.machine c.take_found.new.self c.args.pid (input_in c.args.input) takes in
     let reserved = from_ok c.reserve.result c.if-is_err.ensures.value c.reserve.ensures.room in
     let pushed = c.push.ensures.room in
@@ -99,7 +99,7 @@ returns c =
     let free = roomy (the_view c.self.inside) c.self.inside.machine c.self.inside.trace.room c.self.invariant.0 n c.plan_into.new.plan c.is_crowded.result c.is_crowded.ensures c.if-is_crowded.false in
     let more = c.push.ensures.events ∙ (λ i. c.reserve.ensures.events i ++ events.Step c.args.pid (c.in-Ok-keep.ensures.ok i) ∷ []) in (
       subst (λ (k : KernelView). step_refused k n ≡ None) c.self.view_is
-          (step_free (the_view c.self.inside) c.self.inside.machine c.self.inside.trace.room c.self.invariant.0 n _ c.room-room.result (by_scripts c.self.inside.machine.slots c.args.pid (input_in c.args.input) (Ok c.plan_into.new.plan) c.scripts.result.now c.self.inside.opening.start.scripts c.scripts.ensures c.in-Ok.ensures.step).plans free (c.room-room.ensures ∙ ap room (sym c.self.view_is)) c.if-room-lt1.false),
+          (step_free (the_view c.self.inside) c.self.inside.machine c.self.inside.trace.room c.self.invariant.0 n _ c.room-room.result (by_scripts c.self.inside.machine.slots c.args.pid (input_in c.args.input) (Ok c.plan_into.new.plan) c.scripts-scripts.result.now c.self.inside.opening.start.scripts c.scripts-scripts.ensures c.in-Ok.ensures.step).plans free (c.room-room.ensures ∙ ap room (sym c.self.view_is)) c.if-room-lt1.false),
       (λ i. record { number = (c.take_found.ensures.guesses i).kernel; scripts = c.self.inside.opening.start.scripts; start = c.self.inside.opening.start.state; limit = c.self.inside.opening.limit; earlier = (c.take_found.ensures.guesses i).earlier; trace = more i })
           ∙ ap (λ (k : KernelView). with_event k (events.Step c.args.pid (input_in c.args.input))) c.self.view_is,
     )

@@ -45,6 +45,16 @@ none_test false why h = refl
 pub asked_more : (xs ys : List PendingRequest) → asked_count (xs ++ ys) ≡ asked_count xs + asked_count ys
 asked_more xs ys = ap length (filter-append is_asked xs ys) ∙ length-append (filter is_asked xs) (filter is_asked ys)
 
+-- ---- where no guess is undecided
+
+none_kept : (p : ℕ → Bool) (ids : List ℕ) → length ids ≡ 0 → [] ≡ filter p ids
+none_kept p [] none = refl
+none_kept p (id ∷ ids) none = absurd (omega (arith, none))
+
+-- nothing is rested on
+pub none_rested : (k : KernelView) (pid : ℕ) (name : List ℕ) → length (undecided_at k) ≡ 0 → [] ≡ rests_of k pid name
+none_rested k pid name none = none_kept (λ g. has g (tags_at k (Proc pid)) || has g (tags_at k (CopyOf name))) (undecided_at k) none
+
 -- ---- places of the trace
 
 module _ (d : DeskView) (free : ℕ) (is : free ≡ room d.kernel - asked_count (pending d)) where

@@ -8,8 +8,7 @@ pub use Rattle.std.proofs.lemmas.Bool.{cases_Bool, or_right, lt-ltb, or_parts, l
 pub use Rattle.std.proofs.lemmas.Bool.{false_from_ne_true, eq-eqb, cases_eq, or_from, true_from_ne_false, ltb-false}
 pub use Rattle.std.proofs.lemmas.Bool.{true≢false, or_cases, or_left, le-leb, le-ltb, not-true}
 pub use Rattle.std.proofs.lemmas.Fn.{filter_same}
-pub use Rattle.std.proofs.lemmas.Iterator.Consumers.{YieldsList-from_deque, YieldsList-from_filter}
-pub use Rattle.std.proofs.lemmas.Iterator.Consumers.{count_from_yields_List}
+pub use Rattle.std.proofs.lemmas.Iterator.Consumers.{YieldsList-from_deque}
 pub use Rattle.std.proofs.lemmas.Iterator.Search.{any_from_yields_List}
 pub use Rattle.std.proofs.lemmas.List.{drop_more, drop_all, append_assoc, length-map, map-append, take-append-drop}
 pub use Rattle.std.proofs.lemmas.List.{length-append, length-replicate, take_more, map-set, append-nil, set-get_or}
@@ -20,7 +19,7 @@ pub use Rattle.std.proofs.lemmas.List.Elements.{Contains-append_cases, All-more,
 pub use Rattle.std.proofs.lemmas.List.Elements.{Contains-append_right, filter-append, All-push}
 pub use Rattle.std.proofs.lemmas.List.Folds.{list_any-append}
 pub use Rattle.std.proofs.lemmas.List.Kept.{IsStrictlySortedBy-filter}
-pub use Rattle.std.proofs.lemmas.List.Sums.{fold-append}
+pub use Rattle.std.proofs.lemmas.List.Sums.{fold-append, length-filter, count_by-le-length}
 pub use Rattle.std.proofs.lemmas.Option.{slice_get-map}
 pub use Rattle.std.proofs.lemmas.Slice.Eq.{bytes_eq-Decides}
 pub use Rattle.std.specs.Cmp.{both_ways, IsTotalOrder}

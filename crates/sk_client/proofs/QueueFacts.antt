@@ -5,6 +5,8 @@ use Rattle.sk_client.proofs.Names.{list_any, take-append-drop, length-append, le
 use Rattle.sk_client.proofs.Names.{set-get_or, drop-append-le, drop-map, drop_more, take_more, drop-set-lt, get_or-map}
 use Rattle.sk_client.proofs.Names.{All-push, All-head, All-tail, PendingRequest, Queued, requests_in, IsWhole, IsQueue}
 use Rattle.std.proofs.Common.{All}
+use Rattle.sk_client.proofs.Names.{is_asked, asked_count, map-append, ◌&&◌, ◌||◌, length-filter, count_by-le-length}
+use Rattle.sk_client.proofs.DeskFacts.{asked_more}
 use Rattle.sk_client.proofs.Each.{any_map}
 
 -- ---- all of them
@@ -15,24 +17,35 @@ whole n qs = take-append-drop n (requests_in qs)
 pub any_of : (p : PendingRequest → Bool) (n : ℕ) (qs : List Queued) → list_any (λ q. p q.request) qs ≡ list_any p (take n (requests_in qs) ++ drop n (requests_in qs))
 any_of p n qs = sym (any_map p (λ q. q.request) qs) ∙ ap (list_any p) (sym (whole n qs))
 
-picked : (p : PendingRequest → Bool) (qs : List Queued) → filter p (requests_in qs) ≡ requests_in (filter (λ q. p q.request) qs)
-picked p [] = refl
-picked p (q ∷ qs) =
-    elim (p q.request) as (λ b. cond b (q.request ∷ filter p (requests_in qs)) (filter p (requests_in qs)) ≡ requests_in (cond b (q ∷ filter (λ q. p q.request) qs) (filter (λ q. p q.request) qs))) [
-      | true ↦ ap (λ rs. q.request ∷ rs) (picked p qs)
-      | false ↦ picked p qs
-    ]
+-- for so many of them a process waits
+pub count_of : (k n : ℕ) (qs : List Queued) → k ≡ asked_count (requests_in qs) → k ≡ asked_count (take n (requests_in qs) ++ drop n (requests_in qs))
+count_of k n qs is = is ∙ ap asked_count (sym (whole n qs))
 
-pub count_of : (p : PendingRequest → Bool) (n : ℕ) (qs : List Queued) → length (filter (λ q. p q.request) qs) ≡ length (filter p (take n (requests_in qs) ++ drop n (requests_in qs)))
-count_of p n qs = sym (length-map (filter (λ q. p q.request) qs) (λ q. q.request)) ∙ ap length (sym (picked p qs)) ∙ ap (λ rs. length (filter p rs)) (sym (whole n qs))
+-- and where that are none, none of them does
+none_asks : (p : PendingRequest → Bool) (qs : List PendingRequest) → asked_count qs ≡ 0 → list_any (λ q. is_asked q && p q) qs ≡ false
+none_asks p [] none = refl
+none_asks p (q ∷ qs) none =
+    elim (is_asked q) as (λ b. length (cond b (q ∷ filter is_asked qs) (filter is_asked qs)) ≡ 0 → ((b && p q) || list_any (λ r. is_asked r && p r) qs) ≡ false) [
+      | true ↦ λ h. absurd (omega (arith, h))
+      | false ↦ λ h. none_asks p qs h
+    ] none
+
+pub none_of : (p : PendingRequest → Bool) (k n : ℕ) (qs : List Queued) → k ≡ asked_count (requests_in qs) → k ≡ 0
+    → false ≡ list_any (λ q. is_asked q && p q) (take n (requests_in qs) ++ drop n (requests_in qs))
+none_of p k n qs is none = sym (none_asks p (take n (requests_in qs) ++ drop n (requests_in qs)) (sym (count_of k n qs is) ∙ none))
+
+-- no more than there are
+pub few : (qs : List PendingRequest) → asked_count qs ≤ length qs
+few qs = (let same = length-filter is_asked qs in let le = count_by-le-length is_asked qs in omega arith)
 
 -- ---- one more
 
-module _ (n : ℕ) (qs : List Queued) (q : Queued) (within : n ≤ length qs) where
-  pub more_is : All IsWhole (drop n qs) → IsWhole q → IsQueue n (qs ++ q ∷ [])
-  more_is all here = record {
-    within = (let longer = length-append qs (q ∷ []) in omega arith);
-    whole = subst (All IsWhole) (sym (drop-append-le n qs (q ∷ []) within)) (All-push IsWhole (drop n qs) q all here);
+module _ (n k : ℕ) (qs : List Queued) (q : Queued) (h : IsQueue n k qs) where
+  pub more_is : IsWhole q → IsQueue n (k + asked_count (q.request ∷ [])) (qs ++ q ∷ [])
+  more_is here = record {
+    within = (let longer = length-append qs (q ∷ []) in let le = h.within in omega arith);
+    whole = subst (All IsWhole) (sym (drop-append-le n qs (q ∷ []) h.within)) (All-push IsWhole (drop n qs) q h.whole here);
+    counted = ap (λ j. j + asked_count (q.request ∷ [])) h.counted ∙ sym (ap asked_count (map-append (λ (x : Queued). x.request) qs (q ∷ [])) ∙ asked_more (requests_in qs) (q.request ∷ []));
   }
 
 -- ---- one taken out
@@ -47,10 +60,15 @@ module _ (n : ℕ) (q : Queued) (qs : List Queued) (some : 0 < n) where
   pub out_waiting : drop n (requests_in (q ∷ qs)) ≡ drop (n - 1) (requests_in qs)
   out_waiting = ap (λ k. drop k (requests_in (q ∷ qs))) on
 
-  pub out_is : IsQueue n (q ∷ qs) → IsQueue (n - 1) qs
-  out_is h = record {
+  -- one less where its process waits
+  pub one_counted : (k : ℕ) → IsQueue n k (q ∷ qs) → k ≡ asked_count (q.request ∷ []) + asked_count (requests_in qs)
+  one_counted k h = h.counted ∙ asked_more (q.request ∷ []) (requests_in qs)
+
+  pub out_is : (k : ℕ) → IsQueue n k (q ∷ qs) → IsQueue (n - 1) (k - asked_count (q.request ∷ [])) qs
+  out_is k h = record {
     within = (let le = h.within in omega arith);
     whole = subst (All IsWhole) (ap (λ k. drop k (q ∷ qs)) on) h.whole;
+    counted = (let sum = one_counted k h in omega arith);
   }
 
 -- the oldest that was taken
@@ -95,8 +113,9 @@ module _ (n : ℕ) (qs : List Queued) (d : Queued) (lt : n < length qs) (is : d 
     pub waiting_fewer : drop (n + 1) (requests_in after) ≡ drop 1 (drop n (requests_in qs))
     waiting_fewer = ap (drop (n + 1)) same_requests ∙ ap (drop 1) (sym waits)
 
-    pub taken_is : All IsWhole (drop n qs) → IsQueue (n + 1) after
-    taken_is all = record {
+    pub taken_is : (k : ℕ) → IsQueue n k qs → IsQueue (n + 1) k after
+    taken_is k h = record {
       within = (let long = length-set qs n (record d { again = again }) in omega arith);
-      whole = subst (All IsWhole) (sym (drop-set-lt (n + 1) qs n (record d { again = again }) (omega arith))) (All-tail IsWhole d (drop (n + 1) qs) (subst (All IsWhole) here all));
+      whole = subst (All IsWhole) (sym (drop-set-lt (n + 1) qs n (record d { again = again }) (omega arith))) (All-tail IsWhole d (drop (n + 1) qs) (subst (All IsWhole) here h.whole));
+      counted = h.counted ∙ ap asked_count (sym same_requests);
     }

@@ -2,6 +2,7 @@
 use Rattle.std.specs.Prelude.{◌≡◌, ℕ, ◌≤◌, length, map, drop, List, [], ◌∷◌, All, Option, None, Some}
 use Rattle.std.specs.Borrow.{Bor}
 use Rattle.sk_client.specs.Pending.{PendingRequest}
+use Rattle.sk_client.specs.Desk.{asked_count}
 use Rattle.sk_client.specs.declared.requests.Queued.{Queued}
 
 -- those that were taken and those that wait to be, the oldest first, and for how many requests there is room
@@ -17,10 +18,11 @@ requests_in qs = map (λ q. q.request) qs
 abbrev pub IsWhole : Queued → Type 0
 IsWhole q = q.again ≡ Some q.request.rests
 
--- of so many that were taken, which are the first ones
-pub record IsQueue (taken : ℕ) (qs : List Queued) : Type 0 where
+-- of so many that were taken, which are the first ones, and for so many of which a process waits
+pub record IsQueue (taken asked : ℕ) (qs : List Queued) : Type 0 where
   pub within : taken ≤ length qs
   pub whole : All IsWhole (drop taken qs)
+  pub counted : asked ≡ asked_count (requests_in qs)
 
 -- the oldest of some requests, where there is one
 abbrev pub IsOldest : Option (Bor PendingRequest) → List PendingRequest → Type 0

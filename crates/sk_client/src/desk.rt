@@ -139,9 +139,12 @@ fn kept_for(kept: &[KeptAnswer], pid: Pid) -> Option<&Input>
 fn brought(kept: &[KeptAnswer], pid: Pid, takes_kept: bool) -> InputRef<'_>
     ensures { input_in result ≡ brought takes_kept (kept_for pid kept.now) }
 {
+    if !takes_kept {
+        return InputRef::None;
+    }
     match kept_for(kept, pid) {
-        Some(input) if takes_kept => InputRef::of(input),
-        _ => InputRef::None,
+        Some(input) => InputRef::of(input),
+        None => InputRef::None,
     }
 }
 
@@ -258,6 +261,9 @@ fn forget(kept: &mut Vec<KeptAnswer>, pid: Pid)
     ensures fewer { length kept.new.items ≤ length kept.old.items }
     ensures room { vec_capacity kept.new ≡ vec_capacity kept.old }
 {
+    if kept.is_empty() {
+        return;
+    }
     kept.retain(|one: &KeptAnswer| one.process != pid);
 }
 
@@ -366,6 +372,7 @@ impl Desk {
     }
 
     /// The wish of a turn for what the process does next.
+    #[inline(always)]
     fn wish_next(&self, pid: Pid, next: Next) -> Result<Wish, Refusal>
         ensures { wished_at self.now pid result ≡ rule_next self.now pid next }
     {
@@ -389,6 +396,7 @@ impl Desk {
     }
 
     /// The wish of a turn where this is what the process does next, or why it does nothing.
+    #[inline(always)]
     fn wish_behind(&self, pid: Pid, next: Result<Next, Refusal>) -> Result<Wish, Refusal>
         ensures { wished_at self.now pid result ≡ rule_of self.now pid next }
     {
@@ -400,6 +408,7 @@ impl Desk {
     }
 
     /// The wish of a turn of a process, by the first rule that applies.
+    #[inline(always)]
     fn wish(&self, pid: Pid) -> Result<Wish, Refusal>
         ensures { wished_at self.now pid result ≡ rule self.now pid }
     {
@@ -431,6 +440,7 @@ impl Desk {
     /// Takes a turn of a process. Refusals: those of the kernel's step, with one place of the trace kept for
     /// each asked request; `Blocked` where the process, or another one on the same name, waits for a reply;
     /// `TooMany` where no request's number is left. After a refusal everything is as it was.
+    #[inline(always)]
     pub fn turn(&mut self, pid: Pid) -> Result<Turn, Refusal>
         ensures { TurnPost result self.old pid self.new }
     {
@@ -443,6 +453,7 @@ impl Desk {
     }
 
     /// A step, which takes or forgets the kept answer of its process.
+    #[inline(always)]
     fn take_step(&mut self, pid: Pid, takes_kept: bool) -> Result<Turn, Refusal>
         ensures { RulePost result self.old pid
             (rules.Steps (brought takes_kept (kept_for pid self.old.kept))) self.new }
@@ -465,6 +476,9 @@ impl Desk {
         ensures { IfOk result (λ rests. rests ≡ rests_of self.now.kernel pid name.now) }
     {
         let kernel = self.kernel();
+        if kernel.undecided() == 0 {
+            return Ok(TagSet::new(self.alloc));
+        }
         let _sound = kernel.trace();
         let process = kernel.tags_of(&Entity::Proc(pid));
         let copy = kernel.tags_of(&Entity::Copy(*name));
@@ -486,6 +500,7 @@ impl Desk {
     }
 
     /// The next request, as it is made without a guess, and what it rests on once more.
+    #[inline(always)]
     fn draft(&self, pid: Pid, want: &Wanted) -> Result<(BoxedRequest, TagSet), AllocError>
         ensures request { IfOk result
             (λ draft. draft.0
@@ -634,11 +649,12 @@ impl Desk {
     fn reply_refusal(&self, reply: &Reply) -> Option<ReplyRefusal>
         ensures { result ≡ reply_refused self.now reply.now self.now.taken }
     {
-        let expected = self.expected();
         let Some(request) = self.requests.first_taken() else {
+            let expected = self.expected();
             return Some(ReplyRefusal::OutOfTurn { expected });
         };
         if request.number != reply.number {
+            let expected = self.expected();
             return Some(ReplyRefusal::OutOfTurn { expected });
         }
         if !fits_ask(&request.ask, &reply.answer) {
@@ -660,6 +676,7 @@ impl Desk {
     }
 
     /// The same with a reply that is lent.
+    #[inline(always)]
     pub(crate) fn give_lent(&mut self, reply: &Reply) -> Result<Given, ReplyRefusal>
         ensures { ReplyPost (handed_back reply.now result) self.old reply.now self.new }
     {

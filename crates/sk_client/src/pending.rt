@@ -1,7 +1,7 @@
 //! Requests without a reply, and kept answers.
-ghost use Rattle.std.specs.Prelude.{◌≡◌, ◌&&◌, ◌==◌, bytes_eq};
+ghost use Rattle.std.specs.Prelude.{◌≡◌, ◌∷◌, [], ◌&&◌, ◌==◌, bytes_eq};
 ghost use Rattle.sk_server.specs.Lent.{ask_in, request_in};
-ghost use Rattle.sk_client.specs.Desk.{is_asked, name_of, sent};
+ghost use Rattle.sk_client.specs.Desk.{is_asked, asked_count, name_of, sent};
 ghost use Rattle.sk_client.specs.Boxed.{ask_of};
 
 use sk_ids::{GuessId, Name, Pid, TagSet, Text};
@@ -96,6 +96,13 @@ impl BoxedRequest {
         ensures { result ≡ is_asked self.now }
     {
         self.guess.is_none()
+    }
+
+    /// How many places of the trace are kept for the step of it.
+    pub(crate) fn places(&self) -> usize
+        ensures { result ≡ asked_count (self.now ∷ []) }
+    {
+        if self.is_asked() { 1 } else { 0 }
     }
 
     /// Whether this process waits for the reply.

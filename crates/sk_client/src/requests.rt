@@ -24,6 +24,8 @@ pub(crate) struct Requests {
     queue: VecDeque<Queued>,
     /// How many of them were taken.
     taken: usize,
+    /// For how many of them a process waits.
+    asked: usize,
 }
 
 impl Model for Requests {
@@ -40,7 +42,7 @@ impl Model for Requests {
       room = deque_capacity q.queue;
     } };
 
-    ghost invariant = { λ q. IsQueue q.taken q.queue.items };
+    ghost invariant = { λ q. IsQueue q.taken q.asked q.queue.items };
 }
 
 impl Requests {
@@ -52,6 +54,7 @@ impl Requests {
         Requests {
             queue: VecDeque::new(alloc),
             taken: 0,
+            asked: 0,
         }
     }
 
@@ -74,6 +77,9 @@ impl Requests {
     pub(crate) fn asks_for(&self, pid: Pid) -> bool
         ensures { result ≡ asks_for pid (self.now.taken ++ self.now.waiting) }
     {
+        if self.asked == 0 {
+            return false;
+        }
         self.queue.iter().any(|queued| queued.request.asks_for(pid))
     }
 
@@ -81,6 +87,9 @@ impl Requests {
     pub(crate) fn asks_on(&self, name: &Name) -> bool
         ensures { result ≡ asks_on name.now (self.now.taken ++ self.now.waiting) }
     {
+        if self.asked == 0 {
+            return false;
+        }
         self.queue.iter().any(|queued| queued.request.asks_on(name))
     }
 
@@ -88,10 +97,7 @@ impl Requests {
     pub(crate) fn asked(&self) -> usize
         ensures { result ≡ asked_count (self.now.taken ++ self.now.waiting) }
     {
-        self.queue
-            .iter()
-            .filter(|queued| queued.request.is_asked())
-            .count()
+        self.asked
     }
 
     /// Makes room for one more.
@@ -110,6 +116,8 @@ impl Requests {
         ensures taken { self.new.taken ≡ self.old.taken }
         ensures waiting { self.new.waiting ≡ self.old.waiting ++ request ∷ [] }
     {
+        let _few = self.queue.len();
+        self.asked += request.places();
         self.queue.push_back_reserved(Queued {
             request,
             again: Some(again),
@@ -171,6 +179,7 @@ impl Requests {
         }
         let Queued { request, again: _ } = self.queue.pop_front()?;
         self.taken -= 1;
+        self.asked -= request.places();
         Some(request)
     }
 }

@@ -5,6 +5,7 @@ ghost use Rattle.sk_client.specs.declared.world.WorldAnswer.TheVariants as answe
 ghost use Rattle.sk_server.specs.Lent.{request_in};
 ghost use Rattle.sk_server.specs.declared.server.TheConstants.{LAST_REQUEST};
 ghost use Rattle.sk_client.specs.Leasing.{WorldHandInPost};
+ghost use Rattle.sk_client.specs.Desk.{first_sent, first_taken};
 ghost use Rattle.sk_client.specs.Upcoming.{upcoming};
 ghost use Rattle.sk_server.specs.Server.{is_in_turn};
 
@@ -98,6 +99,7 @@ impl Model for World {
 }
 
 /// The server answers a request that is in turn, where there is memory for it.
+#[inline(always)]
 fn answer_with(
     server: &mut Server,
     replies: &mut VecDeque<Reply>,
@@ -115,6 +117,15 @@ fn answer_with(
         Err(ServerRefusal::OutOfTurn { expected: _ }) => unreachable!(),
         Err(ServerRefusal::Memory) => Err(Cause::Memory),
     }
+}
+
+/// Takes the oldest request that waits, which is kept. It stands apart, since a request is large.
+#[inline(never)]
+fn take_back(desk: &mut Desk, back: &mut Option<Request>)
+    ensures request { back.new ≡ first_sent desk.old.waiting }
+    ensures taken { desk.new ≡ first_taken desk.old desk.old.waiting }
+{
+    *back = desk.take_request();
 }
 
 impl World {
@@ -253,13 +264,14 @@ impl World {
                 Ok(())
             }
             Err(why) => {
-                self.back = self.desk.take_request();
+                take_back(&mut self.desk, &mut self.back);
                 Err(why)
             }
         }
     }
 
-    /// The server answers the request that it handed back.
+    /// The server answers the request that it handed back. Mostly there is none.
+    #[inline(never)]
     fn answer(&mut self) -> Result<(), Cause>
         ensures { ServesNext result self.old self.new self.old.back }
     {

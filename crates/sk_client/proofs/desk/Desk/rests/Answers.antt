@@ -1,6 +1,6 @@
--- The union of two rising sets of undecided guesses.
-use Rattle.sk_client.proofs.Names.{◌∙◌, ap, subst, Proc, Copy, KernelView, tags_at, HasSoundTrace}
-use Rattle.sk_client.proofs.DeskFacts.{rests_found}
+-- The union of two rising sets of undecided guesses; none where no guess is undecided.
+use Rattle.sk_client.proofs.Names.{◌≡◌, ◌∙◌, length, undecided_at, sym, ap, subst, Proc, Copy, KernelView, tags_at, HasSoundTrace}
+use Rattle.sk_client.proofs.DeskFacts.{none_rested, rests_found}
 use Rattle.sk_client.proofs.desk.Desk.rests.Goals as goal
 
 pub returns : goal.returns
@@ -11,3 +11,8 @@ returns c =
     (c.tags_of-process.ensures.computed ∙ ap (λ (k : KernelView). tags_at k (Proc c.args.pid)) same)
     (c.tags_of-copy.ensures.computed ∙ ap (λ (k : KernelView). tags_at k (Copy c.args.name.now)) same)
     c.either.ensures.members c.either.ensures.rising
+
+pub returns-then-undecided-eq0 : goal.returns-then-undecided-eq0
+returns-then-undecided-eq0 c =
+    let none : length (undecided_at c.args.self.now.kernel) ≡ 0 = subst (λ (k : KernelView). length (undecided_at k) ≡ 0) c.kernel-kernel.ensures (sym c.undecided.ensures ∙ c.if-undecided-eq0.true) in
+    c.new.ensures ∙ none_rested c.args.self.now.kernel c.args.pid c.args.name.now none

@@ -22,7 +22,7 @@ sent-requires c =
 
 pub invariant_of-self-2 : goal.invariant_of-self-2
 invariant_of-self-2 c =
-    taken_is c.self.inside.taken c.self.inside.queue.items c.in_ok-oldest.oldest.now c.in_ok-oldest.ensures.item.3.0 c.in_ok-oldest.ensures.value c.take.new.self c.self.invariant.whole
+    taken_is c.self.inside.taken c.self.inside.queue.items c.in_ok-oldest.oldest.now c.in_ok-oldest.ensures.item.3.0 c.in_ok-oldest.ensures.value c.take.new.self c.self.inside.asked c.self.invariant
 
 pub returns-clause-request : goal.returns-clause-request
 returns-clause-request c =

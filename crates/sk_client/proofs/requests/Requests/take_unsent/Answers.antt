@@ -5,7 +5,7 @@ use Rattle.sk_client.proofs.requests.Requests.take_unsent.Goals as goal
 
 pub invariant_of-self : goal.invariant_of-self
 invariant_of-self c =
-    taken_is c.self.inside.taken c.self.inside.queue.items c.in-Some.oldest.now c.in-Some.ensures.item.3.0 c.in-Some.ensures.value None c.self.invariant.whole
+    taken_is c.self.inside.taken c.self.inside.queue.items c.in-Some.oldest.now c.in-Some.ensures.item.3.0 c.in-Some.ensures.value None c.self.inside.asked c.self.invariant
 
 pub returns-in-Some-clause-taken : goal.returns-in-Some-clause-taken
 returns-in-Some-clause-taken c =

@@ -26,5 +26,5 @@ invariant_of-self-in-Err c =
     let first : first_sent desk.waiting ≡ Some (sent c.in-Some.waiting.now) = sym c.in-Some.ensures in
     let joined = next_joined server replies c.self.inside.back desk desk.waiting (sent c.in-Some.waiting.now) (sym c.if-is_some.ensures) refl first c.self.invariant in
     let kept = back_joined (first_taken desk desk.waiting) server c.answer_with.new.server replies c.answer_with.new.replies.items (Some (sent c.in-Some.waiting.now)) c.in-Err.ensures.1 c.in-Err.ensures.2 joined in
-    subst (λ (d : DeskView). IsJoined d c.answer_with.new.server c.answer_with.new.replies.items c.take_request.result) (sym c.take_request.ensures.taken)
-    (subst (λ (o : Option Request). IsJoined (first_taken desk desk.waiting) c.answer_with.new.server c.answer_with.new.replies.items o) (sym (c.take_request.ensures.request ∙ first)) kept)
+    subst (λ (d : DeskView). IsJoined d c.answer_with.new.server c.answer_with.new.replies.items c.take_back.new.back) (sym c.take_back.ensures.taken)
+    (subst (λ (o : Option Request). IsJoined (first_taken desk desk.waiting) c.answer_with.new.server c.answer_with.new.replies.items o) (sym (c.take_back.ensures.request ∙ first)) kept)

@@ -416,11 +416,11 @@ def table():
     turns = ["turn 1"] * 4 + ["serve"] * 2 + ["reply"] * 2
     world = lambda count: "\n".join(script("first", looping(["fetch /x", "set r0 1"], 32)) + ['copy /x 3 "old"', 'remote /x 3 "old"', "process 1 first 1", "world"] + turns * (count // 8)) + "\n"
     return [
-        ("private steps", private_steps, 730),
-        ("writes and reads of 8 bytes of a file", file, 1_400),
-        ("guess, two steps, commit", guessed_rounds, 1_400),
-        ("the same lines out of step, most of them refused", refused_rounds, 880),
-        ("a world: four turns, two serves, two replies", world, 2_300),
+        ("private steps", private_steps, 700),
+        ("writes and reads of 8 bytes of a file", file, 1_260),
+        ("guess, two steps, commit", guessed_rounds, 1_270),
+        ("the same lines out of step, most of them refused", refused_rounds, 840),
+        ("a world: four turns, two serves, two replies", world, 2_200),
     ]
 
 

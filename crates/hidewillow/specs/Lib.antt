@@ -21,6 +21,7 @@ pub use Rattle.sk_objects.specs.Pipe
 pub use Rattle.sk_objects.specs.Signals
 pub use Rattle.sk_objects.specs.Value
 pub use Rattle.sk_changes.specs.Changes
+pub use Rattle.sk_changes.specs.Files
 pub use Rattle.sk_changes.specs.InTurn
 pub use Rattle.sk_changes.specs.Back
 pub use Rattle.sk_words.specs.Lines

@@ -169,6 +169,7 @@ impl<E: Key> Guesses<E> {
     }
 
     /// The entities that rest on a guess, by rising order; none where it is not undecided.
+    #[inline(always)]
     pub fn dependents(&self, id: GuessId) -> &[E]
         ensures value { result.now ≡ dependents_of id self.now.opens }
         ensures rising { IsStrictlySortedBy E.order result.now }

@@ -101,6 +101,7 @@ impl<T> Row<T> {
     }
 
     /// Takes the value at a place out; those behind it move up.
+    #[inline(always)]
     pub(crate) fn remove(&mut self, place: usize) -> T
         requires { place < length self.old.items }
         ensures value { result ≡ slice_index_or self.old.items place result }

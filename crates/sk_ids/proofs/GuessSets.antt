@@ -1,5 +1,7 @@
 -- Lists of guesses that rise: what a sort without repeats leaves of them.
-use Rattle.sk_ids.proofs.Names.{◌≡◌, ℕ, ◌||◌, eqb, List, [], ◌∷◌, ◌++◌, arith, refl, sym, ◌∙◌, nat_cmp, both_ways}
+use Rattle.std.specs.Prelude.{slice_index}
+use Rattle.sk_ids.proofs.Names.{◌≡◌, ◌<◌, ◌+◌, ℕ, zero, suc, length}
+use Rattle.sk_ids.proofs.Names.{◌||◌, eqb, List, [], ◌∷◌, ◌++◌, arith, refl, sym, ◌∙◌, nat_cmp, both_ways}
 use Rattle.sk_ids.proofs.Names.{nat_eq_equiv, list_any, dedup, IsStrictlySortedBy, IsPermutation}
 use Rattle.sk_ids.proofs.Names.{sorted_from_strictly_increasing, list_any-from_Contains, Contains-from_any}
 use Rattle.sk_ids.proofs.Names.{list_any-append, list_any-IsPermutation, Contains-dedup_nat, Contains-from_dedup}
@@ -10,6 +12,12 @@ rising_none = sorted_from_strictly_increasing [] (λ k h. absurd (omega arith))
 
 pub rising_one : (x : ℕ) → IsStrictlySortedBy nat_cmp (x ∷ [])
 rising_one x = sorted_from_strictly_increasing (x ∷ []) (λ k h. absurd (omega arith))
+
+pub rising_two : (x y : ℕ) → x < y → IsStrictlySortedBy nat_cmp (x ∷ y ∷ [])
+rising_two x y less = sorted_from_strictly_increasing (x ∷ y ∷ []) next where
+  next : (k : ℕ) → k + 1 < length (x ∷ y ∷ []) → slice_index (x ∷ y ∷ []) k < slice_index (x ∷ y ∷ []) (k + 1)
+  next zero h = less
+  next (suc k) h = absurd (omega arith)
 
 -- a list without repeats has the same members
 any_deduped : (q : ℕ) (xs : List ℕ) → list_any (eqb q) (dedup eqb xs) ≡ list_any (eqb q) xs

@@ -127,6 +127,32 @@ impl TagSet {
         }
     }
 
+    /// The set of two guesses by rising number, which takes no memory.
+    fn pair(alloc: Global, oldest: GuessId, newest: GuessId) -> TagSet
+        requires { oldest < newest }
+        ensures { result ≡ oldest ∷ newest ∷ [] }
+    {
+        let mut ids = SmallVec::new(alloc);
+        ids.push_reserved(oldest);
+        ids.push_reserved(newest);
+        TagSet {
+            ids: Fronted::of(ids),
+        }
+    }
+
+    /// The set of two guesses, which may be the same. This takes no memory.
+    fn of_both(alloc: Global, one: GuessId, other: GuessId) -> TagSet
+        ensures { (id : ℕ) → has id result ≡ (has id (one ∷ []) || has id (other ∷ [])) }
+    {
+        if one.number() < other.number() {
+            return TagSet::pair(alloc, one, other);
+        }
+        if other.number() < one.number() {
+            return TagSet::pair(alloc, other, one);
+        }
+        TagSet::of(alloc, one)
+    }
+
     /// Where a guess stands in the list. Mostly it is the oldest, or the newest.
     fn place_of(&self, id: GuessId) -> Option<usize>
         ensures there { IfSome result
@@ -205,7 +231,7 @@ impl TagSet {
     }
 
     /// Takes a guess out. This takes no memory.
-    #[inline]
+    #[inline(always)]
     pub fn without(&mut self, id: GuessId)
         ensures { self.new ≡ without id self.old }
     {
@@ -214,13 +240,14 @@ impl TagSet {
         }
     }
 
-    /// A set of the same guesses. Most have one at most.
+    /// A set of the same guesses. Most have two at most.
     pub fn copy(&self) -> Result<TagSet, AllocError>
         ensures { IfOk result (λ copy. copy ≡ self.now) }
     {
         match self.ids.as_slice() {
             [] => Ok(TagSet::new(self.ids.alloc())),
             [one] => Ok(TagSet::of(self.ids.alloc(), *one)),
+            [oldest, newest] => Ok(TagSet::pair(self.ids.alloc(), *oldest, *newest)),
             _ => self.long_copy(),
         }
     }
@@ -246,8 +273,22 @@ impl TagSet {
         Ok(TagSet { ids })
     }
 
-    /// The guesses of either set.
+    /// The guesses of either set. Most have one.
     pub fn union(&self, other: &TagSet) -> Result<TagSet, AllocError>
+        ensures members { IfOk result
+            (λ all. (id : ℕ) → has id all ≡ (has id self.now || has id other.now)) }
+        ensures rising { IfOk result (λ all. IsStrictlySortedBy nat_cmp all) }
+    {
+        if let ([one], [two]) = (self.ids.as_slice(), other.ids.as_slice()) {
+            let both = TagSet::of_both(self.ids.alloc(), *one, *two);
+            let _rising = both.ids();
+            return Ok(both);
+        }
+        self.long_union(other)
+    }
+
+    /// The guesses of either set, of any length.
+    fn long_union(&self, other: &TagSet) -> Result<TagSet, AllocError>
         ensures members { IfOk result
             (λ all. (id : ℕ) → has id all ≡ (has id self.now || has id other.now)) }
         ensures rising { IfOk result (λ all. IsStrictlySortedBy nat_cmp all) }

@@ -1,5 +1,5 @@
 -- What the proofs of this crate cite from outside of them, passed on from one place. Declares nothing.
-pub use Rattle.std.proofs.Common.{ap, Some, None, ◌≡◌, length, IsSome, Option, Bool, false, true≢false, refl, List, subst, ◌∙◌, sym}
+pub use Rattle.std.proofs.Common.{ap, Some, None, ◌≡◌, length, IsSome, Option, Bool, false, true≢false, refl, List, [], subst, ◌∙◌, sym}
 pub use Rattle.std.proofs.lemmas.Bool.Decides.{Decides-at}
 pub use Rattle.std.proofs.lemmas.Result.{err_from_is_err_and}
 pub use Rattle.std.specs.BTreeMap.{keys}

@@ -88,14 +88,19 @@ impl<K: Key, V> Map<K, V> {
         self.alloc
     }
 
-    /// The value of a key, `None` where it is absent.
+    /// The value of a key, `None` where it is absent. Many maps are empty, and are not searched.
+    #[inline(always)]
     pub fn get(&self, key: &K) -> Option<&V>
         ensures { option_copied result ≡ map.get (seen K.order self.now) key.now }
     {
+        if self.entries.is_empty() {
+            return None;
+        }
         self.entries.get(key)
     }
 
     /// The same as `get`, for a key that is mostly the first one: at that nothing is searched.
+    #[inline(always)]
     pub fn get_first(&self, key: &K) -> Option<&V>
         ensures { option_copied result ≡ map.get (seen K.order self.now) key.now }
     {

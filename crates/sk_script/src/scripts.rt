@@ -68,6 +68,7 @@ impl Scripts {
     }
 
     /// The script of this name. Each step looks one up, and mostly there are few.
+    #[inline(always)]
     pub fn get(&self, name: &Name) -> Option<&Script>
         ensures { option_copied result ≡ map.get self.now name.now }
     {

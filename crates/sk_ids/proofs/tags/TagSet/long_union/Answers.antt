@@ -2,7 +2,7 @@
 use Rattle.sk_ids.proofs.Names.{◌≡◌, ℕ, eqb, List, ◌++◌, length, ap, ◌∙◌, sym, subst, rules, nat_cmp_total}
 use Rattle.sk_ids.proofs.Names.{unsigned_tied, dedup, refill, IsPermutation, IsStrictlySortedBy-dedup, take_at, has}
 use Rattle.sk_ids.proofs.GuessSets.{has-dedup}
-use Rattle.sk_ids.proofs.tags.TagSet.union.Goals as goal
+use Rattle.sk_ids.proofs.tags.TagSet.long_union.Goals as goal
 
 pub invariant_of-result : goal.invariant_of-result
 invariant_of-result c =

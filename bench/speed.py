@@ -486,7 +486,7 @@ def block_rows(meter):
     # So many that the peak is the program's own, above that of this script, from which it is started.
     many = 400_000
     kept = lambda guesses: meter.peak(writing(large, BLOCK, many, guesses)) * 1024 / many
-    yield "bytes that a noted write keeps, its new block aside / 600", kept(True) - kept(False) - 512, 600, 1
+    yield "bytes that a noted write keeps / 600", kept(True) - kept(False), 600, 1
     look = lambda names: meter.each(lambda n: looking(names, n), 600, 1200, 1)
     yield "look in a directory: of 64 names / of 4", look(64), look(4), 2
     link = lambda names: meter.each(lambda n: relinking(names, n), 640, 1280, 1)

@@ -39,7 +39,7 @@ fn merged_notes_are_one(rt: HostRuntime) {
     }
 }
 
-/// A small file, and copies to write to it.
+/// A file, and copies to write to it.
 const SMALL: Start<'static> = Start {
     number: 1,
     copies: &[(b"/x", 3, b"new"), (b"/y", 1, b"new")],
@@ -59,7 +59,7 @@ const WRITTEN: &Start<'static> = &Start {
     ..SMALL
 };
 
-/// A small file is noted once, and both processes are; the steps before the guess are not.
+/// A file is noted once, and both processes are; the steps before the guess are not.
 const NOTED: &[KernelPlay] = &[
     KernelPlay::Steps(1, 1, Ok(())),
     KernelPlay::Steps(2, 1, Ok(())),
@@ -81,14 +81,14 @@ const WRITTEN_FAR: &Start<'static> = &Start {
     ..SMALL
 };
 
-/// Each write of a larger file is noted, and its process is, once.
-const EACH_NOTED: &[KernelPlay] = &[
+/// A file of two blocks is noted once, and its process is.
+const NOTED_FAR: &[KernelPlay] = &[
     KernelPlay::Steps(1, 4, Ok(())),
     NONE,
     KernelPlay::Guesses(1, 1, 1),
     KernelPlay::Has(Count::Notes, 1),
     KernelPlay::Steps(1, 3, Ok(())),
-    KernelPlay::Has(Count::Notes, 4),
+    KernelPlay::Has(Count::Notes, 2),
 ];
 
 #[test]
@@ -100,7 +100,7 @@ fn notes_of_files_and_processes(rt: HostRuntime) {
         );
         passes(
             &rt,
-            plays_until(&rt, rt.alloc(), WRITTEN_FAR, EACH_NOTED, decision, &[NONE]),
+            plays_until(&rt, rt.alloc(), WRITTEN_FAR, NOTED_FAR, decision, &[NONE]),
         );
     }
 }

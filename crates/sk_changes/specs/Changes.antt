@@ -20,7 +20,7 @@ value_fits (Signals s) c = queue_fits s c
 value_fits (Exit e) c = exit_fits e c
 value_fits (Copy v) c = copy_fits v c
 
--- whether a change that fits can want memory: for blocks of a file, or for what the undo holds of a pipe or a copy
+-- whether a change that fits can want memory: for blocks of a file, or for what the undo holds of a file, a pipe or a copy
 abbrev pub value_grows : Value → Change → Bool
 value_grows (File f) c = file_grows f c
 value_grows (Pipe p) c = pipe_grows p c

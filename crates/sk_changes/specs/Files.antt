@@ -1,13 +1,13 @@
 -- Changes of files.
-use Rattle.std.specs.Prelude.{ℕ, Bool, true, false, ◌&&◌, ◌+◌, nat_le, nat_lt, List, length}
+use Rattle.std.specs.Prelude.{ℕ, Bool, true, false, ◌&&◌, ◌+◌, ◌≤◌, nat_le, nat_lt, List, length, take, if◌then◌else◌}
 use Rattle.sk_ids.specs.declared.text.TheConstants.{TEXT_LIMIT}
 use Rattle.sk_objects.specs.File.{written, cut}
-use Rattle.sk_objects.specs.Slots.{under_write, under_cut, CanPut, CanPatch, with_blocks}
+use Rattle.sk_objects.specs.Slots.{IsZeroFrom}
 use Rattle.sk_objects.specs.declared.file.TheConstants.{FILE_LIMIT}
 use Rattle.sk_changes.specs.declared.change.Change.{Change}
 use Rattle.sk_changes.specs.declared.change.Change.TheVariants.{WriteAt, CutTo}
 use Rattle.sk_changes.specs.declared.change.Undo.{Undo}
-use Rattle.sk_changes.specs.declared.change.Undo.TheVariants.{Restore, Patch, Reopen}
+use Rattle.sk_changes.specs.declared.change.Undo.TheVariants.{Restore, Unput}
 
 -- a write of some bytes, at most a text's, that ends within the limit, or a length within it
 abbrev pub file_fits : List ℕ → Change → Bool
@@ -15,7 +15,7 @@ file_fits f (WriteAt at bytes) = nat_le 1 (length bytes) && (nat_le (length byte
 file_fits f (CutTo n) = nat_le n FILE_LIMIT
 file_fits f _ = false
 
--- the blocks that come in the place of others can want memory; zeros past the end want none
+-- the file that the undo holds and the blocks that are written can want memory; zeros past the end want none
 abbrev pub file_grows : List ℕ → Change → Bool
 file_grows f (WriteAt at bytes) = true
 file_grows f (CutTo n) = nat_lt n (length f)
@@ -27,20 +27,18 @@ file_after f (WriteAt at bytes) = written f at bytes
 file_after f (CutTo n) = cut f n
 file_after f _ = f
 
--- what puts it back: the blocks that gave way, and the length
+-- what puts it back: the file as it was, or its length where zeros came behind
 abbrev pub file_undo : List ℕ → Change → Undo
-file_undo f (WriteAt at bytes) = Restore (under_write f at (length bytes))
-file_undo f (CutTo n) = Restore (under_cut f n (length f))
-file_undo f _ = Reopen
+file_undo f (CutTo n) = if nat_lt n (length f) then Restore f else Unput (length f)
+file_undo f _ = Restore f
 
--- whether blocks or few bytes can be put back
+-- bytes go from the end only where they are zeros
 abbrev pub CanUndoFile : List ℕ → Undo → Type 0
-CanUndoFile f (Restore blocks) = CanPut f blocks
-CanUndoFile f (Patch old) = CanPatch f old
+CanUndoFile f (Unput n) = (n ≤ length f) × IsZeroFrom n f
 CanUndoFile f _ = Unit {0}
 
 -- the file after an undo
 abbrev pub file_undone : List ℕ → Undo → List ℕ
-file_undone f (Restore blocks) = with_blocks f blocks
-file_undone f (Patch old) = with_blocks f old
+file_undone f (Restore before) = before
+file_undone f (Unput n) = take n f
 file_undone f _ = f

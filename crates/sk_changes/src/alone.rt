@@ -24,15 +24,16 @@ fn change_one<V: Invertible>(
     }
 }
 
-/// Makes a change of a file that fits. A write goes over the blocks that are there.
-fn change_file(file: &mut File, alloc: Global, change: &Change) -> Result<(), AllocError>
+/// Makes a change of a file that fits.
+fn change_file(file: &mut File, change: &Change) -> Result<(), AllocError>
     requires { file_fits file.old change.now ≡ true }
     ensures ok { OnOk result (file.new ≡ file_after file.old change.now) }
     ensures err { OnErr result (file.new ≡ file.old) }
 {
     match change {
-        Change::WriteAt { offset, bytes } => file.overwrite(*offset as usize, bytes.as_slice()),
-        _ => change_one(file, alloc, change),
+        Change::WriteAt { offset, bytes } => file.write_at(*offset as usize, bytes.as_slice()),
+        Change::CutTo(count) => file.cut_to(*count as usize),
+        _ => unreachable!(),
     }
 }
 
@@ -59,7 +60,7 @@ pub fn change_alone(value: &mut Value, alloc: Global, change: &Change) -> Result
     ensures err { OnErr result (value.new ≡ value.old) }
 {
     match value {
-        Value::File(file) => change_file(file, alloc, change),
+        Value::File(file) => change_file(file, change),
         Value::Pipe(pipe) => change_pipe(pipe, alloc, change),
         Value::Signals(signals) => change_one(signals, alloc, change),
         Value::Exit(status) => change_one(status, alloc, change),

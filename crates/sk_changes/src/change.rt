@@ -3,7 +3,7 @@ ghost use Rattle.std.specs.Prelude.{◌≡◌, ◌↔◌, Bool, true, false, IfO
 
 use crate::HeldBytes;
 use sk_ids::Text;
-use sk_objects::{Blocks, Content, HeldContent, Patch};
+use sk_objects::{Content, File, HeldContent};
 use std::alloc::{AllocError, Global};
 use thiserror::Error;
 
@@ -34,11 +34,9 @@ pub enum Change {
 /// long stands on the heap, so that an undo is a few words.
 #[derive(Drop)]
 pub enum Undo {
-    /// The blocks that gave way in a file, and the length that it had.
-    Restore(Blocks),
-    /// The few bytes that gave way in a file, and the length that it had.
-    Patch(Patch),
-    /// The number of bytes that a pipe held.
+    /// The file as it was; it shares the blocks that were not written since.
+    Restore(File),
+    /// The number of bytes that a pipe held, or a file before zeros came behind them.
     Unput(u32),
     /// The bytes that left the front of a pipe.
     Untake(HeldBytes),

@@ -15,4 +15,4 @@ pub mod value;
 pub use alone::change_alone;
 pub use change::{Change, Invertible, NotApplied, Undo};
 pub use held::HeldBytes;
-pub use noted::{change_noted, write_noted};
+pub use noted::change_noted;

@@ -1,8 +1,5 @@
 //! Changes that fit, lent and not handed over, each with what takes it back.
-ghost use Rattle.std.specs.Prelude.{◌≡◌, ◌≤◌, ◌+◌, length, true, IfOk, OnOk, OnErr};
-ghost use Rattle.sk_ids.specs.declared.text.TheConstants.{TEXT_LIMIT};
-ghost use Rattle.sk_objects.specs.File.{written};
-ghost use Rattle.sk_objects.specs.declared.file.TheConstants.{FILE_LIMIT};
+ghost use Rattle.std.specs.Prelude.{◌≡◌, true, IfOk, OnOk, OnErr};
 ghost use Rattle.sk_changes.specs.Files.{file_fits, file_grows, file_after, CanUndoFile, file_undone};
 ghost use Rattle.sk_changes.specs.Pipes.{pipe_fits, pipe_grows, pipe_after, CanUndoPipe, pipe_undone};
 ghost use Rattle.sk_changes.specs.Changes.{value_fits, value_grows, value_after, CanUndo, value_undone};
@@ -31,25 +28,6 @@ fn note_one<V: Invertible>(
     }
 }
 
-/// Writes bytes at a place of a file, and answers what takes them back: of few just those that they go over. Without memory
-/// nothing has changed.
-#[inline(always)]
-pub fn write_noted(file: &mut File, at: usize, bytes: &[u8]) -> Result<Undo, AllocError>
-    requires some { 1 ≤ length bytes.now }
-    requires short { length bytes.now ≤ TEXT_LIMIT }
-    requires end { at + length bytes.now ≤ FILE_LIMIT }
-    ensures ok { OnOk result (file.new ≡ written file.old at bytes.now) }
-    ensures can { IfOk result (λ undo. CanUndoFile file.new undo) }
-    ensures back { IfOk result (λ undo. file_undone file.new undo ≡ file.old) }
-    ensures err { OnErr result (file.new ≡ file.old) }
-{
-    if let Some(old) = file.patch(at, bytes) {
-        return Ok(Undo::Patch(old));
-    }
-    let old = file.write_at(at, bytes)?;
-    Ok(Undo::Restore(old))
-}
-
 /// Makes a change of a file that fits. The bytes of a write are read where they stand.
 fn note_file(file: &mut File, alloc: Global, change: &Change) -> Result<Undo, AllocError>
     requires { file_fits file.old change.now ≡ true }
@@ -60,7 +38,11 @@ fn note_file(file: &mut File, alloc: Global, change: &Change) -> Result<Undo, Al
     ensures memory { OnErr result (file_grows file.old change.now ≡ true) }
 {
     match change {
-        Change::WriteAt { offset, bytes } => write_noted(file, *offset as usize, bytes.as_slice()),
+        Change::WriteAt { offset, bytes } => {
+            let old = file.copy()?;
+            file.write_at(*offset as usize, bytes.as_slice())?;
+            Ok(Undo::Restore(old))
+        }
         _ => note_one(file, alloc, change),
     }
 }

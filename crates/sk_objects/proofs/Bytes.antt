@@ -1,9 +1,9 @@
--- What stands at each place of bytes that were written over, cut or held.
+-- What stands at each place of bytes that were written over or cut.
 use Rattle.sk_objects.proofs.Names.{◌≡◌, ℕ, ◌+◌, ◌-◌, ◌<◌, ◌≤◌, inl, inr, List, ◌++◌, length, get_or, take, drop}
 use Rattle.sk_objects.proofs.Names.{replicate, arith, refl, sym, ap, ◌∙◌, cases_lt, length-append, length-take-le}
 use Rattle.sk_objects.proofs.Names.{length-drop, length-replicate, length-take, get_or_append_left, get_or-append_right}
 use Rattle.sk_objects.proofs.Names.{get_or-take, get_or-drop, get_or-replicate, get_or_past, same_lists, get_or_default}
-use Rattle.sk_objects.proofs.Names.{overwritten, filled, written, cut, held, drop_all, append-nil}
+use Rattle.sk_objects.proofs.Names.{overwritten, filled, written, cut}
 
 module _ {A : Type 0} (f b : List A) (at : ℕ) (fits : at ≤ length f) where
   front_len : length (take at f ++ b) ≡ at + length b
@@ -31,13 +31,6 @@ module _ {A : Type 0} (f b : List A) (at : ℕ) (fits : at ≤ length f) where
   length_overwritten =
       length-append (take at f ++ b) (drop (at + length b) f)
       ∙ rw (front_len, length-drop (at + length b) f) refl
-
--- as many bytes as there are take the place of all
-pub all_over : {A : Type 0} (f b : List A) (at : ℕ) → length f ≡ length b → at ≡ 0 → b ≡ overwritten f at b
-all_over f b at long first =
-    sym (ap (λ (n : ℕ). overwritten f n b) first
-    ∙ ap (λ (l : List _). b ++ l) (drop_all (0 + length b) f (omega (arith, long)))
-    ∙ append-nil b)
 
 -- ---- zeros past the end
 
@@ -75,13 +68,6 @@ module _ (f b : List ℕ) (at : ℕ) where
   pub length_written : length (written f at b) ≡ length f + (at + length b - length f)
   length_written = omega (arith, length_overwritten (filled f (at + length b)) b at room, length_filled f (at + length b))
 
-module _ (f : List ℕ) (at n : ℕ) where
-  pub length_held : length (held f at n) ≡ n
-  length_held = length-take-le n (drop at (filled f (at + n))) (omega (arith, length-drop at (filled f (at + n)), length_filled f (at + n)))
-
-  pub held_at : (j : ℕ) → j < n → get_or (held f at n) j 0 ≡ get_or f (at + j) 0
-  held_at j h = get_or-take n (drop at (filled f (at + n))) j 0 h ∙ get_or-drop at (filled f (at + n)) j 0 ∙ filled_at f (at + n) (at + j)
-
 module _ (f : List ℕ) (n : ℕ) where
   pub length_cut : length (cut f n) ≡ n
   length_cut = length-append (take n f) (replicate (n - length f) 0) ∙ rw (length-take n f, length-replicate {A = ℕ} (n - length f) 0) (omega arith)
@@ -95,26 +81,3 @@ module _ (f : List ℕ) (n : ℕ) where
 -- lists that agree at each place
 pub same_bytes : (f g : List ℕ) → length f ≡ length g → ((i : ℕ) → i < length f → get_or f i 0 ≡ get_or g i 0) → f ≡ g
 same_bytes f g same at = same_lists f g same (λ i d h. get_or_default f i d 0 h ∙ at i h ∙ get_or_default g i 0 d (omega arith))
-
--- ---- blocks that go back
-
--- one list with a part of another, which is the same elsewhere, is the other
-module _ (f g : List ℕ) (at n : ℕ) (before : (i : ℕ) → i < at → get_or g i 0 ≡ get_or f i 0) (behind : (i : ℕ) → at + n ≤ i → get_or g i 0 ≡ get_or f i 0) where
-  pub same_at : (i : ℕ) → get_or (written g at (held f at n)) i 0 ≡ get_or f i 0
-  same_at i = elim (cases_lt i at) [
-    | inl h ↦ written_before g (held f at n) at i h ∙ before i h
-    | inr h ↦ elim (cases_lt i (at + n)) [
-      | inl k ↦
-          let there : at + (i - at) ≡ i = omega arith in
-          written_in g (held f at n) at i h (omega (arith, length_held f at n))
-          ∙ held_at f at n (i - at) (omega arith)
-          ∙ ap (λ (j : ℕ). get_or f j 0) there
-      | inr k ↦ written_behind g (held f at n) at i (omega (arith, length_held f at n)) ∙ behind i k
-    ]
-  ]
-
-  pub put_back : cut (written g at (held f at n)) (length f) ≡ f
-  put_back =
-      same_bytes (cut (written g at (held f at n)) (length f)) f
-      (length_cut (written g at (held f at n)) (length f))
-      (λ i h. cut_before (written g at (held f at n)) (length f) i (omega (arith, length_cut (written g at (held f at n)) (length f))) ∙ same_at i)

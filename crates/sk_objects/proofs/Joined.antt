@@ -1,10 +1,12 @@
--- Blocks one after another: what a part of them is, and what an exchange leaves.
+-- Blocks one after another, and what a block that is written leaves of them.
 use Rattle.sk_objects.proofs.Names.{◌≡◌, ℕ, zero, suc, ◌+◌, ◌-◌, ◌*◌, ◌<◌, ◌≤◌, inl, inr, List, [], ◌∷◌, ◌++◌, length}
-use Rattle.sk_objects.proofs.Names.{get_or, take, drop, replicate, arith, refl, sym, ap, ◌∙◌, take-append-add}
-use Rattle.sk_objects.proofs.Names.{drop-append-add, cases_lt, append_assoc, length-append, length-drop}
+use Rattle.sk_objects.proofs.Names.{get_or, take, drop, replicate, arith, refl, sym, ap, ap₂, ◌∙◌, take-append-add}
+use Rattle.sk_objects.proofs.Names.{drop-append-add, take-append-le, drop-append-le, drop-drop, take_at, drop_at}
+use Rattle.sk_objects.proofs.Names.{cases_lt, append_assoc, length-append, length-take-le, slice_set}
 use Rattle.sk_objects.proofs.Names.{length-replicate, get_or_append_left, get_or-append_right, All-head, All-tail}
-use Rattle.sk_objects.proofs.Names.{All-take, All-drop, All-append, All-replicate, overwritten, part, joined, AreBlocks}
-use Rattle.sk_objects.proofs.Bytes.{zeros_at}
+use Rattle.sk_objects.proofs.Names.{All-replicate, All-cons, All-get_or, length-drop, length-set, get_or-set_other}
+use Rattle.sk_objects.proofs.Names.{take-append-drop, overwritten, joined, AreBlocks}
+use Rattle.sk_objects.proofs.Bytes.{zeros_at, length_overwritten}
 use Rattle.sk_objects.specs.Blocks.{blank}
 
 -- 512 bytes
@@ -26,32 +28,100 @@ take_joined (b ∷ bs) (suc k) all h =
     let there : 512 * suc k ≡ length b + 512 * k = omega (arith, All-head IsBlock b bs all) in
     rw there (take-append-add b (joined bs) (512 * k)) ∙ ap (λ (l : List ℕ). b ++ l) (take_joined bs k (All-tail IsBlock b bs all) (omega arith))
 
-pub drop_joined : (bs : List (List ℕ)) (k : ℕ) → AreBlocks bs → k ≤ length bs → drop (512 * k) (joined bs) ≡ joined (drop k bs)
-drop_joined bs zero all h = refl
-drop_joined [] (suc k) all h = absurd (omega arith)
-drop_joined (b ∷ bs) (suc k) all h =
-    let there : 512 * suc k ≡ length b + 512 * k = omega (arith, All-head IsBlock b bs all) in
-    rw there (drop-append-add b (joined bs) (512 * k)) ∙ drop_joined bs k (All-tail IsBlock b bs all) (omega arith)
+-- a block written over is all of them written over
+pub joined_set : (ss : List (List ℕ)) (k within : ℕ) (bytes : List ℕ) → AreBlocks ss → k < length ss → within + length bytes ≤ 512 → joined (slice_set ss k (overwritten (get_or ss k []) within bytes)) ≡ overwritten (joined ss) (512 * k + within) bytes
+joined_set [] k within bytes all there fits = absurd (omega arith)
+joined_set (s ∷ ss) zero within bytes all there fits =
+    let here : 512 * 0 + within ≡ within = omega arith in
+    let long : length s ≡ 512 = All-head IsBlock s ss all in
+    rw here
+    (append_assoc (take within s ++ bytes) (drop (within + length bytes) s) (joined ss)
+    ∙ sym (ap₂ (λ (f g : List ℕ). (f ++ bytes) ++ g)
+    (take-append-le within s (joined ss) (omega (arith, long)))
+    (drop-append-le (within + length bytes) s (joined ss) (omega (arith, long)))))
+joined_set (s ∷ ss) (suc k) within bytes all there fits =
+    let long : length s ≡ 512 = All-head IsBlock s ss all in
+    let front : 512 * suc k + within ≡ length s + (512 * k + within) = omega (arith, long) in
+    let back : 512 * suc k + within + length bytes ≡ length s + (512 * k + within + length bytes) = omega (arith, long) in
+    ap (λ (l : List ℕ). s ++ l) (joined_set ss k within bytes (All-tail IsBlock s ss all) (omega arith) fits)
+    ∙ sym (rw (back, front, take-append-add s (joined ss) (512 * k + within), drop-append-add s (joined ss) (512 * k + within + length bytes))
+    (append_assoc (s ++ take (512 * k + within) (joined ss)) bytes (drop (512 * k + within + length bytes) (joined ss))
+    ∙ append_assoc s (take (512 * k + within) (joined ss)) (bytes ++ drop (512 * k + within + length bytes) (joined ss))
+    ∙ ap (λ (l : List ℕ). s ++ l) (sym (append_assoc (take (512 * k + within) (joined ss)) bytes (drop (512 * k + within + length bytes) (joined ss))))))
 
-module _ (ss : List (List ℕ)) (k : ℕ) (all : AreBlocks ss) where
-  pub joined_overwritten : (bs : List (List ℕ)) → AreBlocks bs → k + length bs ≤ length ss → joined (overwritten ss k bs) ≡ overwritten (joined ss) (512 * k) (joined bs)
-  joined_overwritten bs blocks fits =
-      let there : 512 * k + length (joined bs) ≡ 512 * (k + length bs) = omega (arith, length_joined bs blocks) in
-      joined_append (take k ss ++ bs) (drop (k + length bs) ss)
-      ∙ rw (joined_append (take k ss) bs, ← take_joined ss k all (omega arith), ← drop_joined ss (k + length bs) all fits, there) refl
+-- bytes written behind those that were written before
+pub written_on : (f x y : List ℕ) (at : ℕ) → at + length x ≤ length f → overwritten (overwritten f at x) (at + length x) y ≡ overwritten f at (x ++ y)
+written_on f x y at fits =
+    let front : length (take at f ++ x) ≡ at + length x = length-append (take at f) x ∙ ap (λ (n : ℕ). n + length x) (length-take-le at f (omega arith)) in
+    let first : take (at + length x) (overwritten f at x) ≡ take at f ++ x = take_at (take at f ++ x) (drop (at + length x) f) (at + length x) front in
+    let behind : at + length x + length y ≡ at + length (x ++ y) = omega (arith, length-append x y) in
+    let last : drop (at + length x + length y) (overwritten f at x) ≡ drop (at + length (x ++ y)) f =
+    sym (drop-drop (length y) (at + length x) (overwritten f at x))
+    ∙ ap (drop (length y)) (drop_at (take at f ++ x) (drop (at + length x) f) (at + length x) front)
+    ∙ drop-drop (length y) (at + length x) f
+    ∙ ap (λ (n : ℕ). drop n f) behind in
+    ap₂ (λ (l r : List ℕ). (l ++ y) ++ r) first last
+    ∙ ap (λ (l : List ℕ). l ++ drop (at + length (x ++ y)) f) (append_assoc (take at f) x y)
 
-  pub overwritten_blocks : (bs : List (List ℕ)) → AreBlocks bs → AreBlocks (overwritten ss k bs)
-  overwritten_blocks bs blocks =
-      All-append IsBlock (take k ss ++ bs) (drop (k + length bs) ss)
-      (All-append IsBlock (take k ss) bs (All-take IsBlock k ss all) blocks)
-      (All-drop IsBlock (k + length bs) ss all)
+-- one block of 512 bytes in the place of another
+pub set_are : (ss : List (List ℕ)) (k : ℕ) (b : List ℕ) → AreBlocks ss → length b ≡ 512 → AreBlocks (slice_set ss k b)
+set_are [] k b all long = all
+set_are (s ∷ ss) zero b all long = All-cons IsBlock b ss long (All-tail IsBlock s ss all)
+set_are (s ∷ ss) (suc k) b all long = All-cons IsBlock s (slice_set ss k b) (All-head IsBlock s ss all) (set_are ss k b (All-tail IsBlock s ss all) long)
 
-  pub joined_part : (n : ℕ) → k + n ≤ length ss → joined (part ss k n) ≡ part (joined ss) (512 * k) (512 * n)
-  joined_part n fits =
-      sym (rw (drop_joined ss k all (omega arith)) (take_joined (drop k ss) n (All-drop IsBlock k ss all) (omega (arith, length-drop k ss))))
+module _ (ss : List (List ℕ)) (all : AreBlocks ss) (k within : ℕ) (bytes : List ℕ) where
+  -- a block written over has as many bytes
+  pub over_len : k < length ss → within + length bytes ≤ 512 → length (overwritten (get_or ss k []) within bytes) ≡ 512
+  over_len there fits =
+      let long : length (get_or ss k []) ≡ 512 = All-get_or IsBlock ss k [] there all in
+      length_overwritten (get_or ss k []) bytes within (omega (arith, long, fits)) ∙ omega (arith, long, fits)
 
-  pub part_blocks : (n : ℕ) → AreBlocks (part ss k n)
-  part_blocks n = All-take IsBlock n (drop k ss) (All-drop IsBlock k ss all)
+  -- a write that ends in the next block
+  module _ (more : 512 - within ≤ length bytes) (low : within < 512) (there : k + 1 < length ss) (short : length bytes ≤ 512) (second : List ℕ) (is : second ≡ overwritten (get_or ss (k + 1) []) 0 (drop (512 - within) bytes)) where
+    abbrev front : List ℕ
+    front = take (512 - within) bytes
+
+    abbrev first : List (List ℕ)
+    first = slice_set ss k (overwritten (get_or ss k []) within front)
+
+    front_len : length front ≡ 512 - within
+    front_len = length-take-le (512 - within) bytes more
+
+    first_are : AreBlocks first
+    first_are =
+        let long : length (get_or ss k []) ≡ 512 = All-get_or IsBlock ss k [] (omega (arith, there)) all in
+        set_are ss k (overwritten (get_or ss k []) within front) all
+        (length_overwritten (get_or ss k []) front within (omega (arith, long, low)) ∙ omega (arith, long, front_len, low))
+
+    first_many : length first ≡ length ss
+    first_many = length-set ss k (overwritten (get_or ss k []) within front)
+
+    next : get_or first (k + 1) [] ≡ get_or ss (k + 1) []
+    next = get_or-set_other ss k (k + 1) (overwritten (get_or ss k []) within front) [] (λ e. absurd (omega (arith, e)))
+
+    second_is : second ≡ overwritten (get_or first (k + 1) []) 0 (drop (512 - within) bytes)
+    second_is = is ∙ ap (λ (l : List ℕ). overwritten l 0 (drop (512 - within) bytes)) (sym next)
+
+    back_len : length (drop (512 - within) bytes) ≤ 512
+    back_len = omega (arith, length-drop (512 - within) bytes, short)
+
+    pub two_are : AreBlocks (slice_set first (k + 1) second)
+    two_are =
+        let long : length (get_or first (k + 1) []) ≡ 512 = All-get_or IsBlock first (k + 1) [] (omega (arith, first_many, there)) first_are in
+        set_are first (k + 1) second first_are
+        (ap length second_is ∙ length_overwritten (get_or first (k + 1) []) (drop (512 - within) bytes) 0 (omega arith) ∙ omega (arith, long, back_len))
+
+    pub two_many : length (slice_set first (k + 1) second) ≡ length ss
+    two_many = length-set first (k + 1) second ∙ first_many
+
+    pub two_joined : joined (slice_set first (k + 1) second) ≡ overwritten (joined ss) (512 * k + within) bytes
+    two_joined =
+        let place : 512 * (k + 1) + 0 ≡ 512 * k + within + length front = omega (arith, front_len, low) in
+        ap (λ (b : List ℕ). joined (slice_set first (k + 1) b)) second_is
+        ∙ joined_set first (k + 1) 0 (drop (512 - within) bytes) first_are (omega (arith, first_many, there)) (omega (arith, back_len))
+        ∙ ap₂ (λ (l : List ℕ) (n : ℕ). overwritten l n (drop (512 - within) bytes)) (joined_set ss k within front all (omega (arith, there)) (omega (arith, front_len, low))) place
+        ∙ written_on (joined ss) front (drop (512 - within) bytes) (512 * k + within) (omega (arith, front_len, low, there, length_joined ss all))
+        ∙ ap (overwritten (joined ss) (512 * k + within)) (take-append-drop (512 - within) bytes)
 
 -- a byte of a block, among all
 pub block_byte : (ss : List (List ℕ)) (k j : ℕ) (d : List ℕ) → AreBlocks ss → k < length ss → j < 512 → get_or (joined ss) (512 * k + j) 0 ≡ get_or (get_or ss k d) j 0

@@ -11,18 +11,17 @@ pub use Rattle.std.proofs.lemmas.List.{length-take-le, same_lists, get_or-drop, 
 pub use Rattle.std.proofs.lemmas.List.{get_or-append_right, length-replicate, take-take, drop_at, length-drop}
 pub use Rattle.std.proofs.lemmas.List.{drop-take, take_all, append_assoc, take-append-le, take-append-drop}
 pub use Rattle.std.proofs.lemmas.List.{drop-append-le, get_or_append_left, length-append, get_or_default, take_at}
-pub use Rattle.std.proofs.lemmas.List.{append-nil}
+pub use Rattle.std.proofs.lemmas.List.{append-nil, length-set, get_or-set_other}
 pub use Rattle.std.proofs.lemmas.List.Elements.{All-head, All-get_or, All-tail, All-take, All-drop, All-replicate}
 pub use Rattle.std.proofs.lemmas.List.Elements.{All-append, All-cons}
 pub use Rattle.std.specs.Bool.{Decides}
 pub use Rattle.std.specs.Cmp.Lexicographic.{pointwise_decides}
 pub use Rattle.std.specs.Prelude.{IfOk, ◌≢◌, IfSome, ◌&&◌, slice_set, if◌then◌else◌, nat_le, nat_lt}
 pub use Rattle.std.specs.Vec.{vec_capacity}
-pub use Rattle.sk_objects.specs.Blocks.{AreBlocks, blank, joined, BlocksView}
-pub use Rattle.sk_objects.specs.File.{part, written, cut, blocks_of, overwritten, filled, held}
+pub use Rattle.sk_objects.specs.Blocks.{AreBlocks, blank, joined}
+pub use Rattle.sk_objects.specs.File.{part, written, cut, blocks_of, overwritten, filled}
 pub use Rattle.sk_objects.specs.Pipe.{PipeView}
 pub use Rattle.sk_objects.specs.Ring.{wrapped, turned, ring_bytes}
 pub use Rattle.sk_objects.specs.Same.{same_bytes}
 pub use Rattle.sk_objects.specs.SameLemma.{exact_bytes}
-pub use Rattle.sk_objects.specs.Slots.{blocks_from, replaced, AreSlots, under_write, blocks_under, CanPut, with_blocks}
-pub use Rattle.sk_objects.specs.Slots.{under_cut, patch_under, CanPatch, IsZeroFrom}
+pub use Rattle.sk_objects.specs.Slots.{AreSlots, IsZeroFrom}

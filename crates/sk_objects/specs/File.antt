@@ -24,7 +24,3 @@ blocks_of size = (size + 511) / 512
 -- up to so many from a place on
 abbrev pub part : {A : Type 0} → List A → ℕ → ℕ → List A
 part f at count = take count (drop at f)
-
--- exactly so many bytes from a place on, with zeros past the end
-abbrev pub held : List ℕ → ℕ → ℕ → List ℕ
-held f at count = part (filled f (at + count)) at count

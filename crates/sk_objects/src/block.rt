@@ -1,10 +1,11 @@
 //! Blocks of 512 bytes.
-ghost use Rattle.std.specs.Prelude.{◌≡◌, ◌≤◌, ◌+◌, ◌-◌, ◌++◌, length, take, replicate, false, IfOk, ◌↔◌, IsTrue, if◌then◌else◌};
+ghost use Rattle.std.specs.Prelude.{◌≡◌, ◌≤◌, ◌+◌, ◌-◌, ◌++◌, length, take, replicate, false, IfOk, OnOk, OnErr, ◌↔◌, IsTrue, if◌then◌else◌};
 ghost use Rattle.sk_objects.specs.File.{overwritten};
 ghost use Rattle.sk_objects.specs.Blocks.{cell, blank};
 
 use std::alloc::{AllocError, Global};
 use std::marker::Model;
+use std::sync::Arc;
 
 /// The size of a block.
 pub const BLOCK: usize = 512;
@@ -12,10 +13,11 @@ pub const BLOCK: usize = 512;
 /// What a block holds in which none was written.
 static ZEROS: [u8; BLOCK] = [0; BLOCK];
 
-/// 512 bytes. Where none was ever written they are zeros, and take no memory.
+/// 512 bytes, which others of the same bytes share until one of them is written. Where none was ever written they are zeros, and
+/// take no memory.
 #[derive(Drop)]
 pub struct Block {
-    cells: Option<Box<[u8; BLOCK]>>,
+    cells: Option<Arc<[u8; BLOCK]>>,
 }
 
 impl Model for Block {
@@ -39,7 +41,7 @@ pub(crate) fn place(cells: &mut [u8], at: usize, bytes: &[u8])
 
 /// The cells of a block.
 #[tactic(auto, unfolding(crate::specs::Blocks::blank))]
-fn cells_of(cells: &Option<Box<[u8; BLOCK]>>) -> [u8; BLOCK]
+fn cells_of(cells: &Option<Arc<[u8; BLOCK]>>) -> [u8; BLOCK]
     ensures { result ≡ cell cells.now }
 {
     match cells {
@@ -48,27 +50,13 @@ fn cells_of(cells: &Option<Box<[u8; BLOCK]>>) -> [u8; BLOCK]
     }
 }
 
-/// A copy of the cells of a block.
-#[tactic(auto, unfolding(crate::specs::Blocks::blank))]
-fn boxed_cells(
-    alloc: Global,
-    cells: &Option<Box<[u8; BLOCK]>>,
-) -> Result<Box<[u8; BLOCK]>, AllocError>
-    ensures { IfOk result (λ copy. copy.value ≡ cell cells.now) }
-{
-    match cells {
-        Some(cells) => Ok(Box::new(alloc, **cells)?),
-        None => Ok(Box::new(alloc, [0; BLOCK])?),
-    }
-}
-
 /// The cells of a block, lent.
 #[tactic(auto, unfolding(crate::specs::Blocks::blank))]
-fn lent_cells(cells: &Option<Box<[u8; BLOCK]>>) -> &[u8]
+fn lent_cells(cells: &Option<Arc<[u8; BLOCK]>>) -> &[u8]
     ensures { result.now ≡ cell cells.now }
 {
     match cells {
-        Some(cells) => cells.as_ref(),
+        Some(cells) => cells.as_slice(),
         None => &ZEROS,
     }
 }
@@ -115,13 +103,11 @@ impl Block {
         Block { cells: None }
     }
 
-    /// The block of these bytes.
-    fn of(alloc: Global, bytes: &[u8]) -> Result<Block, AllocError>
-        requires { length bytes.now ≡ 512 }
-        ensures { IfOk result (λ block. block ≡ bytes.now) }
+    /// The block of these cells.
+    fn of(alloc: Global, cells: [u8; BLOCK]) -> Result<Block, AllocError>
+        ensures { IfOk result (λ block. block ≡ cells) }
     {
-        let mut cells = Box::new(alloc, [0; BLOCK])?;
-        place(cells.as_mut(), 0, bytes);
+        let cells = Arc::new(alloc, cells)?;
         Ok(Block { cells: Some(cells) })
     }
 
@@ -139,38 +125,48 @@ impl Block {
         ensures value { IfOk result (λ block. block ≡ overwritten self.now at bytes.now) }
         ensures len { length self.now ≡ 512 }
     {
-        let _ = &self.cells;
-        if bytes.len() == BLOCK {
-            return Block::of(alloc, bytes);
-        }
-        let mut cells = boxed_cells(alloc, &self.cells)?;
-        place(cells.as_mut(), at, bytes);
-        Ok(Block { cells: Some(cells) })
+        let mut cells = cells_of(&self.cells);
+        place(&mut cells, at, bytes);
+        Block::of(alloc, cells)
     }
 
-    /// Writes bytes over a part of it where its bytes are there, and answers whether they are. A block
-    /// in which none was written stays.
-    pub fn overwrite(&mut self, at: usize, bytes: &[u8]) -> bool
+    /// Writes bytes over a part of it where they stand, if it has its bytes and shares them with no other; answers whether it
+    /// is so. Else nothing has changed.
+    fn overwrite_own(&mut self, at: usize, bytes: &[u8]) -> bool
         requires { at + length bytes.now ≤ 512 }
-        ensures new { self.new ≡ (if result then overwritten self.old at bytes.now else self.old) }
-        ensures blank { result ≡ false → self.old ≡ blank }
+        ensures { self.new ≡ (if result then overwritten self.old at bytes.now else self.old) }
     {
-        match &mut self.cells {
-            Some(cells) => {
-                place(cells.as_mut(), at, bytes);
+        let Some(cells) = &mut self.cells else {
+            return false;
+        };
+        match Arc::get_mut(cells) {
+            Some(own) => {
+                place(own, at, bytes);
                 true
             }
             None => false,
         }
     }
 
-    /// Another block of the same bytes; where none was written it takes no memory.
-    pub fn copy(&self, alloc: Global) -> Result<Block, AllocError>
+    /// Writes bytes over a part of it; others that share its bytes keep theirs. Without memory nothing changes.
+    pub fn overwrite(&mut self, alloc: Global, at: usize, bytes: &[u8]) -> Result<(), AllocError>
+        requires { at + length bytes.now ≤ 512 }
+        ensures ok { OnOk result (self.new ≡ overwritten self.old at bytes.now) }
+        ensures err { OnErr result (self.new ≡ self.old) }
+    {
+        if !self.overwrite_own(at, bytes) {
+            *self = self.overwritten(alloc, at, bytes)?;
+        }
+        Ok(())
+    }
+
+    /// Another block, which shares its bytes.
+    pub fn copy(&self) -> Result<Block, AllocError>
         ensures { IfOk result (λ copy. copy ≡ self.now) }
     {
         match &self.cells {
             Some(cells) => {
-                let cells = Box::new(alloc, **cells)?;
+                let cells = Arc::try_clone(cells)?;
                 Ok(Block { cells: Some(cells) })
             }
             None => Ok(Block::new()),
@@ -188,7 +184,6 @@ impl Block {
         }
         let mut cells = cells_of(&self.cells);
         cells[len..].fill(0);
-        let cells = Box::new(alloc, cells)?;
-        Ok(Block { cells: Some(cells) })
+        Block::of(alloc, cells)
     }
 }

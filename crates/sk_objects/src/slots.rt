@@ -1,43 +1,15 @@
 //! Blocks in slots.
-ghost use Rattle.std.specs.Prelude.{◌≡◌, ◌≤◌, ◌<◌, ◌+◌, ◌-◌, ◌*◌, ◌/◌, ◌%◌, ◌++◌, ◌∷◌, List, ℕ, [], true, false, length, take, drop, replicate, slice_set, get_or, IfOk, IfSome, vec_len, vec_capacity, ◌↔◌, IsTrue, if◌then◌else◌};
-ghost use Rattle.sk_objects.specs.File.{overwritten, part, held, blocks_of};
+ghost use Rattle.std.specs.Prelude.{◌≡◌, ◌≤◌, ◌<◌, ◌+◌, ◌-◌, ◌*◌, ◌/◌, ◌%◌, ◌++◌, ◌∷◌, [], length, take, replicate, slice_set, get_or, IfOk, OnOk, OnErr, vec_capacity, ◌↔◌, IsTrue};
+ghost use Rattle.sk_objects.specs.File.{overwritten, part, blocks_of};
 ghost use Rattle.sk_objects.specs.Blocks.{joined, AreBlocks, blank};
-ghost use Rattle.sk_objects.specs.Slots.{blocks_under};
 
 use crate::Block;
 use crate::block::BLOCK;
-use crate::patch::Few;
 use sk_ids::Text;
-use smallvec::SmallVec;
 use std::alloc::{AllocError, Global};
-use std::marker::Model;
 
 /// The most slots of a file.
 pub const SLOTS: usize = 64;
-
-/// Blocks that go into a file from a slot on, or stood there, and the length that the file has with
-/// them. A write lies on one or two, which stand here in place.
-#[derive(Drop)]
-pub struct Blocks {
-    pub(crate) slot: usize,
-    pub(crate) blocks: SmallVec<Block, 2>,
-    pub(crate) size: usize,
-}
-
-impl Model for Blocks {
-    ghost use Rattle.std.specs.Prelude.{◌*◌};
-    ghost use Rattle.sk_objects.specs.Blocks.{BlocksView, joined, AreBlocks};
-
-    ghost Value = { BlocksView };
-
-    ghost view = { λ b. record {
-      at = 512 * b.slot;
-      bytes = joined b.blocks.items;
-      size = b.size;
-    } };
-
-    ghost invariant = { λ b. AreBlocks b.blocks.items };
-}
 
 /// Slots with nothing in them come behind, up to so many. This takes no memory.
 pub(crate) fn fill_slots(slots: &mut Vec<Block>, count: usize)
@@ -53,25 +25,6 @@ pub(crate) fn fill_slots(slots: &mut Vec<Block>, count: usize)
     }
 }
 
-/// Blocks go into slots, and those that stood there come back.
-pub(crate) fn swap_blocks(slots: &mut [Block], slot: usize, blocks: &mut [Block])
-    requires { slot + length blocks.old ≤ length slots.old }
-    ensures slots { slots.new ≡ overwritten slots.old slot blocks.old }
-    ensures blocks { blocks.new ≡ part slots.old slot (length blocks.old) }
-{
-    slots[slot..slot + blocks.len()].swap_with_slice(blocks);
-}
-
-/// The same of those of a file.
-pub(crate) fn exchange_blocks(slots: &mut Vec<Block>, slot: usize, blocks: &mut SmallVec<Block, 2>)
-    requires { slot + length blocks.old.items ≤ length slots.old.items }
-    ensures slots { slots.new.items ≡ overwritten slots.old.items slot blocks.old.items }
-    ensures blocks { blocks.new.items ≡ part slots.old.items slot (length blocks.old.items) }
-    ensures room { vec_capacity slots.new ≡ vec_capacity slots.old }
-{
-    swap_blocks(slots, slot, blocks.as_mut_slice());
-}
-
 /// How many blocks so many bytes take.
 pub(crate) fn blocks_of(size: usize) -> usize
     requires { size ≤ 32768 }
@@ -81,135 +34,121 @@ pub(crate) fn blocks_of(size: usize) -> usize
     (size + (BLOCK - 1)) / BLOCK
 }
 
-/// One block, in place.
-fn one_block(alloc: Global, block: Block) -> SmallVec<Block, 2>
-    ensures { result.items ≡ block ∷ [] }
-{
-    let mut blocks = SmallVec::new(alloc);
-    blocks.push_reserved(block);
-    blocks
-}
-
-/// Two blocks, in place.
-fn two_blocks(alloc: Global, first: Block, second: Block) -> SmallVec<Block, 2>
-    ensures { result.items ≡ first ∷ second ∷ [] }
-{
-    let mut blocks = SmallVec::new(alloc);
-    blocks.push_reserved(first);
-    blocks.push_reserved(second);
-    blocks
-}
-
-/// The blocks under a write as it leaves them. It takes memory for them alone.
-pub(crate) fn written_blocks(
+/// Writes bytes over a part of the block at a place. Without memory nothing changes.
+fn overwrite_at(
+    slots: &mut [Block],
     alloc: Global,
-    slots: &[Block],
+    slot: usize,
+    within: usize,
+    bytes: &[u8],
+) -> Result<(), AllocError>
+    requires there { slot < length slots.old }
+    requires fits { within + length bytes.now ≤ 512 }
+    ensures ok { OnOk result
+        (slots.new
+        ≡ slice_set slots.old slot (overwritten (get_or slots.old slot []) within bytes.now)) }
+    ensures err { OnErr result (slots.new ≡ slots.old) }
+{
+    slots[slot].overwrite(alloc, within, bytes)
+}
+
+/// A block takes a place.
+fn put_block(slots: &mut [Block], slot: usize, block: Block)
+    requires { slot < length slots.old }
+    ensures { slots.new ≡ slice_set slots.old slot block }
+{
+    slots[slot] = block;
+}
+
+/// Writes bytes over two blocks that are there. Without memory nothing changes.
+#[inline(never)]
+fn overwrite_two(
+    slots: &mut [Block],
+    alloc: Global,
     at: usize,
     bytes: &[u8],
-) -> Result<SmallVec<Block, 2>, AllocError>
-    requires slots { length slots.now ≤ 64 }
-    requires blocks { AreBlocks slots.now }
+) -> Result<(), AllocError>
+    requires blocks { AreBlocks slots.old }
+    requires there { at / 512 + 1 < length slots.old }
+    requires two { 512 ≤ at % 512 + length bytes.now }
+    requires short { length bytes.now ≤ 512 }
+    ensures bytes { OnOk result
+        (joined slots.new ≡ overwritten (joined slots.old) at bytes.now) }
+    ensures blocks { OnOk result (AreBlocks slots.new) }
+    ensures len { OnOk result (length slots.new ≡ length slots.old) }
+    ensures err { OnErr result (slots.new ≡ slots.old) }
+{
+    let slot = at / BLOCK;
+    let within = at % BLOCK;
+    let (front, back) = bytes.split_at(BLOCK - within);
+    let second = slots[slot + 1].overwritten(alloc, 0, back)?;
+    overwrite_at(slots, alloc, slot, within, front)?;
+    put_block(slots, slot + 1, second);
+    Ok(())
+}
+
+/// Writes bytes over slots that are there. Without memory nothing changes.
+#[inline(always)]
+fn overwrite_blocks(
+    slots: &mut [Block],
+    alloc: Global,
+    at: usize,
+    bytes: &[u8],
+) -> Result<(), AllocError>
+    requires slots { length slots.old ≤ 64 }
+    requires blocks { AreBlocks slots.old }
     requires some { 1 ≤ length bytes.now }
     requires short { length bytes.now ≤ 512 }
-    requires end { at + length bytes.now ≤ 512 * length slots.now }
-    ensures blocks { IfOk result (λ blocks. AreBlocks blocks.items) }
-    ensures bytes { IfOk result
-        (λ blocks. joined blocks.items
-        ≡ part (overwritten (joined slots.now) at bytes.now) (512 * (at / 512))
-        (512 * blocks_under at (length bytes.now))) }
-{
-    let slot = at / BLOCK;
-    let within = at % BLOCK;
-    let room = BLOCK - within;
-    if bytes.len() <= room {
-        let block = slots[slot].overwritten(alloc, within, bytes)?;
-        return Ok(one_block(alloc, block));
-    }
-    let (front, back) = bytes.split_at(room);
-    let first = slots[slot].overwritten(alloc, within, front)?;
-    let second = slots[slot + 1].overwritten(alloc, 0, back)?;
-    Ok(two_blocks(alloc, first, second))
-}
-
-/// Writes bytes over a part of one block where that is there, and answers whether it is so.
-fn overwrite_block(slots: &mut [Block], at: usize, bytes: &[u8]) -> bool
-    ensures slots { slots.new ≡ (if result then slice_set slots.old (at / 512)
-        (overwritten (get_or slots.old (at / 512) []) (at % 512) bytes.now) else slots.old) }
-    ensures one { result ≡ true → at % 512 + length bytes.now ≤ 512 }
-    ensures blank { result ≡ false → at % 512 + length bytes.now ≤ 512 → at / 512 < length slots.old
-        → get_or slots.old (at / 512) [] ≡ blank }
-    ensures there { result ≡ true → at / 512 < length slots.old }
+    requires end { at + length bytes.now ≤ 512 * length slots.old }
+    ensures bytes { OnOk result
+        (joined slots.new ≡ overwritten (joined slots.old) at bytes.now) }
+    ensures blocks { OnOk result (AreBlocks slots.new) }
+    ensures len { OnOk result (length slots.new ≡ length slots.old) }
+    ensures err { OnErr result (slots.new ≡ slots.old) }
 {
     let within = at % BLOCK;
-    if at / BLOCK >= slots.len() || bytes.len() > BLOCK - within {
-        return false;
+    if bytes.len() > BLOCK - within {
+        return overwrite_two(slots, alloc, at, bytes);
     }
-    slots[at / BLOCK].overwrite(within, bytes)
+    overwrite_at(slots, alloc, at / BLOCK, within, bytes)?;
+    Ok(())
 }
 
-/// The same of a vector.
-pub(crate) fn overwrite(slots: &mut Vec<Block>, at: usize, bytes: &[u8]) -> bool
-    ensures slots { slots.new.items
-        ≡ (if result then slice_set slots.old.items (at / 512)
-        (overwritten (get_or slots.old.items (at / 512) []) (at % 512) bytes.now) else
-        slots.old.items) }
-    ensures one { result ≡ true → at % 512 + length bytes.now ≤ 512 }
-    ensures blank { result ≡ false → at % 512 + length bytes.now ≤ 512
-        → at / 512 < length slots.old.items → get_or slots.old.items (at / 512) [] ≡ blank }
-    ensures there { result ≡ true → at / 512 < length slots.old.items }
+/// The same of those of a file.
+#[inline(always)]
+pub(crate) fn overwrite(slots: &mut Vec<Block>, at: usize, bytes: &[u8]) -> Result<(), AllocError>
+    requires slots { length slots.old.items ≤ 64 }
+    requires blocks { AreBlocks slots.old.items }
+    requires some { 1 ≤ length bytes.now }
+    requires short { length bytes.now ≤ 512 }
+    requires end { at + length bytes.now ≤ 512 * length slots.old.items }
+    ensures bytes { OnOk result
+        (joined slots.new.items ≡ overwritten (joined slots.old.items) at bytes.now) }
+    ensures blocks { OnOk result (AreBlocks slots.new.items) }
+    ensures len { OnOk result (length slots.new.items ≡ length slots.old.items) }
     ensures room { vec_capacity slots.new ≡ vec_capacity slots.old }
+    ensures err { OnErr result (slots.new.items ≡ slots.old.items) }
 {
-    overwrite_block(slots, at, bytes)
+    let alloc = *slots.allocator();
+    overwrite_blocks(slots, alloc, at, bytes)
 }
 
-/// So many bytes, if they are few and stand in one block.
-pub(crate) fn few_at(slots: &[Block], at: usize, count: usize) -> Option<Few>
-    requires blocks { AreBlocks slots.now }
-    ensures bytes { IfSome result (λ few. few ≡ part (joined slots.now) at count) }
-    ensures one { IfSome result (λ _. at % 512 + count ≤ 512) }
-    ensures there { IfSome result (λ _. at / 512 < length slots.now) }
-{
-    let within = at % BLOCK;
-    if at / BLOCK >= slots.len() || count > BLOCK - within {
-        return None;
-    }
-    let block = slots[at / BLOCK].as_slice();
-    Few::new(&block[within..within + count])
-}
-
-/// Room for so many blocks.
-fn room_for(alloc: Global, count: usize) -> Result<SmallVec<Block, 2>, AllocError>
-    ensures items { IfOk result (λ blocks. blocks.items ≡ []) }
-    ensures room { IfOk result (λ blocks. count ≤ blocks.capacity) }
-{
-    let mut blocks = SmallVec::new(alloc);
-    blocks.reserve(count)?;
-    Ok(blocks)
-}
-
-/// The blocks from the one at a cut on, as the cut leaves them. It takes memory for them alone.
-pub(crate) fn cut_blocks(
-    alloc: Global,
-    slots: &[Block],
-    at: usize,
-    count: usize,
-) -> Result<SmallVec<Block, 2>, AllocError>
-    requires slots { length slots.now ≤ 64 }
-    requires blocks { AreBlocks slots.now }
-    requires some { 1 ≤ count }
-    requires end { at / 512 + count ≤ length slots.now }
-    ensures blocks { IfOk result (λ blocks. AreBlocks blocks.items) }
-    ensures bytes { IfOk result
-        (λ blocks. joined blocks.items
-        ≡ held (take at (joined slots.now)) (512 * (at / 512)) (512 * count)) }
+/// Zeros take the place of all bytes from a cut on. Only a cut within a block wants memory; without it nothing changes.
+pub(crate) fn cut_slots(slots: &mut Vec<Block>, at: usize) -> Result<(), AllocError>
+    requires blocks { AreBlocks slots.old.items }
+    requires end { at / 512 < length slots.old.items }
+    ensures ok { OnOk result
+        (slots.new.items ≡ take (at / 512) slots.old.items
+        ++ (take (at % 512) (get_or slots.old.items (at / 512) []) ++ replicate (512 - at % 512) 0)
+        ∷ []) }
+    ensures room { vec_capacity slots.new ≡ vec_capacity slots.old }
+    ensures err { OnErr result (slots.new.items ≡ slots.old.items) }
 {
     let slot = at / BLOCK;
-    let mut blocks = room_for(alloc, count)?;
-    blocks.push_reserved(slots[slot].start(alloc, at % BLOCK)?);
-    for _ in 0..count - 1 {
-        blocks.push_reserved(Block::new());
-    }
-    Ok(blocks)
+    let last = slots[slot].start(*slots.allocator(), at % BLOCK)?;
+    slots.truncate(slot);
+    slots.push_reserved(last);
+    Ok(())
 }
 
 /// Another of each block, with room for all that may be.
@@ -220,7 +159,7 @@ pub(crate) fn copy_slots(alloc: Global, slots: &[Block]) -> Result<Vec<Block>, A
 {
     let mut copy = Vec::with_capacity(alloc, SLOTS)?;
     for block in slots {
-        copy.push_reserved(block.copy(alloc)?);
+        copy.push_reserved(block.copy()?);
     }
     Ok(copy)
 }
@@ -249,18 +188,18 @@ fn read_slots(slots: &[Block], at: usize, out: &mut [u8])
     back.copy_from_slice(&slots[slot + 1].as_slice()[..count - room]);
 }
 
-/// So many bytes, at most 512, that may lie in two blocks.
+/// Reads so many bytes, at most 512, that may lie in two blocks.
 #[inline(never)]
-fn read_across(slots: &[Block], at: usize, count: usize) -> Text
+fn read_across(slots: &[Block], at: usize, count: usize, text: &mut Text)
     requires slots { length slots.now ≤ 64 }
     requires blocks { AreBlocks slots.now }
     requires short { count ≤ 512 }
     requires end { at + count ≤ 512 * length slots.now }
-    ensures { result ≡ part (joined slots.now) at count }
+    ensures { text.new ≡ part (joined slots.now) at count }
 {
     let mut bytes = [0; 512];
     read_slots(slots, at, &mut bytes[..count]);
-    Text::new(&bytes[..count]).unwrap()
+    text.set(&bytes[..count]);
 }
 
 /// Reads so many bytes, at most 512, from a place on. In one block they are read where they stand.
@@ -274,7 +213,7 @@ pub(crate) fn read_into(slots: &[Block], at: usize, count: usize, text: &mut Tex
 {
     let within = at % BLOCK;
     if count == 0 || count > BLOCK - within {
-        *text = read_across(slots, at, count);
+        read_across(slots, at, count, text);
         return;
     }
     let block = slots[at / BLOCK].as_slice();

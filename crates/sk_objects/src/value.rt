@@ -54,6 +54,15 @@ fn part_into(from: &Text, at: usize, count: usize, text: &mut Text)
     text.set(&rest[..count.min(rest.len())]);
 }
 
+/// Up to `count` bytes of a pipe from a place on, counted from the oldest, read into a text.
+#[inline(never)]
+fn pipe_into(pipe: &Pipe, at: usize, count: usize, text: &mut Text)
+    requires { count ≤ TEXT_LIMIT }
+    ensures { text.new ≡ bytes_part pipe.now.bytes at count }
+{
+    *text = pipe.part(at, count);
+}
+
 impl Value {
     /// The first value of a kind that is no link: empty, open, not set, version 0. The room that a pipe
     /// or a queue may need is made here.
@@ -145,7 +154,7 @@ impl Value {
         let count = count.min(TEXT_LIMIT);
         match self {
             Value::File(file) => file.part_into(at, count, text),
-            Value::Pipe(pipe) => *text = pipe.part(at, count),
+            Value::Pipe(pipe) => pipe_into(pipe, at, count, text),
             Value::Copy(held) => part_into(held.content().text(), at, count, text),
             _ => text.set(&[]),
         }

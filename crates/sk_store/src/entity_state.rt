@@ -3,7 +3,7 @@ ghost use Rattle.std.specs.Prelude.{◌≡◌, IfOk, OnOk, OnErr, Some};
 ghost use Rattle.sk_changes.specs.declared.change.Change.TheVariants as changes;
 
 use crate::{Becoming, HeldProcess};
-use sk_changes::{Change, Invertible, Undo, change_alone, change_noted, write_noted};
+use sk_changes::{Change, Invertible, Undo, change_alone, change_noted};
 use sk_ids::Text;
 use sk_objects::{Content, Value};
 use sk_script::Process;
@@ -89,23 +89,7 @@ impl EntityState {
         ensures err { OnErr result (self.new ≡ self.old) }
     {
         match self {
-            EntityState::Value(Value::File(file)) => file.overwrite(at as usize, bytes.as_slice()),
-            _ => unreachable!(),
-        }
-    }
-
-    /// Writes bytes at a place of the file that it is, and answers what takes that back. Without memory nothing has changed.
-    pub fn write_noted(&mut self, at: u32, bytes: &Text) -> Result<Undo, AllocError>
-        requires { FitsAt (Some self.old) (changes.WriteAt at bytes.now) }
-        ensures ok { OnOk result (self.new ≡ changed (Some self.old) (changes.WriteAt at bytes.now)) }
-        ensures can { IfOk result (λ undo. StateFits self.new undo) }
-        ensures back { IfOk result (λ undo. state_undone self.new undo ≡ self.old) }
-        ensures err { OnErr result (self.new ≡ self.old) }
-    {
-        match self {
-            EntityState::Value(Value::File(file)) => {
-                write_noted(file, at as usize, bytes.as_slice())
-            }
+            EntityState::Value(Value::File(file)) => file.write_at(at as usize, bytes.as_slice()),
             _ => unreachable!(),
         }
     }

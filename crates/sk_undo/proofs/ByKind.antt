@@ -8,7 +8,7 @@ use Rattle.std.proofs.lemmas.List.{append-nil, append_assoc}
 use Rattle.std.specs.Cmp.{nat_cmp_total}
 use Rattle.std.specs.List.Sorted.{IsStrictlySortedBy}
 use Rattle.std.specs.Cmp.Lexicographic.{nat_list_cmp_total}
-use Rattle.std.specs.FinMap.{FinMap, entries, empty, from_entries, from_sorted, get-empty, get-entries, get-from_entries, get-from_sorted}
+use Rattle.std.specs.FinMap.{FinMap, entries, empty, from_sorted, get-empty, get-entries, get-from_entries, get-from_sorted}
 use Rattle.std.specs.FinMap.{entries-from_sorted, entries_sorted, keys, values}
 use Rattle.sk_map.specs.KeyLemma.{object_same}
 use Rattle.sk_ids.specs.contracts.pid.ObjIdOrd.TheImpl.Laws as object_laws

@@ -1,9 +1,9 @@
 -- No directory has more names than there are names of directories.
 use Rattle.sk_undo.proofs.Cites.{◌≡◌, ◌≤◌, ℕ, zero, suc, ◌-◌, true, false, not, cond, ◌&&◌, ◌||◌, List, [], ◌∷◌}
-use Rattle.sk_undo.proofs.Cites.{Bool, refl, sym, ◌∙◌, ap, arith, is_some, eq_by_cmp, is_eq, ordering_then, Ordering}
-use Rattle.sk_undo.proofs.Cites.{Less, Equal, Greater, IsTotalOrder, eq_by_cmp_equiv, tied_itself, nat_list_cmp_total, None, list_any}
+use Rattle.sk_undo.proofs.Cites.{Bool, refl, sym, ◌∙◌, ap, arith, is_some, eq_by_cmp, is_eq, ordering_then}
+use Rattle.sk_undo.proofs.Cites.{IsTotalOrder, eq_by_cmp_equiv, tied_itself, nat_list_cmp_total, None, list_any}
 use Rattle.sk_undo.proofs.Cites.{FinSet, contains, items, len, empty, contains-items, contains-empty, contains-remove}
-use Rattle.sk_undo.proofs.Cites.{len-empty, len-remove, same_set, true≢false, name_order, object_cmp, ObjId, Obj, entity_total}
+use Rattle.sk_undo.proofs.Cites.{len-empty, len-remove, same_set, true≢false, name_order, ObjId, Obj, entity_total}
 use Rattle.std.specs.FinMap as fin
 use Rattle.std.specs.FinMap.{FinMap}
 use Rattle.std.specs.FinSet.{remove}

@@ -1,10 +1,10 @@
 -- How many names each directory has, after one entity was written.
-use Rattle.sk_undo.proofs.Cites.{◌≡◌, ◌≤◌, ℕ, zero, suc, ◌+◌, ◌-◌, Bool, true, false, not, cond, ◌&&◌, ◌||◌, List, []}
-use Rattle.sk_undo.proofs.Cites.{◌∷◌, Option, Some, None, Result, Ok, Err, refl, sym, ◌∙◌, ap, subst, arith, is_some}
+use Rattle.sk_undo.proofs.Cites.{◌≡◌, ◌≤◌, ℕ, ◌+◌, ◌-◌, Bool, true, false, not, cond, ◌&&◌, ◌||◌, List, []}
+use Rattle.sk_undo.proofs.Cites.{Option, Some, None, Result, Ok, Err, refl, sym, ◌∙◌, ap, subst, arith, is_some}
 use Rattle.sk_undo.proofs.Cites.{OnOk, OnErr, unwrap_or, Ordering, Less, Equal, Greater, eq_by_cmp, is_eq}
 use Rattle.sk_undo.proofs.Cites.{ordering_then, IsTotalOrder, Equal-is, eq_by_cmp_equiv, tied_itself}
-use Rattle.sk_undo.proofs.Cites.{nat_list_cmp_total, list_any, FinSet, contains, items, len, empty, contains-items}
-use Rattle.sk_undo.proofs.Cites.{contains-empty, contains-remove, len-empty, len-remove, same_set, true≢false}
+use Rattle.sk_undo.proofs.Cites.{len, empty}
+use Rattle.sk_undo.proofs.Cites.{contains-empty, len-empty, true≢false}
 use Rattle.sk_undo.proofs.Cites.{name_order, entity_cmp, object_cmp, ObjId, total-law, Entity, Proc, Sig, Exit, Obj}
 use Rattle.sk_undo.proofs.Cites.{Link, Copy, entity_total, entity_exact, object_same, object_exact, IsCount, name_there}
 use Rattle.sk_undo.proofs.Cites.{one_more, one_less, as_many, EntityState, Change, FitsAt, changed, PutBack, TakeBack}
@@ -325,10 +325,6 @@ module _ (old new : SlotMap) (names : NameMap) where
   counted_on (Copy n) others number so = elsewhere (Copy n) others (λ d n. refl) so
 
 -- ---- after each call of the slots; the numbers are as the code sets them
-same_count : (names : NameMap) (d : ObjId) (b : Bool) → recounted_at names d b b ≡ names
-same_count names d true = refl
-same_count names d false = refl
-
 module _ (m n : SlotMap) (e : Entity) (names : NameMap) (so : IsCounted m names) where
   -- a write
   set_counted : (tags : List ℕ) (v : Option EntityState) (made after : NameMap) (had : Bool) → made ≡ made_for names e → had ≡ link_there m e → n ≡ slots_wrote tags m e v

@@ -2,7 +2,7 @@
 use Rattle.sk_undo.proofs.Cites.{◌≡◌, ℕ, Bool, true, false, cond, ◌&&◌, ◌||◌, List, [], ◌∷◌, ◌++◌, Option, refl, ◌∙◌}
 use Rattle.sk_undo.proofs.Cites.{sym, ap, subst, reverse, list_all, true≢false, or_parts, reverse_onto, Note, has}
 use Rattle.sk_undo.proofs.Cites.{last_tags, cut, carried, unwound, IsGrowing, and_both, RawNote, is_empty, seen}
-use Rattle.sk_undo.proofs.Cites.{CanGoBack, less, before_last, HasNote, newest_tags, rests_last, carries, nat_cmp}
+use Rattle.sk_undo.proofs.Cites.{CanGoBack, less, before_last, newest_tags, rests_last, carries, nat_cmp}
 use Rattle.std.specs.List.Sorted.{IsStrictlySortedBy}
 
 -- ---- no notes
@@ -228,7 +228,3 @@ module _ {U V : Type 0} (undone : U → Option V → Option V) where
   pub tags_seen : (now : Option V) (rs : List (RawNote U)) → newest_tags rs ≡ last_tags [] (reverse (seen undone now rs))
   tags_seen now [] = refl
   tags_seen now (r ∷ rs) = sym (newest_of (record { tags = r.tags; before = undone r.undo now }) (seen undone (undone r.undo now) rs))
-
-pub has_note : {U : Type 0} (g : ℕ) (rs : List (RawNote U)) → rests_last g rs ≡ true → HasNote rs
-has_note g [] here = absurd (true≢false (sym here))
-has_note g (n ∷ ns) here = tt

@@ -2,7 +2,7 @@
 use Rattle.sk_undo.proofs.Cites.{◌≡◌, ℕ, ◌≤◌, length, true, cond, ◌&&◌, List, [], ◌∷◌, Option, Some, None, refl, sym}
 use Rattle.sk_undo.proofs.Cites.{◌∙◌, ap, subst, arith, reverse, nat_le, first_so, eqb-true, leb-true, exact_bytes}
 use Rattle.sk_undo.proofs.Cites.{Note, last_tags, and_both, same_tags, EntityState, PutBack, Was, Changed, RawNote}
-use Rattle.sk_undo.proofs.Cites.{seen, CanGoBack, restores, goes_on_raw, goes_unnoted_raw, NoteFits, state_undone}
+use Rattle.sk_undo.proofs.Cites.{seen, CanGoBack, restores, goes_unnoted_raw, NoteFits, state_undone}
 use Rattle.sk_undo.proofs.Cites.{undone, Fits, is_held_whole, is_whole, goes_on, goes_unnoted, noted_on, is_stable}
 use Rattle.sk_undo.proofs.Cites.{is_stable_raw}
 use Rattle.sk_undo.proofs.Joins.{same_undone, fits_any}
@@ -37,14 +37,6 @@ stable_can a b (r ∷ rs) h can =
     (fits_any is_held_whole state_undone NoteFits r.undo b h, subst (λ v. CanGoBack Fits undone v rs) (same_undone is_held_whole state_undone NoteFits r.undo a b h) can.1)
 
 -- ---- a write with the tags of the newest note
-
-pub on_seen : (least : ℕ) (now : Option EntityState) (rs : List (RawNote (PutBack EntityState))) → CanGoBack Fits undone now rs → goes_on_raw is_held_whole least rs ≡ goes_on least (seen undone now rs)
-on_seen least now [] can = refl
-on_seen least now (r ∷ rs) can = ap (λ b. nat_le least (length r.tags) && b) (whole_is r.undo now can.0)
-
-pub on_stable : (least : ℕ) (rs : List (RawNote (PutBack EntityState))) → goes_on_raw is_held_whole least rs ≡ true → is_stable_raw rs ≡ true
-on_stable least [] h = refl
-on_stable least (r ∷ rs) h = (and_both (nat_le least (length r.tags)) (restores is_held_whole r.undo) h).1
 
 -- it is not noted
 on_unnoted : (least : ℕ) (log : List (Note EntityState)) → goes_on least log ≡ true → goes_unnoted (last_tags [] (reverse log)) log ≡ true

@@ -3,7 +3,7 @@ use Rattle.std.proofs.Common.{◌≡◌, refl, sym, ap, subst}
 use Rattle.std.specs.FinMap.{IsAntisymmetric}
 use Rattle.sk_ids.specs.EntityLemma.{entity_exact}
 use Rattle.sk_ids.specs.declared.entity.Entity.{Entity}
-use Rattle.sk_ids.specs.declared.entity.Entity.TheVariants.{Proc, Sig, Exit, Obj, Link, Copy}
+use Rattle.sk_ids.specs.declared.entity.Entity.TheVariants.{Link}
 use Rattle.sk_undo.specs.Kinds.{link_cmp, link_of}
 use Rattle.sk_undo.specs.declared.keys.LinkKey.{LinkKey}
 use Rattle.sk_undo.specs.contracts.keys.LinkKeyOrd.TheImpl as link_ord

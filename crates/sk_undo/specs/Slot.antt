@@ -3,7 +3,6 @@ use Rattle.std.specs.Prelude.{◌≡◌, ◌==◌, ℕ, Bool, true, false, ◌&&
 use Rattle.std.specs.Coded.{Coded, code_by, coded×, coded_ℕ, coded_list, coded_option}
 use Rattle.sk_record.specs.Notes.{Note, has, last_tags, committed}
 use Rattle.sk_record.specs.Merged.{same_tags}
-use Rattle.sk_objects.specs.declared.block.TheConstants.{BLOCK}
 use Rattle.sk_objects.specs.declared.value.Value.TheVariants as values
 use Rattle.sk_changes.specs.declared.change.Undo.{Undo}
 use Rattle.sk_store.specs.declared.entity_state.EntityState.{EntityState}
@@ -14,10 +13,10 @@ use Rattle.sk_store.specs.declared.back.PutBack.{PutBack}
 use Rattle.sk_undo.specs.declared.log.Note.{Note as RawNote}
 use Rattle.sk_undo.specs.Log.{is_empty, before_last, less, HasNote, undone_by, FitsBy, is_whole_at, restores}
 
--- whether a note holds it whole: a process, and a file of one block at most
+-- whether a note holds it whole: a process, and a file
 abbrev pub is_held_whole : EntityState → Bool
 is_held_whole (stored.Process p) = true
-is_held_whole (stored.Value (values.File f)) = nat_le (length f) BLOCK
+is_held_whole (stored.Value (values.File f)) = true
 is_held_whole (stored.Value v) = false
 
 -- what was there before a write

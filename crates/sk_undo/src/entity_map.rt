@@ -376,7 +376,7 @@ impl<V> EntityMap<V> {
 fn held<'a, K: Key>(slots: &'a Map<K, Slot>, key: &K) -> Option<&'a EntityState>
     ensures { option_copied result ≡ (slot_in (map.get (seen K.order slots.now) key.now)).now }
 {
-    match found(slots, key) {
+    match slots.get(key) {
         Some(slot) => slot.value(),
         None => None,
     }

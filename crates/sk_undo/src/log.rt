@@ -14,7 +14,6 @@ ghost use Rattle.sk_undo.specs.Log.{is_empty, seen, log_of, CanGoBack, HasNote, 
 use sk_changes::Undo;
 use sk_ids::{GuessId, TagSet};
 use sk_objects::Value;
-use sk_objects::block::BLOCK;
 use sk_store::{EntityState, PutBack};
 use std::alloc::{AllocError, Global};
 
@@ -85,8 +84,7 @@ impl Logged for EntityState {
 
     fn is_whole(&self) -> bool {
         match self {
-            EntityState::Process(_) => true,
-            EntityState::Value(Value::File(file)) => file.len() <= BLOCK,
+            EntityState::Process(_) | EntityState::Value(Value::File(_)) => true,
             EntityState::Value(_) => false,
         }
     }

@@ -189,45 +189,13 @@ fn change_noted_in(
     }
 }
 
-/// Writes bytes at a place of a file, and answers what a note keeps: the file whole, or what takes the write back. Without
-/// memory nothing has changed.
-fn note_write_in(
-    state: &mut EntityState,
-    at: u32,
-    bytes: &Text,
-) -> Result<PutBack<EntityState>, AllocError>
-    requires { FitsAt (Some state.old) (changes.WriteAt at bytes.now) }
-    ensures ok { OnOk result
-        (state.new ≡ changed (Some state.old) (changes.WriteAt at bytes.now)) }
-    ensures can { IfOk result (λ undo. Fits undo (Some state.new)) }
-    ensures back { IfOk result (λ undo. undone undo (Some state.new) ≡ Some state.old) }
-    ensures err { OnErr result (state.new ≡ state.old) }
-{
-    if !state.is_whole() {
-        let undo = state.write_noted(at, bytes)?;
-        return Ok(PutBack::Changed(undo));
-    }
-    let file = state.copy()?;
-    state.overwrite(at, bytes)?;
-    Ok(PutBack::Was(Some(file)))
-}
-
-/// The same of a file that is there.
-fn write_noted_in(
-    value: &mut Option<EntityState>,
-    at: u32,
-    bytes: &Text,
-) -> Result<PutBack<EntityState>, AllocError>
-    requires { FitsAt value.old (changes.WriteAt at bytes.now) }
-    ensures ok { OnOk result
-        (value.new ≡ Some (changed value.old (changes.WriteAt at bytes.now))) }
-    ensures can { IfOk result (λ undo. Fits undo value.new) }
-    ensures back { IfOk result (λ undo. undone undo value.new ≡ value.old) }
-    ensures err { OnErr result (value.new ≡ value.old) }
+/// Another of what is there.
+fn copy_in(value: &Option<EntityState>) -> Result<Option<EntityState>, AllocError>
+    ensures { IfOk result (λ copy. copy ≡ value.now) }
 {
     match value {
-        Some(state) => note_write_in(state, at, bytes),
-        None => unreachable!(),
+        Some(state) => Ok(Some(state.copy()?)),
+        None => Ok(None),
     }
 }
 
@@ -496,7 +464,8 @@ impl Slot {
     {
         let tags = tags.copy()?;
         self.log.reserve()?;
-        let undo = write_noted_in(&mut self.value, at, bytes)?;
+        let undo = PutBack::Was(copy_in(&self.value)?);
+        overwrite_in(&mut self.value, at, bytes)?;
         self.log.note_reserved(tags, undo);
         Ok(())
     }

@@ -1,32 +1,58 @@
-use Rattle.sk_objects.proofs.Names.{◌≡◌, ◌≤◌, ◌/◌, List, ℕ, length, arith, sym, ap, ap₂, subst, ◌∙◌, written}
-use Rattle.sk_objects.proofs.Names.{blocks_under, under_write, CanPut, with_blocks, replaced}
-use Rattle.sk_objects.proofs.FileLaw.{write_on, write_back}
-use Rattle.sk_objects.proofs.Seen.{seen_len, keeps}
+use Rattle.sk_objects.proofs.Names.{◌≤◌, ◌+◌, ◌*◌, List, ℕ, length, take, arith, sym, ap, subst, ◌∙◌}
+use Rattle.sk_objects.proofs.Names.{written, joined, AreSlots}
+use Rattle.sk_objects.proofs.Seen.{filled_are, filled_len, filled_seen}
+use Rattle.sk_objects.proofs.Changed.{on_err, written_are, written_seen}
 use Rattle.sk_objects.proofs.file.File.write_at.Goals as goal
 
-pub exchange-requires : goal.exchange-requires
-exchange-requires c =
-    let f = c.args.self.now in
-    let small : length c.args.self.now ≤ 32768 = omega (arith, ap length c.self.view_is, seen_len c.self.inside.slots.items c.self.inside.size c.self.invariant.are, c.self.invariant.are.covers, c.self.invariant.are.few) in
-    subst (λ (g : List ℕ). CanPut g c.in_ok-new.new) (sym c.after_write.ensures.same) (subst (CanPut f) (sym c.in_ok-new.ensures.blocks) (write_on f c.args.bytes.now c.args.at c.requires.some c.requires.short c.requires.end small).can)
+pub overwrite-requires-clause-slots : goal.overwrite-requires-clause-slots
+overwrite-requires-clause-slots c =
+    let f = c.self.inside in
+    (filled_are f.slots.items f.size c.self.invariant.are c.blocks_of.result c.fill_slots.new.slots.items c.fill_slots.ensures.items c.blocks_of.ensures.limit).few
+
+pub overwrite-requires-clause-blocks : goal.overwrite-requires-clause-blocks
+overwrite-requires-clause-blocks c =
+    let f = c.self.inside in
+    (filled_are f.slots.items f.size c.self.invariant.are c.blocks_of.result c.fill_slots.new.slots.items c.fill_slots.ensures.items c.blocks_of.ensures.limit).blocks
+
+pub overwrite-requires-clause-end : goal.overwrite-requires-clause-end
+overwrite-requires-clause-end c =
+    let f = c.self.inside in
+    omega (arith, c.blocks_of.ensures.value, filled_len f.slots.items f.size c.self.invariant.are c.blocks_of.result c.fill_slots.new.slots.items c.fill_slots.ensures.items)
+
+pub invariant_of-self : goal.invariant_of-self
+invariant_of-self c =
+    let f = c.self.inside in
+    record {
+      are = subst (λ (l : List (List ℕ)). AreSlots l f.size) (sym c.in_err-overwrite.ensures.err)
+          (filled_are f.slots.items f.size c.self.invariant.are c.blocks_of.result c.fill_slots.new.slots.items c.fill_slots.ensures.items c.blocks_of.ensures.limit);
+      keeps = omega (arith, c.overwrite.ensures.room, c.fill_slots.ensures.room);
+    }
+
+pub returns-in_err-overwrite-clause-err : goal.returns-in_err-overwrite-clause-err
+returns-in_err-overwrite-clause-err c =
+    let f = c.self.inside in
+    on_err c.from_residual.result
+    (ap (λ (l : List (List ℕ)). take f.size (joined l)) c.in_err-overwrite.ensures.err
+    ∙ filled_seen f.slots.items f.size c.self.invariant.are c.blocks_of.result c.fill_slots.new.slots.items c.fill_slots.ensures.items
+    ∙ c.self.view_is)
+
+pub invariant_of-self-2 : goal.invariant_of-self-2
+invariant_of-self-2 c =
+    let f = c.self.inside in
+    let ss = c.fill_slots.new.slots.items in
+    let are : AreSlots ss f.size = filled_are f.slots.items f.size c.self.invariant.are c.blocks_of.result ss c.fill_slots.ensures.items c.blocks_of.ensures.limit in
+    let end : c.args.at + length c.args.bytes.now ≤ 512 * length c.fill_slots.new.slots.items = omega (arith, c.blocks_of.ensures.value, filled_len f.slots.items f.size c.self.invariant.are c.blocks_of.result ss c.fill_slots.ensures.items) in
+    record {
+      are = written_are ss f.size are c.args.at c.args.bytes.now c.overwrite.new.slots.items c.max-self-inside.result end c.in_ok-overwrite.ensures.blocks c.in_ok-overwrite.ensures.len c.in_ok-overwrite.ensures.bytes (omega (arith, c.max-self-inside.ensures));
+      keeps = omega (arith, c.overwrite.ensures.room, c.fill_slots.ensures.room);
+    }
 
 pub returns-clause-ok : goal.returns-clause-ok
 returns-clause-ok c =
-    let f = c.args.self.now in
-    let b = c.args.bytes.now in
-    let small : length c.args.self.now ≤ 32768 = omega (arith, ap length c.self.view_is, seen_len c.self.inside.slots.items c.self.inside.size c.self.invariant.are, c.self.invariant.are.covers, c.self.invariant.are.few) in (
-      c.exchange.ensures.file ∙ ap₂ with_blocks c.after_write.ensures.same c.in_ok-new.ensures.blocks ∙ (write_on f b c.args.at c.requires.some c.requires.short c.requires.end small).gives,
-      c.exchange.ensures.old ∙ ap₂ replaced c.after_write.ensures.same c.in_ok-new.ensures.blocks ∙ keeps f (written f c.args.at b) (c.args.at / 512) (blocks_under c.args.at (length b)),
-    )
-
-pub returns-clause-back : goal.returns-clause-back
-returns-clause-back c =
-    let f = c.args.self.now in
-    let b = c.args.bytes.now in
-    let small : length c.args.self.now ≤ 32768 = omega (arith, ap length c.self.view_is, seen_len c.self.inside.slots.items c.self.inside.size c.self.invariant.are, c.self.invariant.are.covers, c.self.invariant.are.few) in
-    let new : c.exchange.new.self ≡ written f c.args.at b = c.exchange.ensures.file ∙ ap₂ with_blocks c.after_write.ensures.same c.in_ok-new.ensures.blocks ∙ (write_on f b c.args.at c.requires.some c.requires.short c.requires.end small).gives in
-    let old : c.exchange.result ≡ under_write f c.args.at (length b) = c.exchange.ensures.old ∙ ap₂ replaced c.after_write.ensures.same c.in_ok-new.ensures.blocks ∙ keeps f (written f c.args.at b) (c.args.at / 512) (blocks_under c.args.at (length b)) in
-    let law = write_back f b c.args.at c.requires.some c.requires.short c.requires.end small in (
-      subst (λ (g : List ℕ). CanPut g c.exchange.result) (sym new) (subst (CanPut (written f c.args.at b)) (sym old) law.can),
-      ap₂ with_blocks new old ∙ law.gives,
-    )
+    let f = c.self.inside in
+    let ss = c.fill_slots.new.slots.items in
+    let are : AreSlots ss f.size = filled_are f.slots.items f.size c.self.invariant.are c.blocks_of.result ss c.fill_slots.ensures.items c.blocks_of.ensures.limit in
+    let end : c.args.at + length c.args.bytes.now ≤ 512 * length c.fill_slots.new.slots.items = omega (arith, c.blocks_of.ensures.value, filled_len f.slots.items f.size c.self.invariant.are c.blocks_of.result ss c.fill_slots.ensures.items) in
+    written_seen ss f.size are c.args.at c.args.bytes.now c.overwrite.new.slots.items c.max-self-inside.result end c.in_ok-overwrite.ensures.blocks c.in_ok-overwrite.ensures.len c.in_ok-overwrite.ensures.bytes (omega (arith, c.max-self-inside.ensures))
+    ∙ ap (λ (l : List ℕ). written l c.args.at c.args.bytes.now)
+    (filled_seen f.slots.items f.size c.self.invariant.are c.blocks_of.result ss c.fill_slots.ensures.items ∙ c.self.view_is)

@@ -1,8 +1,8 @@
 -- Each kind is looked up in its map.
-use Rattle.sk_undo.proofs.Cites.{◌≡◌, refl, ap, sym, subst, ◌∙◌, entity_cmp, object_cmp, name_order, nat_cmp, Entity, Proc, Sig, Exit, Obj, Link, Copy}
+use Rattle.sk_undo.proofs.Cites.{ap, sym, ◌∙◌, object_cmp, name_order, nat_cmp, Proc, Sig, Exit, Obj, Link, Copy}
 use Rattle.std.specs.FinMap as map
 use Rattle.sk_map.specs.Seen.{seen}
-use Rattle.sk_undo.specs.Kinds.{link_cmp, joined}
+use Rattle.sk_undo.specs.Kinds.{link_cmp}
 use Rattle.sk_undo.proofs.ByKind.{joined_get}
 use Rattle.sk_undo.proofs.entity_map.EntityMap.get_late.Goals as goal
 

@@ -1,9 +1,9 @@
 -- A directory has at most as many names as there are names.
-use Rattle.sk_undo.proofs.Cites.{◌≡◌, refl, ap, sym, subst, ◌∙◌, entity_cmp, object_cmp, name_order, nat_cmp, Entity, Proc, Sig, Exit, Obj, Link, Copy}
+use Rattle.sk_undo.proofs.Cites.{refl, ap, sym, subst, ◌∙◌, object_cmp, name_order, nat_cmp, Link}
 use Rattle.std.specs.FinMap as map
 use Rattle.sk_map.specs.Seen.{seen}
-use Rattle.sk_undo.specs.Kinds.{link_cmp, joined}
-use Rattle.sk_undo.proofs.Cites.{◌≤◌, arith, is_some}
+use Rattle.sk_undo.specs.Kinds.{link_cmp}
+use Rattle.sk_undo.proofs.Cites.{◌≤◌, is_some}
 use Rattle.std.specs.FinSet.{len}
 use Rattle.sk_undo.proofs.ByKind.{joined_get}
 use Rattle.sk_undo.proofs.FewNames.{within}

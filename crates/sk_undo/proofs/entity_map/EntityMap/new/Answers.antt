@@ -1,8 +1,7 @@
 -- All maps are empty.
-use Rattle.sk_undo.proofs.Cites.{◌≡◌, refl, ap, sym, subst, ◌∙◌, entity_cmp, object_cmp, name_order, nat_cmp, Entity, Proc, Sig, Exit, Obj, Link, Copy}
+use Rattle.sk_undo.proofs.Cites.{◌∙◌}
 use Rattle.std.specs.FinMap as map
-use Rattle.sk_map.specs.Seen.{seen}
-use Rattle.sk_undo.specs.Kinds.{link_cmp, joined}
+use Rattle.sk_undo.specs.Kinds.{joined}
 use Rattle.sk_undo.proofs.ByKind.{joined_empty}
 use Rattle.sk_undo.proofs.entity_map.EntityMap.new.Goals as goal
 

@@ -1,5 +1,5 @@
 -- A value is put at its key in the map of its kind.
-use Rattle.sk_undo.proofs.Cites.{◌≡◌, refl, ap, sym, subst, ◌∙◌, entity_cmp, object_cmp, name_order, nat_cmp, Entity, Proc, Sig, Exit, Obj, Link, Copy}
+use Rattle.sk_undo.proofs.Cites.{ap, sym, ◌∙◌, object_cmp, name_order, nat_cmp, Proc, Sig, Exit, Obj, Link, Copy}
 use Rattle.std.specs.FinMap as map
 use Rattle.sk_map.specs.Seen.{seen}
 use Rattle.sk_undo.specs.Kinds.{link_cmp, joined}

@@ -1,6 +1,5 @@
 -- A number that is there is one more; else it is made as one.
 use Rattle.sk_undo.proofs.Cites.{◌≡◌, ◌+◌, Some, None, sym, ap, subst, ◌∙◌, OnOk, option_copied_mut, unwrap_or, object_cmp}
-use Rattle.sk_undo.proofs.Cites.{count_in}
 use Rattle.std.specs.FinMap as map
 use Rattle.sk_map.specs.Seen.{seen}
 use Rattle.sk_undo.proofs.NameCounts.{one_put}

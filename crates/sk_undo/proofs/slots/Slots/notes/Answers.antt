@@ -1,5 +1,5 @@
 -- The slots of the map are those that are counted, kind by kind.
-use Rattle.sk_undo.proofs.Cites.{◌≡◌, ◌+◌, min, ◌-◌, ◌^◌, sym, ap, ◌∙◌, arith, sum_by, note_count, notes_in}
+use Rattle.sk_undo.proofs.Cites.{◌≡◌, ◌+◌, ◌-◌, sym, ap, ◌∙◌, arith, sum_by, note_count, notes_in}
 use Rattle.std.proofs.lemmas.List.Sums.{sum_by-append}
 use Rattle.std.specs.FinMap as fin
 use Rattle.sk_undo.proofs.slots.Slots.notes.Goals as goal

@@ -5,7 +5,7 @@ use Rattle.sk_plain.proofs.Cites.{Link, Copy, ContentView, LAST_VERSION, Process
 use Rattle.sk_plain.proofs.Cites.{EntityState, Scripts, StepTree, Saying, next_in, with_input, goes_on, act, adds_in}
 use Rattle.sk_plain.proofs.Cites.{adds_of, adds_beside, writes_of, IsReply, from_copy, over_copy, good, fresh, stale}
 use Rattle.sk_plain.proofs.Cites.{Refusal, seen_with, changed_by, looked, beside_of, Plan, Private, Speaks, Received}
-use Rattle.sk_plain.proofs.Cites.{Forks, Acts, Beside, Writes, LooksView}
+use Rattle.sk_plain.proofs.Cites.{ReadsFile, WritesFile, Forks, Acts, Beside, Writes, LooksView}
 use Rattle.sk_objects.specs.declared.value.Value.TheVariants as values
 use Rattle.sk_script.specs.declared.instruction.Instruction.TheVariants as does_
 use Rattle.sk_script.specs.declared.instruction.Input.TheVariants as inputs
@@ -29,6 +29,8 @@ row_added look pid q p looks (beside.Gone e) = refl
 pub adds_is : (look : Entity → Option EntityState) (scripts : Scripts) (pid : ℕ) (input : Input) (plan : Plan) → adds_in (writes_of look pid (seen_with look scripts pid input plan)) ≡ adds_of plan
 adds_is look scripts pid input Private = refl
 adds_is look scripts pid input Speaks = refl
+adds_is look scripts pid input (ReadsFile o at) = refl
+adds_is look scripts pid input (WritesFile o at) = refl
 adds_is look scripts pid input (Received name) = refl
 adds_is look scripts pid input (Forks r child place) = refl
 adds_is look scripts pid input (Acts r) =

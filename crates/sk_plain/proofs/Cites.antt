@@ -40,7 +40,7 @@ pub use Rattle.sk_objects.specs.declared.value.Value.{Value}
 pub use Rattle.sk_plain.specs.Act.{does, Scripts, instruction_of, act, with_input, private_or, with_signals, next_in}
 pub use Rattle.sk_plain.specs.Act.{Saying, handled, StepTree, plain, row, goes_on}
 pub use Rattle.sk_plain.specs.Adds.{adds_of, adds_in, adds_beside}
-pub use Rattle.sk_plain.specs.Files.{on_file, made}
+pub use Rattle.sk_plain.specs.Files.{after_read, file_in, on_file, made}
 pub use Rattle.sk_plain.specs.Forked.{forked, CanFork}
 pub use Rattle.sk_plain.specs.Names.{no_directory, unless_error, on_directory, target_at, named, link_to, linking}
 pub use Rattle.sk_plain.specs.Names.{unlink_from}
@@ -72,7 +72,7 @@ pub use Rattle.sk_plain.specs.declared.next.Next.TheVariants.{Signal, Fetch, Wai
 pub use Rattle.sk_plain.specs.declared.plan.Beside.{Beside}
 pub use Rattle.sk_plain.specs.declared.plan.Beside.TheVariants.{Gone, Nothing, One}
 pub use Rattle.sk_plain.specs.declared.plan.Plan.{Plan}
-pub use Rattle.sk_plain.specs.declared.plan.Plan.TheVariants.{Forks, Private, Received, Acts, Speaks}
+pub use Rattle.sk_plain.specs.declared.plan.Plan.TheVariants.{Forks, Private, ReadsFile, Received, Acts, Speaks, WritesFile}
 pub use Rattle.sk_plain.specs.declared.plan.ProcessChange.{ProcessChange}
 pub use Rattle.sk_plain.specs.declared.plan.ProcessChange.TheVariants.{Fills}
 pub use Rattle.sk_plain.specs.declared.plan.Row.{Row}

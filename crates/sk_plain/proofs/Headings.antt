@@ -1,5 +1,5 @@
 -- What a process heads for is what its next instruction tells without a plan.
-use Rattle.sk_plain.proofs.Cites.{◌≡◌, ℕ, Bool, true, false, Option, Some, None, Result, Ok, refl, cond, Entity}
+use Rattle.sk_plain.proofs.Cites.{◌≡◌, ℕ, Bool, true, false, Option, Some, Ok, refl, cond, Entity}
 use Rattle.sk_plain.proofs.Cites.{EntityState, Process, Instruction, Scripts}
 use Rattle.sk_script.specs.declared.instruction.Instruction.TheVariants as does_
 use Rattle.sk_plain.specs.Next.{heading, is_private, next_instruction, unplanned, waits}

@@ -6,7 +6,7 @@ use Rattle.sk_plain.proofs.Cites.{IsProcess, process_in, EntityState, Scripts, S
 use Rattle.sk_plain.proofs.Cites.{private_or, row, with_input, PlanView, Nowhere, CanDo, IsBeside, planned, said_by}
 use Rattle.sk_plain.proofs.Cites.{said_in, signals_read, written_by, CanPerform, Fits, PlansAfter, PlansRow, PlansStep}
 use Rattle.sk_plain.proofs.Cites.{all_seen, beside_of, changed_by, plan_of, result_seen, seen_with, written_in}
-use Rattle.sk_plain.proofs.Cites.{written_of, written_row, Refusal, Ended, Plan, Private, Speaks, Received, Forks, Acts}
+use Rattle.sk_plain.proofs.Cites.{written_of, written_row, Refusal, Ended, Plan, Private, Speaks, ReadsFile, WritesFile, Received, Forks, Acts}
 use Rattle.sk_plain.proofs.Cites.{Row, Beside, Nothing, One, Gone}
 use Rattle.sk_script.specs.declared.instruction.Input.TheVariants as inputs
 use Rattle.sk_store.specs.declared.entity_state.EntityState.TheVariants as stored
@@ -28,6 +28,8 @@ row_written p pid (Gone e) = refl
 pub written_is : (look : Entity → Option EntityState) (scripts : Scripts) (pid : ℕ) (input : Input) (plan : Plan) → written_by pid (seen_with look scripts pid input plan).beside ≡ written_in pid plan
 written_is look scripts pid input Private = refl
 written_is look scripts pid input Speaks = refl
+written_is look scripts pid input (ReadsFile o at) = refl
+written_is look scripts pid input (WritesFile o at) = refl
 written_is look scripts pid input (Received name) = refl
 written_is look scripts pid input (Forks r child place) = refl
 written_is look scripts pid input (Acts r) = row_written (process_in (look (Proc pid))) pid r.beside

@@ -7,6 +7,8 @@ use Rattle.sk_plain.proofs.Cites.{put_all, and_both, TEXT_LIMIT, ObjId, Entity, 
 use Rattle.sk_plain.proofs.Cites.{ContentView, LAST_SIGNAL, Kind, PipeView, PIPE_LIMIT, Value, Process, Instruction}
 use Rattle.sk_plain.proofs.Cites.{Input, held, private_step, State, EntityState, Refusal, Again, StepTree, object_in}
 use Rattle.sk_plain.proofs.Cites.{number_in, number_to, who_in, failed, alone, with_write, with_removal, on_object}
+use Rattle.sk_plain.proofs.Cites.{after_read, file_in}
+use Rattle.sk_plain.specs.declared.refusal.Errno.{Errno}
 use Rattle.sk_plain.proofs.Cites.{on_number, on_file, made, no_directory, unless_error, on_directory, target_at, named}
 use Rattle.sk_plain.proofs.Cites.{link_to, linking, unlink_from, on_pipe, put_in, take_none, LEVEL_FOUR, LAST_CHILD}
 use Rattle.sk_plain.proofs.Cites.{next_child, parent_of, born, fork, signalled, kill, waited, wait, returned, from_copy}
@@ -174,6 +176,11 @@ module _ (can : List ℕ → Type 0) (pid : ℕ) (p : Process) where
   made_fine : (r : ℕ) (kind : Kind) → Fine (made pid p r kind)
   made_fine r kind = if_fine _ _ _ (write_fine _ _ _ tt refl) (alone_fine _ refl)
 
+  read_kept : (r : Result (List ℕ) Errno) (at : Option ℕ) → (after_read p r at).children ≡ p.children
+  read_kept (Ok bytes) (Some n) = refl
+  read_kept (Ok bytes) None = refl
+  read_kept (Err error) at = refl
+
   -- ---- directories
 
   named_fine : (r : ℕ) (o : Option ObjId) → Fine (named pid p r o)
@@ -244,7 +251,7 @@ module _ (can : List ℕ → Type 0) (pid : ℕ) (p : Process) where
   row_fine (does_.Size f) = object_fine _ _ (λ o v. file_fine _ v (λ bytes. alone_fine _ refl))
   row_fine (does_.Write f at) = object_fine _ _ (λ o v. file_fine _ v (λ bytes. number_fine _ (number_in (held p.registers at)) (λ n.
       if_fine _ _ _ (if_fine _ _ _ (alone_fine _ refl) (write_fine _ _ _ tt refl)) (alone_fine _ refl))))
-  row_fine (does_.Read f at) = object_fine _ _ (λ o v. file_fine _ v (λ bytes. number_fine _ _ (λ n. alone_fine _ refl)))
+  row_fine (does_.Read f at) = object_fine _ _ (λ o v. alone_fine _ (read_kept (file_in v) (number_in (held p.registers at))))
   row_fine (does_.Cut f n) = object_fine _ _ (λ o v. file_fine _ v (λ bytes. number_fine _ (number_in (held p.registers n)) (λ n.
       if_fine _ _ _ (if_fine _ _ _ (alone_fine _ refl) (write_fine _ _ _ tt refl)) (alone_fine _ refl))))
   row_fine (does_.Put q) = object_fine _ _ (λ o v. pipe_fine _ v (λ held. put_in_fine o held))

@@ -5,7 +5,7 @@ use Rattle.sk_ids.specs.declared.entity.Entity.{Entity}
 use Rattle.sk_ids.specs.declared.entity.Entity.TheVariants.{Proc, Sig, Exit, Obj, Link, Copy}
 use Rattle.sk_store.specs.declared.entity_state.EntityState.{EntityState}
 use Rattle.sk_plain.specs.declared.plan.Plan.{Plan}
-use Rattle.sk_plain.specs.declared.plan.Plan.TheVariants.{Private, Speaks, Received, Forks, Acts}
+use Rattle.sk_plain.specs.declared.plan.Plan.TheVariants.{Private, Speaks, ReadsFile, WritesFile, Received, Forks, Acts}
 use Rattle.sk_plain.specs.declared.plan.Beside.{Beside}
 use Rattle.sk_plain.specs.declared.plan.Beside.TheVariants as beside
 
@@ -42,6 +42,8 @@ adds_beside (beside.Gone e) = None
 abbrev pub adds_of : Plan → Option ObjId
 adds_of Private = None
 adds_of Speaks = None
+adds_of (ReadsFile o at) = None
+adds_of (WritesFile o at) = None
 adds_of (Received name) = None
 adds_of (Forks r child place) = None
 adds_of (Acts r) = adds_beside r.beside

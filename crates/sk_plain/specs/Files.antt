@@ -1,5 +1,5 @@
 -- The rows of the table on new objects and on files.
-use Rattle.std.specs.Prelude.{ℕ, ◌+◌, ◌==◌, nat_lt, nat_le, List, length, Option, Some, Result, Ok, Err, slice_set, if◌then◌else◌}
+use Rattle.std.specs.Prelude.{ℕ, ◌+◌, ◌==◌, nat_lt, nat_le, List, length, Option, Some, None, Result, Ok, Err, slice_set, if◌then◌else◌}
 use Rattle.sk_ids.specs.declared.pid.ObjId.{ObjId}
 use Rattle.sk_ids.specs.declared.entity.Entity.TheVariants.{Obj}
 use Rattle.sk_ids.specs.declared.text.TheConstants.{TEXT_LIMIT}
@@ -64,10 +64,15 @@ size pid p file = on_object pid p (λ o. on_file pid p (λ bytes. alone pid (ans
 abbrev pub bytes_read : Process → List ℕ → ℕ → Process
 bytes_read p bytes at = filled p (part bytes at TEXT_LIMIT) (length (part bytes at TEXT_LIMIT))
 
+-- the process after it read a file from a place on, or its error
+abbrev pub after_read : Process → Result (List ℕ) Errno → Option ℕ → Process
+after_read p (Ok bytes) (Some n) = bytes_read p bytes n
+after_read p (Ok bytes) None = failed p Invalid
+after_read p (Err error) at = failed p error
+
 -- `read rF rO`
 abbrev pub read : ℕ → Process → Option ObjId → Option ℕ → StepTree
-read pid p file at =
-    on_object pid p (λ o. on_file pid p (λ bytes. on_number pid p (λ n. alone pid (bytes_read p bytes n)) at)) file
+read pid p file at = on_object pid p (λ o there. alone pid (after_read p (file_in there) at)) file
 
 -- the buffer written at a place of a file; an empty buffer changes nothing
 abbrev pub written_at : ℕ → Process → ObjId → List ℕ → ℕ → StepTree

@@ -1,5 +1,5 @@
 -- What a process does next, told without a step.
-use Rattle.std.specs.Prelude.{◌≡◌, ℕ, Bool, true, false, not, ◌&&◌, ◌||◌, ◌==◌, List, length, Option, Some, None, is_some, Result, Ok, Err, if◌then◌else◌}
+use Rattle.std.specs.Prelude.{ℕ, Bool, true, false, not, ◌&&◌, ◌||◌, ◌==◌, List, length, Option, Some, None, is_some, Result, Ok, Err, if◌then◌else◌}
 use Rattle.std.specs.List.{list_any}
 use Rattle.sk_record.specs.Step.{Effect, perform}
 use Rattle.sk_ids.specs.declared.entity.Entity.{Entity}
@@ -9,7 +9,6 @@ use Rattle.sk_script.specs.Private.{private_step}
 use Rattle.sk_script.specs.declared.process.Process.{Process}
 use Rattle.sk_script.specs.declared.instruction.Instruction.{Instruction}
 use Rattle.sk_script.specs.declared.instruction.Instruction.TheVariants as does_
-use Rattle.sk_script.specs.declared.instruction.Input.{Input}
 use Rattle.sk_script.specs.declared.instruction.Input.TheVariants as inputs
 use Rattle.sk_store.specs.declared.entity_state.EntityState.{EntityState}
 use Rattle.sk_store.specs.declared.entity_state.EntityState.TheVariants as stored
@@ -41,12 +40,6 @@ waits look scripts pid = is_blocked (perform look (act scripts pid inputs.None))
 abbrev pub is_private : Process → Option Instruction → Bool
 is_private p (Some i) = is_some (private_step p i)
 is_private p None = false
-
--- a step with this input takes no signal and does a private instruction
-pub record IsAlone (look : Entity → Option EntityState) (pid : ℕ) (p : Process) (i : Option Instruction) (input : Input) : Type 0 where
-  pub unasked : input ≡ inputs.None
-  pub private : is_private p i ≡ true
-  pub undisturbed : is_due p (look (Sig pid)) ≡ false
 
 -- where no signal is due
 abbrev pub next_instruction : (Entity → Option EntityState) → Scripts → ℕ → Process → Option Instruction → Next

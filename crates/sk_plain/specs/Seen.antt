@@ -16,7 +16,8 @@ use Rattle.sk_store.specs.Processes.{IsProcess, process_in}
 use Rattle.sk_store.specs.declared.entity_state.EntityState.{EntityState}
 use Rattle.sk_store.specs.declared.entity_state.EntityState.TheVariants as stored
 use Rattle.sk_plain.specs.Act.{Scripts, StepTree, act, next_in}
-use Rattle.sk_plain.specs.Rows.{failed, filled}
+use Rattle.sk_plain.specs.Rows.{answered, failed, filled}
+use Rattle.sk_plain.specs.Files.{after_read, file_in}
 use Rattle.sk_plain.specs.Processes.{with_handler, returned, handling}
 use Rattle.sk_plain.specs.Replies.{fetched}
 use Rattle.sk_record.specs.Step.{perform}
@@ -25,7 +26,7 @@ use Rattle.sk_plain.specs.Planned.{planned, signals_read, CanDo, IsBeside, IsPla
 use Rattle.sk_plain.specs.declared.refusal.Refusal.{Refusal}
 use Rattle.sk_plain.specs.declared.refusal.Errno.TheVariants.{StaleCopy}
 use Rattle.sk_plain.specs.declared.plan.Plan.{Plan}
-use Rattle.sk_plain.specs.declared.plan.Plan.TheVariants.{Private, Speaks, Received, Forks, Acts}
+use Rattle.sk_plain.specs.declared.plan.Plan.TheVariants.{Private, Speaks, ReadsFile, WritesFile, Received, Forks, Acts}
 use Rattle.sk_plain.specs.declared.plan.Row.{Row}
 use Rattle.sk_plain.specs.declared.plan.Looks.{Looks}
 use Rattle.sk_plain.specs.declared.plan.Looks.TheVariants as looks
@@ -95,7 +96,6 @@ written p (writes.Empty kind) = Empty kind
 written p (writes.Exited status) = Exited status
 written p writes.First = Cached (record { version = 1; bytes = p.buffer })
 written p (writes.Over version) = Changed (changes.SetCopy (record { version = version; bytes = p.buffer }))
-written p (writes.At offset) = Changed (changes.WriteAt offset p.buffer)
 written p (writes.Cut size) = Changed (changes.CutTo size)
 written p (writes.Linked object) = Linked object
 written p writes.Put = Changed (changes.Put p.buffer)
@@ -132,6 +132,8 @@ written_row pid (beside.Gone e) = Proc pid ∷ e ∷ []
 abbrev pub written_in : ℕ → Plan → List Entity
 written_in pid Private = Proc pid ∷ []
 written_in pid Speaks = Proc pid ∷ []
+written_in pid (ReadsFile o at) = Proc pid ∷ []
+written_in pid (WritesFile o at) = Obj o ∷ Proc pid ∷ []
 written_in pid (Received name) = Copy name ∷ Proc pid ∷ []
 written_in pid (Forks r child place) = Proc child ∷ Sig child ∷ Exit child ∷ Proc pid ∷ []
 written_in pid (Acts r) = written_row pid r.beside
@@ -171,6 +173,8 @@ forked_by p r child = record p { place = p.place + 1; children = p.children + 1;
 abbrev pub looks_of : Plan → Looks
 looks_of Private = looks.Nowhere
 looks_of Speaks = looks.Nowhere
+looks_of (ReadsFile o at) = looks.At (Obj o)
+looks_of (WritesFile o at) = looks.At (Obj o)
 looks_of (Forks r child place) = looks.Nowhere
 looks_of (Received name) = looks.Nowhere
 looks_of (Acts r) = r.looks
@@ -179,6 +183,8 @@ module _ (look : Entity → Option EntityState) (i : Option Instruction) (input 
   abbrev pub process_of : Plan → Process
   process_of Private = done_by p i
   process_of Speaks = moved p
+  process_of (ReadsFile o at) = after_read p (file_in (look (Obj o))) at
+  process_of (WritesFile o at) = answered p (length p.buffer)
   process_of (Forks r child place) = forked_by p r child
   process_of (Received name) = process_given p input
   process_of (Acts r) = changed_by look r.looks p r.change
@@ -186,6 +192,8 @@ module _ (look : Entity → Option EntityState) (i : Option Instruction) (input 
   abbrev pub written_of : Plan → BesideView
   written_of Private = Nothing
   written_of Speaks = Says
+  written_of (ReadsFile o at) = Nothing
+  written_of (WritesFile o at) = One (Obj o) (Changed (changes.WriteAt at p.buffer))
   written_of (Received name) = One (Copy name) (Cached (content_in input))
   written_of (Forks r child place) = Birth (record { pid = child; place = place; registers = p.registers })
   written_of (Acts r) = beside_of p r.beside
@@ -202,6 +210,8 @@ module _ (look : Entity → Option EntityState) (i : Option Instruction) (input 
   abbrev pub Fits : Plan → Type 0
   Fits Private = IsSome i × (p.place + 1 < 2 ^ 32)
   Fits Speaks = p.place + 1 < 2 ^ 32
+  Fits (ReadsFile o at) = p.place + 1 < 2 ^ 32
+  Fits (WritesFile o at) = p.place + 1 < 2 ^ 32
   Fits (Forks r child place) = (p.place + 1 < 2 ^ 32) × (p.children + 1 < 2 ^ 16)
   Fits (Received name) = (p.place + 1 < 2 ^ 32) × HasContent input
   Fits (Acts r) = CanChange p r.change × IsWritable r.beside
@@ -231,6 +241,10 @@ pub record PlansRow (look : Entity → Option EntityState) (p : Process) (pid : 
   pub apart : IfOk result (λ r. IsBeside pid (beside_of p r.beside))
   pub fits : IfOk result (λ r. CanChange p r.change × IsWritable r.beside)
   pub named : IfErr result IsPlainRefusal
+
+-- the plan is to do the next instruction of a process, which is this private one
+abbrev pub IsNext : Plan → Option Instruction → Instruction → Type 0
+IsNext plan next i = (plan ≡ Private) × (next ≡ Some i)
 
 -- the plan is to do the next instruction of the process that is there, which is this private one
 pub record DoesNext (look : Entity → Option EntityState) (scripts : Scripts) (pid : ℕ) (plan : Plan) (i : Instruction) : Type 0 where

@@ -1,6 +1,6 @@
 //! Doing what was planned, where things stand. Nothing here knows of instructions.
-ghost use Rattle.std.specs.Prelude.{◌≡◌, ◌≢◌, ◌≤◌, ◌+◌, ◌<◌, ◌^◌, true, OnOk, OnErr, IfOk, Some, None, []};
-ghost use Rattle.sk_ids.specs.declared.entity.Entity.TheVariants.{Proc, Sig, Exit, Copy};
+ghost use Rattle.std.specs.Prelude.{◌≡◌, ◌≢◌, ◌≤◌, ◌+◌, ◌<◌, ◌^◌, true, OnOk, OnErr, IfOk, Some, None, [], length};
+ghost use Rattle.sk_ids.specs.declared.entity.Entity.TheVariants.{Proc, Sig, Exit, Obj, Copy};
 ghost use Rattle.sk_changes.specs.declared.change.Change.TheVariants as changes;
 ghost use Rattle.sk_objects.specs.Value.{empty_of};
 ghost use Rattle.sk_objects.specs.declared.content.TheConstants.{LAST_VERSION};
@@ -9,13 +9,16 @@ ghost use Rattle.sk_script.specs.Private.{moved};
 ghost use Rattle.sk_terminal.specs.Terminals.{said_to};
 ghost use Rattle.sk_trace.specs.Kept.{input_in};
 ghost use Rattle.sk_store.specs.declared.entity_state.EntityState.TheVariants as stored;
+ghost use Rattle.sk_store.specs.Changed.{FitsAt, changed as changed_there};
 ghost use Rattle.sk_store.specs.Processes.{CanBecome as CanBecomeThere, became, process_in, IsProcess};
+ghost use Rattle.sk_plain.specs.Files.{after_read, file_in};
 ghost use Rattle.sk_plain.specs.Plan.{Nowhere, Birth};
+ghost use Rattle.sk_plain.specs.Rows.{answered};
 ghost use Rattle.sk_plain.specs.Planned.{CanBecome, CanDo, IsBeside, IsNoProcess, child_of, value_of, said_by, texts_after, writes_of, wrote_all};
 ghost use Rattle.sk_plain.specs.Seen.{CanChange, CanPerform, HasContent, IsWritable, beside_of, content_in, process_given, row_seen, written, text_in, seen_with};
 ghost use Rattle.sk_plain.specs.Forked.{CanFork, forked};
 
-use crate::becomes::{Doing, Filling, Forking, Reading, read_there};
+use crate::becomes::{Doing, FileReading, Filling, Forking, Measuring, Reading, read_there};
 use crate::{Becomes, Beside, Errno, InputRef, Looks, Plan, ProcessChange, Row, Writes};
 use sk_changes::Change;
 use sk_ids::{Entity, Name, ObjId, Pid, Text};
@@ -138,10 +141,6 @@ fn write_any<K: Keeper>(
         Writes::Linked(object) => return write_link(keeper, entity, object),
         Writes::First => return write_first(keeper, pid, entity),
         Writes::Over(version) => Change::SetCopy(version_of(keeper, pid, *version)),
-        Writes::At(offset) => Change::WriteAt {
-            offset: *offset,
-            bytes: process_at(keeper, pid).buffer,
-        },
         Writes::Cut(size) => Change::CutTo(*size),
         Writes::Put => Change::Put(process_at(keeper, pid).buffer),
         Writes::Take(count) => Change::Take(*count),
@@ -396,33 +395,6 @@ fn buffer_behind(process: &Process) -> Change
     Change::Put(process.buffer)
 }
 
-/// The buffer of a process is written at a place of a file, and then the process changes.
-#[inline(never)]
-fn write_over<K: Keeper, C: Becoming>(
-    keeper: &mut K,
-    pid: Pid,
-    entity: &Entity,
-    offset: u32,
-    by: &C,
-) -> Result<(), AllocError>
-    requires process { CanBecomeThere (C.can by.now) (K.look keeper.old (Proc pid)) }
-    requires can { CanBecome (K.look keeper.old entity.now)
-        (written (process_in (K.look keeper.old (Proc pid))) (Writes.At offset)) }
-    requires apart { IsNoProcess entity.now }
-    ensures ok { OnOk result
-        (keeper.new
-        ≡ K.wrote (K.wrote keeper.old entity.now
-        (Some (value_of (K.look keeper.old entity.now)
-        (written (process_in (K.look keeper.old (Proc pid))) (Writes.At offset))))) (Proc pid)
-        (Some (became (C.after by.now) (K.look keeper.old (Proc pid))))) }
-    ensures err { OnErr result (keeper.new ≡ keeper.old) }
-{
-    match entity {
-        Entity::Obj(object) => keeper.write_buffer(object, offset, pid, by),
-        _ => write_apart(keeper, pid, entity, &Writes::At(offset), by),
-    }
-}
-
 /// It is put at the end of a pipe, and then the process changes. Where nothing is noted of the process, nothing is kept
 /// that takes the first back; so it is at the next.
 #[tactic(auto, using(crate::proofs::Others::apart_from))]
@@ -501,7 +473,6 @@ fn write_both<K: Keeper, C: Becoming>(
     ensures err { OnErr result (keeper.new ≡ keeper.old) }
 {
     match writes {
-        Writes::At(offset) => write_over(keeper, pid, entity, *offset, by),
         Writes::Put => write_behind(keeper, pid, entity, by),
         Writes::Take(count) => take_off(keeper, pid, entity, *count, by),
         Writes::Linked(object) => link_beside(keeper, pid, entity, object, by),
@@ -643,6 +614,52 @@ fn act<K: Keeper>(keeper: &mut K, pid: Pid, row: &Row) -> Result<(), AllocError>
             number,
         } => fill(keeper, pid, row, *from, *count, *number),
     }
+}
+
+/// What an object has is read from a place on, where it is a file.
+#[inline(always)]
+fn read_file<K: Keeper>(
+    keeper: &mut K,
+    pid: Pid,
+    object: &ObjId,
+    from: Option<u64>,
+) -> Result<(), AllocError>
+    requires there { IsProcess (K.look keeper.old (Proc pid)) }
+    requires place { (process_in (K.look keeper.old (Proc pid))).place + 1 < 2 ^ 32 }
+    ensures ok { OnOk result
+        (keeper.new
+        ≡ K.wrote keeper.old (Proc pid)
+        (Some (stored.Process
+        (after_read (process_in (K.look keeper.old (Proc pid)))
+        (file_in (K.look keeper.old (Obj object.now))) from)))) }
+    ensures err { OnErr result (keeper.new ≡ keeper.old) }
+{
+    keeper.change_by(pid, &Entity::Obj(*object), &FileReading { from })
+}
+
+/// A process's buffer is written at a place of a file, and the process goes on.
+#[inline(always)]
+fn write_file<K: Keeper>(
+    keeper: &mut K,
+    pid: Pid,
+    object: &ObjId,
+    at: u32,
+) -> Result<(), AllocError>
+    requires there { IsProcess (K.look keeper.old (Proc pid)) }
+    requires place { (process_in (K.look keeper.old (Proc pid))).place + 1 < 2 ^ 32 }
+    requires fits { FitsAt (K.look keeper.old (Obj object.now))
+        (changes.WriteAt at (process_in (K.look keeper.old (Proc pid))).buffer) }
+    ensures ok { OnOk result
+        (keeper.new
+        ≡ K.wrote (K.wrote keeper.old (Obj object.now)
+        (Some (changed_there (K.look keeper.old (Obj object.now))
+        (changes.WriteAt at (process_in (K.look keeper.old (Proc pid))).buffer)))) (Proc pid)
+        (Some (stored.Process
+        (answered (process_in (K.look keeper.old (Proc pid)))
+        (length (process_in (K.look keeper.old (Proc pid))).buffer))))) }
+    ensures err { OnErr result (keeper.new ≡ keeper.old) }
+{
+    keeper.write_buffer(object, at, pid, &Measuring)
 }
 
 /// A content becomes a copy, and then what becomes of the process.
@@ -808,6 +825,8 @@ pub fn apply_plan<K: Keeper>(
     match plan {
         Plan::Private => keeper.change_process(pid, &Doing { scripts }),
         Plan::Speaks => keeper.change_process(pid, &Becomes::Moves),
+        Plan::ReadsFile(object, from) => read_file(keeper, pid, object, *from),
+        Plan::WritesFile(object, at) => write_file(keeper, pid, object, *at),
         Plan::Received(name) => receive(keeper, pid, name, input),
         Plan::Forks(register, child, place) => {
             let forking = Forking {
@@ -978,6 +997,8 @@ pub fn perform_plan<K: Keeper>(
             },
         ) => keeper.change_process(pid, what),
         Plan::Acts(row) => act(keeper, pid, row),
+        Plan::ReadsFile(object, from) => read_file(keeper, pid, object, *from),
+        Plan::WritesFile(object, at) => write_file(keeper, pid, object, *at),
         Plan::Private | Plan::Speaks | Plan::Received(_) | Plan::Forks(..) => {
             perform_any(keeper, terminals, scripts, pid, input, plan)
         }

@@ -1,12 +1,15 @@
 //! What becomes of a process at a step, told in a few words.
-ghost use Rattle.std.specs.Prelude.{◌≡◌, ◌+◌, ◌<◌, ◌^◌};
+ghost use Rattle.std.specs.Prelude.{◌≡◌, ◌+◌, ◌<◌, ◌^◌, length};
 ghost use Rattle.std.specs.Option.{option_copied};
 ghost use Rattle.sk_script.specs.Private.{given};
 ghost use Rattle.sk_plain.specs.Processes.{handling, returned};
+ghost use Rattle.sk_plain.specs.Rows.{answered, failed};
 ghost use Rattle.sk_plain.specs.Seen.{text_at};
 
 use crate::Errno;
 use crate::step::instruction_at;
+use crate::values::file_in;
+use sk_ids::text::TEXT_LIMIT;
 use sk_ids::{ObjId, Pid, Text};
 use sk_script::{Process, Register, Scripts, Val};
 use sk_store::{Becoming, BecomingBy, EntityState};
@@ -42,6 +45,23 @@ fn give(process: &mut Process, register: Register, val: Val)
     process.registers.set(register, val);
 }
 
+/// Goes on at the next instruction, with an error in r0.
+fn fail(process: &mut Process, error: Errno)
+    requires { process.old.place + 1 < 2 ^ 32 }
+    ensures { process.new ≡ failed process.old error }
+{
+    give(process, Register::ANSWER, Val::Num(error.answer()));
+}
+
+/// Goes on at the next instruction, with the length of its buffer in r0.
+fn measure(process: &mut Process)
+    requires { process.old.place + 1 < 2 ^ 32 }
+    ensures { process.new ≡ answered process.old (length process.old.buffer) }
+{
+    let len = Val::Num(process.buffer.len() as i64);
+    give(process, Register::ANSWER, len);
+}
+
 /// Goes back from the handler.
 fn go_back(process: &mut Process)
     requires { process.old.place + 1 < 2 ^ 32 }
@@ -52,7 +72,7 @@ fn go_back(process: &mut Process)
             process.place = place;
             process.saved = None;
         }
-        None => give(process, Register::ANSWER, Val::Num(Errno::Invalid.answer())),
+        None => fail(process, Errno::Invalid),
     }
 }
 
@@ -147,6 +167,50 @@ impl BecomingBy for Reading {
         read_there(there, self.from, self.count, &mut process.buffer);
         let number = self.number.unwrap_or(process.buffer.len() as u64);
         give(process, Register::ANSWER, Val::Num(number as i64));
+    }
+}
+
+/// What a file has comes to a process's buffer, from a place on; or the process has an error.
+#[derive(Clone, Copy)]
+pub(crate) struct FileReading {
+    pub(crate) from: Option<u64>,
+}
+
+impl BecomingBy for FileReading {
+    ghost use Rattle.std.specs.Prelude.{◌+◌, ◌<◌, ◌^◌};
+    ghost use Rattle.sk_plain.specs.Files.{after_read, file_in};
+
+    ghost can = { λ _ _ p. p.place + 1 < 2 ^ 32 };
+
+    ghost after = { λ r there p. after_read p (file_in there) r.from };
+
+    fn change(&self, there: Option<&EntityState>, process: &mut Process) {
+        let file = match file_in(there) {
+            Ok(file) => file,
+            Err(error) => return fail(process, error),
+        };
+        let Some(from) = self.from else {
+            return fail(process, Errno::Invalid);
+        };
+        file.part_into(from as usize, TEXT_LIMIT, &mut process.buffer);
+        measure(process);
+    }
+}
+
+/// A process goes on, and is answered the length of its buffer.
+#[derive(Clone, Copy)]
+pub(crate) struct Measuring;
+
+impl Becoming for Measuring {
+    ghost use Rattle.std.specs.Prelude.{◌+◌, ◌<◌, ◌^◌, length};
+    ghost use Rattle.sk_plain.specs.Rows.{answered};
+
+    ghost can = { λ _ p. p.place + 1 < 2 ^ 32 };
+
+    ghost after = { λ _ p. answered p (length p.buffer) };
+
+    fn change(&self, process: &mut Process) {
+        measure(process);
     }
 }
 

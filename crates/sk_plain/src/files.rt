@@ -1,24 +1,27 @@
 //! What the instructions on new objects and on files will do.
-ghost use Rattle.std.specs.Prelude.{◌≡◌, ◌≢◌, ◌+◌, ◌<◌, ◌^◌, [], IfSome, Some, Ok, Option};
+ghost use Rattle.std.specs.Prelude.{◌≡◌, ◌≢◌, ◌+◌, ◌<◌, ◌^◌, [], Some, Ok, Option, pos, neg_ℤ};
 ghost use Rattle.sk_record.specs.Step.{Ask};
 ghost use Rattle.sk_ids.specs.declared.entity.Entity.TheVariants.{Obj};
 ghost use Rattle.sk_objects.specs.declared.value.Value.TheVariants as values;
 ghost use Rattle.sk_store.specs.declared.entity_state.EntityState.TheVariants as stored;
 ghost use Rattle.sk_script.specs.Registers.{held};
+ghost use Rattle.sk_script.specs.declared.register.Val.TheVariants as vals;
+ghost use Rattle.sk_plain.specs.Refusal.{error_number};
+ghost use Rattle.sk_plain.specs.declared.plan.Beside.TheVariants as Beside;
+ghost use Rattle.sk_plain.specs.declared.plan.Looks.TheVariants as Looks;
 ghost use Rattle.sk_plain.specs.Rows.{object_in, number_in};
 ghost use Rattle.sk_plain.specs.Files.{made as made_row, size as size_row, read as read_row, written_at, write as write_row, cut_to, cut as cut_row};
 ghost use Rattle.sk_plain.specs.Seen.{PlansAfter, PlansRow};
 ghost use Rattle.sk_script.specs.declared.instruction.Input.TheVariants as Input;
 ghost use Rattle.sk_script.specs.declared.instruction.Instruction.{Instruction};
 
-use crate::shapes::{alone, answered, changed, failed, looked, wrote};
+use crate::shapes::{alone, answered, changed, failed, given, looked, wrote};
 use crate::values::{file_at, number_at, object_at};
 use crate::{Becomes, Errno, Plan, ProcessChange, Row, Writes};
-use sk_ids::text::TEXT_LIMIT;
 use sk_ids::{Entity, ObjId, Pid};
 use sk_objects::file::FILE_LIMIT;
 use sk_objects::{File, Kind};
-use sk_script::{Process, Register};
+use sk_script::{Process, Register, Val};
 use sk_store::Look;
 
 /// `mkfile rA`, `mkdir rA`, `mkpipe rA`
@@ -86,90 +89,37 @@ pub(crate) fn size<S: Look>(store: &S, pid: Pid, process: &Process, file: Regist
     looked(change, Entity::Obj(*object))
 }
 
-/// `read rF rO`
-pub(crate) fn read<S: Look>(
-    store: &S,
-    pid: Pid,
-    process: &Process,
-    file: Register,
-    at: Register,
-) -> Row
-    requires { process.now.place + 1 < 2 ^ 32 }
-    ensures { PlansRow (S.look store.now) process.now pid
-        (read_row pid process.now (object_in (held process.now.registers file))
-        (number_in (held process.now.registers at))) (Ok result) }
+/// An object was looked at, and a number is in r0 then. It stands by itself, so that a frequent plan has no place of a whole row
+/// in its frame.
+#[inline(never)]
+fn put_answer(plan: &mut Plan, answer: i64, object: ObjId)
+    ensures { plan.new ≡ Plan.Acts (record {
+      change = ProcessChange.Does (Becomes.Gives 0 (vals.Num answer));
+      looks = Looks.At (Obj object);
+      beside = Beside.Nothing;
+    }) }
 {
-    let held = object_at(process, file);
-    let Some(object) = &held else {
-        return alone(failed(Errno::BadObject));
-    };
-    let change = match file_at(store, object) {
-        Ok(_) => match number_at(process, at) {
-            Some(from) => ProcessChange::Fills {
-                from,
-                count: TEXT_LIMIT as u32,
-                number: None,
-            },
-            None => failed(Errno::Invalid),
-        },
-        Err(error) => failed(error),
-    };
-    looked(change, Entity::Obj(*object))
+    let change = given(Register::ANSWER, Val::Num(answer));
+    *plan = Plan::Acts(looked(change, Entity::Obj(object)));
 }
 
-/// The row of a file and a place in it, which is the frequent one.
+/// No object was there to look at.
+#[inline(never)]
+fn put_missing(plan: &mut Plan)
+    ensures { plan.new ≡ Plan.Acts (record {
+      change = ProcessChange.Does
+          (Becomes.Gives 0 (vals.Num (neg_ℤ (pos (error_number Errno.BadObject)))));
+      looks = Looks.Nowhere;
+      beside = Beside.Nothing;
+    }) }
+{
+    *plan = Plan::Acts(alone(failed(Errno::BadObject)));
+}
+
+/// `read rF rO`. What the object is is told when it is read.
 #[inline(always)]
-fn read_found<S: Look>(
-    store: &S,
-    pid: Pid,
-    process: &Process,
-    file: Register,
-    at: Register,
-) -> Option<Row>
-    requires { process.now.place + 1 < 2 ^ 32 }
-    ensures { IfSome result
-        (λ row. PlansRow (S.look store.now) process.now pid
-        (read_row pid process.now (object_in (held process.now.registers file))
-        (number_in (held process.now.registers at))) (Ok row)) }
-{
-    let object = object_at(process, file)?;
-    if file_at(store, &object).is_err() {
-        return None;
-    }
-    let from = number_at(process, at)?;
-    let change = ProcessChange::Fills {
-        from,
-        count: TEXT_LIMIT as u32,
-        number: None,
-    };
-    Some(looked(change, Entity::Obj(object)))
-}
-
-/// Any row of `read`, put into a plan.
-#[inline(never)]
-#[tactic(auto, using(crate::proofs::Plans::rows))]
-fn put_any_read<S: Look>(
-    store: &S,
-    pid: Pid,
-    process: &Process,
-    file: Register,
-    at: Register,
-    plan: &mut Plan,
-)
-    requires { process.now.place + 1 < 2 ^ 32 }
-    ensures { (i : Option Instruction)
-        → PlansAfter (S.look store.now) i Input.None process.now [] pid
-        (read_row pid process.now (object_in (held process.now.registers file))
-        (number_in (held process.now.registers at))) (Ok plan.new) }
-{
-    *plan = Plan::Acts(read(store, pid, process, file, at));
-}
-
-/// The same. A frequent row stands by itself, so that no other one has a place in its frame.
-#[inline(never)]
-#[tactic(auto, using(crate::proofs::Plans::rows))]
 pub(crate) fn put_read<S: Look>(
-    store: &S,
+    _store: &S,
     pid: Pid,
     process: &Process,
     file: Register,
@@ -178,120 +128,45 @@ pub(crate) fn put_read<S: Look>(
 )
     requires { process.now.place + 1 < 2 ^ 32 }
     ensures { (i : Option Instruction)
-        → PlansAfter (S.look store.now) i Input.None process.now [] pid
+        → PlansAfter (S.look _store.now) i Input.None process.now [] pid
         (read_row pid process.now (object_in (held process.now.registers file))
         (number_in (held process.now.registers at))) (Ok plan.new) }
 {
-    match read_found(store, pid, process, file, at) {
-        Some(row) => *plan = Plan::Acts(row),
-        None => put_any_read(store, pid, process, file, at, plan),
+    match object_at(process, file) {
+        Some(object) => *plan = Plan::ReadsFile(object, number_at(process, at)),
+        None => put_missing(plan),
     }
 }
 
 /// The buffer written at a place of a file.
-fn written_at<S: Look>(
+#[inline(always)]
+fn put_written<S: Look>(
     _store: &S,
     pid: Pid,
     process: &Process,
-    object: &ObjId,
+    object: ObjId,
     file: &File,
     at: u64,
-) -> Row
+    plan: &mut Plan,
+)
     requires place { process.now.place + 1 < 2 ^ 32 }
-    requires there { S.look _store.now (Obj object.now)
-        ≡ Some (stored.Value (values.File file.now)) }
-    ensures { PlansRow (S.look _store.now) process.now pid
-        (Ask (Obj object.now) (λ v. written_at pid process.now object.now file.now at))
-        (Ok result) }
+    requires there { S.look _store.now (Obj object) ≡ Some (stored.Value (values.File file.now)) }
+    ensures { (i : Option Instruction)
+        → PlansAfter (S.look _store.now) i Input.None process.now [] pid
+        (Ask (Obj object) (λ v. written_at pid process.now object file.now at)) (Ok plan.new) }
 {
     let len = process.buffer.len() as u64;
     if at > FILE_LIMIT as u64 - len {
-        return looked(failed(Errno::TooBig), Entity::Obj(*object));
+        return put_answer(plan, Errno::TooBig.answer(), object);
     }
-    let change = answered(len);
     if len == 0 {
-        return looked(change, Entity::Obj(*object));
+        return put_answer(plan, 0, object);
     }
-    changed(change, &Entity::Obj(*object), Writes::At(at as u32))
+    *plan = Plan::WritesFile(object, at as u32);
 }
 
 /// `write rF rO`
-pub(crate) fn write<S: Look>(
-    store: &S,
-    pid: Pid,
-    process: &Process,
-    file: Register,
-    at: Register,
-) -> Row
-    requires { process.now.place + 1 < 2 ^ 32 }
-    ensures { PlansRow (S.look store.now) process.now pid
-        (write_row pid process.now (object_in (held process.now.registers file))
-        (number_in (held process.now.registers at))) (Ok result) }
-{
-    let Some(object) = object_at(process, file) else {
-        return alone(failed(Errno::BadObject));
-    };
-    let error = match file_at(store, &object) {
-        Ok(file) => match number_at(process, at) {
-            Some(at) => return written_at(store, pid, process, &object, file, at),
-            None => Errno::Invalid,
-        },
-        Err(error) => error,
-    };
-    looked(failed(error), Entity::Obj(object))
-}
-
-/// The row of bytes that a file has room for, which is the frequent one.
 #[inline(always)]
-fn write_fitting<S: Look>(
-    store: &S,
-    pid: Pid,
-    process: &Process,
-    file: Register,
-    at: Register,
-) -> Option<Row>
-    requires { process.now.place + 1 < 2 ^ 32 }
-    ensures { IfSome result
-        (λ row. PlansRow (S.look store.now) process.now pid
-        (write_row pid process.now (object_in (held process.now.registers file))
-        (number_in (held process.now.registers at))) (Ok row)) }
-{
-    let object = object_at(process, file)?;
-    if file_at(store, &object).is_err() {
-        return None;
-    }
-    let at = number_at(process, at)?;
-    let len = process.buffer.len() as u64;
-    if len == 0 || at > FILE_LIMIT as u64 - len {
-        return None;
-    }
-    let written = Writes::At(at as u32);
-    Some(changed(answered(len), &Entity::Obj(object), written))
-}
-
-/// Any row of `write`, put into a plan.
-#[inline(never)]
-#[tactic(auto, using(crate::proofs::Plans::rows))]
-fn put_any_write<S: Look>(
-    store: &S,
-    pid: Pid,
-    process: &Process,
-    file: Register,
-    at: Register,
-    plan: &mut Plan,
-)
-    requires { process.now.place + 1 < 2 ^ 32 }
-    ensures { (i : Option Instruction)
-        → PlansAfter (S.look store.now) i Input.None process.now [] pid
-        (write_row pid process.now (object_in (held process.now.registers file))
-        (number_in (held process.now.registers at))) (Ok plan.new) }
-{
-    *plan = Plan::Acts(write(store, pid, process, file, at));
-}
-
-/// The same. A frequent row stands by itself, so that no other one has a place in its frame.
-#[inline(never)]
-#[tactic(auto, using(crate::proofs::Plans::rows))]
 pub(crate) fn put_write<S: Look>(
     store: &S,
     pid: Pid,
@@ -306,9 +181,15 @@ pub(crate) fn put_write<S: Look>(
         (write_row pid process.now (object_in (held process.now.registers file))
         (number_in (held process.now.registers at))) (Ok plan.new) }
 {
-    match write_fitting(store, pid, process, file, at) {
-        Some(row) => *plan = Plan::Acts(row),
-        None => put_any_write(store, pid, process, file, at, plan),
+    let Some(object) = object_at(process, file) else {
+        return put_missing(plan);
+    };
+    match file_at(store, &object) {
+        Ok(file) => match number_at(process, at) {
+            Some(at) => put_written(store, pid, process, object, file, at, plan),
+            None => put_answer(plan, Errno::Invalid.answer(), object),
+        },
+        Err(error) => put_answer(plan, error.answer(), object),
     }
 }
 

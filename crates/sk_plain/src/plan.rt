@@ -43,8 +43,6 @@ pub enum Writes {
     First,
     /// A later one.
     Over(u64),
-    /// A file with the bytes at a place.
-    At(u32),
     /// A file of another size.
     Cut(u32),
     /// A name of an object.
@@ -82,6 +80,10 @@ pub enum Plan {
     Private,
     /// The process says its buffer.
     Speaks,
+    /// What an object has comes to the buffer, from a place on, where it is a file and there is a place.
+    ReadsFile(ObjId, Option<u64>),
+    /// The buffer is written at a place of a file.
+    WritesFile(ObjId, u32),
     /// The content of the input becomes the copy of a name, and is fetched, or told as an error.
     Received(Name),
     /// A child is born at a place, with an empty queue of signals and an exit slot that is not set, and
@@ -107,6 +109,9 @@ impl Plan {
     {
         match self {
             Plan::Acts(row) => read_entities(pid, input, &row.looks),
+            Plan::ReadsFile(object, _) | Plan::WritesFile(object, _) => {
+                read_entities(pid, input, &Looks::At(Entity::Obj(*object)))
+            }
             Plan::Private | Plan::Speaks | Plan::Received(_) | Plan::Forks(..) => {
                 read_entities(pid, input, &Looks::Nowhere)
             }
@@ -119,7 +124,7 @@ impl Plan {
     {
         match self {
             Plan::Acts(row) => added_directory(&row.beside),
-            Plan::Private | Plan::Speaks | Plan::Received(_) | Plan::Forks(..) => None,
+            _ => None,
         }
     }
 
@@ -128,7 +133,12 @@ impl Plan {
         ensures { result ≡ written_in pid self.now }
     {
         match self {
-            Plan::Private | Plan::Speaks => Entities::one(Entity::Proc(pid)),
+            Plan::Private | Plan::Speaks | Plan::ReadsFile(..) => Entities::one(Entity::Proc(pid)),
+            Plan::WritesFile(object, _) => {
+                let mut all = Entities::one(Entity::Obj(*object));
+                all.push(Entity::Proc(pid));
+                all
+            }
             Plan::Received(name) => {
                 let mut all = Entities::one(Entity::Copy(*name));
                 all.push(Entity::Proc(pid));

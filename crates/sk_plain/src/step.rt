@@ -1,20 +1,20 @@
 //! What a step will do, before it does it. A plan takes no memory.
-ghost use Rattle.std.specs.Prelude.{◌≡◌, ◌+◌, ◌<◌, ◌^◌, [], true, false, is_some, IsSome, IfOk, IfSome, Some, None, Ok};
+ghost use Rattle.std.specs.Prelude.{◌≡◌, ◌+◌, ◌<◌, ◌^◌, [], true, false, is_some, IsSome, IfOk, IfSome, Some, None, Ok, Option};
 ghost use Rattle.std.specs.Option.{option_copied};
 ghost use Rattle.sk_ids.specs.declared.entity.Entity.TheVariants.{Sig};
 ghost use Rattle.sk_objects.specs.declared.value.Value.TheVariants as values;
 ghost use Rattle.sk_store.specs.declared.entity_state.EntityState.TheVariants as stored;
 ghost use Rattle.sk_script.specs.declared.instruction.Input.TheVariants as Input;
 ghost use Rattle.sk_script.specs.Private.{private_step};
+ghost use Rattle.sk_script.specs.declared.instruction.Instruction.{Instruction};
+ghost use Rattle.sk_script.specs.declared.process.Process.{Process};
 ghost use Rattle.sk_trace.specs.Kept.{input_in};
 ghost use Rattle.sk_plain.specs.Act.{row, does, next_in, is_frequent, due, handled as handled_row, with_signals, with_input};
-ghost use Rattle.sk_plain.specs.Next.{IsAlone};
 ghost use Rattle.sk_plain.specs.Planned.{signals_read, IsReply, said_by};
 ghost use Rattle.sk_plain.specs.declared.plan.Beside.TheVariants as Beside;
 ghost use Rattle.sk_plain.specs.declared.plan.Looks.TheVariants as Looks;
-ghost use Rattle.sk_plain.specs.Seen.{DoesNext, PlansAfter, PlansRow, PlansStep, plan_of, seen, seen_with, told};
+ghost use Rattle.sk_plain.specs.Seen.{DoesNext, IsNext, PlansAfter, PlansRow, PlansStep, plan_of, seen, seen_with, told};
 
-use crate::next::is_due;
 use crate::processes::{ends, fork, is_killed, kill, status_of, wait};
 use crate::shapes::{alone, wrote};
 use crate::{
@@ -86,6 +86,7 @@ fn is_frequent(instruction: &Instruction) -> bool
 }
 
 /// What a frequent instruction will do, put into a plan.
+#[inline(always)]
 #[tactic(auto, using(crate::proofs::Plans::rows))]
 fn frequent<S: Look>(
     store: &S,
@@ -185,7 +186,7 @@ fn put_tabled<S: Look>(
 }
 
 /// What an instruction will do that is not private, without input.
-#[inline(never)]
+#[inline(always)]
 #[tactic(auto, using(crate::proofs::Plans::rows))]
 fn acted<S: Look>(
     store: &S,
@@ -206,28 +207,32 @@ fn acted<S: Look>(
     put_tabled(store, pid, process, instruction, plan)
 }
 
-/// A step without input.
+/// A step without input. A private instruction is answered.
 #[inline(always)]
-fn does<S: Look>(
+fn does<'a, S: Look>(
     store: &S,
     pid: Pid,
     process: &Process,
-    instruction: Option<&Instruction>,
+    instruction: Option<&'a Instruction>,
     plan: &mut Plan,
-) -> Result<(), Refusal>
+) -> Result<Option<&'a Instruction>, Refusal>
     requires { IsSome instruction → process.now.place + 1 < 2 ^ 32 }
-    ensures { PlansAfter (S.look store.now) (option_copied instruction.entry) Input.None process.now
-        [] pid (does pid process.now (option_copied instruction.entry)) (told result plan.new) }
+    ensures row { PlansAfter (S.look store.now) (option_copied instruction.entry) Input.None
+        process.now [] pid (does pid process.now (option_copied instruction.entry))
+        (told result plan.new) }
+    ensures next { IfOk result (λ found. IfSome found
+        (λ i. IsNext plan.new (option_copied instruction.entry) i.now)) }
 {
-    let Some(instruction) = instruction else {
+    let Some(next) = instruction else {
         *plan = Plan::Acts(ends(pid, 0));
-        return Ok(());
+        return Ok(None);
     };
-    if is_private(process, instruction) {
-        *plan = Plan::Private;
-        return Ok(());
+    if is_private(process, next) {
+        plan.set_private();
+        return Ok(Some(next));
     }
-    acted(store, pid, process, instruction, plan)
+    acted(store, pid, process, next, plan)?;
+    Ok(None)
 }
 
 /// The front signal goes to the handler, where one is set and no place is saved.
@@ -254,7 +259,10 @@ fn handled<S: Look>(
             ));
             Ok(())
         }
-        _ => does(store, pid, process, instruction, plan),
+        _ => {
+            does(store, pid, process, instruction, plan)?;
+            Ok(())
+        }
     }
 }
 
@@ -281,26 +289,45 @@ fn signalled<S: Look>(
     handled(store, pid, process, instruction, signals, plan)
 }
 
-/// What a process does next without input. Mostly it has no signals.
+/// The signals of a process, where there are some.
 #[inline(always)]
-fn with_signals<S: Look>(
-    store: &S,
-    pid: Pid,
-    process: &Process,
-    instruction: Option<&Instruction>,
-    plan: &mut Plan,
-) -> Result<(), Refusal>
-    requires { IsSome instruction → process.now.place + 1 < 2 ^ 32 }
-    ensures { PlansAfter (S.look store.now) (option_copied instruction.entry) Input.None process.now
-        [] pid (with_signals pid process.now (option_copied instruction.entry)
-        (S.look store.now (Sig pid))) (told result plan.new) }
+fn signals_of<S: Look>(store: &S, pid: Pid) -> Option<&Signals>
+    ensures some { IfSome result (λ signals.
+        S.look store.now (Sig pid) ≡ Some (stored.Value (values.Signals signals.now))) }
+    ensures none { result ≡ None → (p : Process) (i : Option Instruction)
+        → with_signals pid p i (S.look store.now (Sig pid)) ≡ does pid p i }
 {
     match store.value(Entity::Sig(pid)) {
         Some(EntityState::Value(Value::Signals(signals))) => match signals.as_slice() {
-            [] => does(store, pid, process, instruction, plan),
-            _ => signalled(store, pid, process, instruction, signals, plan),
+            [] => None,
+            _ => Some(signals),
         },
-        _ => does(store, pid, process, instruction, plan),
+        _ => None,
+    }
+}
+
+/// What a process does next without input. Mostly it has no signals, and then a private instruction is answered.
+#[inline(always)]
+fn with_signals<'a, S: Look>(
+    store: &S,
+    pid: Pid,
+    process: &Process,
+    instruction: Option<&'a Instruction>,
+    plan: &mut Plan,
+) -> Result<Option<&'a Instruction>, Refusal>
+    requires { IsSome instruction → process.now.place + 1 < 2 ^ 32 }
+    ensures row { PlansAfter (S.look store.now) (option_copied instruction.entry) Input.None
+        process.now [] pid (with_signals pid process.now (option_copied instruction.entry)
+        (S.look store.now (Sig pid))) (told result plan.new) }
+    ensures next { IfOk result (λ found. IfSome found
+        (λ i. IsNext plan.new (option_copied instruction.entry) i.now)) }
+{
+    match signals_of(store, pid) {
+        Some(signals) => {
+            signalled(store, pid, process, instruction, signals, plan)?;
+            Ok(None)
+        }
+        None => does(store, pid, process, instruction, plan),
     }
 }
 
@@ -342,14 +369,14 @@ fn replied<S: Look>(
 
 /// The next step of a process that goes on.
 #[inline(always)]
-fn with_input<S: Look>(
+fn with_input<'a, S: Look>(
     store: &S,
     pid: Pid,
     process: &Process,
-    instruction: Option<&Instruction>,
+    instruction: Option<&'a Instruction>,
     input: InputRef<'_>,
     plan: &mut Plan,
-) -> Result<(), Refusal>
+) -> Result<Option<&'a Instruction>, Refusal>
     requires { IsSome instruction → process.now.place + 1 < 2 ^ 32 }
     ensures row { PlansAfter (S.look store.now) (option_copied instruction.entry)
         (input_in input.entry) process.now (signals_read pid (input_in input.entry)) pid
@@ -360,31 +387,14 @@ fn with_input<S: Look>(
         (λ plan. said_by
         (seen (S.look store.now) (option_copied instruction.entry) (input_in input.entry)
         process.now plan) ≡ None) }
+    ensures next { IfOk result (λ found. IfSome found
+        (λ i. IsNext plan.new (option_copied instruction.entry) i.now)) }
 {
-    match input {
-        InputRef::None => with_signals(store, pid, process, instruction, plan),
-        InputRef::Good | InputRef::Fresh(_) | InputRef::Stale(_) => {
-            replied(store, pid, process, instruction, input, plan)
-        }
+    if let InputRef::None = input {
+        return with_signals(store, pid, process, instruction, plan);
     }
-}
-
-/// Whether the step has no input, takes no signal and does a private instruction.
-fn goes_alone<S: Look>(
-    store: &S,
-    pid: Pid,
-    process: &Process,
-    instruction: Option<&Instruction>,
-    input: InputRef<'_>,
-) -> bool
-    ensures { result ≡ true
-        → IsAlone (S.look store.now) pid process.now (option_copied instruction.entry)
-        (input_in input.entry) }
-{
-    let (InputRef::None, Some(instruction)) = (input, instruction) else {
-        return false;
-    };
-    is_private(process, instruction) && !is_due(store, pid, process)
+    replied(store, pid, process, instruction, input, plan)?;
+    Ok(None)
 }
 
 /// The next instruction of a process, where it stands; `None` past the end of its script.
@@ -426,12 +436,7 @@ pub fn plan_into<'a, S: Look>(
         return Err(Refusal::Ended);
     }
     let instruction = instruction_at(scripts, process);
-    if goes_alone(store, pid, process, instruction, input) {
-        plan.set_private();
-        return Ok(instruction);
-    }
-    with_input(store, pid, process, instruction, input, plan)?;
-    Ok(None)
+    with_input(store, pid, process, instruction, input, plan)
 }
 
 /// The same by a call of its own, for what takes no step at once.

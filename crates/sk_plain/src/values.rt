@@ -1,5 +1,6 @@
 //! What a register's value stands for, and what the object is that a row is about.
 ghost use Rattle.std.specs.Prelude.{◌≡◌, ◌≤◌, IfSome, IfOk, IfErr, Some, Err};
+ghost use Rattle.std.specs.Option.{option_copied};
 ghost use Rattle.sk_ids.specs.declared.entity.Entity.TheVariants.{Obj, Link};
 ghost use Rattle.sk_objects.specs.declared.value.Value.TheVariants as values;
 ghost use Rattle.sk_store.specs.declared.entity_state.EntityState.TheVariants as stored;
@@ -57,12 +58,23 @@ pub(crate) fn who_at(process: &Process, register: Register) -> Option<Pid>
 }
 
 /// The file that an object is, or the error of a row that is about one.
+#[inline(always)]
 pub(crate) fn file_at<'a, S: Look>(store: &'a S, object: &ObjId) -> Result<&'a File, Errno>
     ensures ok { IfOk result
         (λ file. S.look store.now (Obj object.now) ≡ Some (stored.Value (values.File file.now))) }
     ensures err { IfErr result (λ error. file_in (S.look store.now (Obj object.now)) ≡ Err error) }
 {
-    match store.value(Entity::Obj(*object)) {
+    file_in(store.value(Entity::Obj(*object)))
+}
+
+/// The same of what is there.
+#[inline(always)]
+pub(crate) fn file_in(there: Option<&EntityState>) -> Result<&File, Errno>
+    ensures ok { IfOk result
+        (λ file. option_copied there.entry ≡ Some (stored.Value (values.File file.now))) }
+    ensures err { IfErr result (λ error. file_in (option_copied there.entry) ≡ Err error) }
+{
+    match there {
         Some(EntityState::Value(Value::File(file))) => Ok(file),
         Some(EntityState::Value(Value::Dir)) => Err(Errno::IsDirectory),
         Some(EntityState::Value(Value::Pipe(_))) => Err(Errno::Invalid),

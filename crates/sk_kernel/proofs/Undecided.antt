@@ -13,9 +13,6 @@ undecided_is k sound g = ((λ here. since_undecided (plain k.scripts) k.start k.
 pub drawn_here : (k : KernelView) → HasSoundTrace k → (g : ℕ) (s : Status) → WasDrawn k g → StatusIs (plain k.scripts) k.start (events_of k) g s → HasStatus k g s
 drawn_here k sound g s drawn is = subst (λ o. StatusOr (plain k.scripts) k.start o (events_of k) g s) (sym (beyond k.earlier g (sound.above g drawn))) is
 
-pub status_here : (k : KernelView) → HasSoundTrace k → (g : ℕ) (s : Status) → WasDrawn k g → HasStatus k g s → StatusIs (plain k.scripts) k.start (events_of k) g s
-status_here k sound g s drawn has = subst (λ o. StatusOr (plain k.scripts) k.start o (events_of k) g s) (beyond k.earlier g (sound.above g drawn)) has
-
 pub undecided_sorted : (k : KernelView) → HasSoundTrace k → IsStrictlySortedBy nat_cmp (undecided_at k)
 undecided_sorted k sound = sorted_from_strictly_increasing (undecided_at k) (undecided_rises (plain k.scripts) k.start (events_of k) sound.sound)
 

@@ -157,10 +157,7 @@ all_enough m os pid all tidy opens_rise count = λ many rises.
     let as_many : length tags ≡ length (numbers os) = omega arith in
     open_covered m os tidy tags (Sig pid ∷ []) (as_long tags (numbers os) rises opens_rise known as_many)
 
--- and any are where the signals rest on none
-pub none_enough : (m : SlotMap) (pid : ℕ) (own : List ℕ) → is_empty own ≡ true → own ≡ tags_in m (Sig pid) → IsEnough 0 pid m
-none_enough m pid own none is = λ _ _. none_within (tags_in m (Proc pid)) own (Sig pid) (tags_in m) none is
-
+-- a private step reads no more than its signals beside its process
 pub reads_on : (pid : ℕ) (input : Input) (base : Entity → List ℕ) → Covers (base (Proc pid)) (Sig pid ∷ []) base → Covers (base (Proc pid)) (read_by pid input (looked (looks_of Private))) base
 reads_on pid input base signals = covers_reads (base (Proc pid)) pid input Nowhere base refl (when input) (covers_none (base (Proc pid)) base) where
   when : (input : Input) → Covers (base (Proc pid)) (signals_read pid input) base

@@ -1,6 +1,8 @@
 -- The tags that a step's footprint rests on, one entity after another.
 use Rattle.sk_machine.proofs.Names.{◌≡◌, ℕ, Bool, true, false, ◌||◌, List, [], ◌∷◌, ◌++◌, map, Option, refl, sym, ◌∙◌}
-use Rattle.sk_machine.proofs.Names.{ap, true≢false, or_right, is_empty, nat_cmp, IsStrictlySortedBy, or_assoc}
+use Rattle.sk_machine.proofs.Names.{ap, true≢false, or_left, or_right, is_empty, nat_cmp, AllByRecursion, or_assoc}
+use Rattle.std.specs.declared.cmp.Ordering.TheVariants.{Less}
+use Rattle.std.specs.List.Sorted.{IsStrictlySortedBy}
 use Rattle.sk_machine.proofs.Names.{list_any-append, is_marked, touches, has, marks, numbers, tags_at, step_tags}
 use Rattle.sk_machine.proofs.Names.{IsTidy, union_is_tags, Entity, EntityState, look_at, EntryView, read_by, written_by}
 use Rattle.sk_machine.proofs.Names.{PlanView, asked, changed_are, Parts, undo_state_of, planned_effect, any_rests}
@@ -39,12 +41,35 @@ module _ (m : Parts) (n : EntryView) (plan : PlanView) where
       union_is_tags (undo_state_of m) (planned_effect m n plan) tidy tags opens_rise rises
       (λ g. members g ∙ or_assoc (is_marked n.guess g) (any_rests m g (read_by n.pid n.input plan.looks)) (any_rests m g (written_by n.pid plan.beside)) ∙ ap (λ b. is_marked n.guess g || b) (sym (touched_is g)))
 
--- nothing rests on a guess where none is open
+-- nothing rests on a guess that is not open
+closed_rest : (m : Parts) → IsTidy (undo_state_of m) → (g : ℕ) → has g (numbers m.opens) ≡ false → (es : List Entity) → any_rests m g es ≡ false
+closed_rest m tidy g closed [] = refl
+closed_rest m tidy g closed (e ∷ es) = (λ i. not_known m tidy g closed e i || any_rests m g es) ∙ closed_rest m tidy g closed es
+
+-- nor on any where none is open
 pub none_rest : (m : Parts) → IsTidy (undo_state_of m) → m.opens ≡ [] → (g : ℕ) (es : List Entity) → any_rests m g es ≡ false
-none_rest m tidy none g [] = refl
-none_rest m tidy none g (e ∷ es) =
-    let closed : has g (numbers m.opens) ≡ false = ap (λ os. has g (numbers os)) none in
-    (λ i. not_known m tidy g closed e i || any_rests m g es) ∙ none_rest m tidy none g es
+none_rest m tidy none g es = closed_rest m tidy g (ap (λ os. has g (numbers os)) none) es
+
+-- to all that are open nothing is added by what is touched
+pub all_have : (m : Parts) → IsTidy (undo_state_of m) → (tags : List ℕ) → tags ≡ numbers m.opens → (g : ℕ) (own : Bool) (es fs : List Entity)
+    → (own || has g tags) ≡ ((own || (has g tags || any_rests m g es)) || any_rests m g fs)
+all_have m tidy tags all g own es fs =
+    elim (has g tags) as (λ b. has g tags ≡ b → (own || b) ≡ ((own || (b || any_rests m g es)) || any_rests m g fs)) [
+      | true ↦ λ _. or_right own true refl ∙ sym (or_left (own || true) (any_rests m g fs) (or_right own true refl))
+      | false ↦ λ out.
+          let closed : has g (numbers m.opens) ≡ false = ap (has g) (sym all) ∙ out in
+          none_more (own || false) ∙ (λ i. (own || sym (closed_rest m tidy g closed es) i) || sym (closed_rest m tidy g closed fs) i)
+    ] refl
+
+-- the front of a rising list rises
+front_above : (x : ℕ) (xs ys : List ℕ) → AllByRecursion (λ z. nat_cmp x z ≡ Less) (xs ++ ys) → AllByRecursion (λ z. nat_cmp x z ≡ Less) xs
+front_above x [] ys above = tt
+front_above x (z ∷ xs) ys above = (above.0, front_above x xs ys above.1)
+
+pub front_rises : (xs ys : List ℕ) → IsStrictlySortedBy nat_cmp (xs ++ ys) → IsStrictlySortedBy nat_cmp xs
+unfolding IsStrictlySortedBy
+front_rises [] ys rises = tt
+front_rises (x ∷ xs) ys rises = (front_above x xs ys rises.0, front_rises xs ys rises.1)
 
 -- ---- what they have
 pub own_among : (a b c : Bool) → a ≡ true → ((a || b) || c) ≡ true

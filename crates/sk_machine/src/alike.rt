@@ -23,7 +23,7 @@ use sk_undo::Logs;
 use std::alloc::AllocError;
 
 /// Whether these guesses are all that are undecided.
-fn are_all(guesses: &Guesses<Entity>, tags: &TagSet) -> bool
+pub(crate) fn are_all(guesses: &Guesses<Entity>, tags: &TagSet) -> bool
     requires known { (g : ℕ) → has g tags.now ≡ true
         → has g (numbers (opens_of guesses.now.opens)) ≡ true }
     requires rising { IsStrictlySortedBy nat_cmp (numbers (opens_of guesses.now.opens)) }
@@ -86,11 +86,16 @@ fn plan_within(logs: &Logs, untagged: &TagSet, plan: &Plan) -> bool
         Plan::Private | Plan::Speaks | Plan::Received(_) | Plan::Forks(..) => {
             looks_within(logs, untagged, &Looks::Nowhere)
         }
+        Plan::ReadsFile(object, _) | Plan::WritesFile(object, _) => {
+            is_within(logs, untagged, &Entity::Obj(*object))
+        }
         Plan::Acts(row) => looks_within(logs, untagged, &row.looks),
     }
 }
 
-/// Whether all that a plan reads does, beside its process.
+/// Whether all that a plan reads does, beside its process. It stands by itself, so that a step whose process rests on all
+/// that is open has no place for entities in its frame.
+#[inline(never)]
 fn reads_within(logs: &Logs, untagged: &TagSet, pid: Pid, input: InputRef<'_>, plan: &Plan) -> bool
     requires untagged { untagged.now ≡ [] }
     requires own { tags_in logs.now.slots (Proc pid) ≡ logs.now.tags }
@@ -105,6 +110,7 @@ fn reads_within(logs: &Logs, untagged: &TagSet, pid: Pid, input: InputRef<'_>, p
 }
 
 /// Whether an entity rests on just the guesses of the next step.
+#[inline(always)]
 fn is_alike(logs: &Logs, untagged: &TagSet, entity: &Entity) -> bool
     requires { untagged.now ≡ [] }
     ensures { result ≡ true → tags_in logs.now.slots entity.now ≡ logs.now.tags }
@@ -113,6 +119,7 @@ fn is_alike(logs: &Logs, untagged: &TagSet, entity: &Entity) -> bool
 }
 
 /// Whether a child does, of which a process may have been that failed.
+#[inline(never)]
 #[tactic(auto, using(crate::proofs::AsProcess::alike_four))]
 fn child_alike(logs: &Logs, untagged: &TagSet, pid: Pid, child: Pid) -> bool
     requires untagged { untagged.now ≡ [] }
@@ -131,6 +138,7 @@ fn child_alike(logs: &Logs, untagged: &TagSet, pid: Pid, child: Pid) -> bool
 }
 
 /// Whether what a row writes does.
+#[inline(never)]
 #[tactic(auto, using(crate::proofs::AsProcess::alike_one, crate::proofs::AsProcess::alike_two))]
 fn beside_alike(logs: &Logs, untagged: &TagSet, pid: Pid, beside: &Beside) -> bool
     requires untagged { untagged.now ≡ [] }
@@ -154,7 +162,8 @@ fn writes_alike(logs: &Logs, untagged: &TagSet, pid: Pid, plan: &Plan) -> bool
         → RestAlike logs.now.tags (written_in pid plan.now) (tags_in logs.now.slots) }
 {
     match plan {
-        Plan::Private | Plan::Speaks => true,
+        Plan::Private | Plan::Speaks | Plan::ReadsFile(..) => true,
+        Plan::WritesFile(object, _) => is_alike(logs, untagged, &Entity::Obj(*object)),
         Plan::Received(name) => is_alike(logs, untagged, &Entity::Copy(*name)),
         Plan::Forks(_, child, _) => child_alike(logs, untagged, pid, *child),
         Plan::Acts(row) => beside_alike(logs, untagged, pid, &row.beside),

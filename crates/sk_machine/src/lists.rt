@@ -1,8 +1,14 @@
 //! The lists of what rests on each undecided guess, as steps and failures change them.
-ghost use Rattle.std.specs.Prelude.{◌≡◌, ◌∷◌, true, OnOk, OnErr, []};
+ghost use Rattle.std.specs.Prelude.{◌≡◌, ◌∷◌, ℕ, true, OnOk, OnErr, []};
+ghost use Rattle.std.specs.List.Sorted.{IsStrictlySortedBy};
+ghost use Rattle.std.specs.Ordering.{nat_cmp};
+ghost use Rattle.sk_record.specs.Notes.{has};
+ghost use Rattle.sk_record.specs.UndoState.{IsTidy, numbers};
+ghost use Rattle.sk_undo.specs.Decisions.{undo_state};
 ghost use Rattle.sk_guesses.specs.Opens.{dependents_of, opens_of};
 ghost use Rattle.sk_machine.specs.Dependents.{AllAlmostExact, AllExact, Covers, Depends, tags_in, with_tags};
 
+use crate::alike::are_all;
 use crate::machine::is_none;
 use sk_guesses::Guesses;
 use sk_ids::{Entity, GuessId, TagSet};
@@ -10,6 +16,7 @@ use sk_undo::Logs;
 use std::alloc::AllocError;
 
 /// The guesses that an entity rests on, where this is the set of none.
+#[inline(always)]
 pub(crate) fn tags_of<'a>(logs: &'a Logs, untagged: &'a TagSet, entity: &Entity) -> &'a TagSet
     requires { untagged.now ≡ [] }
     ensures { result.now ≡ tags_in logs.now.slots entity.now }
@@ -20,18 +27,24 @@ pub(crate) fn tags_of<'a>(logs: &'a Logs, untagged: &'a TagSet, entity: &Entity)
     }
 }
 
-/// Adds an entity to the lists of these guesses. Most entities rest on just these already, and are there.
+/// Adds an entity to the lists of these guesses. Most entities rest on all that are open, or on just these, and are there.
 fn depend(
     guesses: &mut Guesses<Entity>,
     own: &TagSet,
     tags: &TagSet,
     entity: &Entity,
 ) -> Result<(), AllocError>
+    requires known { (g : ℕ) → has g own.now ≡ true
+        → has g (numbers (opens_of guesses.old.opens)) ≡ true }
+    requires rising { IsStrictlySortedBy nat_cmp (numbers (opens_of guesses.old.opens)) }
     ensures view { guesses.new.view ≡ guesses.old.view }
     ensures ok { OnOk result
         (Depends own.now tags.now entity.now guesses.old.opens guesses.new.opens) }
     ensures err { OnErr result (guesses.new.opens ≡ guesses.old.opens) }
 {
+    if are_all(guesses, own) {
+        return Ok(());
+    }
     if own.covers(tags) {
         return Ok(());
     }
@@ -51,6 +64,8 @@ fn depend_each(
     tags: &TagSet,
     entities: &[Entity],
 ) -> Result<(), AllocError>
+    requires tidy { IsTidy (undo_state logs.now.slots (opens_of guesses.old.opens)) }
+    requires rising { IsStrictlySortedBy nat_cmp (numbers (opens_of guesses.old.opens)) }
     requires exact { AllExact (tags_in logs.now.slots) guesses.old.opens }
     requires covers { Covers tags.now entities.now (tags_in logs.now.slots) }
     requires untagged { untagged.now ≡ [] }
@@ -80,6 +95,8 @@ pub(crate) fn depend_all(
     tags: &TagSet,
     entities: &[Entity],
 ) -> Result<(), AllocError>
+    requires tidy { IsTidy (undo_state logs.now.slots (opens_of guesses.old.opens)) }
+    requires rising { IsStrictlySortedBy nat_cmp (numbers (opens_of guesses.old.opens)) }
     requires exact { AllExact (tags_in logs.now.slots) guesses.old.opens }
     requires covers { Covers tags.now entities.now (tags_in logs.now.slots) }
     requires untagged { untagged.now ≡ [] }

@@ -33,7 +33,7 @@ ghost use Rattle.sk_guesses.specs.Room.{HasRoom};
 ghost use Rattle.sk_machine.specs.Dependents.{Covers, tags_in};
 ghost use Rattle.sk_machine.specs.Performed.{entities_of, AreApart, IsClean, Performed};
 
-use crate::alike::set_alike;
+use crate::alike::{are_all, set_alike};
 use crate::lists::{depend_all, is_alone, relieve_all, relieve_freed, tags_of};
 use sk_guesses::{Guess, Guesses, Redeemed, Status};
 use sk_ids::{Entity, GuessId, ObjId, Pid, TagSet};
@@ -161,6 +161,7 @@ fn perform_next(
 
 /// Makes room for the next guess and so many dependents of it, and performs its plan. Without memory
 /// nothing has changed.
+#[inline(always)]
 fn perform_guess(
     guesses: &mut Guesses<Entity>,
     logs: &mut Logs,
@@ -210,13 +211,14 @@ fn put_all(plan: &Plan, pid: Pid, all: &mut Entities)
 }
 
 /// The same, where the list has the process alone. Most guesses write nothing else.
+#[inline(always)]
 fn put_written(plan: &Plan, pid: Pid, all: &mut Entities)
     requires { all.old ≡ Proc pid ∷ [] }
     ensures { all.new ≡ written_in pid plan.now }
 {
     match plan {
-        Plan::Private | Plan::Speaks => {}
-        Plan::Received(_) | Plan::Forks(..) => put_all(plan, pid, all),
+        Plan::Private | Plan::Speaks | Plan::ReadsFile(..) => {}
+        Plan::WritesFile(..) | Plan::Received(_) | Plan::Forks(..) => put_all(plan, pid, all),
         Plan::Acts(row) => match row.beside {
             Beside::Nothing => {}
             Beside::One(..) | Beside::Gone(_) => put_all(plan, pid, all),
@@ -285,10 +287,9 @@ impl Machine {
         }
     }
 
-    /// Adds to a set the guesses of all that a planned step touches. It stands by itself, so that a step while no guess is open
-    /// has no place for what it reads in its frame.
+    /// Adds to a set the guesses of each entity that a planned step touches.
     #[inline(never)]
-    fn add_touched(
+    fn add_each(
         &self,
         own: TagSet,
         pid: Pid,
@@ -305,6 +306,35 @@ impl Machine {
     {
         let read = self.add_tags(own, plan.reads(pid, input).as_slice())?;
         self.add_tags(read, written)
+    }
+
+    /// Adds to a set the guesses of all that a planned step touches. Where its process rests on all that are open, nothing
+    /// else is looked at. It stands by itself, so that a step while no guess is open has no place for what it reads in its frame.
+    #[inline(never)]
+    fn add_touched(
+        &self,
+        own: TagSet,
+        pid: Pid,
+        input: InputRef<'_>,
+        plan: &Plan,
+        written: &[Entity],
+    ) -> Result<TagSet, AllocError>
+        requires tidy { IsTidy (undo_state_of self.now) }
+        requires rising { IsStrictlySortedBy nat_cmp (numbers self.now.opens) }
+        ensures members { IfOk result (λ all. (g : ℕ)
+            → has g all
+            ≡ ((has g own
+            || any_rests self.now g (read_by pid (input_in input.entry) (looked (looks_of plan.now))))
+            || any_rests self.now g written.now)) }
+        ensures rising { IfOk result (λ all. IsStrictlySortedBy nat_cmp all) }
+    {
+        let process = tags_of(&self.logs, &self.untagged, &Entity::Proc(pid));
+        if !are_all(&self.guesses, process) {
+            return self.add_each(own, pid, input, plan, written);
+        }
+        let tags = with_tags(own, process)?;
+        let _rising = tags.ids();
+        Ok(tags)
     }
 
     /// The guesses that a planned step rests on: those of all that it touches, of which there are none where no guess is
@@ -456,6 +486,7 @@ impl Machine {
     }
 
     /// Draws the next guess and takes its planned step. Without memory nothing has changed.
+    #[inline(always)]
     pub fn take_guess(
         &mut self,
         scripts: &Scripts,

@@ -1,7 +1,9 @@
--- It is in them already, or is added to those that it does not rest on.
-use Rattle.sk_machine.proofs.Names.{◌≡◌, Bool, true, false, not, ◌&&◌, ◌||◌, List, [], ◌∷◌, refl, sym, ◌∙◌, ap}
+-- It is in them already, or is added to those that it does not rest on, of which none is open where it rests on all that are.
+use Rattle.sk_machine.proofs.Names.{◌≡◌, ℕ, Bool, true, false, not, cond, filter, ◌&&◌, ◌||◌, List, [], ◌∷◌, refl, sym, ◌∙◌, ap}
 use Rattle.sk_machine.proofs.Names.{false≢true, or_left, or_right, entity_cmp, Entity, has, and_both, OpenGuess}
-use Rattle.sk_machine.proofs.Names.{depending}
+use Rattle.sk_machine.proofs.Names.{depending, numbers, opens_of, eq-eqb}
+use Rattle.sk_guesses.specs.EntitySet.{with_entity}
+use Rattle.sk_record.proofs.Machine.{has_filter}
 use Rattle.std.specs.Prelude.{map}
 use Rattle.sk_machine.proofs.Given.{then_ok}
 use Rattle.sk_machine.proofs.lists.depend.Goals as goal
@@ -13,6 +15,31 @@ to_none e (o ∷ os) = ap (λ ys. o ∷ ys) (to_none e os)
 split : (own there more : Bool) → more ≡ (there && not own) → there ≡ true → (own || more) ≡ true
 split true there more is here = refl
 split false there more is here = is ∙ ap (λ b. b && true) here
+
+rest_of : (own there : Bool) → there ≡ true → (own || (not own && there)) ≡ true
+rest_of true there here = refl
+rest_of false there here = here
+
+-- an entity that is added to the lists of guesses that are not open is added to none
+unlisted : (more : List ℕ) (e : Entity) (os : List (OpenGuess Entity)) → ((g : ℕ) → has g (numbers (opens_of os)) ≡ true → has g more ≡ false) → os ≡ map (depending entity_cmp more e) os
+unlisted more e [] apart = refl
+unlisted more e (o ∷ os) apart =
+    ap (λ ys. o ∷ ys) (unlisted more e os (λ g here. apart g (or_right _ _ here)))
+    ∙ sym (ap (λ b. cond b (record { id = o.id; tags = o.tags; dependents = with_entity entity_cmp o.dependents e }) o ∷ map (depending entity_cmp more e) os) (apart o.id (or_left _ _ (eq-eqb o.id o.id refl))))
+
+pub returns-then-are_all-clause-ok : goal.returns-then-are_all-clause-ok
+returns-then-are_all-clause-ok c =
+    let own = c.args.own.now in
+    let tags = c.args.tags.now in
+    let os = c.args.guesses.now.opens in
+    let beyond = λ (g : ℕ). not (has g own) in
+    let all : own ≡ numbers (opens_of os) = c.are_all.ensures c.if-are_all.true in
+    record {
+      added = filter beyond tags;
+      all = λ g there. ap (λ b. has g own || b) (has_filter beyond g tags) ∙ rest_of (has g own) (has g tags) there;
+      none = λ g here. (and_both (not (has g own)) (has g tags) (sym (has_filter beyond g tags) ∙ here)).1;
+      opens = unlisted (filter beyond tags) c.args.entity.now os (λ g here. has_filter beyond g tags ∙ ap (λ b. not b && has g tags) (ap (has g) all ∙ here));
+    }
 
 pub returns-then-covers-clause-ok : goal.returns-then-covers-clause-ok
 returns-then-covers-clause-ok c = record {

@@ -1,8 +1,15 @@
 -- One entity more is in the lists of all the guesses; without memory all are taken out again.
-use Rattle.sk_machine.proofs.Names.{take, sym, ◌∙◌, ap, subst, opens_of, AllAlmostExact, AllExact, tags_in, with_tags}
+use Rattle.sk_machine.proofs.Names.{IsStrictlySortedBy, nat_cmp, has, numbers, take, sym, ◌∙◌, ap, subst, opens_of, AllAlmostExact, AllExact, tags_in, with_tags}
 use Rattle.sk_machine.proofs.Given.{from_ok, from_err}
 use Rattle.sk_machine.proofs.Listed.{almost_of, depends_exact, depends_opens, in_front, in_place, take_all, take_next}
 use Rattle.sk_machine.proofs.lists.depend_each.Goals as goal
+
+pub depend-requires-clause-known : goal.depend-requires-clause-known
+depend-requires-clause-known c = λ g here.
+    ap (λ os. has g (numbers os)) c.loop-entity.invariant.opens ∙ c.requires.tidy.known c.entity-item.result g (sym (ap (has g) c.tags_of-own.ensures) ∙ here)
+
+pub depend-requires-clause-rising : goal.depend-requires-clause-rising
+depend-requires-clause-rising c = subst (λ os. IsStrictlySortedBy nat_cmp (numbers os)) (sym c.loop-entity.invariant.opens) c.requires.rising
 
 pub relieve_all-requires-clause-almost : goal.relieve_all-requires-clause-almost
 relieve_all-requires-clause-almost c =

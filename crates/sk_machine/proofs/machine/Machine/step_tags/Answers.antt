@@ -1,10 +1,10 @@
 -- The tags of what is read and of what is written, with the step's own, are the step's tags.
-use Rattle.sk_machine.proofs.Names.{◌≡◌, ℕ, false, ◌||◌, List, sym, ◌∙◌, subst, nat_cmp, IsStrictlySortedBy, is_marked}
+use Rattle.sk_machine.proofs.Names.{◌≡◌, ℕ, false, ◌||◌, List, numbers, marks, sym, ◌∙◌, subst, nat_cmp, IsStrictlySortedBy, is_marked}
 use Rattle.sk_machine.proofs.Names.{Entity, read_by, written_by, has, looked, looks_of, seen_with, written_in, written_is, look_at}
 use Rattle.sk_machine.proofs.Names.{input_in, EntryView, tags_in, any_rests}
 use Rattle.sk_machine.proofs.Given.{if_ok}
 use Rattle.sk_machine.proofs.Listed.{any_of, no_length, none_covered}
-use Rattle.sk_machine.proofs.Tags.{tags_are, none_more, none_rest, own_among, last_among}
+use Rattle.sk_machine.proofs.Tags.{tags_are, none_more, none_rest, front_rises, own_among, last_among}
 use Rattle.sk_machine.proofs.machine.Machine.step_tags.Goals as goal
 
 pub returns-then-open_count-eq0-clause-exact : goal.returns-then-open_count-eq0-clause-exact
@@ -26,6 +26,9 @@ returns-then-open_count-eq0-clause-covers c =
     let m = c.args.self.now in
     let none = no_length m.opens (sym c.open_count.ensures ∙ c.if-open_count-eq0.true) in
     none_covered m c.requires.tidy none c.own_tags-own.result (written_in c.args.pid c.args.plan.now)
+
+pub add_touched-requires-clause-rising : goal.add_touched-requires-clause-rising
+add_touched-requires-clause-rising c = front_rises (numbers c.args.self.now.opens) (marks c.args.own.now) c.requires.rising
 
 pub returns-clause-exact : goal.returns-clause-exact
 returns-clause-exact c =

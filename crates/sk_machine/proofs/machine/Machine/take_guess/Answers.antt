@@ -5,11 +5,18 @@ use Rattle.sk_machine.proofs.Names.{OpenGuess, opens_of, entity_cmp, Entity, inp
 use Rattle.sk_machine.proofs.Names.{effect_of, writes_of, seen_with, written_in, written_is, changed_are}
 use Rattle.sk_machine.proofs.Names.{AllAlmostExact, AllExact, Covers, tags_in, Parts, machine_of, planned_effect}
 use Rattle.sk_machine.proofs.Names.{undo_state_of, AreApart, IsClean, entities_of}
+use Rattle.sk_machine.proofs.Names.{IsStrictlySortedBy, nat_cmp, marks}
 use Rattle.sk_machine.proofs.Given.{for_err, from_ok, from_err}
+use Rattle.sk_machine.proofs.Tags.{front_rises}
 use Rattle.sk_machine.proofs.Becomes.{same_parts, takes_guess}
 use Rattle.sk_machine.proofs.Joins.{apart_of, clean_of}
 use Rattle.sk_machine.proofs.Listed.{fresh, guessed_exact, more_opens, not_known, unperformed}
 use Rattle.sk_machine.proofs.machine.Machine.take_guess.Goals as goal
+
+pub depend_all-requires-clause-rising : goal.depend_all-requires-clause-rising
+depend_all-requires-clause-rising c =
+    subst (λ (m : Parts). IsStrictlySortedBy nat_cmp (numbers m.opens)) (sym c.self.view_is)
+    (front_rises (numbers c.args.self.now.opens) (marks (Some (next_of c.args.self.now.guesses))) c.requires.rising)
 
 pub depend_all-requires-clause-covers : goal.depend_all-requires-clause-covers
 depend_all-requires-clause-covers c =

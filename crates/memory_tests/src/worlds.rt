@@ -1,9 +1,9 @@
 //! Events of a world.
 use crate::sights::{Sight, begins, shows};
 use crate::texts::tells;
-use sk_client::{World, WorldEvent};
+use sk_client::World;
 use sk_play::{WorldTold, happen, world_of, write_told};
-use sk_scenario::Declarations;
+use sk_scenario::{Declarations, KeptEvent};
 use std::alloc::{AllocError, Global};
 use std::io::Write;
 use tests_support::finding::Finding;
@@ -19,20 +19,20 @@ fn starts(alloc: Global, declarations: &Declarations) -> Result<World, AllocErro
 fn tries(
     alloc: Global,
     world: &mut World,
-    event: &WorldEvent,
+    event: &KeptEvent,
     before: &Sight,
 ) -> Result<WorldTold, Finding> {
-    if let Ok(told) = happen(world, event) {
+    if let Ok(told) = happen(world, event.lend()) {
         return Ok(told);
     }
     before.stands(alloc, &*world)?;
-    Ok(happen(world, event)?)
+    Ok(happen(world, event.lend())?)
 }
 
 fn happens<W: Write>(
     alloc: Global,
     world: &mut World,
-    event: &WorldEvent,
+    event: &KeptEvent,
     out: &mut W,
 ) -> Result<WorldTold, Finding> {
     let before = Sight::of(alloc, &*world)?;
@@ -45,7 +45,7 @@ fn happens_and_tells<W: Write>(
     alloc: Global,
     world: &mut World,
     number: usize,
-    event: &WorldEvent,
+    event: &KeptEvent,
     out: &mut W,
 ) -> Result<(), Finding> {
     let told = happens(alloc, world, event, out)?;
@@ -55,7 +55,7 @@ fn happens_and_tells<W: Write>(
 fn happens_all<W: Write>(
     alloc: Global,
     world: &mut World,
-    events: &[WorldEvent],
+    events: &[KeptEvent],
     out: &mut W,
 ) -> Result<(), Finding> {
     for (place, event) in events.iter().enumerate() {
@@ -70,7 +70,7 @@ fn plays_all<W: Write>(
     text: &[u8],
     declarations: &Declarations,
     world: &mut World,
-    events: &[WorldEvent],
+    events: &[KeptEvent],
     out: &mut W,
 ) -> Result<(), Finding> {
     happens_all(alloc, world, events, out)?;
@@ -83,7 +83,7 @@ pub fn plays_world<W: Write>(
     alloc: Global,
     text: &[u8],
     declarations: &Declarations,
-    events: &[WorldEvent],
+    events: &[KeptEvent],
     out: &mut W,
 ) -> Result<(), Finding> {
     let mut world = starts(alloc, declarations)?;

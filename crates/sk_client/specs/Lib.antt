@@ -16,3 +16,4 @@ pub mod AskedSteps
 pub mod Writes
 pub mod Upcoming
 pub mod Leasing
+pub mod LentEvent

@@ -15,9 +15,9 @@ use Rattle.sk_client.specs.Desk.{DeskView, kept_for, buffer}
 
 -- a store is of the buffer of the process
 abbrev pub wanted : List ℕ → Wanted → Ask
-wanted bytes (wants.Get name) = Get name
-wanted bytes (wants.Check name version) = Check name version
-wanted bytes (wants.Store name version) = Store name version bytes
+wanted bytes (wants.Get name) = Get name.now
+wanted bytes (wants.Check name version) = Check name.now version
+wanted bytes (wants.Store name version) = Store name.now version bytes
 
 -- the input of a step with the kept answer, or without it
 abbrev pub brought : Bool → Option Input → Input

@@ -5,7 +5,8 @@ ghost use Rattle.std.specs.Ordering.{nat_cmp};
 ghost use Rattle.std.specs.List.Sorted.{IsStrictlySortedBy};
 ghost use Rattle.sk_record.specs.Notes.{has};
 ghost use Rattle.sk_plain.specs.Refusal.{cause};
-ghost use Rattle.sk_kernel.specs.Kernel.{undecided_at, room};
+ghost use Rattle.sk_kernel.specs.Kernel.{next_at, undecided_at, room};
+ghost use Rattle.sk_plain.specs.Next.{unplanned};
 ghost use Rattle.sk_server.specs.declared.server.TheConstants.{LAST_REQUEST};
 ghost use Rattle.sk_holder.specs.Holder.{DecidesPost};
 ghost use Rattle.sk_trace.specs.Kept.{input_in};
@@ -108,6 +109,7 @@ impl Model for Desk {
 }
 
 /// Makes room for one more request, and for its answer.
+#[inline(always)]
 fn make_room(requests: &mut Requests, kept: &mut Vec<KeptAnswer>) -> Result<(), AllocError>
     ensures taken { requests.new.taken ≡ requests.old.taken }
     ensures waiting { requests.new.waiting ≡ requests.old.waiting }
@@ -149,10 +151,11 @@ fn brought(kept: &[KeptAnswer], pid: Pid, takes_kept: bool) -> InputRef<'_>
 }
 
 /// A step with the kept answer, or this wish where there is none.
-fn unless_kept(kept: Option<&Input>, wish: Wish) -> Wish
+fn unless_kept<'a>(kept: Option<&Input>, wish: Wish<'a>) -> Wish<'a>
     ensures { (bytes : List ℕ)
         → wished (option_copied kept.entry) bytes result
-        ≡ unless_kept (option_copied kept.entry) (wished (option_copied kept.entry) bytes wish) }
+        ≡ unless_kept (option_copied kept.entry)
+        (wished (option_copied kept.entry) bytes wish.entry) }
 {
     match kept {
         Some(_) => Wish::TakesKept,
@@ -373,22 +376,22 @@ impl Desk {
 
     /// The wish of a turn for what the process does next.
     #[inline(always)]
-    fn wish_next(&self, pid: Pid, next: Next) -> Result<Wish, Refusal>
-        ensures { wished_at self.now pid result ≡ rule_next self.now pid next }
+    fn wish_next<'a>(&self, pid: Pid, next: &'a Next) -> Result<Wish<'a>, Refusal>
+        ensures { wished_at self.now pid result ≡ rule_next self.now pid next.now }
     {
         let wish = match next {
             Next::Signal => return Ok(Wish::Steps),
             Next::Fetch(name) => {
-                if self.asks_on(&name) {
+                if self.asks_on(name) {
                     return Err(Refusal::Blocked);
                 }
-                fetch_wish(name, self.cached(&name))
+                fetch_wish(name, self.cached(name))
             }
             Next::Store(name) => {
-                if self.asks_on(&name) {
+                if self.asks_on(name) {
                     return Err(Refusal::Blocked);
                 }
-                store_wish(name, self.cached(&name))
+                store_wish(name, self.cached(name))
             }
             Next::Private | Next::Waits | Next::Full | Next::Other => Wish::Steps,
         };
@@ -397,29 +400,38 @@ impl Desk {
 
     /// The wish of a turn where this is what the process does next, or why it does nothing.
     #[inline(always)]
-    fn wish_behind(&self, pid: Pid, next: Result<Next, Refusal>) -> Result<Wish, Refusal>
-        ensures { wished_at self.now pid result ≡ rule_of self.now pid next }
+    fn wish_behind<'a>(
+        &self,
+        pid: Pid,
+        next: &'a Result<Next, Refusal>,
+    ) -> Result<Wish<'a>, Refusal>
+        ensures { wished_at self.now pid result ≡ rule_of self.now pid next.now }
     {
-        let next = next?;
+        let next = match next {
+            Ok(next) => next,
+            Err(why) => return Err(*why),
+        };
         if self.asks_for(pid) {
             return Err(Refusal::Blocked);
         }
         self.wish_next(pid, next)
     }
 
-    /// The wish of a turn of a process, by the first rule that applies.
+    /// The wish of a turn of a process, by the first rule that applies. What the process does next is lent.
     #[inline(always)]
-    fn wish(&self, pid: Pid) -> Result<Wish, Refusal>
+    fn wish<'a>(&self, pid: Pid, next: &'a Result<Next, Refusal>) -> Result<Wish<'a>, Refusal>
+        requires { next.now ≡ unplanned (next_at self.now.kernel pid) }
         ensures { wished_at self.now pid result ≡ rule self.now pid }
     {
-        self.wish_behind(pid, self.kernel().heading(pid))
+        self.wish_behind(pid, next)
     }
 
     /// The process and the input of the step that a turn would take, where its rule takes one. This takes no memory.
     pub fn turn_step(&self, pid: Pid) -> Option<(Pid, Input)>
         ensures { result ≡ turn_step pid (rule self.now pid) }
     {
-        match self.wish(pid) {
+        let next = self.kernel().heading(pid);
+        match self.wish(pid, &next) {
             Ok(Wish::Steps) => Some((pid, owned(brought(&self.kept, pid, false)))),
             Ok(Wish::TakesKept) => Some((pid, owned(brought(&self.kept, pid, true)))),
             Ok(Wish::Guesses(_)) => Some((pid, Input::Good)),
@@ -444,7 +456,8 @@ impl Desk {
     pub fn turn(&mut self, pid: Pid) -> Result<Turn, Refusal>
         ensures { TurnPost result self.old pid self.new }
     {
-        match self.wish(pid)? {
+        let next = self.kernel().heading(pid);
+        match self.wish(pid, &next)? {
             Wish::Steps => self.take_step(pid, false),
             Wish::TakesKept => self.take_step(pid, true),
             Wish::Guesses(want) => self.guess(pid, &want),
@@ -472,6 +485,7 @@ impl Desk {
     }
 
     /// The undecided guesses that a fetch or store of a name by the process depends on.
+    #[inline(always)]
     fn rests(&self, pid: Pid, name: &Name) -> Result<TagSet, AllocError>
         ensures { IfOk result (λ rests. rests ≡ rests_of self.now.kernel pid name.now) }
     {
@@ -486,22 +500,22 @@ impl Desk {
     }
 
     /// What is asked, with the bytes of a store.
-    fn asking(&self, pid: Pid, want: &Wanted) -> Result<BoxedAsk, AllocError>
+    fn asking(&self, pid: Pid, want: &Wanted<'_>) -> Result<BoxedAsk, AllocError>
         ensures { IfOk result (λ ask. ask_of ask ≡ wanted (buffer self.now.kernel pid) want.now) }
     {
         match want {
-            Wanted::Get(name) => Ok(BoxedAsk::Get(*name)),
-            Wanted::Check(name, version) => Ok(BoxedAsk::Check(*name, *version)),
+            Wanted::Get(name) => Ok(BoxedAsk::Get(**name)),
+            Wanted::Check(name, version) => Ok(BoxedAsk::Check(**name, *version)),
             Wanted::Store(name, version) => {
                 let bytes = Box::new(self.alloc, self.buffer(pid))?;
-                Ok(BoxedAsk::Store(*name, *version, bytes))
+                Ok(BoxedAsk::Store(**name, *version, bytes))
             }
         }
     }
 
     /// The next request, as it is made without a guess, and what it rests on once more.
     #[inline(always)]
-    fn draft(&self, pid: Pid, want: &Wanted) -> Result<(BoxedRequest, TagSet), AllocError>
+    fn draft(&self, pid: Pid, want: &Wanted<'_>) -> Result<(BoxedRequest, TagSet), AllocError>
         ensures request { IfOk result
             (λ draft. draft.0
             ≡ request_of self.now pid (wanted (buffer self.now.kernel pid) want.now) None) }
@@ -553,7 +567,7 @@ impl Desk {
     }
 
     /// A step with a guess that the cached copy is good, and a request that asks whether it is.
-    fn guess(&mut self, pid: Pid, want: &Wanted) -> Result<Turn, Refusal>
+    fn guess(&mut self, pid: Pid, want: &Wanted<'_>) -> Result<Turn, Refusal>
         ensures { RulePost result self.old pid
             (rules.Guesses (wanted (buffer self.old.kernel pid) want.now)) self.new }
     {
@@ -579,8 +593,9 @@ impl Desk {
         Ok(Turn::Guessed(id))
     }
 
-    /// A request without a step.
-    fn ask(&mut self, pid: Pid, want: &Wanted) -> Result<Turn, Refusal>
+    /// A request without a step. It stands apart, since the bytes of a store are large.
+    #[inline(never)]
+    fn ask(&mut self, pid: Pid, want: &Wanted<'_>) -> Result<Turn, Refusal>
         ensures { RulePost result self.old pid
             (rules.Asks (wanted (buffer self.old.kernel pid) want.now)) self.new }
     {
@@ -646,6 +661,7 @@ impl Desk {
     }
 
     /// Why a reply comes back, want of memory aside.
+    #[inline(always)]
     fn reply_refusal(&self, reply: &Reply) -> Option<ReplyRefusal>
         ensures { result ≡ reply_refused self.now reply.now self.now.taken }
     {
@@ -693,6 +709,7 @@ impl Desk {
     }
 
     /// The guess of the oldest taken request is decided by the reply to it, or was struck before.
+    #[inline(always)]
     fn decide(&mut self, id: GuessId, reply: &Reply) -> Given
         requires fits { reply_refused self.old reply.now self.old.taken ≡ None }
         requires guess { first_guess self.old.taken ≡ Some id }

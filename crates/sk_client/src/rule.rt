@@ -7,31 +7,31 @@ ghost use Rattle.sk_client.specs.Wish.{wished};
 use sk_ids::Name;
 use sk_objects::content::LAST_VERSION;
 
-/// What is asked of a file, but for the bytes of a store, which are the buffer of the process.
+/// What is asked of a file whose name is lent, but for the bytes of a store, which are the buffer of the process.
 #[derive(Clone, Copy)]
-pub(crate) enum Wanted {
-    Get(Name),
-    Check(Name, u64),
-    Store(Name, u64),
+pub(crate) enum Wanted<'a> {
+    Get(&'a Name),
+    Check(&'a Name, u64),
+    Store(&'a Name, u64),
 }
 
 /// What a turn does, in a few words.
 #[derive(Clone, Copy)]
-pub(crate) enum Wish {
+pub(crate) enum Wish<'a> {
     /// It takes a step without input.
     Steps,
     /// It takes a step with the kept answer.
     TakesKept,
     /// It guesses that the cached copy is good, and asks whether it is.
-    Guesses(Wanted),
+    Guesses(Wanted<'a>),
     /// It asks, and takes no step.
-    Asks(Wanted),
+    Asks(Wanted<'a>),
 }
 
 /// What a fetch does where this version is cached.
-pub(crate) fn fetch_wish(name: Name, cached: Option<u64>) -> Wish
+pub(crate) fn fetch_wish(name: &Name, cached: Option<u64>) -> Wish<'_>
     ensures { (kept : Option Input) (bytes : List ℕ)
-        → wished kept bytes result ≡ fetch_rule name cached }
+        → wished kept bytes result ≡ fetch_rule name.now cached }
 {
     match cached {
         Some(version) => Wish::Guesses(Wanted::Check(name, version)),
@@ -40,9 +40,9 @@ pub(crate) fn fetch_wish(name: Name, cached: Option<u64>) -> Wish
 }
 
 /// What a store does where this version is cached.
-pub(crate) fn store_wish(name: Name, cached: Option<u64>) -> Wish
+pub(crate) fn store_wish(name: &Name, cached: Option<u64>) -> Wish<'_>
     ensures { (kept : Option Input) (bytes : List ℕ)
-        → wished kept bytes result ≡ store_rule name bytes cached }
+        → wished kept bytes result ≡ store_rule name.now bytes cached }
 {
     match cached {
         Some(version) if version < LAST_VERSION => Wish::Guesses(Wanted::Store(name, version)),

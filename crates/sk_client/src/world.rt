@@ -7,6 +7,7 @@ ghost use Rattle.sk_server.specs.declared.server.TheConstants.{LAST_REQUEST};
 ghost use Rattle.sk_client.specs.Leasing.{WorldHandInPost};
 ghost use Rattle.sk_client.specs.Desk.{first_sent, first_taken};
 ghost use Rattle.sk_client.specs.Upcoming.{upcoming};
+ghost use Rattle.sk_client.specs.LentEvent.{event_in};
 ghost use Rattle.sk_server.specs.Server.{is_in_turn};
 
 use crate::desk::{Desk, Given, ReplyRefusal, Turn};
@@ -32,6 +33,29 @@ pub enum WorldEvent {
     Reply,
     /// Another client writes a file that has this version.
     Edit(Name, u64, Text),
+}
+
+/// An event where it stands: what is long of it is lent.
+#[derive(Clone, Copy, Debug)]
+pub enum EventRef<'a> {
+    Turn(&'a Pid),
+    Serve,
+    Reply,
+    Edit(&'a Name, u64, &'a Text),
+}
+
+impl WorldEvent {
+    /// Lends it.
+    pub fn lent(&self) -> EventRef<'_>
+        ensures { event_in result ≡ self.now }
+    {
+        match self {
+            WorldEvent::Turn(pid) => EventRef::Turn(pid),
+            WorldEvent::Serve => EventRef::Serve,
+            WorldEvent::Reply => EventRef::Reply,
+            WorldEvent::Edit(name, expected, bytes) => EventRef::Edit(name, *expected, bytes),
+        }
+    }
 }
 
 /// What came of an event.
@@ -168,13 +192,13 @@ impl World {
     }
 
     /// The process and the input of the step that an event takes, where it takes one. This takes no memory.
-    pub fn upcoming(&self, event: &WorldEvent) -> Option<(Pid, Input)>
-        ensures { result ≡ upcoming self.now event.now }
+    pub fn upcoming(&self, event: EventRef<'_>) -> Option<(Pid, Input)>
+        ensures { result ≡ upcoming self.now (event_in event.entry) }
     {
         match event {
-            WorldEvent::Turn(pid) => self.desk.turn_step(*pid),
-            WorldEvent::Reply => self.desk.reply_step(self.replies.front()?),
-            WorldEvent::Serve | WorldEvent::Edit(..) => None,
+            EventRef::Turn(pid) => self.desk.turn_step(*pid),
+            EventRef::Reply => self.desk.reply_step(self.replies.front()?),
+            EventRef::Serve | EventRef::Edit(..) => None,
         }
     }
 
@@ -182,6 +206,13 @@ impl World {
     /// kept, and is served next.
     pub fn event(&mut self, event: &WorldEvent) -> Result<WorldAnswer, Cause>
         ensures { EventPost result self.old event.now self.new }
+    {
+        self.take(event.lent())
+    }
+
+    /// The same with an event that is lent.
+    pub fn take(&mut self, event: EventRef<'_>) -> Result<WorldAnswer, Cause>
+        ensures { EventPost result self.old (event_in event.entry) self.new }
     {
         match self.advance(event)? {
             WorldNews::Turn(turn) => Ok(WorldAnswer::Turn(turn)),
@@ -195,18 +226,19 @@ impl World {
     }
 
     /// Takes an event as `event` does, and answers in a few words: what was served is the newest reply.
-    pub fn advance(&mut self, event: &WorldEvent) -> Result<WorldNews, Cause>
-        ensures { NewsPost result self.old event.now self.new }
+    #[inline(always)]
+    pub fn advance(&mut self, event: EventRef<'_>) -> Result<WorldNews, Cause>
+        ensures { NewsPost result self.old (event_in event.entry) self.new }
     {
         match event {
-            WorldEvent::Turn(pid) => Ok(WorldNews::Turn(self.turn(*pid)?)),
-            WorldEvent::Serve => {
+            EventRef::Turn(pid) => Ok(WorldNews::Turn(self.turn(*pid)?)),
+            EventRef::Serve => {
                 self.serve()?;
                 Ok(WorldNews::Served)
             }
-            WorldEvent::Reply => Ok(WorldNews::Given(self.reply()?)),
-            WorldEvent::Edit(name, expected, bytes) => {
-                Ok(WorldNews::Edited(self.edit(*name, *expected, *bytes)?))
+            EventRef::Reply => Ok(WorldNews::Given(self.reply()?)),
+            EventRef::Edit(name, expected, bytes) => {
+                Ok(WorldNews::Edited(self.edit(*name, expected, *bytes)?))
             }
         }
     }
@@ -236,6 +268,7 @@ impl World {
         Ok(())
     }
 
+    #[inline(always)]
     fn turn(&mut self, pid: Pid) -> Result<Turn, Cause>
         ensures { Turns (told_as answers.Turn result) self.old pid self.new }
     {
@@ -284,6 +317,7 @@ impl World {
         Ok(())
     }
 
+    #[inline(always)]
     fn reply(&mut self) -> Result<Given, Cause>
         ensures { Replies (told_as answers.Given result) self.old self.new self.old.replies }
     {

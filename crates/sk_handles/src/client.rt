@@ -15,7 +15,7 @@ use crate::asked::{shown, tags, terminal, value};
 use crate::codes::{ABSENT, DONE, FAULT, IDLE, MEMORY, REFUSED, SHOWN};
 use crate::room::put;
 use crate::told::{Told, Unopened, faulty, kind_number};
-use sk_client::{Desk, Given, ReplyRefusal, Turn, WorldEvent};
+use sk_client::{Desk, Given, ReplyRefusal, Turn};
 use sk_counts::Counts;
 use sk_ids::Pid;
 use sk_kernel::{EpochRefusal, Kernel};
@@ -23,7 +23,7 @@ use sk_messages::{read_reply, write_request};
 use sk_plain::Refusal;
 use sk_play::{desk_of, lease_at_desk};
 use sk_report::{Stop, write_report};
-use sk_scenario::{Declarations, Scenario, Section};
+use sk_scenario::{Declarations, KeptEvent, Scenario, Section};
 use sk_server::{Reply, Request};
 use sk_terminal::Texts;
 use sk_words::{FaultKind, Operand};
@@ -53,7 +53,7 @@ impl Drop for Client {
 fn client_with(
     alloc: Global,
     declarations: &Declarations,
-    events: &[WorldEvent],
+    events: &[KeptEvent],
 ) -> Result<Option<Client>, AllocError>
     ensures { IfOk result
         (λ client. client ≡ client_in declarations.now (scenarios.World events.now)) }

@@ -9,6 +9,7 @@ pub use Rattle.std.specs.Io.KnownBytes.{Appends}
 pub use Rattle.std.specs.Prelude.{OnOk, codes}
 pub use Rattle.sk_client.proofs.Upcoming.{event_foreseen}
 pub use Rattle.sk_client.proofs.WorldFacts.{newest_is}
+pub use Rattle.sk_client.specs.LentEvent.{event_in}
 pub use Rattle.sk_client.specs.Upcoming.{upcoming as upcoming_in}
 pub use Rattle.sk_client.specs.WorldView.{NewsPost, WorldView, EventPost}
 pub use Rattle.sk_client.specs.declared.world.Cause.{Cause}

@@ -2,6 +2,7 @@
 ghost use Rattle.std.specs.Prelude.{◌≡◌, IfOk, MatchResult, Some, None};
 ghost use Rattle.sk_server.specs.Server.{new_server};
 ghost use Rattle.sk_client.specs.Desk.{opened};
+ghost use Rattle.sk_client.specs.LentEvent.{event_in};
 ghost use Rattle.sk_client.specs.declared.world.WorldAnswer.TheVariants as answers;
 ghost use Rattle.sk_play.specs.Plays.{declared_kernel};
 ghost use Rattle.sk_play.specs.Told.{told_line};
@@ -12,7 +13,7 @@ ghost use Rattle.sk_play.specs.Worlds.{seeded, declared_world, turn_told, edit_t
 use crate::Line;
 use crate::session::declared_kernel;
 use crate::told::{WorldTold, put_given, put_reply, put_told, put_turn};
-use sk_client::{Cause, Desk, World, WorldAnswer, WorldEvent, WorldNews};
+use sk_client::{Cause, Desk, EventRef, World, WorldAnswer, WorldNews};
 use sk_plain::Refusal;
 use sk_scenario::{Declarations, Remote};
 use sk_server::{EditRefusal, Server};
@@ -50,11 +51,12 @@ fn seeded(alloc: Global, remotes: &[Remote]) -> Result<Server, AllocError>
 }
 
 /// Lets an event happen. A refusal is told, but want of memory.
-pub fn happen(world: &mut World, event: &WorldEvent) -> Result<WorldTold, AllocError>
-    ensures { MatchResult result (λ told. Happens (Some told) world.old event.now world.new)
-        (λ _. Happens None world.old event.now world.new) }
+pub fn happen(world: &mut World, event: EventRef<'_>) -> Result<WorldTold, AllocError>
+    ensures { MatchResult result
+        (λ told. Happens (Some told) world.old (event_in event.entry) world.new)
+        (λ _. Happens None world.old (event_in event.entry) world.new) }
 {
-    match world.event(event) {
+    match world.take(event) {
         Ok(answer) => Ok(WorldTold::Answered(answer)),
         Err(cause) => told_of_cause(cause),
     }
@@ -64,13 +66,13 @@ pub fn happen(world: &mut World, event: &WorldEvent) -> Result<WorldTold, AllocE
 pub fn happen_line(
     world: &mut World,
     number: usize,
-    event: &WorldEvent,
+    event: EventRef<'_>,
     line: &mut Line,
 ) -> Result<(), AllocError>
     ensures { MatchResult result
-        (λ _. (t : WorldTold) × Happens (Some t) world.old event.now world.new
+        (λ _. (t : WorldTold) × Happens (Some t) world.old (event_in event.entry) world.new
         × (line.new ≡ told_line number t))
-        (λ _. Happens None world.old event.now world.new) }
+        (λ _. Happens None world.old (event_in event.entry) world.new) }
 {
     match world.advance(event) {
         Ok(WorldNews::Turn(turn)) => put_turn(number, &turn, line),

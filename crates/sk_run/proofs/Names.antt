@@ -17,6 +17,7 @@ pub use Rattle.std.specs.Result.{result_ok}
 pub use Rattle.std.specs.Str.Lines.{lines}
 pub use Rattle.std.specs.declared.io.buffered.BufReader.{BufReader}
 pub use Rattle.sk_client.specs.Desk.{DeskView}
+pub use Rattle.sk_client.specs.declared.world.WorldEvent.{WorldEvent}
 pub use Rattle.sk_command.specs.Ends.{IsWritten, IsFlushed}
 pub use Rattle.sk_command.specs.declared.end.End.{End}
 pub use Rattle.sk_command.specs.declared.job.Shows.{Shows}
@@ -37,6 +38,7 @@ pub use Rattle.sk_play.specs.Played.{answer_line}
 pub use Rattle.sk_play.specs.Replays.{replayed, Replays}
 pub use Rattle.sk_play.specs.Told.{told_line}
 pub use Rattle.sk_play.specs.Upcoming.{upcoming}
+pub use Rattle.sk_play.specs.Worlds.{Happens}
 pub use Rattle.sk_questions.specs.Questions.{asked_by}
 pub use Rattle.sk_questions.specs.declared.asked.Asked.{Asked}
 pub use Rattle.sk_record.proofs.Machine.{nil_right}

@@ -4,13 +4,13 @@ ghost use Rattle.sk_report.specs.Report.{world_report_text};
 ghost use Rattle.sk_run.specs.Run.{declared_session, kernel_of_session, session_report, kernel_of_world, CallTakes, EventTakes};
 
 use crate::listing::{foresee, write_foreseen};
-use sk_client::{World, WorldEvent};
+use sk_client::World;
 use sk_kernel::Kernel;
 use sk_play::{
     Line, Session, happen, happen_line, put_answer, upcoming, world_of, write_answer, write_told,
 };
 use sk_report::{Stop, write_report, write_world_report};
-use sk_scenario::{Call, Declarations};
+use sk_scenario::{Call, Declarations, KeptEvent};
 use std::alloc::{AllocError, Global};
 use std::io::Write;
 
@@ -114,7 +114,7 @@ impl Player for Session {
 }
 
 impl Player for World {
-    type Item = WorldEvent;
+    type Item = KeptEvent;
 
     ghost declared = { declared_world };
 
@@ -132,26 +132,16 @@ impl Player for World {
         self.desk().kernel()
     }
 
-    fn take<W: Write>(
-        &mut self,
-        number: usize,
-        item: &WorldEvent,
-        out: &mut W,
-    ) -> Result<(), Stop> {
+    fn take<W: Write>(&mut self, number: usize, item: &KeptEvent, out: &mut W) -> Result<(), Stop> {
         let mut line = Line::new();
-        happen_line(self, number, item, &mut line)?;
+        happen_line(self, number, item.lend(), &mut line)?;
         out.write_all(line.as_bytes())?;
         Ok(())
     }
 
-    fn list<W: Write>(
-        &mut self,
-        number: usize,
-        item: &WorldEvent,
-        out: &mut W,
-    ) -> Result<(), Stop> {
-        let foreseen = foresee(self.desk().kernel(), self.upcoming(item));
-        let told = happen(self, item)?;
+    fn list<W: Write>(&mut self, number: usize, item: &KeptEvent, out: &mut W) -> Result<(), Stop> {
+        let foreseen = foresee(self.desk().kernel(), self.upcoming(item.lend()));
+        let told = happen(self, item.lend())?;
         write_told(number, &told, out)?;
         write_foreseen(self.desk().kernel(), &foreseen, out)?;
         Ok(())

@@ -1,5 +1,6 @@
 pub mod Calls
 pub mod Declarations
 pub mod Glances
+pub mod KeptEvent
 pub mod Scenario
 pub mod WorldEvents

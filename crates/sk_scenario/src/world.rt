@@ -4,7 +4,7 @@ ghost use Rattle.sk_words.specs.Tables.{with_said};
 ghost use Rattle.sk_scenario.specs.WorldEvents.{edit};
 
 use crate::glance::{behind_byte, behind_reply, behind_serve, behind_turn, digit_pid};
-use sk_client::WorldEvent;
+use crate::kept::KeptEvent;
 use sk_section::{Items, Listed, Rules};
 use sk_words::{FaultKind, Natural, Words, none, one, three};
 
@@ -15,17 +15,18 @@ pub struct WorldRules;
 /// The events of a world, in order.
 pub type WorldEvents = Items<WorldRules>;
 
-/// Adds what the words of an edit say. It stands apart, since an edit is large.
+/// Adds what the words of an edit say. It stands apart, since what it reads is large.
 #[inline(never)]
 fn add_edit(events: &mut WorldEvents, words: &Words) -> Result<(), FaultKind>
     ensures { Leaves result (with_said events.old (edit words.now)) events.old events.new }
 {
     let (name, version, bytes): (_, Natural, _) = three(words)?;
-    events.push(WorldEvent::Edit(name, version.get(), bytes))
+    let event = KeptEvent::edit(*events.allocator(), name, version.get(), bytes)?;
+    events.push(event)
 }
 
 impl Listed for WorldRules {
-    type Item = WorldEvent;
+    type Item = KeptEvent;
 
     ghost use Rattle.std.specs.Prelude.{⊤};
 
@@ -42,15 +43,15 @@ impl Rules for WorldRules {
         match word {
             [b't', b'u', b'r', b'n'] => {
                 let pid = one(words)?;
-                events.push(WorldEvent::Turn(pid))
+                events.push(KeptEvent::turn(pid))
             }
             [b's', b'e', b'r', b'v', b'e'] => {
                 none(words)?;
-                events.push(WorldEvent::Serve)
+                events.push(KeptEvent::serve())
             }
             [b'r', b'e', b'p', b'l', b'y'] => {
                 none(words)?;
-                events.push(WorldEvent::Reply)
+                events.push(KeptEvent::reply())
             }
             [b'e', b'd', b'i', b't'] => add_edit(events, words),
             _ => Err(FaultKind::Word),
@@ -58,16 +59,16 @@ impl Rules for WorldRules {
     }
 
     #[inline(always)]
-    fn glance(text: &[u8]) -> Option<(WorldEvent, &[u8])> {
+    fn glance(text: &[u8]) -> Option<(KeptEvent, &[u8])> {
         if let Some(tail) = behind_turn(text) {
             let pid = digit_pid(tail)?;
             let rest = behind_byte(tail)?;
-            return Some((WorldEvent::Turn(pid), rest));
+            return Some((KeptEvent::turn(pid), rest));
         }
         if let Some(rest) = behind_serve(text) {
-            return Some((WorldEvent::Serve, rest));
+            return Some((KeptEvent::serve(), rest));
         }
         let rest = behind_reply(text)?;
-        Some((WorldEvent::Reply, rest))
+        Some((KeptEvent::reply(), rest))
     }
 }

@@ -8,11 +8,11 @@ ghost use Rattle.sk_talk.specs.Played.{opened_in, kernel_of, report_of};
 ghost use Rattle.sk_talk.specs.Lines.{only, StepsTake, WorldTakes, LineTaken};
 
 use crate::line::LineTold;
-use sk_client::{World, WorldEvent};
+use sk_client::World;
 use sk_kernel::Kernel;
 use sk_play::{Session, happen, world_of};
 use sk_report::{Stop, write_report, write_world_report};
-use sk_scenario::{Call, Calls, Declarations, Section, WorldEvents};
+use sk_scenario::{Call, Calls, Declarations, KeptEvent, Section, WorldEvents};
 use sk_words::{FaultKind, Reader};
 use std::alloc::{AllocError, Global};
 
@@ -50,7 +50,7 @@ fn begin_steps(
 fn begin_world(
     alloc: Global,
     declarations: &Declarations,
-    events: &[WorldEvent],
+    events: &[KeptEvent],
 ) -> Result<Option<Play>, AllocError>
     ensures { MatchResult result
         (λ play. play ≡ opened_in declarations.now (scenarios.World events.now))
@@ -89,7 +89,7 @@ fn take_event(alloc: Global, world: &mut World, line: &[u8]) -> LineTold
         return LineTold::Fault(kind);
     }
     match events.as_slice().first() {
-        Some(event) => match happen(world, event) {
+        Some(event) => match happen(world, event.lend()) {
             Ok(told) => LineTold::Happened(told),
             Err(_) => LineTold::Fault(FaultKind::Memory),
         },

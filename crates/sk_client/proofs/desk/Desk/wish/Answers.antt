@@ -1,5 +1,5 @@
 -- A rule tells apart no more than what is told without a plan.
-use Rattle.sk_client.proofs.Names.{refl, ℕ, ap, Ok, ◌≡◌, Result, ◌∙◌, rule_of, DeskView, KernelView, Next, Refusal}
+use Rattle.sk_client.proofs.Names.{refl, ℕ, ap, Ok, ◌≡◌, Result, ◌∙◌, rule_of, DeskView, Next, Refusal}
 use Rattle.sk_kernel.specs.Kernel.{next_at}
 use Rattle.sk_plain.specs.Next.{unplanned}
 use Rattle.sk_plain.specs.declared.next.Next.TheVariants as nexts
@@ -13,5 +13,5 @@ pub returns : goal.returns
 returns c =
     let d = c.args.self.now in
     c.wish_behind.ensures
-    ∙ ap (rule_of d c.args.pid) (c.heading.ensures ∙ ap (λ (k : KernelView). unplanned (next_at k c.args.pid)) c.kernel.ensures)
+    ∙ ap (rule_of d c.args.pid) c.requires
     ∙ unplanned_rule d c.args.pid (next_at d.kernel c.args.pid)

@@ -1,0 +1,17 @@
+-- What is seen of an event of a world that is kept.
+use Rattle.std.specs.Coded.{Coded}
+use Rattle.sk_client.specs.declared.world.WorldEvent.{WorldEvent}
+use Rattle.sk_client.specs.declared.world.WorldEvent.TheVariants as events
+use Rattle.sk_client.specs.contracts.world.WorldEvent as event
+use Rattle.sk_scenario.specs.declared.kept.EventWords.{EventWords}
+use Rattle.sk_scenario.specs.declared.kept.EventWords.TheVariants.{Turn, Serve, Reply, Edit}
+
+-- the event, with an edit out of its box
+abbrev pub event_of : EventWords → WorldEvent
+event_of (Turn pid) = events.Turn pid
+event_of Serve = events.Serve
+event_of Reply = events.Reply
+event_of (Edit b) = events.Edit b.value.name b.value.expected b.value.bytes
+
+abbrev pub event_code : Coded WorldEvent
+event_code = event.the_row.coded

@@ -165,7 +165,7 @@ impl Slots {
     pub fn tags(&self, entity: Entity) -> Option<&TagSet>
         ensures { unwrap_or (option_copied result) [] ≡ last_tags [] (log_at self.now entity) }
     {
-        match self.slots.get(&entity) {
+        match self.slots.get_late(&entity) {
             Some(slot) => slot.tags(),
             None => None,
         }

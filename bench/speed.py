@@ -417,10 +417,10 @@ def table():
     world = lambda count: "\n".join(script("first", looping(["fetch /x", "set r0 1"], 32)) + ['copy /x 3 "old"', 'remote /x 3 "old"', "process 1 first 1", "world"] + turns * (count // 8)) + "\n"
     return [
         ("private steps", private_steps, 700),
-        ("writes and reads of 8 bytes of a file", file, 1_260),
+        ("writes and reads of 8 bytes of a file", file, 1_050),
         ("guess, two steps, commit", guessed_rounds, 1_270),
-        ("the same lines out of step, most of them refused", refused_rounds, 840),
-        ("a world: four turns, two serves, two replies", world, 2_200),
+        ("the same lines out of step, most of them refused", refused_rounds, 830),
+        ("a world: four turns, two serves, two replies", world, 1_600),
     ]
 
 
@@ -433,6 +433,42 @@ def table_rows(meter):
     under = scenario(["fetch /x"] + looping(["set r0 1"], 64), ["step 1 none"] * many, before=["guess 1 good"])
     yield "private steps: peak bytes an event / their limit", meter.peak(private_steps(many)) * 1024 / many, 130, 1
     yield "the same under one guess", meter.peak(under) * 1024 / many, 130, 1
+
+
+# What costs more than it should, and never half as much again.
+MISSED = ("a write of 8 bytes", "a file that is made", "a look", "a link and its unlink")
+
+
+def aims(meter):
+    """What a step and a guess with its decision cost, and the most instructions that each should take."""
+    kind = {name: (before, body) for name, before, body in kinds()}
+    step = lambda name, own=0: lambda: meter.each(lambda n: steps(*kind[name], n, own > 0, 1, own or OPEN), 600, 1200, 1)
+    guess = lambda decision, held, amount=0: lambda: meter.each(lambda n: held_rounds(n, decision, held, amount), 100, 200, 2 + (decision == "commit"))
+    return [
+        ("a private step", step("private"), 260),
+        ("a `say`", step("say"), 1_250),
+        ("a read of 8 bytes", step("read"), 470),
+        ("a write of 8 bytes", step("write"), 510),
+        ("a write under one own guess", step("write", 1), 1_000),
+        ("a file that is made", step("make a file"), 1_800),
+        ("a file that is made under 63 own guesses", step("make a file", OPEN), 29_000),
+        ("a fork", step("fork"), 7_000),
+        ("a fork under 63 own guesses", step("fork", OPEN), 80_000),
+        ("a look", step("look in a directory"), 420),
+        ("a link and its unlink", step("link and unlink"), 900),
+        ("a guess and its commit", guess("commit", "files"), 2_400),
+        ("a guess and its failure", guess("fail", "files"), 2_300),
+        ("a guess and its commit beside 62", guess("commit", "open guesses", 62), 4_800),
+        ("a guess and its failure beside 62", guess("fail", "open guesses", 62), 5_600),
+    ]
+
+
+def aim_rows(meter):
+    """Each cost by its aim, in instructions; by half as much again where it is missed."""
+    for name, cost, most in aims(meter):
+        missed = name in MISSED
+        yield f"{name} / the most that it should take" + ", missed" * missed, cost(), most, 1.5 if missed else 1
+    yield "a write of 512 bytes into a file of 32,768: noted / not noted", block_write(meter, True), block_write(meter, False), 1.4
 
 
 def unproved_rows(meter, unproved):
@@ -474,18 +510,23 @@ def piping(is_full, count):
     return scenario(lead + looping(body, 32), ["step 1 none"] * count, before=["step 1 none"] * len(lead))
 
 
+LARGE, SMALL, WRITES = 32_768, 512, 2048
+
+
+def block_write(meter, guesses, size=LARGE, body=BLOCK):
+    """One of many writes of a file, which rest on a guess or on none."""
+    return meter.each(lambda n: writing(size, body, n, guesses), WRITES, 2 * WRITES, 1)
+
+
 def block_rows(meter):
     """Blocks, rings and slots: how a change's cost depends on what stands there already, and what its undo costs."""
-    large, small, writes = 32_768, 512, 2048
-    write = lambda size, body, guesses: meter.each(lambda n: writing(size, body, n, guesses), writes, 2 * writes, 1)
-    noted, plain = write(large, BLOCK, True), write(large, BLOCK, False)
-    yield "write of 512 bytes into a file of 32,768: noted / not noted", noted, plain, 1.3
-    undone = lambda n: meter.played(writing(large, BLOCK, n, True, "fail")) - meter.played(writing(large, BLOCK, n, True))
-    yield "its undo, beside what letting go of the notes costs / the write", (undone(2 * writes) - undone(writes)) / writes, noted, 1
-    yield "write of one byte: into a file of 32,768 / of 512", write(large, "c", False), write(small, "c", False), 1.1
+    undone = lambda n: meter.played(writing(LARGE, BLOCK, n, True, "fail")) - meter.played(writing(LARGE, BLOCK, n, True))
+    yield "the undo of a noted write, beside what letting go of the notes costs / the write", (undone(2 * WRITES) - undone(WRITES)) / WRITES, block_write(meter, True), 1
+    one = lambda size: block_write(meter, False, size, "c")
+    yield "write of one byte: into a file of 32,768 / of 512", one(LARGE), one(SMALL), 1.1
     # So many that the peak is the program's own, above that of this script, from which it is started.
     many = 400_000
-    kept = lambda guesses: meter.peak(writing(large, BLOCK, many, guesses)) * 1024 / many
+    kept = lambda guesses: meter.peak(writing(LARGE, BLOCK, many, guesses)) * 1024 / many
     yield "bytes that a noted write keeps / 600", kept(True) - kept(False), 600, 1
     look = lambda names: meter.each(lambda n: looking(names, n), 600, 1200, 1)
     yield "look in a directory: of 64 names / of 4", look(64), look(4), 2
@@ -501,6 +542,23 @@ def asked_rows(meter):
     asked = lambda question, count: (meter.talked(copies(count), [question] * 2000) - meter.talked(copies(count), [question] * 1000)) / 1000
     for question in ("value copy /c7", "value proc 1", "tags proc 1"):
         yield f"`{question}` in a talk: beside 2,000 copies / beside 500", asked(question, 2000), asked(question, 500), ASKED
+
+
+def boot_rows(meter):
+    """A boot of twice as many entities of a kind, with its reading and its report."""
+    kinds = {"copies": lambda number: f'copy /c{number} 0 "c"', "processes": lambda number: f"process {number} a {number}"}
+    for kind, declared in kinds.items():
+        boot = lambda count: meter.run("play", "\n".join(script("a", ["say"]) + [declared(number + 1) for number in range(count)] + ["steps"]) + "\n")
+        yield f"a boot of 4,000 {kind} / of 2,000", boot(4000), boot(2000), TWICE
+
+
+def drained_rows(meter):
+    """Texts that are handed out every hundred steps, and an epoch behind them: twice as many."""
+    boot = "\n".join(script("a", ['text "a line of output"'] + looping(["say"], 64)) + ["process 1 a 1"]) + "\n"
+    round_of = ["step 1 none"] * 100 + ["released 1", "epoch"]
+    yield "2,000 texts handed out in a talk, 100 at a time / 1,000", meter.talked(boot, round_of * 20), meter.talked(boot, round_of * 10), TWICE
+    told = lambda count: meter.run("play", scenario(['text "a line of output"'] + looping(["say"], 64), ["step 1 none"] * count))
+    yield "a run of 4,000 texts with its report / of 2,000", told(4000), told(2000), TWICE
 
 
 def shown(cost, seconds):
@@ -519,7 +577,7 @@ def main():
     meter = Meter(words.program, words.seconds)
     unit = "microseconds" if words.seconds else "instructions"
     print(f"{'ratio':>7} {'limit':>6} {unit + ' left':>20} {'right':>14}  what")
-    kinds = (table_rows, step_rows, rest_rows, long_rows, decision_rows, held_rows, nested_rows, text_rows, relisted_rows, block_rows, asked_rows, counts_rows, plain_rows)
+    kinds = (table_rows, aim_rows, step_rows, rest_rows, long_rows, decision_rows, held_rows, nested_rows, text_rows, relisted_rows, block_rows, asked_rows, boot_rows, drained_rows, counts_rows, plain_rows)
     tables = [(it.__name__, it(meter)) for it in kinds]
     if words.unproved:
         tables.append(("unproved_rows", unproved_rows(meter, Meter(words.unproved, words.seconds))))

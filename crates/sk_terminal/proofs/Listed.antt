@@ -5,33 +5,24 @@ use Rattle.sk_terminal.proofs.Names.{remove, RetainsInTurn, ◌==◌, slice_inde
 use Rattle.sk_terminal.proofs.Names.{eqb-true, eq-eqb, or_left, list_any-append, has, without, has_filter, TerminalMap}
 use Rattle.sk_terminal.proofs.Names.{Listing, is_listed, rests_at, AreTidy, HasNone, ListsAtMost}
 use Rattle.std.proofs.Common.{Ok, Err}
-use Rattle.sk_terminal.proofs.Numbers.{or_none}
+use Rattle.std.proofs.lemmas.Bool.Decides.{nat_tests}
+use Rattle.std.proofs.lemmas.Grind.{common_steps}
 
 -- ---- lists of numbers
-take_next : (xs : List ℕ) (i d : ℕ) → i < length xs → take (suc i) xs ≡ take i xs ++ slice_index_or xs i d ∷ []
-take_next [] i d lt = absurd (omega arith)
-take_next (x ∷ xs) zero d lt = refl
-take_next (x ∷ xs) (suc i) d lt = ap (λ ys. x ∷ ys) (take_next xs i d (omega arith))
-
 -- one more of a list is gone over
 pub has_more : (t : ℕ) (xs : List ℕ) (i d : ℕ) → i < length xs → d ≡ slice_index_or xs i d → has t (take (i + 1) xs) ≡ (has t (take i xs) || ((d == t) || false))
-has_more t xs i d lt is =
-    let next : i + 1 ≡ suc i = omega arith in
-    ap (λ k. has t (take k xs)) next ∙ ap (has t) (take_next xs i d lt) ∙ ap (λ y. has t (take i xs ++ y ∷ [])) (sym is) ∙ list_any-append (λ n. n == t) (take i xs) (d ∷ [])
+has_more t xs i d lt is = grind (arith, common_steps, list_any-append)
 
 pub some_there : (t : ℕ) (xs : List ℕ) → has t xs ≡ true → 0 < length xs
 some_there t [] here = absurd (false≢true here)
 some_there t (x ∷ xs) here = omega arith
 
 pub flipped : (g c : ℕ) → (g == c) ≡ false → (c == g) ≡ false
-flipped g c apart = elim (c == g) as (λ b. (c == g) ≡ b → b ≡ false) [
-  | true ↦ λ is. absurd (false≢true (sym apart ∙ eq-eqb g c (sym (eqb-true c g is))))
-  | false ↦ λ _. refl
-] refl
+flipped g c apart = grind (arith, nat_tests)
 
 -- a number equal to one that differs from a third differs from it
 differs : (x g h : ℕ) → (x == g) ≡ false → (x == h) ≡ true → (g == h) ≡ false
-differs x g h apart is = flipped h g (subst (λ n. (n == g) ≡ false) (eqb-true x h is) apart)
+differs x g h apart is = grind (arith, nat_tests)
 
 own : (x : ℕ) → (x == x) ≡ true
 own x = eq-eqb x x refl
@@ -42,57 +33,36 @@ is_other g l = not (l.guess == g)
 
 pub found : (g k : ℕ) (ls : List Listing) (l : Listing) → k ≡ prefix_len (is_other g) ls → k < length ls → l ≡ slice_index_or ls k l → (t : ℕ) → has t l.terminals ≡ is_listed g t ls
 found g k [] l is lt at t = absurd (omega arith)
-found g k (x ∷ ls) l is lt at t =
-    elim (x.guess == g) as (λ b. k ≡ cond (not b) (1 + prefix_len (is_other g) ls) 0 → has t l.terminals ≡ cond b (has t x.terminals) (is_listed g t ls)) [
-      | true ↦ λ none. ap (λ (y : Listing). has t y.terminals) (at ∙ ap (λ j. slice_index_or (x ∷ ls) j l) none)
-      | false ↦ λ more.
-          let next : k ≡ suc (prefix_len (is_other g) ls) = omega arith in
-          found g (prefix_len (is_other g) ls) ls l refl (omega arith) (at ∙ ap (λ j. slice_index_or (x ∷ ls) j l) next) t
-    ] is
+found g k (x ∷ ls) l is lt at t = grind (arith, found g (prefix_len (is_other g) ls) ls l refl)
 
 pub missing : (g k : ℕ) (ls : List Listing) → k ≡ prefix_len (is_other g) ls → length ls ≤ k → HasNone g ls
 missing g k [] is le = tt
-missing g k (x ∷ ls) is le =
-    elim (x.guess == g) as (λ b. k ≡ cond (not b) (1 + prefix_len (is_other g) ls) 0 → (b ≡ false) × HasNone g ls) [
-      | true ↦ λ none. absurd (omega arith)
-      | false ↦ λ more. (refl, missing g (prefix_len (is_other g) ls) ls refl (omega arith))
-    ] is
+missing g k (x ∷ ls) is le = grind (arith, missing g (prefix_len (is_other g) ls) ls refl)
 
 none_at : (g k : ℕ) (ls : List Listing) (l : Listing) → k < length ls → l ≡ slice_index_or ls k l → HasNone g ls → (l.guess == g) ≡ false
 none_at g k [] l lt at none = absurd (omega arith)
-none_at g zero (x ∷ ls) l lt at none = subst (λ n. (n == g) ≡ false) (sym (ap (λ (y : Listing). y.guess) at)) none.0
+none_at g zero (x ∷ ls) l lt at none = grind arith
 none_at g (suc k) (x ∷ ls) l lt at none = none_at g k ls l (omega arith) at none.1
 
 -- a list of the guess is the only one, so it is the first
 pub place_of_own : (g k : ℕ) (ls : List Listing) (l : Listing) → k < length ls → l ≡ slice_index_or ls k l → l.guess ≡ g → AreTidy ls
     → k ≡ prefix_len (is_other g) ls
 place_of_own g k [] l lt at is tidy = absurd (omega arith)
-place_of_own g zero (x ∷ ls) l lt at is tidy =
-    let same : (x.guess == g) ≡ true = eq-eqb x.guess g (sym (ap (λ (y : Listing). y.guess) at) ∙ is) in
-    sym (ap (λ b. cond (not b) (1 + prefix_len (is_other g) ls) 0) same)
+place_of_own g zero (x ∷ ls) l lt at is tidy = grind (arith, nat_tests)
 place_of_own g (suc k) (x ∷ ls) l lt at is tidy =
-    let later : k ≡ prefix_len (is_other g) ls = place_of_own g k ls l (omega arith) at is tidy.2 in
-    let apart : (x.guess == g) ≡ false = flipped g x.guess (subst (λ n. (n == x.guess) ≡ false) is (none_at x.guess k ls l (omega arith) at tidy.0)) in
-    let next : suc k ≡ 1 + prefix_len (is_other g) ls = omega arith in
-    next ∙ sym (ap (λ b. cond (not b) (1 + prefix_len (is_other g) ls) 0) apart)
+    let later = place_of_own g k ls l (omega arith) at is tidy.2 in
+    let apart = none_at x.guess k ls l (omega arith) at tidy.0 in
+    grind (arith, nat_tests)
 
 pub none_listed : (g : ℕ) (ls : List Listing) → HasNone g ls → (t : ℕ) → is_listed g t ls ≡ false
 none_listed g [] none t = refl
-none_listed g (x ∷ ls) none t = ap (λ b. cond b (has t x.terminals) (is_listed g t ls)) none.0 ∙ none_listed g ls none.1 t
+none_listed g (x ∷ ls) none t = grind (arith, none_listed g ls none.1 t)
 
 -- ---- the list of a guess taken out
 pub removed_other : (g h k t : ℕ) (ls : List Listing) → k ≡ prefix_len (is_other g) ls → k < length ls → (g == h) ≡ false → is_listed h t (remove ls k) ≡ is_listed h t ls
 removed_other g h k t [] is lt apart = absurd (omega arith)
-removed_other g h zero t (x ∷ ls) is lt apart =
-    elim (x.guess == g) as (λ b. (x.guess == g) ≡ b → zero ≡ cond (not b) (1 + prefix_len (is_other g) ls) 0 → is_listed h t ls ≡ cond (x.guess == h) (has t x.terminals) (is_listed h t ls)) [
-      | true ↦ λ same _. sym (ap (λ n. cond (n == h) (has t x.terminals) (is_listed h t ls)) (eqb-true x.guess g same) ∙ ap (λ b. cond b (has t x.terminals) (is_listed h t ls)) apart)
-      | false ↦ λ _ more. absurd (omega arith)
-    ] refl is
-removed_other g h (suc k) t (x ∷ ls) is lt apart =
-    elim (x.guess == g) as (λ b. suc k ≡ cond (not b) (1 + prefix_len (is_other g) ls) 0 → cond (x.guess == h) (has t x.terminals) (is_listed h t (remove ls k)) ≡ cond (x.guess == h) (has t x.terminals) (is_listed h t ls)) [
-      | true ↦ λ none. absurd (omega arith)
-      | false ↦ λ next. ap (λ b. cond (x.guess == h) (has t x.terminals) b) (removed_other g h k t ls (omega arith) (omega arith) apart)
-    ] is
+removed_other g h zero t (x ∷ ls) is lt apart = grind (arith, nat_tests)
+removed_other g h (suc k) t (x ∷ ls) is lt apart = grind (arith, removed_other g h k t ls)
 
 none_removed : (g k : ℕ) (ls : List Listing) → k < length ls → HasNone g ls → HasNone g (remove ls k)
 none_removed g k [] lt none = absurd (omega arith)
@@ -106,46 +76,15 @@ tidy_removed (suc k) (x ∷ ls) lt tidy = (none_removed x.guess k ls (omega arit
 
 pub gone : (g k : ℕ) (ls : List Listing) → k ≡ prefix_len (is_other g) ls → k < length ls → AreTidy ls → HasNone g (remove ls k)
 gone g k [] is lt tidy = absurd (omega arith)
-gone g zero (x ∷ ls) is lt tidy =
-    elim (x.guess == g) as (λ b. (x.guess == g) ≡ b → zero ≡ cond (not b) (1 + prefix_len (is_other g) ls) 0 → HasNone g ls) [
-      | true ↦ λ same _. subst (λ n. HasNone n ls) (eqb-true x.guess g same) tidy.0
-      | false ↦ λ _ more. absurd (omega arith)
-    ] refl is
-gone g (suc k) (x ∷ ls) is lt tidy =
-    elim (x.guess == g) as (λ b. suc k ≡ cond (not b) (1 + prefix_len (is_other g) ls) 0 → (b ≡ false) × HasNone g (remove ls k)) [
-      | true ↦ λ none. absurd (omega arith)
-      | false ↦ λ next. (refl, gone g k ls (omega arith) (omega arith) tidy.2)
-    ] is
+gone g zero (x ∷ ls) is lt tidy = grind (arith, nat_tests)
+gone g (suc k) (x ∷ ls) is lt tidy = grind (arith, gone g k ls)
 
 -- ---- one terminal more: in a list that is there
 pub set_listed : (g k t : ℕ) (ls : List Listing) (l new : Listing) → k ≡ prefix_len (is_other g) ls → k < length ls → l ≡ slice_index_or ls k l → new.guess ≡ l.guess
     → ((q : ℕ) → has q new.terminals ≡ (has q l.terminals || (t == q))) → (h q : ℕ) → is_listed h q (slice_set ls k new) ≡ (is_listed h q ls || ((g == h) && (t == q)))
 set_listed g k t [] l new is lt at same more h q = absurd (omega arith)
-set_listed g zero t (x ∷ ls) l new is lt at same more h q =
-    elim (x.guess == g) as (λ b. (x.guess == g) ≡ b → zero ≡ cond (not b) (1 + prefix_len (is_other g) ls) 0
-    → cond (new.guess == h) (has q new.terminals) (is_listed h q ls) ≡ (cond (x.guess == h) (has q x.terminals) (is_listed h q ls) || ((g == h) && (t == q)))) [
-      | true ↦ λ here _.
-          let old : x.guess ≡ g = eqb-true x.guess g here in
-          let now : new.guess ≡ g = same ∙ ap (λ (y : Listing). y.guess) at ∙ old in
-          let has_it : has q new.terminals ≡ (has q x.terminals || (t == q)) = more q ∙ ap (λ (y : Listing). has q y.terminals || (t == q)) at in
-          ap (λ n. cond (n == h) (has q new.terminals) (is_listed h q ls)) now
-          ∙ (elim (g == h) as (λ b. cond b (has q new.terminals) (is_listed h q ls) ≡ (cond b (has q x.terminals) (is_listed h q ls) || (b && (t == q)))) [
-            | true ↦ has_it
-            | false ↦ sym (or_none (is_listed h q ls))
-          ])
-          ∙ ap (λ n. cond (n == h) (has q x.terminals) (is_listed h q ls) || ((g == h) && (t == q))) (sym old)
-      | false ↦ λ _ more. absurd (omega arith)
-    ] refl is
-set_listed g (suc k) t (x ∷ ls) l new is lt at same more h q =
-    elim (x.guess == g) as (λ b. (x.guess == g) ≡ b → suc k ≡ cond (not b) (1 + prefix_len (is_other g) ls) 0
-    → cond (x.guess == h) (has q x.terminals) (is_listed h q (slice_set ls k new)) ≡ (cond (x.guess == h) (has q x.terminals) (is_listed h q ls) || ((g == h) && (t == q)))) [
-      | true ↦ λ _ none. absurd (omega arith)
-      | false ↦ λ apart next.
-          elim (x.guess == h) as (λ b. (x.guess == h) ≡ b → cond b (has q x.terminals) (is_listed h q (slice_set ls k new)) ≡ (cond b (has q x.terminals) (is_listed h q ls) || ((g == h) && (t == q)))) [
-            | true ↦ λ here. sym (ap (λ b. has q x.terminals || (b && (t == q))) (differs x.guess g h apart here) ∙ or_none (has q x.terminals))
-            | false ↦ λ _. set_listed g k t ls l new (omega arith) (omega arith) at same more h q
-          ] refl
-    ] refl is
+set_listed g zero t (x ∷ ls) l new is lt at same more h q = grind (arith, nat_tests, more q)
+set_listed g (suc k) t (x ∷ ls) l new is lt at same more h q = grind (arith, nat_tests, set_listed g k t ls l new)
 
 none_set : (h k : ℕ) (ls : List Listing) (l new : Listing) → k < length ls → l ≡ slice_index_or ls k l → new.guess ≡ l.guess → HasNone h ls → HasNone h (slice_set ls k new)
 none_set h k [] l new lt at same none = absurd (omega arith)
@@ -154,7 +93,7 @@ none_set h (suc k) (x ∷ ls) l new lt at same none = (none.0, none_set h k ls l
 
 pub tidy_set : (k : ℕ) (ls : List Listing) (l new : Listing) → k < length ls → l ≡ slice_index_or ls k l → new.guess ≡ l.guess → 0 < length new.terminals → AreTidy ls → AreTidy (slice_set ls k new)
 tidy_set k [] l new lt at same some tidy = absurd (omega arith)
-tidy_set zero (x ∷ ls) l new lt at same some tidy = (subst (λ n. HasNone n ls) (sym (same ∙ ap (λ (y : Listing). y.guess) at)) tidy.0, some, tidy.2)
+tidy_set zero (x ∷ ls) l new lt at same some tidy = grind arith
 tidy_set (suc k) (x ∷ ls) l new lt at same some tidy = (none_set x.guess k ls l new (omega arith) at same tidy.0, tidy.1, tidy_set k ls l new (omega arith) at same some tidy.2)
 
 pub some_at : (k : ℕ) (ls : List Listing) (l : Listing) → k < length ls → l ≡ slice_index_or ls k l → AreTidy ls → 0 < length l.terminals
@@ -165,21 +104,13 @@ some_at (suc k) (x ∷ ls) l lt at tidy = some_at k ls l (omega arith) at tidy.2
 pub same_set : (k : ℕ) (ls : List Listing) (l new : Listing) → k < length ls → l ≡ slice_index_or ls k l → new.guess ≡ l.guess → new.terminals ≡ l.terminals
     → (h q : ℕ) → is_listed h q (slice_set ls k new) ≡ is_listed h q ls
 same_set k [] l new lt at same more h q = absurd (omega arith)
-same_set zero (x ∷ ls) l new lt at same more h q =
-    ap (λ n. cond (n == h) (has q new.terminals) (is_listed h q ls)) (same ∙ ap (λ (y : Listing). y.guess) at)
-    ∙ ap (λ ts. cond (x.guess == h) (has q ts) (is_listed h q ls)) (more ∙ ap (λ (y : Listing). y.terminals) at)
-same_set (suc k) (x ∷ ls) l new lt at same more h q = ap (λ b. cond (x.guess == h) (has q x.terminals) b) (same_set k ls l new (omega arith) at same more h q)
+same_set zero (x ∷ ls) l new lt at same more h q = grind arith
+same_set (suc k) (x ∷ ls) l new lt at same more h q = grind (arith, same_set k ls l new)
 
 -- and in a new list
 pub push_listed : (g t : ℕ) (ls : List Listing) (l : Listing) → HasNone g ls → l.guess ≡ g → l.terminals ≡ t ∷ [] → (h q : ℕ) → is_listed h q (ls ++ l ∷ []) ≡ (is_listed h q ls || ((g == h) && (t == q)))
-push_listed g t [] l none same one h q =
-    ap (λ n. cond (n == h) (has q l.terminals) false) same ∙ ap (λ ts. cond (g == h) (has q ts) false) one
-    ∙ (elim (g == h) as (λ b. cond b ((t == q) || false) false ≡ (b && (t == q))) [ true ↦ or_none (t == q) | false ↦ refl ])
-push_listed g t (x ∷ ls) l none same one h q =
-    elim (x.guess == h) as (λ b. (x.guess == h) ≡ b → cond b (has q x.terminals) (is_listed h q (ls ++ l ∷ [])) ≡ (cond b (has q x.terminals) (is_listed h q ls) || ((g == h) && (t == q)))) [
-      | true ↦ λ here. sym (ap (λ b. has q x.terminals || (b && (t == q))) (differs x.guess g h none.0 here) ∙ or_none (has q x.terminals))
-      | false ↦ λ _. push_listed g t ls l none.1 same one h q
-    ] refl
+push_listed g t [] l none same one h q = grind (arith, nat_tests)
+push_listed g t (x ∷ ls) l none same one h q = grind (arith, nat_tests, push_listed g t ls l)
 
 none_push : (g : ℕ) (ls : List Listing) (l : Listing) → HasNone g ls → (l.guess == g) ≡ false → HasNone g (ls ++ l ∷ [])
 none_push g [] l none apart = (apart, tt)
@@ -194,86 +125,23 @@ pub on_err_given : {A F P : Type 0} (r : Result A F) → P → OnErr r P
 on_err_given (Ok x) p = tt
 on_err_given (Err why) p = p
 
--- one terminal was listed, for some guesses
-or_out : (o a : Bool) → (o || (a && false)) ≡ o
-or_out true a = refl
-or_out false true = refl
-or_out false false = refl
-
 pub at_most : (old new : List Listing) (k : ℕ) (a : ℕ → Bool) → ((g t : ℕ) → is_listed g t new ≡ (is_listed g t old || (a g && (k == t)))) → ListsAtMost k old new
-at_most old new k a more = (
-  λ g t apart. more g t ∙ ap (λ b. is_listed g t old || (a g && b)) apart ∙ or_out (is_listed g t old) (a g),
-  λ g here. more g k ∙ or_left (is_listed g k old) (a g && (k == k)) here,
-)
+at_most old new k a more = grind (arith, nat_tests)
 
 -- one guess more has the terminal listed
 pub one_more : (a b c d : Bool) → ((a || (b && d)) || (c && d)) ≡ (a || ((b || (c || false)) && d))
-one_more true b c d = refl
-one_more false true true true = refl
-one_more false true true false = refl
-one_more false true false true = refl
-one_more false true false false = refl
-one_more false false true true = refl
-one_more false false true false = refl
-one_more false false false true = refl
-one_more false false false false = refl
+one_more a b c d = grind arith
 
 -- ---- a terminal taken out of a list where nothing of it rests on the guess
-out_one : (a r : Bool) → (a && not r) ≡ false → a ≡ (a && r)
-out_one true true h = refl
-out_one true false h = absurd (false≢true (sym h))
-out_one false r h = refl
-
-and_none : (a : Bool) → (a && false) ≡ false
-and_none true = refl
-and_none false = refl
-
-and_all : (a : Bool) → (a && true) ≡ a
-and_all true = refl
-and_all false = refl
-
-second_of : (a r : Bool) → (a && not r) ≡ true → r ≡ false
-second_of true true h = absurd (false≢true h)
-second_of true false h = refl
-second_of false r h = absurd (false≢true h)
-
 pub refreshed : (k t : ℕ) (xs : List ℕ) (rests : ℕ → Bool) (free : Bool) → free ≡ (has k xs && not (rests k)) → has t (cond free (without k xs) xs) ≡ (has t xs && (not (k == t) || rests t))
-refreshed k t xs rests true is =
-    has_filter (λ y. not (y == k)) t xs
-    ∙ elim (k == t) as (λ b. (k == t) ≡ b → (not (t == k) && has t xs) ≡ (has t xs && (not b || rests t))) [
-      | true ↦ λ same.
-          let at : k ≡ t = eqb-true k t same in
-          let free : rests t ≡ false = subst (λ n. rests n ≡ false) at (second_of (has k xs) (rests k) (sym is)) in
-          ap (λ b. not b && has t xs) (eq-eqb t k (sym at)) ∙ sym (ap (λ b. has t xs && b) free ∙ and_none (has t xs))
-      | false ↦ λ apart. ap (λ b. not b && has t xs) (flipped k t apart) ∙ sym (and_all (has t xs))
-    ] refl
-refreshed k t xs rests false is =
-    elim (k == t) as (λ b. (k == t) ≡ b → has t xs ≡ (has t xs && (not b || rests t))) [
-      | true ↦ λ same. out_one (has t xs) (rests t) (subst (λ n. (has n xs && not (rests n)) ≡ false) (eqb-true k t same) (sym is))
-      | false ↦ λ _. sym (and_all (has t xs))
-    ] refl
-
--- one terminal more is taken off
-off_more : (a b c r : Bool) → ((a && (not b || r)) && (not c || r)) ≡ (a && (not (b || (c || false)) || r))
-off_more false b c r = refl
-off_more true true true true = refl
-off_more true true true false = refl
-off_more true true false true = refl
-off_more true true false false = refl
-off_more true false true true = refl
-off_more true false true false = refl
-off_more true false false true = refl
-off_more true false false false = refl
+refreshed k t xs rests free is = let left = has_filter (λ y. not (y == k)) t xs in grind (arith, nat_tests)
 
 pub taken_more : (old cur new : List Listing) (m : TerminalMap) (numbers : List ℕ) (i x : ℕ) → i < length numbers → x ≡ slice_index_or numbers i x
     → ((g t : ℕ) → is_listed g t cur ≡ (is_listed g t old && (not (has t (take i numbers)) || rests_at g m t)))
     → ((g t : ℕ) → is_listed g t new ≡ (is_listed g t cur && (not (x == t) || rests_at g m t)))
     → (g t : ℕ) → is_listed g t new ≡ (is_listed g t old && (not (has t (take (i + 1) numbers)) || rests_at g m t))
 taken_more old cur new m numbers i x lt is before now g t =
-    now g t
-    ∙ ap (λ b. b && (not (x == t) || rests_at g m t)) (before g t)
-    ∙ off_more (is_listed g t old) (has t (take i numbers)) (x == t) (rests_at g m t)
-    ∙ sym (ap (λ b. is_listed g t old && (not b || rests_at g m t)) (has_more t numbers i x lt is))
+    grind (arith, before g t, now g t, has_more t numbers i x lt is)
 
 -- ---- a pass over the lists
 module _ {S : Type 0} (R : S → Listing → Bool → S → Listing → Type 0) (s : S) (p : ℕ → ℕ → Bool)

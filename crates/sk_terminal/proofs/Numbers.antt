@@ -5,18 +5,14 @@ use Rattle.sk_terminal.proofs.Names.{insert, IsBinarySearchResult, nat_cmp, Less
 use Rattle.sk_terminal.proofs.Names.{ltb-false, eqb-true, AllPairs-from_increasing, searched}
 use Rattle.sk_terminal.proofs.Names.{IsStrictlyIncreasing-from_sorted, has}
 use Rattle.std.specs.List.Sorted.{IsStrictlySortedBy}
+use Rattle.std.proofs.lemmas.Bool.Decides.{nat_tests}
+use Rattle.std.proofs.lemmas.Grind.{common_steps}
 
 pub or_none : (b : Bool) → (b || false) ≡ b
-or_none true = refl
-or_none false = refl
+or_none b = grind arith
 
 turned : (a b c : Bool) → (c || (a || b)) ≡ ((a || b) || c)
-turned true b true = refl
-turned true b false = refl
-turned false true true = refl
-turned false true false = refl
-turned false false true = refl
-turned false false false = refl
+turned a b c = grind arith
 
 pub has_insert : (q e : ℕ) (xs : List ℕ) (i : ℕ) → i ≤ length xs → has q (insert xs i e) ≡ (has q xs || (e == q))
 has_insert q e [] zero le = or_none (e == q)
@@ -50,10 +46,7 @@ rises_insert e (x ∷ xs) (suc i) s le below above =
 -- ---- what a search finds
 up : (xs : List ℕ) → IsStrictlySortedBy nat_cmp xs → (i j : ℕ) → i ≤ j → j < length xs → get_or xs i 0 ≤ get_or xs j 0
 up xs rises i j le within =
-    elim (nat_lt i j) as (λ b. nat_lt i j ≡ b → get_or xs i 0 ≤ get_or xs j 0) [
-      | true ↦ λ is. (let first : get_or xs i 0 < get_or xs j 0 = AllPairs-from_increasing xs (IsStrictlyIncreasing-from_sorted xs rises) i j 0 (ltb-true i j is) within in omega (first, arith))
-      | false ↦ λ is. (let same : i ≡ j = omega (le, ltb-false i j is, arith) in subst (λ n. get_or xs i 0 ≤ get_or xs n 0) same (omega arith))
-    ] refl
+    let first = AllPairs-from_increasing xs (IsStrictlyIncreasing-from_sorted xs rises) i j 0 in grind (arith, nat_tests)
 
 pub place_at : (g : ℕ) (xs : List ℕ) (i : ℕ) → IsStrictlySortedBy nat_cmp xs → IsBinarySearchResult (λ y. nat_cmp y g) xs (Ok i) → (i < length xs) × (get_or xs i 0 ≡ g)
 place_at g xs i rises h = searched xs g (Ok i) h (up xs rises)
@@ -67,8 +60,4 @@ put_rises g xs i rises h = let at = place_for g xs i rises h in rises_insert g x
 
 -- a number that is there adds nothing
 pub there_already : (q g : ℕ) (xs : List ℕ) → has g xs ≡ true → has q xs ≡ (has q xs || (g == q))
-there_already q g xs here =
-    elim (g == q) as (λ b. (g == q) ≡ b → has q xs ≡ (has q xs || b)) [
-      | true ↦ λ same. let is : has q xs ≡ true = subst (λ n. has n xs ≡ true) (eqb-true g q same) here in is ∙ sym (ap (λ b. b || true) is)
-      | false ↦ λ _. sym (or_none (has q xs))
-    ] refl
+there_already q g xs here = grind (arith, nat_tests)

@@ -100,8 +100,16 @@ TakesList c ls ks = NoneListed c ks × ((g t : ℕ) → (c == g) ≡ false → i
 -- at a commit no other list changes
 pub committed_listed : (c : ℕ) (m n : TerminalMap) (ls ks : List Listing) → AreListed m ls → ((t : ℕ) → map.get n t ≡ option_map (lightened c) (map.get m t)) → TakesList c ls ks → AreListed n ks
 committed_listed c m n ls ks all now taken g t =
-    grind (arith, nat_tests, taken.0 t, taken.1 g t, all g t, now t, light_others c g (map.get m t),
-    none_rests c (lightened c) (light_leaves c) (light_takes c) m n now g t)
+    grind (
+      arith,
+      nat_tests,
+      taken.0 t,
+      taken.1 g t,
+      all g t,
+      now t,
+      light_others c g (map.get m t),
+      none_rests c (lightened c) (light_leaves c) (light_takes c) m n now g t,
+    )
 
 -- nor where there was no list: nothing rested on the guess
 pub untouched_listed : (c : ℕ) (m : TerminalMap) (ls ks : List Listing) → AreListed m ls → NoneListed c ls → TakesList c ls ks → AreListed m ks
@@ -117,10 +125,18 @@ all_of l n is = grind arith
 pub failed_listed : (c : ℕ) (m n : TerminalMap) (ls ks js : List Listing) (freed : ℕ → Bool) → AreListed m ls → ((t : ℕ) → map.get n t ≡ option_map (not_dropped c) (map.get m t)) → TakesList c ls ks
     → ((t : ℕ) → freed t ≡ rests_at c m t) → ((g t : ℕ) → is_listed g t js ≡ (is_listed g t ks && (not (freed t) || rests_at g n t))) → AreListed n js
 failed_listed c m n ls ks js freed all now taken is left g t =
-    grind (arith, nat_tests, left g t, taken.0 t, taken.1 g t, all g t, is t,
-    none_rests c (not_dropped c) (drop_leaves c) (drop_takes c) m n now g t,
-    rested c (not_dropped c) (drop_leaves c) (drop_takes c) m n now g t,
-    as_it_was c (not_dropped c) (drop_leaves c) (drop_takes c) m n now g t)
+    grind (
+      arith,
+      nat_tests,
+      left g t,
+      taken.0 t,
+      taken.1 g t,
+      all g t,
+      is t,
+      none_rests c (not_dropped c) (drop_leaves c) (drop_takes c) m n now g t,
+      rested c (not_dropped c) (drop_leaves c) (drop_takes c) m n now g t,
+      as_it_was c (not_dropped c) (drop_leaves c) (drop_takes c) m n now g t,
+    )
 
 -- ---- a text said
 or_of : (a b l : Bool) → l ≡ a → (l || b) ≡ (a || (b || false))

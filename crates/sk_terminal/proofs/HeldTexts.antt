@@ -124,8 +124,14 @@ none_after (x ∷ xs) = ap (λ ys. x ∷ ys) (none_after xs)
 
 pub taken_texts : (g i : ℕ) (hs : List Held) → list_all (rests g) (drop i hs) ≡ true → list_any (rests g) (take i hs) ≡ false → texts_of (take i hs) ≡ not_dropped g (texts_of hs)
 taken_texts g i hs all none =
-    grind (arith, drop_free g (take i hs) none, append-nil (not_dropped g (texts_of (take i hs))), drop_all_rest g (drop i hs) all,
-    dropped_more g (take i hs) (drop i hs), take-append-drop i hs)
+    grind (
+      arith,
+      drop_free g (take i hs) none,
+      append-nil (not_dropped g (texts_of (take i hs))),
+      drop_all_rest g (drop i hs) all,
+      dropped_more g (take i hs) (drop i hs),
+      take-append-drop i hs,
+    )
 
 pub filtered_texts : (g : ℕ) (hs : List Held) → texts_of (filter (λ h. not (has g h.said.1)) hs) ≡ not_dropped g (texts_of hs)
 filtered_texts g [] = refl

@@ -125,6 +125,7 @@ pub on_err_given : {A F P : Type 0} (r : Result A F) → P → OnErr r P
 on_err_given (Ok x) p = tt
 on_err_given (Err why) p = p
 
+-- one terminal was listed, for some guesses
 pub at_most : (old new : List Listing) (k : ℕ) (a : ℕ → Bool) → ((g t : ℕ) → is_listed g t new ≡ (is_listed g t old || (a g && (k == t)))) → ListsAtMost k old new
 at_most old new k a more = grind (arith, nat_tests)
 
@@ -136,6 +137,7 @@ one_more a b c d = grind arith
 pub refreshed : (k t : ℕ) (xs : List ℕ) (rests : ℕ → Bool) (free : Bool) → free ≡ (has k xs && not (rests k)) → has t (cond free (without k xs) xs) ≡ (has t xs && (not (k == t) || rests t))
 refreshed k t xs rests free is = let left = has_filter (λ y. not (y == k)) t xs in grind (arith, nat_tests)
 
+-- one terminal more is taken off
 pub taken_more : (old cur new : List Listing) (m : TerminalMap) (numbers : List ℕ) (i x : ℕ) → i < length numbers → x ≡ slice_index_or numbers i x
     → ((g t : ℕ) → is_listed g t cur ≡ (is_listed g t old && (not (has t (take i numbers)) || rests_at g m t)))
     → ((g t : ℕ) → is_listed g t new ≡ (is_listed g t cur && (not (x == t) || rests_at g m t)))

@@ -12,5 +12,11 @@ others t k apart = grind (arith, nat_tests)
 -- the terminal that it was said to has it behind the others, and every other terminal what it had
 pub texts_said : (m : TerminalMap) (k : ℕ) (x : TaggedText) (t : ℕ) → texts_at (said_to m k x) t ≡ texts_at m t ++ cond (k == t) (x ∷ []) []
 texts_said m k x t =
-    grind (arith, nat_tests, map.get-insert nat_cmp_total m k (texts_at m k ++ x ∷ []) t, others t k,
-    (eq_by_cmp_equiv nat_cmp_total).refl t, append-nil (texts_at m t))
+    grind (
+      arith,
+      nat_tests,
+      map.get-insert nat_cmp_total m k (texts_at m k ++ x ∷ []) t,
+      others t k,
+      (eq_by_cmp_equiv nat_cmp_total).refl t,
+      append-nil (texts_at m t),
+    )

@@ -1,16 +1,13 @@
 -- Terminals after a decision that looked at some of them, and what is listed for them then.
-use Rattle.sk_terminal.proofs.Names.{arith, without_none, not-true, ◌≡◌, ℕ, ◌<◌, ◌+◌, length, take, Bool, true, false, cond}
-use Rattle.sk_terminal.proofs.Names.{not, ◌||◌, ◌&&◌, List, [], ◌∷◌, ◌++◌, Option, Some, None, inl, inr, refl, sym, ◌∙◌}
-use Rattle.sk_terminal.proofs.Names.{ap, subst, ◌==◌, slice_index_or, option_map, unwrap_or, both_ways, false≢true}
-use Rattle.sk_terminal.proofs.Names.{or_cases, or_parts, or_left, or_right, eqb-true, eq-eqb, append-nil}
-use Rattle.sk_terminal.proofs.Names.{list_any-append, has, without, lightened, not_dropped, has_filter, and_both}
-use Rattle.sk_terminal.proofs.Names.{TaggedText, any_rests, TerminalMap, texts_at, said_to, Listing, is_listed}
-use Rattle.sk_terminal.proofs.Names.{rests_at, AreListed, ListsAtMost, NoneListed}
+use Rattle.sk_terminal.proofs.Names.{arith, without_none, ◌≡◌, ℕ, ◌<◌, ◌+◌, length, take, Bool, true, false, cond, not}
+use Rattle.sk_terminal.proofs.Names.{◌||◌, ◌&&◌, List, [], ◌∷◌, Option, Some, None, refl, ap, ◌==◌, slice_index_or}
+use Rattle.sk_terminal.proofs.Names.{option_map, unwrap_or, both_ways, false≢true, list_any-append, has, lightened}
+use Rattle.sk_terminal.proofs.Names.{not_dropped, has_filter, TaggedText, any_rests, TerminalMap, texts_at, said_to}
+use Rattle.sk_terminal.proofs.Names.{Listing, is_listed, rests_at, AreListed, ListsAtMost, NoneListed}
 use Rattle.std.specs.FinMap as map
 use Rattle.sk_terminal.proofs.SaidTo.{texts_said}
-use Rattle.sk_terminal.proofs.Listed.{has_more, flipped}
+use Rattle.sk_terminal.proofs.Listed.{has_more}
 use Rattle.std.proofs.lemmas.Bool.Decides.{nat_tests}
-use Rattle.std.proofs.lemmas.Grind.{common_steps}
 
 -- ---- numbers that differ
 told_apart : (g c : ℕ) (tags : List ℕ) → has g tags ≡ true → has c tags ≡ false → (g == c) ≡ false
@@ -100,66 +97,29 @@ TakesList c ls ks = NoneListed c ks × ((g t : ℕ) → (c == g) ≡ false → i
 -- at a commit no other list changes
 pub committed_listed : (c : ℕ) (m n : TerminalMap) (ls ks : List Listing) → AreListed m ls → ((t : ℕ) → map.get n t ≡ option_map (lightened c) (map.get m t)) → TakesList c ls ks → AreListed n ks
 committed_listed c m n ls ks all now taken g t =
-    grind (
-      arith,
-      nat_tests,
-      taken.0 t,
-      taken.1 g t,
-      all g t,
-      now t,
-      light_others c g (map.get m t),
-      none_rests c (lightened c) (light_leaves c) (light_takes c) m n now g t,
-    )
+    let free = none_rests c (lightened c) (light_leaves c) (light_takes c) m n now g t in
+    grind (arith, nat_tests, taken.0 t, taken.1 g t, all g t, now t, light_others c g (map.get m t))
 
 -- nor where there was no list: nothing rested on the guess
 pub untouched_listed : (c : ℕ) (m : TerminalMap) (ls ks : List Listing) → AreListed m ls → NoneListed c ls → TakesList c ls ks → AreListed m ks
 untouched_listed c m ls ks all none taken g t = grind (arith, nat_tests, taken.0 t, taken.1 g t, none t, all g t)
 
 -- at a failure the terminals that lost a text were taken off where nothing rests on a guess any more
-left_of : (a l n : Bool) → l ≡ a → (n ≡ true → a ≡ true) → (l && (false || n)) ≡ n
-left_of a l n is rests = grind arith
-
-all_of : (l n : Bool) → l ≡ n → (l && (true || n)) ≡ n
-all_of l n is = grind arith
-
 pub failed_listed : (c : ℕ) (m n : TerminalMap) (ls ks js : List Listing) (freed : ℕ → Bool) → AreListed m ls → ((t : ℕ) → map.get n t ≡ option_map (not_dropped c) (map.get m t)) → TakesList c ls ks
     → ((t : ℕ) → freed t ≡ rests_at c m t) → ((g t : ℕ) → is_listed g t js ≡ (is_listed g t ks && (not (freed t) || rests_at g n t))) → AreListed n js
 failed_listed c m n ls ks js freed all now taken is left g t =
-    grind (
-      arith,
-      nat_tests,
-      left g t,
-      taken.0 t,
-      taken.1 g t,
-      all g t,
-      is t,
-      none_rests c (not_dropped c) (drop_leaves c) (drop_takes c) m n now g t,
-      rested c (not_dropped c) (drop_leaves c) (drop_takes c) m n now g t,
-      as_it_was c (not_dropped c) (drop_leaves c) (drop_takes c) m n now g t,
-    )
+    let free = none_rests c (not_dropped c) (drop_leaves c) (drop_takes c) m n now g t in
+    let rests = rested c (not_dropped c) (drop_leaves c) (drop_takes c) m n now g t in
+    let stays = as_it_was c (not_dropped c) (drop_leaves c) (drop_takes c) m n now g t in
+    grind (arith, nat_tests, left g t, taken.0 t, taken.1 g t, all g t, is t)
 
 -- ---- a text said
-or_of : (a b l : Bool) → l ≡ a → (l || b) ≡ (a || (b || false))
-or_of a b l is = grind arith
-
-same_of : (a b l : Bool) → l ≡ a → (l || (b && false)) ≡ a
-same_of a b l is = grind arith
-
-and_one : (a : Bool) → (a && true) ≡ a
-and_one a = grind arith
-
 pub said_listed : (m : TerminalMap) (ls ks : List Listing) (k : ℕ) (x : TaggedText) → AreListed m ls
     → ((g t : ℕ) → is_listed g t ks ≡ (is_listed g t ls || (has g x.1 && (k == t)))) → AreListed (said_to m k x) ks
 said_listed m ls ks k x all more g t =
     grind (arith, more g t, all g t, texts_said m k x t, list_any-append (λ (y : TaggedText). has g y.1) (texts_at m t))
 
 -- that was refused, once the terminal is taken off
-refused_at : (a l : Bool) → (a ≡ true → l ≡ true) → (l && (false || a)) ≡ a
-refused_at a l kept = grind arith
-
-one_side : (a l : Bool) → l ≡ a → (l && (true || a)) ≡ a
-one_side a l is = grind arith
-
 pub refused_listed : (m : TerminalMap) (ls ks js : List Listing) (k : ℕ) → AreListed m ls → ListsAtMost k ls ks
     → ((g t : ℕ) → is_listed g t js ≡ (is_listed g t ks && (not (k == t) || rests_at g m t))) → AreListed m js
 refused_listed m ls ks js k all most left g t =

@@ -1,12 +1,10 @@
 -- Held texts after a pass back to those said before a guess was drawn.
 use Rattle.sk_terminal.proofs.Names.{map-append, without_none, ◌≡◌, ℕ, zero, suc, ◌<◌, ◌≤◌, ◌+◌, length, take, drop}
-use Rattle.sk_terminal.proofs.Names.{Bool, true, false, cond, not, ◌||◌, List, [], ◌∷◌, ◌++◌, map, refl, sym, ◌∙◌, ap}
-use Rattle.sk_terminal.proofs.Names.{subst, arith, ◌==◌, slice_index_or, slice_set, list_any, list_all, filter}
-use Rattle.sk_terminal.proofs.Names.{prefix_len, or_parts, or_from, take-append-drop, list_any-append, has, without, append-nil}
-use Rattle.sk_terminal.proofs.Names.{lightened, not_dropped, has_filter, and_both, TaggedText, any_rests, is_clear}
-use Rattle.sk_terminal.proofs.Names.{texts_of, AreBounded, Held}
-use Rattle.std.proofs.lemmas.Bool.Decides.{nat_tests}
-use Rattle.std.proofs.lemmas.Grind.{common_steps}
+use Rattle.sk_terminal.proofs.Names.{Bool, true, false, cond, not, ◌||◌, List, [], ◌∷◌, ◌++◌, map, refl, sym, ap, subst}
+use Rattle.sk_terminal.proofs.Names.{arith, ◌==◌, slice_index_or, slice_set, list_any, list_all, filter, prefix_len}
+use Rattle.sk_terminal.proofs.Names.{take-append-drop, list_any-append, has, without, append-nil, lightened}
+use Rattle.sk_terminal.proofs.Names.{not_dropped, has_filter, TaggedText, any_rests, is_clear, texts_of, AreBounded}
+use Rattle.sk_terminal.proofs.Names.{Held}
 
 -- ---- numbers
 pub bounded_more : (low high n : ℕ) (hs : List Held) (x : Held) → AreBounded low hs high → high ≤ n → x.newest ≡ n → ((g : ℕ) → has g x.said.1 ≡ true → g ≤ n) → AreBounded low (hs ++ x ∷ []) n
@@ -118,20 +116,11 @@ dropped_more : (g : ℕ) (hs ks : List Held) → not_dropped g (texts_of (hs ++ 
 dropped_more g [] ks = refl
 dropped_more g (h ∷ hs) ks = grind (arith, dropped_more g hs ks)
 
-none_after : (xs : List TaggedText) → xs ≡ xs ++ []
-none_after [] = refl
-none_after (x ∷ xs) = ap (λ ys. x ∷ ys) (none_after xs)
-
 pub taken_texts : (g i : ℕ) (hs : List Held) → list_all (rests g) (drop i hs) ≡ true → list_any (rests g) (take i hs) ≡ false → texts_of (take i hs) ≡ not_dropped g (texts_of hs)
 taken_texts g i hs all none =
-    grind (
-      arith,
-      drop_free g (take i hs) none,
-      append-nil (not_dropped g (texts_of (take i hs))),
-      drop_all_rest g (drop i hs) all,
-      dropped_more g (take i hs) (drop i hs),
-      take-append-drop i hs,
-    )
+    let whole = dropped_more g (take i hs) (drop i hs) in
+    let none_more = append-nil (not_dropped g (texts_of (take i hs))) in
+    grind (arith, drop_free g (take i hs) none, drop_all_rest g (drop i hs) all, take-append-drop i hs)
 
 pub filtered_texts : (g : ℕ) (hs : List Held) → texts_of (filter (λ h. not (has g h.said.1)) hs) ≡ not_dropped g (texts_of hs)
 filtered_texts g [] = refl

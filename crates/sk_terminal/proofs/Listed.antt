@@ -2,8 +2,8 @@
 use Rattle.sk_terminal.proofs.Names.{◌≡◌, ℕ, zero, suc, ◌<◌, ◌≤◌, ◌+◌, length, take, Bool, true, false, cond, not, ◌||◌}
 use Rattle.sk_terminal.proofs.Names.{◌&&◌, List, [], ◌∷◌, ◌++◌, Result, refl, sym, ◌∙◌, ap, subst, arith, prefix_len}
 use Rattle.sk_terminal.proofs.Names.{remove, RetainsInTurn, ◌==◌, slice_index_or, slice_set, OnErr, false≢true}
-use Rattle.sk_terminal.proofs.Names.{eqb-true, eq-eqb, or_left, list_any-append, has, without, has_filter, TerminalMap}
-use Rattle.sk_terminal.proofs.Names.{Listing, is_listed, rests_at, AreTidy, HasNone, ListsAtMost}
+use Rattle.sk_terminal.proofs.Names.{eqb-true, list_any-append, has, without, has_filter, TerminalMap, Listing}
+use Rattle.sk_terminal.proofs.Names.{is_listed, rests_at, AreTidy, HasNone, ListsAtMost}
 use Rattle.std.proofs.Common.{Ok, Err}
 use Rattle.std.proofs.lemmas.Bool.Decides.{nat_tests}
 use Rattle.std.proofs.lemmas.Grind.{common_steps}
@@ -19,13 +19,6 @@ some_there t (x ∷ xs) here = omega arith
 
 pub flipped : (g c : ℕ) → (g == c) ≡ false → (c == g) ≡ false
 flipped g c apart = grind (arith, nat_tests)
-
--- a number equal to one that differs from a third differs from it
-differs : (x g h : ℕ) → (x == g) ≡ false → (x == h) ≡ true → (g == h) ≡ false
-differs x g h apart is = grind (arith, nat_tests)
-
-own : (x : ℕ) → (x == x) ≡ true
-own x = eq-eqb x x refl
 
 -- ---- the list of a guess
 abbrev pub is_other : ℕ → Listing → Bool

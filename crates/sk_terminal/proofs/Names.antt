@@ -1,10 +1,9 @@
 -- What the proofs of this crate cite from outside of them, passed on from one place. Declares nothing.
-pub use Rattle.std.proofs.Common.{Some, Bool, cond, subst, inr, ◌∷◌, zero-add, ◌&&◌, inl, zero, ◌≡◌, ◌^◌, rules, ◌-◌}
-pub use Rattle.std.proofs.Common.{◌+◌, Option, arith, List, ap, ◌++◌, length, append_assoc, ◌||◌, ℕ, true, drop, sym}
-pub use Rattle.std.proofs.Common.{None, suc, ◌≤◌, take, false, ◌<◌, refl, Result, [], ◌∙◌, nat_lt, not, map}
+pub use Rattle.std.proofs.Common.{Some, Bool, cond, subst, ◌∷◌, zero-add, ◌&&◌, zero, ◌≡◌, ◌^◌, rules, ◌-◌, ◌+◌, Option}
+pub use Rattle.std.proofs.Common.{arith, List, ap, ◌++◌, length, append_assoc, ◌||◌, ℕ, true, drop, sym, None, suc, ◌≤◌}
+pub use Rattle.std.proofs.Common.{take, false, ◌<◌, refl, Result, [], ◌∙◌, not, map}
 pub use Rattle.std.proofs.Math.Bool.{or_assoc}
-pub use Rattle.std.proofs.lemmas.Bool.{ltb-false, true≢false, or_right, or_cases, or_left, or_from, or_parts}
-pub use Rattle.std.proofs.lemmas.Bool.{false≢true, eqb-true, ltb-true, eq-eqb, ne_eqb, not-true}
+pub use Rattle.std.proofs.lemmas.Bool.{or_right, false≢true, eqb-true, eq-eqb, ne_eqb}
 pub use Rattle.std.proofs.lemmas.Bool.Decides.{Decides-and, Decides-like, Decides-at}
 pub use Rattle.std.proofs.lemmas.Fn.{filter_same}
 pub use Rattle.std.proofs.lemmas.List.{append_cancel_left, map-append, take-append-drop, append-nil, length-set}
@@ -16,7 +15,7 @@ pub use Rattle.std.proofs.lemmas.Map.Keys.{IsStrictlyIncreasing-from_sorted}
 pub use Rattle.std.proofs.lemmas.Map.Views.{tells_apart}
 pub use Rattle.std.proofs.lemmas.Result.{on_err_weaker}
 pub use Rattle.std.specs.Bool.{one_answer}
-pub use Rattle.std.specs.Cmp.{nat_cmp_is, eq_by_cmp_equiv, nat_cmp_total, both_ways, Equal-is}
+pub use Rattle.std.specs.Cmp.{nat_cmp_is, eq_by_cmp_equiv, nat_cmp_total, both_ways}
 pub use Rattle.std.specs.Cmp.Lexicographic.{pointwise, pointwise_decides}
 pub use Rattle.std.specs.List.{filter, remove, insert, prefix_len, AllByRecursion, list_all, list_any}
 pub use Rattle.std.specs.List.Retain.{RetainsInTurn}
@@ -33,7 +32,6 @@ pub use Rattle.sk_ids.proofs.Searches.{found, taken_at, tells}
 pub use Rattle.sk_map.specs.Seen.{seen}
 pub use Rattle.sk_record.proofs.Machine.{has_filter}
 pub use Rattle.sk_record.proofs.Stays.{said_more, fewer_texts, fewer_tags}
-pub use Rattle.sk_record.proofs.UndoStates.{and_both}
 pub use Rattle.sk_record.specs.Machine.{lightened, released, not_dropped}
 pub use Rattle.sk_record.specs.Notes.{without, has}
 pub use Rattle.sk_terminal.specs.Held.{AreBounded, texts_of}

@@ -1,12 +1,10 @@
 -- A number put into a list of numbers that rises.
-use Rattle.sk_terminal.proofs.Names.{◌≡◌, ℕ, zero, suc, ◌<◌, ◌≤◌, length, Bool, true, false, nat_lt, ◌||◌, List, []}
-use Rattle.sk_terminal.proofs.Names.{◌∷◌, refl, sym, ◌∙◌, ap, subst, arith, ◌==◌, get_or, Ok, Err, AllByRecursion}
-use Rattle.sk_terminal.proofs.Names.{insert, IsBinarySearchResult, nat_cmp, Less, nat_cmp_is, or_assoc, ltb-true}
-use Rattle.sk_terminal.proofs.Names.{ltb-false, eqb-true, AllPairs-from_increasing, searched}
-use Rattle.sk_terminal.proofs.Names.{IsStrictlyIncreasing-from_sorted, has}
+use Rattle.sk_terminal.proofs.Names.{◌≡◌, ℕ, zero, suc, ◌<◌, ◌≤◌, length, Bool, true, false, ◌||◌, List, [], ◌∷◌, sym}
+use Rattle.sk_terminal.proofs.Names.{◌∙◌, ap, arith, ◌==◌, get_or, Ok, Err, AllByRecursion, insert}
+use Rattle.sk_terminal.proofs.Names.{IsBinarySearchResult, nat_cmp, Less, nat_cmp_is, or_assoc}
+use Rattle.sk_terminal.proofs.Names.{AllPairs-from_increasing, searched, IsStrictlyIncreasing-from_sorted, has}
 use Rattle.std.specs.List.Sorted.{IsStrictlySortedBy}
 use Rattle.std.proofs.lemmas.Bool.Decides.{nat_tests}
-use Rattle.std.proofs.lemmas.Grind.{common_steps}
 
 pub or_none : (b : Bool) → (b || false) ≡ b
 or_none b = grind arith

@@ -1,11 +1,10 @@
 -- What the map of terminals has at a number after a change.
-use Rattle.sk_terminal.proofs.Names.{arith, ◌≡◌, ℕ, true, false, cond, List, [], Option, Some, None, refl, sym, ◌∙◌, ap}
-use Rattle.sk_terminal.proofs.Names.{nat_cmp, eq_by_cmp, option_map, unwrap_or, nat_cmp_total, eq_by_cmp_equiv}
-use Rattle.sk_terminal.proofs.Names.{eqb-true, ◌==◌, tells_apart, TaggedText, TerminalMap}
+use Rattle.sk_terminal.proofs.Names.{arith, ◌≡◌, ℕ, cond, List, [], Option, Some, None, refl, sym, option_map}
+use Rattle.sk_terminal.proofs.Names.{unwrap_or, nat_cmp_total, eq_by_cmp_equiv, ◌==◌, tells_apart, TaggedText}
+use Rattle.sk_terminal.proofs.Names.{TerminalMap}
 use Rattle.std.specs.FinMap as map
 use Rattle.sk_terminal.proofs.SaidTo.{others}
 use Rattle.std.proofs.lemmas.Bool.Decides.{nat_tests}
-use Rattle.std.proofs.lemmas.Grind.{common_steps}
 
 -- the texts that are there, put again
 pub put_same : (m : TerminalMap) (t : ℕ) (texts : List TaggedText) → map.get m t ≡ Some texts → map.insert m t texts ≡ m

@@ -2,7 +2,8 @@
 use Rattle.sk_terminal.proofs.Names.{◌≡◌, ◌-◌, ◌<◌, ℕ, suc, List, length, take, false, sym, ◌∙◌, ap, subst, arith}
 use Rattle.sk_terminal.proofs.Names.{length-set, list_any, TaggedText, texts_of, AreBounded, Held}
 use Rattle.std.proofs.Common.{slice_set}
-use Rattle.sk_terminal.proofs.HeldTexts.{rests, from_before, place_before, free_before, lightened_texts, lightened_bounds}
+use Rattle.sk_terminal.proofs.HeldTexts.{rests, from_before, place_before, free_before, lightened_texts}
+use Rattle.sk_terminal.proofs.HeldTexts.{lightened_bounds}
 use Rattle.sk_terminal.proofs.terminal.take_out.Goals as goal
 
 pub loop-before-preserved : goal.loop-before-preserved
@@ -19,8 +20,8 @@ loop-before-preserved c =
       length-set c.loop-before.texts.items j _ ∙ c.loop-before.invariant.2,
     )
 
-pub returns-else-index-number-clause-texts : goal.returns-else-index-number-clause-texts
-returns-else-index-number-clause-texts c high b =
+pub returns-else-index-number : goal.returns-else-index-number
+returns-else-index-number c =
     let hs = c.args.texts.now.items in
     let i = c.loop-before.before in
     let j = i - 1 in
@@ -29,41 +30,25 @@ returns-else-index-number-clause-texts c high b =
     let next : i ≡ suc j = omega arith in
     let lt : j < length hs = omega arith in
     let there = place_before c.args.id i j hs c.loop-before.texts.items c.index.result.now next lt c.loop-before.invariant.0 c.index.ensures in
-    let number = c.number.ensures.value in
-    let below = c.if-index-number.false in
-    let less : c.index.result.now.newest < c.args.id = subst (λ n. c.index.result.now.newest < n) number below in
-    let none = free_before c.args.id 0 high i j hs c.index.result.now b next lt there less in
-    ap texts_of c.loop-before.invariant.0 ∙ lightened_texts c.args.id i hs none
+    let less : c.index.result.now.newest < c.args.id = subst (λ n. c.index.result.now.newest < n) c.number.ensures.value c.if-index-number.false in
+    let none = λ (high : ℕ) (b : AreBounded 0 hs high). free_before c.args.id 0 high i j hs c.index.result.now b next lt there less in
+    record {
+      texts = λ high b. ap texts_of c.loop-before.invariant.0 ∙ lightened_texts c.args.id i hs (none high b);
+      bounds = λ high b. subst (λ (xs : List Held). AreBounded 0 xs high) (sym c.loop-before.invariant.0)
+          (lightened_bounds c.args.id i 0 high hs (none high b) b);
+      as_many = c.loop-before.invariant.2;
+    }
 
-pub returns-else-index-number-clause-bounds : goal.returns-else-index-number-clause-bounds
-returns-else-index-number-clause-bounds c high b =
+pub returns-after-loop-before : goal.returns-after-loop-before
+returns-after-loop-before c =
     let hs = c.args.texts.now.items in
     let i = c.loop-before.before in
-    let j = i - 1 in
-    let some = c.loop-before-test.true in
-    let within = c.loop-before.invariant.1 in
-    let next : i ≡ suc j = omega arith in
-    let lt : j < length hs = omega arith in
-    let there = place_before c.args.id i j hs c.loop-before.texts.items c.index.result.now next lt c.loop-before.invariant.0 c.index.ensures in
-    let number = c.number.ensures.value in
-    let below = c.if-index-number.false in
-    let less : c.index.result.now.newest < c.args.id = subst (λ n. c.index.result.now.newest < n) number below in
-    let none = free_before c.args.id 0 high i j hs c.index.result.now b next lt there less in
-    subst (λ (xs : List Held). AreBounded 0 xs high) (sym c.loop-before.invariant.0) (lightened_bounds c.args.id i 0 high hs none b)
-
-none_there : (id n : ℕ) (hs : List Held) → n ≡ 0 → list_any (rests id) (take n hs) ≡ false
-none_there id n hs zero_is = ap (λ k. list_any (rests id) (take k hs)) zero_is
-
-pub returns-after-loop-before-clause-texts : goal.returns-after-loop-before-clause-texts
-returns-after-loop-before-clause-texts c high b =
-    let hs = c.args.texts.now.items in
     let past = c.loop-before-test.false in
-    let zero_is : c.loop-before.before ≡ 0 = omega arith in
-    ap texts_of c.loop-before.invariant.0 ∙ lightened_texts c.args.id c.loop-before.before hs (none_there c.args.id c.loop-before.before hs zero_is)
-
-pub returns-after-loop-before-clause-bounds : goal.returns-after-loop-before-clause-bounds
-returns-after-loop-before-clause-bounds c high b =
-    let hs = c.args.texts.now.items in
-    let past = c.loop-before-test.false in
-    let zero_is : c.loop-before.before ≡ 0 = omega arith in
-    subst (λ (xs : List Held). AreBounded 0 xs high) (sym c.loop-before.invariant.0) (lightened_bounds c.args.id c.loop-before.before 0 high hs (none_there c.args.id c.loop-before.before hs zero_is) b)
+    let zero_is : i ≡ 0 = omega arith in
+    let none : list_any (rests c.args.id) (take i hs) ≡ false = ap (λ k. list_any (rests c.args.id) (take k hs)) zero_is in
+    record {
+      texts = λ high b. ap texts_of c.loop-before.invariant.0 ∙ lightened_texts c.args.id i hs none;
+      bounds = λ high b. subst (λ (xs : List Held). AreBounded 0 xs high) (sym c.loop-before.invariant.0)
+          (lightened_bounds c.args.id i 0 high hs none b);
+      as_many = c.loop-before.invariant.2;
+    }

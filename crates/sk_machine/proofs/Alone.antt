@@ -1,30 +1,27 @@
 -- Many private instructions of one process at once: the guesses that they rest on, and what the machine becomes.
-use Rattle.sk_machine.proofs.Names.{◌≡◌, ℕ, Bool, true, false, ◌||◌, List, [], ◌∷◌, ◌++◌, Some, None, refl, sym, ◌∙◌}
-use Rattle.sk_machine.proofs.Names.{ap, subst, true≢false, list_any, filter, IsStrictlySortedBy, nat_cmp, eq_by_cmp}
-use Rattle.sk_machine.proofs.Names.{append-nil, MarkedEffect, has, noted, HandsIn, Merges, alone_tags, IsTidy, numbers}
-use Rattle.sk_machine.proofs.Names.{step_tags, tags_at, union_is_tags, tidy_clean, entity_cmp, Entity, Proc, Sig}
-use Rattle.sk_machine.proofs.Names.{Process, EntityState, look_at, log_at, Scripts, Saying, plain, alone_reads, Parts}
+use Rattle.sk_machine.proofs.Names.{◌≡◌, ℕ, Bool, true, false, ◌||◌, List, [], ◌∷◌, ◌++◌, Some, None, sym, ◌∙◌, ap}
+use Rattle.sk_machine.proofs.Names.{subst, list_any, filter, IsStrictlySortedBy, nat_cmp, eq_by_cmp, append-nil}
+use Rattle.sk_machine.proofs.Names.{MarkedEffect, has, noted, HandsIn, Merges, alone_tags, IsTidy, numbers, step_tags}
+use Rattle.sk_machine.proofs.Names.{tags_at, union_is_tags, tidy_clean, entity_cmp, Entity, Proc, Sig, Process}
+use Rattle.sk_machine.proofs.Names.{EntityState, look_at, log_at, Scripts, Saying, plain, alone_reads, Parts}
 use Rattle.sk_machine.proofs.Names.{machine_of, undo_state_of, any_rests, Performed, IsClean}
 use Rattle.sk_store.specs.declared.entity_state.EntityState.TheVariants as stored
 use Rattle.sk_machine.proofs.Joins.{contained, contained_more}
+use Rattle.std.proofs.Common.{arith}
 
 -- what such a step touches; its values don't matter for its tags
 abbrev touching : ℕ → MarkedEffect Entity EntityState Saying
 touching pid = record { mark = None; read = (Proc pid, None) ∷ (Sig pid, None) ∷ []; written = (Proc pid, None) ∷ []; said = None }
 
 twice : (a b : Bool) → (false || (a || (b || false))) ≡ (false || (a || (b || (a || false))))
-twice true b = refl
-twice false true = refl
-twice false false = refl
+twice a b = grind arith
 
 -- one of one is one of two
 pub first_among : (a b : Bool) → (a || false) ≡ true → (a || (b || false)) ≡ true
-first_among true b is = refl
-first_among false b is = absurd (true≢false (sym is))
+first_among a b is = grind arith
 
 or_none : (b : Bool) → (b || false) ≡ b
-or_none true = refl
-or_none false = refl
+or_none b = grind arith
 
 module _ (m : Parts) (pid : ℕ) where
   -- its tags, as those of a step

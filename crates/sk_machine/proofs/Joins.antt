@@ -1,11 +1,10 @@
 -- Steps as the machine of a record has them.
 use Rattle.sk_machine.proofs.Names.{◌≡◌, ℕ, zero, suc, ◌<◌, true, false, ◌||◌, List, [], ◌∷◌, ◌++◌, map, Option, Some}
 use Rattle.sk_machine.proofs.Names.{None, refl, sym, ◌∙◌, ap, arith, Contains, eq_by_cmp, Equal-is, entity_cmp, Entity}
-use Rattle.sk_machine.proofs.Names.{Proc, Sig, Exit, Obj, Link, Copy, Process, written_beside, gone_in, entity_exact}
-use Rattle.sk_machine.proofs.Names.{true≢false, is_in, writes, IsTidy, step_tags, tidy_clean, EntityState, IsBeside}
-use Rattle.sk_machine.proofs.Names.{IsNoProcess, writes_of, PlanView, BesideView, Nothing, Says, One, Birth, Gone}
-use Rattle.sk_machine.proofs.Names.{EntryView, look_at, Parts, undo_state_of, planned_effect, AreApart, IsClean}
-use Rattle.sk_machine.proofs.Names.{entities_of}
+use Rattle.sk_machine.proofs.Names.{Proc, Process, written_beside, gone_in, entity_exact, true≢false, is_in, writes}
+use Rattle.sk_machine.proofs.Names.{IsTidy, step_tags, tidy_clean, EntityState, IsBeside, IsNoProcess, writes_of}
+use Rattle.sk_machine.proofs.Names.{PlanView, BesideView, Nothing, Says, One, Birth, Gone, EntryView, look_at, Parts}
+use Rattle.sk_machine.proofs.Names.{undo_state_of, planned_effect, AreApart, IsClean, entities_of}
 use Rattle.sk_store.specs.declared.entity_state.EntityState.TheVariants as stored
 
 pub contained : (es : List Entity) (e : Entity) → is_in entity_cmp es e ≡ true → Contains es e
@@ -30,27 +29,15 @@ clean_of m n plan tags tidy is e there none =
 -- ---- no entity is written twice
 process_apart : (e : Entity) (pid : ℕ) → IsNoProcess e → eq_by_cmp entity_cmp e (Proc pid) ≡ false
 process_apart (Proc p) pid h = absurd h
-process_apart (Sig p) pid h = refl
-process_apart (Exit p) pid h = refl
-process_apart (Obj o) pid h = refl
-process_apart (Link o n) pid h = refl
-process_apart (Copy n) pid h = refl
+process_apart other pid h = refl
 
 process_first : (e : Entity) (pid : ℕ) → IsNoProcess e → eq_by_cmp entity_cmp (Proc pid) e ≡ false
 process_first (Proc p) pid h = absurd h
-process_first (Sig p) pid h = refl
-process_first (Exit p) pid h = refl
-process_first (Obj o) pid h = refl
-process_first (Link o n) pid h = refl
-process_first (Copy n) pid h = refl
+process_first other pid h = refl
 
 abbrev pid_of : Entity → ℕ
 pid_of (Proc p) = p
-pid_of (Sig p) = p
-pid_of (Exit p) = p
-pid_of (Obj o) = 0
-pid_of (Link o n) = 0
-pid_of (Copy n) = 0
+pid_of other = 0
 
 child_apart : (child pid : ℕ) → pid < child → eq_by_cmp entity_cmp (Proc child) (Proc pid) ≡ false
 child_apart child pid less =

@@ -1,16 +1,20 @@
 -- What the lists of dependents have, after writes and decisions.
-use Rattle.sk_machine.proofs.Names.{◌≡◌, ℕ, zero, suc, ◌<◌, ◌≤◌, ◌+◌, length, take, drop, true, false, not, cond, ◌||◌}
-use Rattle.sk_machine.proofs.Names.{Bool, List, [], ◌∷◌, ◌++◌, map, Option, refl, sym, ◌∙◌, ap, subst, arith, list_any}
+use Rattle.sk_machine.proofs.Names.{Bool, ◌≡◌, ℕ, zero, suc, ◌<◌, ◌≤◌, ◌+◌, length, take, drop, true, false, not, List}
+use Rattle.sk_machine.proofs.Names.{[], ◌∷◌, ◌++◌, map, Option, refl, sym, ◌∙◌, ap, subst, arith, list_any}
 use Rattle.sk_machine.proofs.Names.{AllByRecursion, ◌==◌, slice_index_or, eq_by_cmp, eq_by_cmp_equiv, entity_total}
-use Rattle.sk_machine.proofs.Names.{entity_exact, all_kept, true≢false, false≢true, or_left, or_right, eqb-true, eq-eqb}
-use Rattle.sk_machine.proofs.Names.{list_any-append, is_in, has, nat_cmp, above, IsTidy, numbers, still_open}
-use Rattle.sk_machine.proofs.Names.{entity_cmp, Entity, with_entities, OpenGuess, opens_of, dependents_of, left_to, but}
-use Rattle.sk_machine.proofs.Names.{not_resting, after_commit, tied_is, EntityState, SlotMap, look_at, log_at, Unwound}
-use Rattle.sk_machine.proofs.Names.{Lightened, AreListed, AllGrow, tags_in, with_tags, AllExact, AllAlmostExact, Covers}
-use Rattle.sk_machine.proofs.Names.{Depends, Parts, undo_state_of, IsClean, Performed, entities_of}
+use Rattle.sk_machine.proofs.Names.{entity_exact, all_kept, true≢false, or_left, or_right, eq-eqb, list_any-append}
+use Rattle.sk_machine.proofs.Names.{is_in, has, nat_cmp, above, IsTidy, numbers, still_open, entity_cmp, Entity}
+use Rattle.sk_machine.proofs.Names.{with_entities, OpenGuess, opens_of, dependents_of, left_to, but, not_resting}
+use Rattle.sk_machine.proofs.Names.{after_commit, tied_is, EntityState, SlotMap, look_at, log_at, Unwound, Lightened}
+use Rattle.sk_machine.proofs.Names.{AreListed, AllGrow, tags_in, with_tags, AllExact, AllAlmostExact, Covers, Depends}
+use Rattle.sk_machine.proofs.Names.{Parts, undo_state_of, IsClean, Performed, entities_of}
 use Rattle.sk_guesses.proofs.Kept as kept
 use Rattle.sk_guesses.proofs.Listed as lists
 use Rattle.std.specs.List.Sorted.{IsStrictlySortedBy}
+use Rattle.std.proofs.lemmas.Bool.Decides.{nat_tests}
+use Rattle.std.proofs.lemmas.Grind.{common_steps}
+use Rattle.std.proofs.lemmas.Bool.{false_from_ne_true}
+use Rattle.std.proofs.lemmas.List.{take-append-drop, take_all as all_taken, drop_all as all_dropped}
 
 -- ---- the lemmas of sk_guesses, in the order of entities
 pub exact_as : (tags later : Entity → List ℕ) → ((e : Entity) → tags e ≡ later e) → (os : List (OpenGuess Entity)) → AllExact tags os → AllExact later os
@@ -36,24 +40,14 @@ pub depends_exact : (tags : List ℕ) (es : List Entity) (x : Entity) (base : En
     → (os new : List (OpenGuess Entity)) → Depends own tags x os new → AllExact (with_tags tags es base) os → AllExact (with_tags tags (es ++ x ∷ []) base) new
 depends_exact = lists.depends_exact entity_total entity_exact
 
-isnt : (b : Bool) → (b ≡ true → ⊥) → b ≡ false
-isnt true not = absurd (not refl)
-isnt false not = refl
-
 -- where each guess of a set was drawn after all of these, no list of theirs changes
 pub later_exact : (tags : List ℕ) (es : List Entity) (base : Entity → List ℕ) → Covers tags es base
     → (os : List (OpenGuess Entity)) → ((g : ℕ) → has g tags ≡ true → has g (numbers (opens_of os)) ≡ false) → AllExact base os → AllExact (with_tags tags es base) os
 later_exact tags es base covers [] apart all = tt
-later_exact tags es base covers (o ∷ os) apart all =
-    let none : has o.id tags ≡ false = isnt (has o.id tags) (λ here. true≢false (sym (or_left _ _ (eq-eqb o.id o.id refl)) ∙ apart o.id here)) in (
-      (λ e.
-          all.0 e
-          ∙ elim (is_in entity_cmp es e) as (λ b. is_in entity_cmp es e ≡ b → has o.id (base e) ≡ has o.id (cond b tags (base e))) [
-            | true ↦ λ there. isnt (has o.id (base e)) (λ here. true≢false (sym (covers e o.id there here) ∙ none)) ∙ sym none
-            | false ↦ λ _. refl
-          ] refl),
-      later_exact tags es base covers os (λ g here. isnt (has g (numbers (opens_of os))) (λ later. true≢false (sym (or_right _ _ later) ∙ apart g here))) all.1,
-    )
+later_exact tags es base covers (o ∷ os) apart all = (
+  λ e. grind (arith, eq-eqb o.id o.id refl, apart o.id, covers e o.id, all.0 e),
+  later_exact tags es base covers os (λ g here. grind (arith, apart g here)) all.1,
+)
 
 pub no_length : {A : Type 0} (xs : List A) → length xs ≡ 0 → xs ≡ []
 no_length [] none = refl
@@ -61,30 +55,18 @@ no_length (x ∷ xs) none = absurd (omega (arith, none))
 
 -- ---- one of a list is gone over
 pub take_next : (es : List Entity) (i : ℕ) (d : Entity) → i < length es → d ≡ slice_index_or es i d → take (i + 1) es ≡ take i es ++ d ∷ []
-take_next es i d lt is = let next : i + 1 ≡ suc i = omega arith in ap (λ k. take k es) next ∙ by_place es i lt is where
-  by_place : (es : List Entity) (i : ℕ) → i < length es → d ≡ slice_index_or es i d → take (suc i) es ≡ take i es ++ d ∷ []
-  by_place [] i lt is = absurd (omega arith)
-  by_place (x ∷ es) zero lt is = ap (λ y. y ∷ []) (sym is)
-  by_place (x ∷ es) (suc i) lt is = ap (λ ys. x ∷ ys) (by_place es i (omega arith) is)
+take_next es i d lt is = grind (arith, common_steps)
 
 pub take_all : (es : List Entity) (i : ℕ) → length es ≤ i → take i es ≡ es
-take_all [] zero le = refl
-take_all [] (suc i) le = refl
-take_all (x ∷ es) zero le = absurd (omega arith)
-take_all (x ∷ es) (suc i) le = ap (λ ys. x ∷ ys) (take_all es i (omega arith))
+take_all es i le = all_taken i es le
 
 pub drop_all : (es : List Entity) (i : ℕ) → length es ≤ i → drop i es ≡ []
-drop_all [] zero le = refl
-drop_all [] (suc i) le = refl
-drop_all (x ∷ es) zero le = absurd (omega arith)
-drop_all (x ∷ es) (suc i) le = drop_all es i (omega arith)
+drop_all es i le = all_dropped i es le
 
 pub in_front : (es : List Entity) (i : ℕ) (e : Entity) → is_in entity_cmp (take i es) e ≡ true → is_in entity_cmp es e ≡ true
-in_front [] zero e here = here
-in_front [] (suc i) e here = here
-in_front (x ∷ es) zero e here = absurd (false≢true here)
-in_front (x ∷ es) (suc i) e here =
-    elim (eq_by_cmp entity_cmp e x) as (λ b. (b || is_in entity_cmp (take i es) e) ≡ true → (b || is_in entity_cmp es e) ≡ true) [ true ↦ λ _. refl | false ↦ λ later. in_front es i e later ] here
+in_front es i e here =
+    ap (λ xs. is_in entity_cmp xs e) (sym (take-append-drop i es)) ∙ list_any-append (eq_by_cmp entity_cmp e) (take i es) (drop i es)
+    ∙ or_left _ _ here
 
 -- ---- a step
 -- what is written rests on what the step rests on
@@ -94,11 +76,7 @@ tags_written m n tags ws clean did = lists.tags_written entity_total entity_exac
 
 pub any_of : (tags : Entity → List ℕ) (g : ℕ) (es : List Entity) (e : Entity) → is_in entity_cmp es e ≡ true → has g (tags e) ≡ true → list_any (λ x. has g (tags x)) es ≡ true
 any_of tags g [] e here is = absurd (true≢false (sym here))
-any_of tags g (x ∷ es) e here is =
-    elim (eq_by_cmp entity_cmp e x) as (λ b. eq_by_cmp entity_cmp e x ≡ b → (b || is_in entity_cmp es e) ≡ true → (has g (tags x) || list_any (λ x. has g (tags x)) es) ≡ true) [
-      | true ↦ λ same _. or_left _ _ (ap (λ y. has g (tags y)) (sym (tied_is entity_total entity_exact e x same)) ∙ is)
-      | false ↦ λ _ later. or_right _ _ (any_of tags g es e later is)
-    ] refl here
+any_of tags g (x ∷ es) e here is = grind (arith, tied_is entity_total entity_exact e x, any_of tags g es e)
 
 -- each entity of which a note rests on an undecided guess is in its list
 pub listed : (g : ℕ) (m : SlotMap) (os : List (OpenGuess Entity)) → AllExact (tags_in m) os → AllGrow m → has g (numbers (opens_of os)) ≡ true → AreListed g m (dependents_of g os)
@@ -117,36 +95,24 @@ failed_almost g m n grows did os all here =
 -- where that rested on the failed guess alone, it is in none of them
 but_apart : (g : ℕ) (os : List (OpenGuess Entity)) → AllByRecursion (λ (o : OpenGuess Entity). (o.id == g) ≡ false) (but g os)
 but_apart g [] = tt
-but_apart g (o ∷ os) =
-    elim (o.id == g) as (λ b. (o.id == g) ≡ b → AllByRecursion (λ (p : OpenGuess Entity). (p.id == g) ≡ false) (cond (not b) (o ∷ but g os) (but g os))) [
-      | true ↦ λ _. but_apart g os
-      | false ↦ λ is. (is, but_apart g os)
-    ] refl
+but_apart g (o ∷ os) = grind (arith, but_apart g os)
 
 only_one : (g h : ℕ) → (h == g) ≡ false → has h (g ∷ []) ≡ false
-only_one g h apart =
-    elim (g == h) as (λ b. (g == h) ≡ b → (b || false) ≡ false) [
-      | true ↦ λ is. absurd (true≢false (sym (eq-eqb h g (sym (eqb-true g h is))) ∙ apart))
-      | false ↦ λ _. refl
-    ] refl
+only_one g h apart = grind (arith, nat_tests)
+
+by_place : (i d l : Bool) → (i ≡ true → d ≡ false) → (l ≡ true → d ≡ true) → (i ≡ false → d ≡ l) → d ≡ l
+by_place true d true none kept others = kept refl
+by_place true d false none kept others = none refl
+by_place false d l none kept others = others refl
 
 exact_alone : (g : ℕ) (es : List Entity) (before later : Entity → List ℕ) → Covers (g ∷ []) es before → (os : List (OpenGuess Entity)) → AllExact before os
     → AllByRecursion (λ (o : OpenGuess Entity). (o.id == g) ≡ false) os → AllAlmostExact later es os → AllExact later os
 exact_alone g es before later alone [] old apart almost = tt
 exact_alone g es before later alone (o ∷ os) old apart almost = (
-  (λ e.
-      let not_before : is_in entity_cmp es e ≡ true → is_in entity_cmp o.dependents e ≡ false =
-      λ there. old.0 e ∙ (elim (has o.id (before e)) as (λ b. has o.id (before e) ≡ b → b ≡ false) [
-        | true ↦ λ was. absurd (true≢false (sym (alone e o.id there was) ∙ only_one g o.id apart.0))
-        | false ↦ λ _. refl
-      ] refl) in
-      elim (is_in entity_cmp es e) as (λ b. is_in entity_cmp es e ≡ b → is_in entity_cmp o.dependents e ≡ has o.id (later e)) [
-        | true ↦ λ there. elim (has o.id (later e)) as (λ b. has o.id (later e) ≡ b → is_in entity_cmp o.dependents e ≡ b) [
-          | true ↦ λ rests. almost.0.kept e rests
-          | false ↦ λ _. not_before there
-        ] refl
-        | false ↦ λ none. almost.0.others e none
-      ] refl),
+  λ e.
+      let none = λ (there : is_in entity_cmp es e ≡ true). old.0 e ∙ false_from_ne_true (has o.id (before e)) (λ was.
+      true≢false (sym (alone e o.id there was) ∙ only_one g o.id apart.0)) in
+      by_place (is_in entity_cmp es e) _ (has o.id (later e)) none (almost.0.kept e) (almost.0.others e),
   exact_alone g es before later alone os old.1 apart.1 almost.1,
 )
 
@@ -170,10 +136,7 @@ unfolding IsStrictlySortedBy
 fresh [] y rises = refl
 fresh (x ∷ xs) y rises =
     let less = above x (xs ++ y ∷ []) y rises.0 (list_any-append (λ t. t == y) xs (y ∷ []) ∙ or_right _ _ (or_left _ _ (eq-eqb y y refl))) in
-    elim (x == y) as (λ b. (x == y) ≡ b → (b || has y xs) ≡ false) [
-      | true ↦ λ is. let same = eqb-true x y is in absurd (omega arith)
-      | false ↦ λ _. fresh xs y rises.1
-    ] refl
+    grind (arith, nat_tests, fresh xs y rises.1)
 
 pub in_place : (es : List Entity) (i : ℕ) (x : Entity) → i < length es → x ≡ slice_index_or es i x → is_in entity_cmp es x ≡ true
 in_place [] i x lt is = absurd (omega arith)
@@ -206,11 +169,7 @@ more_opens (x ∷ os) o = ap (λ xs. (x.id, x.tags) ∷ xs) (more_opens os o)
 
 -- nothing rests on a guess that is not open
 pub not_known : (m : Parts) → IsTidy (undo_state_of m) → (g : ℕ) → has g (numbers m.opens) ≡ false → (e : Entity) → has g (tags_in m.slots e) ≡ false
-not_known m tidy g closed e =
-    elim (has g (tags_in m.slots e)) as (λ b. has g (tags_in m.slots e) ≡ b → b ≡ false) [
-      | true ↦ λ here. sym (tidy.known e g here) ∙ closed
-      | false ↦ λ _. refl
-    ] refl
+not_known m tidy g closed e = grind (arith, tidy.known e g)
 
 -- where no guess is open any set has those that something rests on
 pub none_covered : (m : Parts) → IsTidy (undo_state_of m) → m.opens ≡ [] → (tags : List ℕ) (es : List Entity) → Covers tags es (tags_in m.slots)

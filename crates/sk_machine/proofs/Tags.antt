@@ -1,24 +1,20 @@
 -- The tags that a step's footprint rests on, one entity after another.
 use Rattle.sk_machine.proofs.Names.{◌≡◌, ℕ, Bool, true, false, ◌||◌, List, [], ◌∷◌, ◌++◌, map, Option, refl, sym, ◌∙◌}
-use Rattle.sk_machine.proofs.Names.{ap, true≢false, or_left, or_right, is_empty, nat_cmp, AllByRecursion, or_assoc}
+use Rattle.sk_machine.proofs.Names.{ap, true≢false, is_empty, nat_cmp, AllByRecursion, or_assoc, list_any-append}
+use Rattle.sk_machine.proofs.Names.{is_marked, touches, has, marks, numbers, tags_at, step_tags, IsTidy, union_is_tags}
+use Rattle.sk_machine.proofs.Names.{Entity, EntityState, look_at, EntryView, read_by, written_by, PlanView, asked}
+use Rattle.sk_machine.proofs.Names.{changed_are, Parts, undo_state_of, planned_effect, any_rests}
 use Rattle.std.specs.declared.cmp.Ordering.TheVariants.{Less}
 use Rattle.std.specs.List.Sorted.{IsStrictlySortedBy}
-use Rattle.sk_machine.proofs.Names.{list_any-append, is_marked, touches, has, marks, numbers, tags_at, step_tags}
-use Rattle.sk_machine.proofs.Names.{IsTidy, union_is_tags, Entity, EntityState, look_at, EntryView, read_by, written_by}
-use Rattle.sk_machine.proofs.Names.{PlanView, asked, changed_are, Parts, undo_state_of, planned_effect, any_rests}
 use Rattle.sk_machine.proofs.Listed.{not_known}
+use Rattle.std.proofs.Common.{arith}
 
 pub none_more : (b : Bool) → b ≡ (b || false)
-none_more true = refl
-none_more false = refl
+none_more b = grind arith
 
 -- a set that has all guesses of another
 pub covered : (a b : List ℕ) → ((g : ℕ) → has g b ≡ true → has g a ≡ true) → (g : ℕ) → has g a ≡ (has g a || has g b)
-covered a b h g =
-    elim (has g b) as (λ t. has g b ≡ t → has g a ≡ (has g a || t)) [
-      | true ↦ λ is. h g is ∙ sym (or_right (has g a) true refl)
-      | false ↦ λ _. none_more (has g a)
-    ] refl
+covered a b h g = grind (arith, h g)
 
 -- and one that has none
 pub from_none : (a b c : List ℕ) → is_empty a ≡ true → c ≡ b → (g : ℕ) → has g c ≡ (has g a || has g b)
@@ -54,12 +50,9 @@ none_rest m tidy none g es = closed_rest m tidy g (ap (λ os. has g (numbers os)
 pub all_have : (m : Parts) → IsTidy (undo_state_of m) → (tags : List ℕ) → tags ≡ numbers m.opens → (g : ℕ) (own : Bool) (es fs : List Entity)
     → (own || has g tags) ≡ ((own || (has g tags || any_rests m g es)) || any_rests m g fs)
 all_have m tidy tags all g own es fs =
-    elim (has g tags) as (λ b. has g tags ≡ b → (own || b) ≡ ((own || (b || any_rests m g es)) || any_rests m g fs)) [
-      | true ↦ λ _. or_right own true refl ∙ sym (or_left (own || true) (any_rests m g fs) (or_right own true refl))
-      | false ↦ λ out.
-          let closed : has g (numbers m.opens) ≡ false = ap (has g) (sym all) ∙ out in
-          none_more (own || false) ∙ (λ i. (own || sym (closed_rest m tidy g closed es) i) || sym (closed_rest m tidy g closed fs) i)
-    ] refl
+    let none : has g tags ≡ false → any_rests m g es ≡ false = λ out. closed_rest m tidy g (ap (has g) (sym all) ∙ out) es in
+    let nor : has g tags ≡ false → any_rests m g fs ≡ false = λ out. closed_rest m tidy g (ap (has g) (sym all) ∙ out) fs in
+    grind arith
 
 -- the front of a rising list rises
 front_above : (x : ℕ) (xs ys : List ℕ) → AllByRecursion (λ z. nat_cmp x z ≡ Less) (xs ++ ys) → AllByRecursion (λ z. nat_cmp x z ≡ Less) xs
@@ -73,10 +66,7 @@ front_rises (x ∷ xs) ys rises = (front_above x xs ys rises.0, front_rises xs y
 
 -- ---- what they have
 pub own_among : (a b c : Bool) → a ≡ true → ((a || b) || c) ≡ true
-own_among true b c is = refl
-own_among false b c is = absurd (true≢false (sym is))
+own_among a b c is = grind arith
 
 pub last_among : (a b c : Bool) → c ≡ true → ((a || b) || c) ≡ true
-last_among true b c is = refl
-last_among false true c is = refl
-last_among false false c is = is
+last_among a b c is = grind arith

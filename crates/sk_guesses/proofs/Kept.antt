@@ -1,8 +1,8 @@
 -- What is kept of guesses after a draw and a decision, and the statuses that agree with it.
 use Rattle.sk_guesses.proofs.Names.{◌≡◌, ◌≢◌, ℕ, suc, ◌<◌, ◌≤◌, ◌+◌, length, length-append, Bool, true, false, cond}
 use Rattle.sk_guesses.proofs.Names.{not, ◌||◌, ◌&&◌, List, [], ◌∷◌, ◌++◌, map, Option, Some, None, inl, inr, refl, sym}
-use Rattle.sk_guesses.proofs.Names.{◌∙◌, ap, subst, append_assoc, arith, ◌==◌, nat_lt, Ok, Err, AllByRecursion, filter}
-use Rattle.sk_guesses.proofs.Names.{prefix_len, nat_cmp, true≢false, eqb-true, or_left, or_right, or_cases, length-map}
+use Rattle.sk_guesses.proofs.Names.{◌∙◌, ap, subst, append_assoc, arith, ◌==◌, Ok, Err, AllByRecursion, filter}
+use Rattle.sk_guesses.proofs.Names.{nat_cmp, true≢false, eqb-true, or_left, or_right, or_cases, length-map}
 use Rattle.sk_guesses.proofs.Names.{map-append, list_any-append, IsStrictlySortedBy-filter, LAST_GUESS, has, without}
 use Rattle.sk_guesses.proofs.Names.{rests_on, with_drawn, with_failure, with_status, Open, numbers, not_struck}
 use Rattle.sk_guesses.proofs.Names.{still_open, Status, Undecided, Committed, Failed, Struck, has_filter, and_both}
@@ -12,7 +12,7 @@ use Rattle.sk_guesses.proofs.Names.{without_tag, Listing, Token, Redeemed}
 use Rattle.std.specs.Prelude.{Result}
 use Rattle.std.specs.List.Sorted.{IsStrictlySortedBy}
 use Rattle.sk_guesses.specs.declared.guess.Redeemed.TheVariants as redeemed_as
-use Rattle.sk_guesses.proofs.Opens.{guess_of, named, but_named, same_named, named_more, turned, all_kept, own_left, own_more, own_same, still_rises, none_named, unless, more_rises, or_one, open_is, resting_named, is_other}
+use Rattle.sk_guesses.proofs.Opens.{guess_of, named, but_named, same_named, named_more, turned, all_kept, own_left, own_more, own_same, still_rises, none_named, unless, more_rises, or_one, open_is, resting_named}
 
 -- nothing is known to be open that is not
 pub not_known : (v : KeptView) (os : List Open) (g : ℕ) → known v os g ≢ Some Undecided → has g (numbers os) ≡ false
@@ -275,22 +275,6 @@ module _ {E : Type 0} (v : KeptView) (ls ms : List (Listing E)) (next : List E) 
         places = omega (arith, places, more);
         empty = none;
       }
-
--- ---- whether a guess is among them
-pub is_there : {E : Type 0} (g k : ℕ) (ls : List (Listing E)) → k ≡ prefix_len (is_other g) ls → nat_lt k (length ls) ≡ has g (named (map guess_of ls))
-is_there g k [] is = ltb_none k where
-  ltb_none : (k : ℕ) → nat_lt k 0 ≡ false
-  ltb_none k = grind arith
-is_there g k (x ∷ ls) is =
-    elim (x.guess.id == g) as (λ b. k ≡ cond (not b) (1 + prefix_len (is_other g) ls) 0 → nat_lt k (suc (length ls)) ≡ (b || has g (named (map guess_of ls)))) [
-      | true ↦ λ first. ap (λ j. nat_lt j (suc (length ls))) first ∙ some (length ls)
-      | false ↦ λ later. ap (λ j. nat_lt j (suc (length ls))) later ∙ next (prefix_len (is_other g) ls) (length ls) ∙ is_there g (prefix_len (is_other g) ls) ls refl
-    ] is where
-      some : (n : ℕ) → nat_lt 0 (suc n) ≡ true
-      some n = grind arith
-
-      next : (a b : ℕ) → nat_lt (1 + a) (suc b) ≡ nat_lt a b
-      next a b = grind arith
 
 no_numbers : IsStrictlySortedBy nat_cmp []
 unfolding IsStrictlySortedBy

@@ -1,20 +1,16 @@
 -- What the lists of dependents have, after writes and decisions.
-use Rattle.sk_guesses.proofs.Names.{◌≡◌, ℕ, ◌+◌, Bool, true, false, cond, not, ◌||◌, ◌&&◌, List, [], ◌∷◌, ◌++◌, map}
-use Rattle.sk_guesses.proofs.Names.{Option, refl, sym, ◌∙◌, ap, subst, ◌==◌, AllByRecursion, list_all, list_any}
-use Rattle.sk_guesses.proofs.Names.{eq_by_cmp, Ordering, IsTotalOrder, IsAntisymmetric, true≢false, false≢true, or_left}
-use Rattle.sk_guesses.proofs.Names.{or_right, eqb-true, append-nil, list_any-append, is_in, Merges, Note, has, without}
-use Rattle.sk_guesses.proofs.Names.{cut, carried, committed, noted, last_tags, IsGrowing, numbers, has_filter}
-use Rattle.sk_guesses.proofs.Names.{same_last, and_both, tags_by, with_tags, AllExact, IsAlmostExact, AllAlmostExact}
-use Rattle.sk_guesses.proofs.Names.{Covers, Depends, with_entity, with_entities, without_entity, OpenGuess, opens_of}
+use Rattle.std.proofs.Math.Bool.{and-false, and-true}
+use Rattle.sk_guesses.proofs.Names.{◌≡◌, ℕ, Bool, true, false, cond, not, ◌||◌, ◌&&◌, List, [], ◌∷◌, ◌++◌, map, Option}
+use Rattle.sk_guesses.proofs.Names.{refl, sym, ◌∙◌, ap, subst, ◌==◌, AllByRecursion, list_all, list_any, eq_by_cmp}
+use Rattle.sk_guesses.proofs.Names.{Ordering, IsTotalOrder, IsAntisymmetric, true≢false, false≢true, or_left, or_right}
+use Rattle.sk_guesses.proofs.Names.{eqb-true, append-nil, list_any-append, is_in, Merges, Note, has, without, cut}
+use Rattle.sk_guesses.proofs.Names.{carried, committed, noted, last_tags, IsGrowing, numbers, has_filter, same_last}
+use Rattle.sk_guesses.proofs.Names.{and_both, tags_by, with_tags, AllExact, IsAlmostExact, AllAlmostExact, Covers}
+use Rattle.sk_guesses.proofs.Names.{Depends, with_entity, with_entities, without_entity, OpenGuess, opens_of}
 use Rattle.sk_guesses.proofs.Names.{dependents_of, depending, left_to, but, not_resting, after_commit, without_tag}
-use Rattle.sk_guesses.proofs.Names.{without_list}
+use Rattle.sk_guesses.proofs.Names.{without_list, both_ways}
 use Rattle.sk_guesses.proofs.Opens.{all_kept, depending_keeps, same_opens}
 use Rattle.sk_guesses.proofs.Places.{with_in, with_all_in, without_in, tied_is}
-
-both_ways : (a b : Bool) → (a ≡ true → b ≡ true) → (b ≡ true → a ≡ true) → a ≡ b
-both_ways true b f g = sym (f refl)
-both_ways false true f g = g refl
-both_ways false false f g = refl
 
 picked : (h : ℕ) (c : Bool) (xs ys : List ℕ) → has h (cond c xs ys) ≡ cond c (has h xs) (has h ys)
 picked h true xs ys = refl
@@ -31,14 +27,6 @@ with_same : (i q t b : Bool) → (q ≡ true → b ≡ t) → cond i t b ≡ con
 with_same true q t b h = refl
 with_same false true t b h = h refl
 with_same false false t b h = refl
-
-and_true : (b : Bool) → (b && true) ≡ b
-and_true true = refl
-and_true false = refl
-
-and_none : (b : Bool) → (b && false) ≡ false
-and_none true = refl
-and_none false = refl
 
 not_in : (a b : Bool) → (a ≡ true → b ≡ true) → b ≡ false → a ≡ false
 not_in true b f none = sym (f refl) ∙ none
@@ -157,13 +145,13 @@ module _ {K : Type 0} {R : K → K → Ordering} (total : IsTotalOrder R) (exact
           without_in total exact o.dependents x k
           ∙ elim (eq_by_cmp R k x) as (λ b. eq_by_cmp R k x ≡ b → (is_in R o.dependents k && not b) ≡ true) [
             | true ↦ λ same. absurd (true≢false (sym here ∙ ap (λ y. has o.id (base y)) (tied_is total exact k x same) ∙ is))
-            | false ↦ λ _. and_true (is_in R o.dependents k) ∙ almost.kept k here
+            | false ↦ λ _. and-true (is_in R o.dependents k) ∙ almost.kept k here
           ] refl;
       others = λ k none.
           without_in total exact o.dependents x k
           ∙ elim (eq_by_cmp R k x) as (λ b. eq_by_cmp R k x ≡ b → (is_in R o.dependents k && not b) ≡ has o.id (base k)) [
-            | true ↦ λ same. and_none (is_in R o.dependents k) ∙ sym (ap (λ y. has o.id (base y)) (tied_is total exact k x same) ∙ is)
-            | false ↦ λ apart. and_true (is_in R o.dependents k) ∙ almost.others k (λ i. apart i || none i)
+            | true ↦ λ same. and-false (is_in R o.dependents k) ∙ sym (ap (λ y. has o.id (base y)) (tied_is total exact k x same) ∙ is)
+            | false ↦ λ apart. and-true (is_in R o.dependents k) ∙ almost.others k (λ i. apart i || none i)
           ] refl;
     }
 
@@ -190,10 +178,6 @@ module _ {K : Type 0} {R : K → K → Ordering} (total : IsTotalOrder R) (exact
   begun g tags ks base own fresh k =
       with_all_in total exact ks [] k
       ∙ elim (is_in R ks k) as (λ b. b ≡ has g (cond b tags (base k))) [ true ↦ sym own | false ↦ sym (fresh k) ]
-
-  -- the list of a guess is moved out
-  pub other_lists : (P : OpenGuess K → Type 0) (g : ℕ) (os : List (OpenGuess K)) → AllByRecursion P os → AllByRecursion P (but g os)
-  other_lists P g os all = all_kept P (λ o. not (o.id == g)) os all
 
   -- ---- what is written
   last_more : {V : Type 0} (t : List ℕ) (ns : List (Note V)) (n : Note V) → last_tags t (ns ++ n ∷ []) ≡ n.tags

@@ -1,8 +1,9 @@
 -- Where all were drawn before a guess, and no tag is above its own guess, no step rests on it.
-use Rattle.sk_guesses.proofs.Names.{◌≡◌, ltb, ℕ, suc, ◌-◌, ◌<◌, true, false, ◌||◌, List, [], ◌∷◌, length, map, refl}
-use Rattle.sk_guesses.proofs.Names.{sym, ◌∙◌, ap, arith, slice_index_or, list_any, IsStrictlySortedBy, nat_cmp}
-use Rattle.sk_guesses.proofs.Names.{ltb-true, ltb-false, has, AreBelow, opens_of, Listing}
-use Rattle.sk_guesses.proofs.Earlier.{number_at}
+use Rattle.sk_guesses.proofs.Names.{◌≡◌, ℕ, suc, ◌-◌, ◌<◌, true, false, ◌||◌, List, [], ◌∷◌, length, map, refl, ◌∙◌, ap}
+use Rattle.sk_guesses.proofs.Names.{arith, slice_index_or, list_any, IsStrictlySortedBy, nat_cmp, has, AreBelow}
+use Rattle.sk_guesses.proofs.Names.{opens_of, Listing, inl, inr}
+use Rattle.std.proofs.lemmas.Bool.{cases_lt}
+use Rattle.std.proofs.lemmas.List.{get_or_default}
 use Rattle.sk_guesses.proofs.Opens.{guess_of, named}
 use Rattle.sk_guesses.proofs.Passes.{earlier}
 
@@ -11,17 +12,13 @@ all_older : {E : Type 0} → (ls : List (Listing E)) (newest : Listing E) (g : �
     → newest ≡ slice_index_or ls (length ls - 1) newest → newest.guess.id < g → (k : ℕ) (d : Listing E) → k < length ls → (slice_index_or ls k d).guess.id < g
 all_older ls newest g rises some last less k d lt =
     let id : newest.guess.id ≡ (slice_index_or ls (length ls - 1) newest).guess.id = ap (λ (l : Listing _). l.guess.id) last in
-    elim (ltb k (length ls - 1)) as (λ b. ltb k (length ls - 1) ≡ b → (slice_index_or ls k d).guess.id < g) [
-      | true ↦ λ is.
-          let lower = earlier ls k (length ls - 1) d newest rises (ltb-true k (length ls - 1) is) (omega (arith, some)) in
-          omega (arith, lower, less, id)
-      | false ↦ λ is.
-          let late = ltb-false k (length ls - 1) is in
+    elim (cases_lt k (length ls - 1)) [
+      | inl before ↦ let lower = earlier ls k (length ls - 1) d newest rises before (omega (arith, some)) in omega (arith, lower, less, id)
+      | inr late ↦
           let there : k ≡ length ls - 1 = omega (arith, late, lt) in
-          let same : (slice_index_or ls k d).guess.id ≡ (slice_index_or ls k newest).guess.id = sym (number_at ls k 0 d lt) ∙ number_at ls k 0 newest lt in
-          let at : (slice_index_or ls k newest).guess.id ≡ (slice_index_or ls (length ls - 1) newest).guess.id = ap (λ n. (slice_index_or ls n newest).guess.id) there in
-          omega (arith, same, at, less, id)
-    ] refl
+          let same = ap (λ (l : Listing _). l.guess.id) (get_or_default ls k d newest lt ∙ ap (λ n. slice_index_or ls n newest) there) in
+          omega (arith, same, less, id)
+    ]
 
 none_later : {E : Type 0} → (g : ℕ) (ls : List (Listing E)) → AreBelow (opens_of (map guess_of ls)) → ((k : ℕ) (d : Listing E) → k < length ls → (slice_index_or ls k d).guess.id < g)
     → list_any (λ (x : Listing E). has g x.guess.tags) ls ≡ false

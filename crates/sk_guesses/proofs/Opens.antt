@@ -1,8 +1,9 @@
 -- The undecided guesses after a draw, a decision and a strike.
-use Rattle.sk_guesses.proofs.Names.{◌≡◌, ◌≢◌, ℕ, zero, suc, ◌<◌, ◌≤◌, ◌+◌, ◌-◌, length, length-set, take, drop, Bool}
-use Rattle.sk_guesses.proofs.Names.{true, false, cond, not, ◌||◌, ◌&&◌, List, [], ◌∷◌, ◌++◌, map, Option, Some, None}
-use Rattle.sk_guesses.proofs.Names.{refl, sym, ◌∙◌, ap, subst, arith, ◌==◌, slice_set, slice_index_or, is_some, nat_cmp}
-use Rattle.sk_guesses.proofs.Names.{Less, nat_cmp_is, AllByRecursion, filter, prefix_len, nat_le, nat_lt, true≢false}
+use Rattle.std.proofs.Math.Bool.{and-false, and-true}
+use Rattle.sk_guesses.proofs.Names.{◌≡◌, ◌≢◌, ℕ, zero, suc, ◌<◌, ◌≤◌, ◌+◌, ◌-◌, length, length-set, Bool, true, false}
+use Rattle.sk_guesses.proofs.Names.{cond, not, ◌||◌, ◌&&◌, List, [], ◌∷◌, ◌++◌, map, Option, Some, None, refl, sym, ◌∙◌}
+use Rattle.sk_guesses.proofs.Names.{ap, subst, arith, ◌==◌, slice_set, slice_index_or, is_some, nat_cmp, Less}
+use Rattle.sk_guesses.proofs.Names.{nat_cmp_is, AllByRecursion, filter, prefix_len, nat_le, nat_lt, true≢false}
 use Rattle.sk_guesses.proofs.Names.{eqb-true, eq-eqb, or_left, or_right, leb-false, ltb-false, LAST_GUESS, GUESS_LIMIT}
 use Rattle.sk_guesses.proofs.Names.{list_any-append, IsStrictlySortedBy-filter, slice_get_within, has, without}
 use Rattle.sk_guesses.proofs.Names.{rests_on, with_failure, numbers, not_struck, Status, Undecided, Committed, Failed}
@@ -10,7 +11,7 @@ use Rattle.sk_guesses.proofs.Names.{Struck, has_filter, above, status_in, Guesse
 use Rattle.sk_guesses.proofs.Names.{undecided_of, status_since, decided, drawn, next_of, OpenGuess, AreOpen, opens_of}
 use Rattle.sk_guesses.proofs.Names.{dependents_of, but, not_resting, after_commit, without_tag, struck_by, open_in}
 use Rattle.sk_guesses.proofs.Names.{without_list, depending, relieved, left_to, with_entity, without_entity, Ordering}
-use Rattle.sk_guesses.proofs.Names.{Listing}
+use Rattle.sk_guesses.proofs.Names.{Listing, length-map, ltb-true}
 use Rattle.std.specs.List.Sorted.{IsStrictlySortedBy}
 use Rattle.sk_guesses.proofs.Count.{count_of}
 use Rattle.sk_guesses.proofs.Statuses.{at-place, some_number, nothing_in, drawn-since, status-drawn, status-decided}
@@ -50,6 +51,11 @@ named_more (x ∷ os) o = ap (λ ns. x.id ∷ ns) (named_more os o)
 pub as_many : {E : Type 0} → (os : List (OpenGuess E)) → length (named os) ≡ length os
 as_many [] = refl
 as_many (o ∷ os) = ap suc (as_many os)
+
+-- what is not true is false
+pub isnt : (b : Bool) → b ≢ true → b ≡ false
+isnt true other = absurd (other refl)
+isnt false other = refl
 
 -- ---- statuses
 pub open_is : (o : Option Status) → open_in o ≡ true → o ≡ Some Undecided
@@ -123,11 +129,7 @@ none_named g h (o ∷ os) none =
     ] none
 
 pub not_above : (x g : ℕ) (xs : List ℕ) → (x == g) ≡ true → AllByRecursion (λ y. nat_cmp x y ≡ Less) xs → has g xs ≡ false
-not_above x g xs is all =
-    elim (has g xs) as (λ b. has g xs ≡ b → b ≡ false) [
-      | true ↦ λ here. let more = above x xs g all here in let same = eqb-true x g is in absurd (omega arith)
-      | false ↦ λ _. refl
-    ] refl
+not_above x g xs is all = isnt (has g xs) (λ here. let more = above x xs g all here in let same = eqb-true x g is in absurd (omega arith))
 
 pub resting_named : {E : Type 0} → (g h : ℕ) (os : List (OpenGuess E)) → IsStrictlySortedBy nat_cmp (named os) → has h (named (not_resting g os)) ≡ (has h (named os) && not (rests_on g (opens_of os) h))
 unfolding IsStrictlySortedBy
@@ -162,16 +164,7 @@ still_rises g (o ∷ os) rises =
     elim (not (has g o.tags)) as (λ b. IsStrictlySortedBy nat_cmp (named (cond b (o ∷ not_resting g os) (not_resting g os)))) [ true ↦ (below_all o.id g os rises.0, still_rises g os rises.1) | false ↦ still_rises g os rises.1 ]
 
 pub unless : (o : Option Status) (b : Bool) → (open_in o && not b) ≡ open_in (cond b (Some Struck) o)
-unless None true = refl
-unless None false = refl
-unless (Some Undecided) true = refl
-unless (Some Undecided) false = refl
-unless (Some Committed) true = refl
-unless (Some Committed) false = refl
-unless (Some Failed) true = refl
-unless (Some Failed) false = refl
-unless (Some Struck) true = refl
-unless (Some Struck) false = refl
+unless o b = elim b as (λ t. (open_in o && not t) ≡ open_in (cond t (Some Struck) o)) [ true ↦ and-false (open_in o) | false ↦ and-true (open_in o) ]
 
 pub open_struck : {E : Type 0} → (v w : GuessesView) (os : List (OpenGuess E)) (id : ℕ) → AreOpen v os → ((g : ℕ) → status_since w g ≡ cond (rests_on id (opens_of os) g) (Some Struck) (status_since v g)) → AreOpen w (not_resting id os)
 open_struck v w os id are struck = record {
@@ -288,11 +281,7 @@ pub emptied : {E : Type 0} → (v : GuessesView) (os : List (OpenGuess E)) (g : 
 emptied v os g are closed = none_there g os (are.tied g ∙ closed)
 
 not_open : (o : Option Status) → o ≢ Some Undecided → open_in o ≡ false
-not_open None other = refl
-not_open (Some Undecided) other = absurd (other refl)
-not_open (Some Committed) other = refl
-not_open (Some Failed) other = refl
-not_open (Some Struck) other = refl
+not_open o other = isnt (open_in o) (λ is. other (open_is o is))
 
 pub none_decided : {E : Type 0} → (v : GuessesView) (os : List (OpenGuess E)) (g : ℕ) → AreOpen v os → status_since v g ≢ Some Undecided → dependents_of g os ≡ []
 none_decided v os g are other = emptied v os g are (not_open (status_since v g) other)
@@ -311,13 +300,27 @@ found g k (x ∷ ls) l is lt at =
           found g (prefix_len (is_other g) ls) ls l refl (omega arith) (at ∙ ap (λ j. slice_index_or (x ∷ ls) j l) next)
     ] is
 
+-- whether a guess is among them
+pub is_there : {E : Type 0} (g k : ℕ) (ls : List (Listing E)) → k ≡ prefix_len (is_other g) ls → nat_lt k (length ls) ≡ has g (named (map guess_of ls))
+is_there g k [] is = ltb_none k where
+  ltb_none : (k : ℕ) → nat_lt k 0 ≡ false
+  ltb_none k = grind arith
+is_there g k (x ∷ ls) is =
+    elim (x.guess.id == g) as (λ b. k ≡ cond (not b) (1 + prefix_len (is_other g) ls) 0 → nat_lt k (suc (length ls)) ≡ (b || has g (named (map guess_of ls)))) [
+      | true ↦ λ first. ap (λ j. nat_lt j (suc (length ls))) first ∙ some (length ls)
+      | false ↦ λ later. ap (λ j. nat_lt j (suc (length ls))) later ∙ next (prefix_len (is_other g) ls) (length ls) ∙ is_there g (prefix_len (is_other g) ls) ls refl
+    ] is where
+      some : (n : ℕ) → nat_lt 0 (suc n) ≡ true
+      some n = grind arith
+
+      next : (a b : ℕ) → nat_lt (1 + a) (suc b) ≡ nat_lt a b
+      next a b = grind arith
+
+pub not_there : {E : Type 0} → (g k : ℕ) (ls : List (Listing E)) → k ≡ prefix_len (is_other g) ls → length ls ≤ k → has g (named (map guess_of ls)) ≡ false
+not_there g k ls is le = sym (is_there g k ls is) ∙ isnt (nat_lt k (length ls)) (λ lt. let less = ltb-true k (length ls) lt in omega (arith, le, less))
+
 pub missing : {E : Type 0} → (g k : ℕ) (ls : List (Listing E)) → k ≡ prefix_len (is_other g) ls → length ls ≤ k → [] ≡ dependents_of g (map guess_of ls)
-missing g k [] is le = refl
-missing g k (x ∷ ls) is le =
-    elim (x.guess.id == g) as (λ b. k ≡ cond (not b) (1 + prefix_len (is_other g) ls) 0 → [] ≡ cond b x.guess.dependents (dependents_of g (map guess_of ls))) [
-      | true ↦ λ none. absurd (omega arith)
-      | false ↦ λ more. missing g (prefix_len (is_other g) ls) ls refl (omega arith)
-    ] is
+missing g k ls is le = sym (none_there g (map guess_of ls) (not_there g k ls is le))
 
 pub none_taken : {E : Type 0} → (g k : ℕ) (ls : List (Listing E)) → k ≡ prefix_len (is_other g) ls → length ls ≤ k → map guess_of ls ≡ without_list g (map guess_of ls)
 none_taken g k [] is le = refl
@@ -345,6 +348,10 @@ taken g (suc k) (x ∷ ls) l new is lt at left =
 pub same_opens : {E : Type 0} → (f : (OpenGuess E) → (OpenGuess E)) → ((o : (OpenGuess E)) → (f o).id ≡ o.id × (f o).tags ≡ o.tags) → (os : List (OpenGuess E)) → opens_of (map f os) ≡ opens_of os
 same_opens f h [] = refl
 same_opens f h (o ∷ os) = λ i. ((h o).0 i, (h o).1 i) ∷ same_opens f h os i
+
+-- each of all is changed, and there are as many
+pub as_long : {E : Type 0} → (f : OpenGuess E → OpenGuess E) (ms ls : List (Listing E)) → map guess_of ms ≡ map f (map guess_of ls) → length ms ≡ length ls
+as_long f ms ls is = sym (length-map ms guess_of) ∙ ap length is ∙ length-map (map guess_of ls) f ∙ length-map ls guess_of
 
 pub taken_opens : {E : Type 0} → (g : ℕ) (os : List (OpenGuess E)) → opens_of (without_list g os) ≡ opens_of os
 taken_opens g [] = refl
@@ -453,33 +460,6 @@ no_places (o ∷ os) none = absurd (omega (arith, none))
 -- where an epoch ends none is open
 pub settled_open : {E : Type 0} → (v w : GuessesView) (os : List (OpenGuess E)) → AreOpen v os → undecided_of v.statuses ≡ 0 → w.statuses ≡ [] → AreOpen w os
 settled_open v w os are none empty = none_open w os empty (no_places os (sym none ∙ counted v os are))
-
--- ---- one place of all is changed
-pub set_same : {E : Type 0} → (ls : List (Listing E)) (i : ℕ) (l new : (Listing E)) → i < length ls → l ≡ slice_index_or ls i l → new.guess ≡ l.guess → map guess_of (slice_set ls i new) ≡ map guess_of ls
-set_same [] i l new lt at same = absurd (omega arith)
-set_same (x ∷ ls) zero l new lt at same = ap (λ o. o ∷ map guess_of ls) (same ∙ ap guess_of at)
-set_same (x ∷ ls) (suc i) l new lt at same = ap (λ os. x.guess ∷ os) (set_same ls i l new (omega arith) at same)
-
-pub set_after : {E : Type 0} → (ls : List (Listing E)) (i k : ℕ) (d new : (Listing E)) → suc i ≤ k → slice_index_or (slice_set ls i new) k d ≡ slice_index_or ls k d
-set_after [] i k d new le = refl
-set_after (x ∷ ls) i zero d new le = absurd (omega arith)
-set_after (x ∷ ls) zero (suc k) d new le = refl
-set_after (x ∷ ls) (suc i) (suc k) d new le = set_after ls i k d new (omega arith)
-
-pub done_more : {E : Type 0} → (f : (OpenGuess E) → (OpenGuess E)) (os ls : List (Listing E)) (i : ℕ) (l new : (Listing E)) → i < length ls → length ls ≡ length os → l ≡ slice_index_or ls i l → new.guess ≡ f l.guess
-    → ((d : (Listing E)) → slice_index_or ls i d ≡ slice_index_or os i d)
-    → map guess_of ls ≡ map f (map guess_of (take i os)) ++ map guess_of (drop i os)
-    → map guess_of (slice_set ls i new) ≡ map f (map guess_of (take (suc i) os)) ++ map guess_of (drop (suc i) os)
-done_more f os [] i l new lt as_long at is untouched so_far = absurd (omega arith)
-done_more f [] (x ∷ ls) i l new lt as_long at is untouched so_far = absurd (omega (arith, as_long))
-done_more f (o ∷ os) (x ∷ ls) zero l new lt as_long at is untouched so_far =
-    let tails : map guess_of ls ≡ map guess_of os = cc in
-    λ j. (is ∙ ap (λ (y : (Listing _)). f y.guess) (at ∙ untouched l)) j ∷ tails j
-done_more f (o ∷ os) (x ∷ ls) (suc i) l new lt as_long at is untouched so_far =
-    let heads : x.guess ≡ f o.guess = cc in
-    let tails : map guess_of ls ≡ map f (map guess_of (take i os)) ++ map guess_of (drop i os) = cc in
-    let shorter : length ls ≡ length os = omega (arith, as_long) in
-    λ j. heads j ∷ done_more f os ls i l new (omega arith) shorter at is untouched tails j
 
 -- ---- lists of what is decided, once more
 pub closed_list : {E : Type 0} → (g : ℕ) (os : List (OpenGuess E)) → dependents_of g (but g os) ≡ []

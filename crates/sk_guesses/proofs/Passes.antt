@@ -1,34 +1,20 @@
 -- Passes over the open guesses, one place after the other.
-use Rattle.sk_guesses.proofs.Names.{◌≡◌, ◌≢◌, ltb, ℕ, zero, suc, ◌+◌, ◌<◌, ◌≤◌, length, length-set, take, drop, Bool}
-use Rattle.sk_guesses.proofs.Names.{true, false, cond, not, ◌||◌, ◌&&◌, List, ◌∷◌, ◌++◌, map, inl, inr, refl, sym, ◌∙◌}
-use Rattle.sk_guesses.proofs.Names.{ap, subst, arith, ◌==◌, slice_set, slice_index_or, nat_cmp, filter, prefix_len}
-use Rattle.sk_guesses.proofs.Names.{remove, true≢false, eqb-true, eq-eqb, or_cases, or_left, or_right, ltb-true}
-use Rattle.sk_guesses.proofs.Names.{ltb-false, append-nil, drop_all, take_all, suc-eq-add-one, drop-cons}
-use Rattle.sk_guesses.proofs.Names.{prefix_len_passes, prefix_len_stops, has, without, Open, not_struck, numbers}
-use Rattle.sk_guesses.proofs.Names.{AreBelow, struck_with, above, OpenGuess, after_commit, but, opens_of, without_tag}
-use Rattle.sk_guesses.proofs.Names.{Listing}
+use Rattle.sk_guesses.proofs.Names.{◌≡◌, ◌≢◌, ℕ, zero, suc, ◌+◌, ◌<◌, ◌≤◌, length, take, drop, Bool, true, false, cond}
+use Rattle.sk_guesses.proofs.Names.{not, ◌||◌, ◌&&◌, List, ◌∷◌, ◌++◌, map, inl, inr, refl, sym, ◌∙◌, ap, arith, ◌==◌}
+use Rattle.sk_guesses.proofs.Names.{slice_index_or, nat_cmp, filter, prefix_len, remove, true≢false, eqb-true, eq-eqb}
+use Rattle.sk_guesses.proofs.Names.{or_cases, or_left, or_right, suc-eq-add-one, drop-cons, prefix_len_passes}
+use Rattle.sk_guesses.proofs.Names.{prefix_len_stops, has, without, Open, not_struck, numbers, AreBelow, struck_with}
+use Rattle.sk_guesses.proofs.Names.{above, OpenGuess, after_commit, but, opens_of, without_tag, Listing}
 use Rattle.std.proofs.Common.{[]}
 use Rattle.std.specs.List.Sorted.{IsStrictlySortedBy}
-use Rattle.sk_guesses.proofs.Opens.{guess_of, named, is_other, set_after, done_more, not_above}
+use Rattle.sk_guesses.specs.Shared.{Pairs}
+use Rattle.sk_guesses.proofs.Opens.{guess_of, named, is_other, isnt, none_closed, not_above, not_there}
+use Rattle.sk_guesses.proofs.Shared.{IsPassed, pairs_map}
+use Rattle.std.proofs.lemmas.Simd.{map-map}
+use Rattle.std.proofs.lemmas.Bool.{cases_lt, not-false}
+use Rattle.std.proofs.lemmas.List.{get_or_default}
 
 -- ---- a pass from the back
-pub one_stays : {X : Type 0} (p : X → Bool) (xs : List X) (i : ℕ) (x : X) → i < length xs → x ≡ slice_index_or (take (suc i) xs ++ filter p (drop (suc i) xs)) i x → p x ≡ true
-    → take (suc i) xs ++ filter p (drop (suc i) xs) ≡ take i xs ++ filter p (drop i xs)
-one_stays p [] i x lt at is = absurd (omega arith)
-one_stays p (y ∷ xs) zero x lt at is = sym (ap (λ b. cond b (y ∷ filter p xs) (filter p xs)) (ap p (sym at) ∙ is))
-one_stays p (y ∷ xs) (suc i) x lt at is = ap (λ zs. y ∷ zs) (one_stays p xs i x (omega arith) at is)
-
-pub one_goes : {X : Type 0} (p : X → Bool) (xs : List X) (i : ℕ) (x : X) → i < length xs → x ≡ slice_index_or (take (suc i) xs ++ filter p (drop (suc i) xs)) i x → p x ≡ false
-    → remove (take (suc i) xs ++ filter p (drop (suc i) xs)) i ≡ take i xs ++ filter p (drop i xs)
-one_goes p [] i x lt at is = absurd (omega arith)
-one_goes p (y ∷ xs) zero x lt at is = sym (ap (λ b. cond b (y ∷ filter p xs) (filter p xs)) (ap p (sym at) ∙ is))
-one_goes p (y ∷ xs) (suc i) x lt at is = ap (λ zs. y ∷ zs) (one_goes p xs i x (omega arith) at is)
-
-pub still_within : {X : Type 0} (p : X → Bool) (xs : List X) (i : ℕ) → i < length xs → i < length (take (suc i) xs ++ filter p (drop (suc i) xs))
-still_within p [] i lt = absurd (omega arith)
-still_within p (y ∷ xs) zero lt = omega arith
-still_within p (y ∷ xs) (suc i) lt = let rest = still_within p xs i (omega arith) in omega (arith, rest)
-
 pub fewer : {X : Type 0} (p : X → Bool) (xs : List X) → length (filter p xs) ≤ length xs
 fewer p [] = omega arith
 fewer p (x ∷ xs) =
@@ -36,7 +22,7 @@ fewer p (x ∷ xs) =
     elim (p x) as (λ b. length (cond b (x ∷ filter p xs) (filter p xs)) ≤ suc (length xs)) [ true ↦ omega (arith, rest) | false ↦ omega (arith, rest) ]
 
 is_it : (g n : ℕ) → not (n == g) ≡ false → n ≡ g
-is_it g n is = eqb-true n g (elim (n == g) as (λ b. not b ≡ false → b ≡ true) [ true ↦ λ _. refl | false ↦ λ e. absurd (true≢false e) ] is)
+is_it g n is = eqb-true n g (not-false (n == g) is)
 
 isnt_it : (g n : ℕ) → not (n == g) ≡ true → n ≢ g
 isnt_it g n is = λ same. true≢false (sym is ∙ ap not (eq-eqb n g same))
@@ -50,31 +36,6 @@ same_tags g (t ∷ tags) none =
     ] none
 
 module _ {E : Type 0} where
-  -- a change is made of each before a place, and none from there on
-  pub record IsDone (f : OpenGuess E → OpenGuess E) (os ls : List (Listing E)) (i : ℕ) : Type 0 where
-    pub so_far : map guess_of ls ≡ map f (map guess_of (take i os)) ++ map guess_of (drop i os)
-    pub as_many : length ls ≡ length os
-    pub left : (k : ℕ) (d : Listing E) → i ≤ k → slice_index_or ls k d ≡ slice_index_or os k d
-
-  pub none_done : (f : OpenGuess E → OpenGuess E) (os : List (Listing E)) → IsDone f os os 0
-  none_done f os = record { so_far = refl; as_many = refl; left = λ k d le. refl }
-
-  pub one_done : (f : OpenGuess E → OpenGuess E) (os ls : List (Listing E)) (i : ℕ) (l new : Listing E) → IsDone f os ls i → i < length os → l ≡ slice_index_or ls i l → new.guess ≡ f l.guess
-      → IsDone f os (slice_set ls i new) (i + 1)
-  one_done f os ls i l new so lt at is =
-      let next : suc i ≡ i + 1 = omega arith in
-      let many = so.as_many in
-      record {
-        so_far = subst (λ k. map guess_of (slice_set ls i new) ≡ map f (map guess_of (take k os)) ++ map guess_of (drop k os)) next
-            (done_more f os ls i l new (omega (arith, many, lt)) so.as_many at is (λ d. so.left i d (omega arith)) so.so_far);
-        as_many = rw length-set so.as_many;
-        left = λ k d le. set_after ls i k d new (omega arith) ∙ so.left k d (omega arith);
-      }
-
-  pub all_done : (f : OpenGuess E → OpenGuess E) (os ls : List (Listing E)) (i : ℕ) → IsDone f os ls i → length os ≤ i → map guess_of ls ≡ map f (map guess_of os)
-  all_done f os ls i so le =
-      so.so_far ∙ (λ j. map f (map guess_of (take_all i os le j)) ++ map guess_of (drop_all i os le j)) ∙ append-nil (map f (map guess_of os))
-
   -- ---- a search from the front
   pub next_of_all : (ls : List (Listing E)) (i : ℕ) (l : Listing E) → i < length ls → l ≡ slice_index_or ls i l → drop i ls ≡ l ∷ drop (i + 1) ls
   next_of_all ls i l lt at = drop-cons ls i l lt ∙ (λ k. sym at k ∷ drop (suc-eq-add-one i k) ls)
@@ -85,18 +46,6 @@ module _ {E : Type 0} where
   there (x ∷ ls) zero d lt = or_left _ _ (eq-eqb x.guess.id x.guess.id refl)
   there (x ∷ ls) (suc k) d lt = or_right _ _ (there ls k d (omega arith))
 
-  -- no number is above a later one
-  pub no_later : (ls : List (Listing E)) (i j : ℕ) (d e : Listing E) → IsStrictlySortedBy nat_cmp (named (map guess_of ls)) → i ≤ j → j < length ls
-      → (slice_index_or ls i d).guess.id ≤ (slice_index_or ls j e).guess.id
-  unfolding IsStrictlySortedBy
-  no_later [] i j d e rises le lt = absurd (omega arith)
-  no_later (x ∷ ls) zero zero d e rises le lt = omega arith
-  no_later (x ∷ ls) zero (suc j) d e rises le lt =
-      let more : x.guess.id < (slice_index_or ls j e).guess.id = above x.guess.id (named (map guess_of ls)) (slice_index_or ls j e).guess.id rises.0 (there ls j e (omega arith)) in
-      omega (arith, more)
-  no_later (x ∷ ls) (suc i) zero d e rises le lt = absurd (omega arith)
-  no_later (x ∷ ls) (suc i) (suc j) d e rises le lt = no_later ls i j d e rises.1 (omega arith) (omega arith)
-
   pub earlier : (ls : List (Listing E)) (i j : ℕ) (d e : Listing E) → IsStrictlySortedBy nat_cmp (named (map guess_of ls)) → i < j → j < length ls
       → (slice_index_or ls i d).guess.id < (slice_index_or ls j e).guess.id
   unfolding IsStrictlySortedBy
@@ -106,23 +55,33 @@ module _ {E : Type 0} where
       above x.guess.id (named (map guess_of ls)) (slice_index_or ls j e).guess.id rises.0 (there ls j e (omega arith))
   earlier (x ∷ ls) (suc i) (suc j) d e rises le lt = earlier ls i j d e rises.1 (omega arith) (omega arith)
 
+  -- no number is above a later one
+  no_later : (ls : List (Listing E)) (i j : ℕ) (d e : Listing E) → IsStrictlySortedBy nat_cmp (named (map guess_of ls)) → i ≤ j → j < length ls
+      → (slice_index_or ls i d).guess.id ≤ (slice_index_or ls j e).guess.id
+  no_later ls i j d e rises le lt = elim (cases_lt i j) [
+    | inl less ↦ let more = earlier ls i j d e rises less lt in omega (arith, more)
+    | inr far ↦
+        let there : i ≡ j = omega (arith, le, far) in
+        let same = ap (λ (l : Listing E). l.guess.id) (ap (λ n. slice_index_or ls n d) there ∙ get_or_default ls j d e lt) in
+        omega (arith, same)
+  ]
+
   pub at_place : (g k : ℕ) (ls : List (Listing E)) (l : Listing E) → IsStrictlySortedBy nat_cmp (named (map guess_of ls)) → k < length ls → l ≡ slice_index_or ls k l → l.guess.id ≡ g
       → k ≡ prefix_len (is_other g) ls
   at_place g k ls l rises lt at is =
       let n = prefix_len (is_other g) ls in
       let here : (slice_index_or ls k l).guess.id ≡ g = ap (λ (x : Listing E). x.guess.id) (sym at) ∙ is in
-      let no_more : n ≤ k = elim (ltb k n) as (λ b. ltb k n ≡ b → n ≤ k) [
-        | true ↦ λ low. absurd (isnt_it g (slice_index_or ls k l).guess.id (prefix_len_passes (is_other g) ls k l (ltb-true k n low)) here)
-        | false ↦ λ high. ltb-false k n high
-      ] refl in
-      let no_less : k ≤ n = elim (ltb n k) as (λ b. ltb n k ≡ b → k ≤ n) [
-        | true ↦ λ low.
-            let less : n < k = ltb-true n k low in
+      let no_more : n ≤ k = elim (cases_lt k n) [
+        | inl low ↦ absurd (isnt_it g (slice_index_or ls k l).guess.id (prefix_len_passes (is_other g) ls k l low) here)
+        | inr high ↦ high
+      ] in
+      let no_less : k ≤ n = elim (cases_lt n k) [
+        | inl less ↦
             let stop = is_it g (slice_index_or ls n l).guess.id (prefix_len_stops (is_other g) ls l (omega (arith, less, lt))) in
             let apart = earlier ls n k l l rises less lt in
             absurd (omega (arith, apart, stop, here))
-        | false ↦ λ high. ltb-false n k high
-      ] refl in
+        | inr high ↦ high
+      ] in
       omega (arith, no_more, no_less)
 
   pub no_place : (g : ℕ) (ls : List (Listing E)) → ((k : ℕ) (d : Listing E) → k < length ls → (slice_index_or ls k d).guess.id ≢ g) → length ls ≡ prefix_len (is_other g) ls
@@ -139,13 +98,6 @@ module _ {E : Type 0} where
     pub below : (k : ℕ) (d : Listing E) → k < low → (slice_index_or ls k d).guess.id < g
     pub above_it : (k : ℕ) (d : Listing E) → high ≤ k → k < length ls → g < (slice_index_or ls k d).guess.id
     pub within : high ≤ length ls
-
-  pub any_place : (ls : List (Listing E)) (g high : ℕ) → high ≡ length ls → IsBetween ls g 0 high
-  any_place ls g high all = record {
-    below = λ k d lt. absurd (omega arith);
-    above_it = λ k d le lt. absurd (omega (arith, all));
-    within = omega (arith, all);
-  }
 
   pub further_on : (ls : List (Listing E)) (g low high k : ℕ) (l : Listing E) → IsStrictlySortedBy nat_cmp (named (map guess_of ls)) → k < length ls → l ≡ slice_index_or ls k l → l.guess.id < g
       → IsBetween ls g low high → IsBetween ls g (k + 1) high
@@ -170,35 +122,21 @@ module _ {E : Type 0} where
   }
 
   pub nowhere : (ls : List (Listing E)) (g low high : ℕ) → high ≤ low → IsBetween ls g low high → length ls ≡ prefix_len (is_other g) ls
-  nowhere ls g low high met so = no_place g ls (λ k d lt.
-      elim (ltb k low) as (λ b. ltb k low ≡ b → (slice_index_or ls k d).guess.id ≢ g) [
-        | true ↦ λ is. let less = so.below k d (ltb-true k low is) in λ same. absurd (omega (arith, less, same))
-        | false ↦ λ is. let more = so.above_it k d (let far = ltb-false k low is in omega (arith, far, met)) lt in λ same. absurd (omega (arith, more, same))
-      ] refl)
+  nowhere ls g low high met so = no_place g ls (λ k d lt. elim (cases_lt k low) [
+    | inl is ↦ let less = so.below k d is in λ same. absurd (omega (arith, less, same))
+    | inr far ↦ let more = so.above_it k d (omega (arith, far, met)) lt in λ same. absurd (omega (arith, more, same))
+  ])
 
   -- ---- one goes
-  none_but : (g : ℕ) (os : List (OpenGuess E)) → has g (named os) ≡ false → os ≡ but g os
-  none_but g [] none = refl
-  none_but g (o ∷ os) none =
-      elim (o.id == g) as (λ b. (b || has g (named os)) ≡ false → o ∷ os ≡ cond (not b) (o ∷ but g os) (but g os)) [
-        | true ↦ λ e. absurd (true≢false e)
-        | false ↦ λ e. ap (λ ps. o ∷ ps) (none_but g os e)
-      ] none
-
   pub but_missing : (g k : ℕ) (ls : List (Listing E)) → k ≡ prefix_len (is_other g) ls → length ls ≤ k → map guess_of ls ≡ but g (map guess_of ls)
-  but_missing g k [] is le = refl
-  but_missing g k (x ∷ ls) is le =
-      elim (x.guess.id == g) as (λ b. k ≡ cond (not b) (1 + prefix_len (is_other g) ls) 0 → x.guess ∷ map guess_of ls ≡ cond (not b) (x.guess ∷ but g (map guess_of ls)) (but g (map guess_of ls))) [
-        | true ↦ λ none. absurd (omega arith)
-        | false ↦ λ more. ap (λ os. x.guess ∷ os) (but_missing g (prefix_len (is_other g) ls) ls refl (omega arith))
-      ] is
+  but_missing g k ls is le = sym (none_closed g (map guess_of ls) (not_there g k ls is le))
 
   pub but_found : (g k : ℕ) (ls : List (Listing E)) → IsStrictlySortedBy nat_cmp (named (map guess_of ls)) → k ≡ prefix_len (is_other g) ls → k < length ls → map guess_of (remove ls k) ≡ but g (map guess_of ls)
   unfolding IsStrictlySortedBy
   but_found g k [] rises is lt = absurd (omega arith)
   but_found g zero (x ∷ ls) rises is lt =
       elim (x.guess.id == g) as (λ b. (x.guess.id == g) ≡ b → zero ≡ cond (not b) (1 + prefix_len (is_other g) ls) 0 → map guess_of ls ≡ cond (not b) (x.guess ∷ but g (map guess_of ls)) (but g (map guess_of ls))) [
-        | true ↦ λ same none. none_but g (map guess_of ls) (not_above x.guess.id g (named (map guess_of ls)) same rises.0)
+        | true ↦ λ same none. sym (none_closed g (map guess_of ls) (not_above x.guess.id g (named (map guess_of ls)) same rises.0))
         | false ↦ λ _ more. absurd (omega arith)
       ] refl is
   but_found g (suc k) (x ∷ ls) rises is lt =
@@ -211,16 +149,21 @@ module _ {E : Type 0} where
   abbrev pub IsUnmarked : ℕ → ℕ → List (Listing E) → Type 0
   IsUnmarked g from ls = (k : ℕ) (d : Listing E) → k < from → has g (slice_index_or ls k d).guess.tags ≡ false
 
-  still_whole : (g from : ℕ) (ls : List (Listing E)) → IsUnmarked g from ls → from ≤ length ls → map guess_of ls ≡ map (without_tag g) (map guess_of (take from ls)) ++ map guess_of (drop from ls)
-  still_whole g zero ls none le = refl
-  still_whole g (suc from) [] none le = absurd (omega arith)
-  still_whole g (suc from) (x ∷ ls) none le =
-      let first : x.guess ≡ without_tag g x.guess = ap (λ ts. record x.guess { tags = ts }) (sym (same_tags g x.guess.tags (none 0 x (omega arith)))) in
-      let rest = still_whole g from ls (λ k d lt. none (suc k) d (omega arith)) (omega arith) in
-      λ j. first j ∷ rest j
+  -- and it is taken out of one after the other
+  abbrev pub Untagged : ℕ → Listing E → Listing E → Type 0
+  Untagged g x y = y.guess ≡ without_tag g x.guess
 
-  pub from_there : (g from : ℕ) (os : List (Listing E)) → IsUnmarked g from os → from ≤ length os → IsDone (without_tag g) os os from
-  from_there g from os none le = record { so_far = still_whole g from os none le; as_many = refl; left = λ k d le. refl }
+  pub from_there : (g from : ℕ) (os : List (Listing E)) → IsUnmarked g from os → IsPassed (Untagged g) os os from
+  from_there g from os none = record {
+    as_many = refl;
+    done = λ k d less within.
+        ap (λ ts. record (slice_index_or os k d).guess { tags = ts }) (sym (same_tags g (slice_index_or os k d).guess.tags (none k d less)));
+    left = λ k d le. refl;
+  }
+
+  pub all_untagged : (g : ℕ) (os ls : List (Listing E)) → Pairs (Untagged g) os ls → map guess_of ls ≡ map (without_tag g) (map guess_of os)
+  all_untagged g os ls ps =
+      pairs_map (Untagged g) guess_of (λ x. without_tag g x.guess) os ls (λ x y is. is) ps ∙ sym (map-map (without_tag g) guess_of os)
 
   pub but_without : (g : ℕ) (os : List (OpenGuess E)) → but g (map (without_tag g) os) ≡ map (without_tag g) (but g os)
   but_without g [] = refl
@@ -256,10 +199,7 @@ module _ {E : Type 0} where
       let stop : (slice_index_or ls p d).guess.id ≡ g = is_it g (slice_index_or ls p d).guess.id
       (ap (λ n. not ((slice_index_or ls n d).guess.id == g)) is ∙ prefix_len_stops (is_other g) ls d (omega (arith, is, lt))) in
       let apart = earlier ls k p d d rises before lt in
-      elim (has g (slice_index_or ls k d).guess.tags) as (λ b. has g (slice_index_or ls k d).guess.tags ≡ b → b ≡ false) [
-        | true ↦ λ here. let low = below_at ls k g d below (omega (arith, before, lt)) here in absurd (omega (arith, low, apart, stop))
-        | false ↦ λ _. refl
-      ] refl
+      isnt (has g (slice_index_or ls k d).guess.tags) (λ here. let low = below_at ls k g d below (omega (arith, before, lt)) here in absurd (omega (arith, low, apart, stop)))
 
 -- ---- no tag above its own guess
 pub below_left : (g : ℕ) (os : List Open) → AreBelow os → AreBelow (not_struck g os)

@@ -1,24 +1,17 @@
 -- Passes over the guesses, many of which share a list, and what is seen of them.
-use Rattle.sk_guesses.proofs.Names.{◌≡◌, ℕ, zero, suc, ◌<◌, ◌≤◌, ◌+◌, length, length-set, Bool, true, false, cond, not}
-use Rattle.sk_guesses.proofs.Names.{List, [], ◌∷◌, ◌++◌, map, inl, inr, refl, sym, ◌∙◌, ap, subst, arith, slice_set}
-use Rattle.sk_guesses.proofs.Names.{slice_index_or, AllByRecursion, true≢false, false≢true, remove, OpenGuess, Listing, has, left_to}
-use Rattle.sk_guesses.proofs.Names.{Ordering, without_entity, with_entity, by_order, eq_by_cmp, without_tag, Less, Equal, Greater, ltb, ltb-true, ltb-false}
+use Rattle.sk_guesses.proofs.Names.{◌≡◌, ℕ, suc, ◌<◌, ◌≤◌, ◌+◌, length, length-set, Bool, true, false, cond, not, List}
+use Rattle.sk_guesses.proofs.Names.{[], ◌∷◌, ◌++◌, map, inl, inr, refl, sym, ◌∙◌, ap, subst, arith, slice_set, has}
+use Rattle.sk_guesses.proofs.Names.{slice_index_or, AllByRecursion, true≢false, remove, OpenGuess, Listing, left_to}
+use Rattle.sk_guesses.proofs.Names.{zero, Ordering, without_entity, with_entity, by_order, eq_by_cmp, without_tag, Less}
+use Rattle.sk_guesses.proofs.Names.{Equal, Greater, get_or-set_same}
 use Rattle.std.proofs.Common.{◌⊎◌}
-use Rattle.std.specs.Prelude.{Result, Ok, Err, OnOk, OnErr}
+use Rattle.std.proofs.lemmas.Bool.{cases_lt}
+use Rattle.std.proofs.lemmas.List.{get_or_default, get_or-map, get_or-set_other, map-set}
+use Rattle.std.proofs.Math.Seq.{map-set_same}
+use Rattle.std.specs.Prelude.{Result, Ok, Err, OnErr}
 use Rattle.sk_guesses.specs.Shared.{Sharing, seen, IsReady, AreReady, Pairs, is_named, changing, HasPlace, IsRoomier}
 use Rattle.sk_guesses.specs.Shared.{IsPlaced, IsParted, Agrees, IsChanged, WillChange}
 use Rattle.sk_guesses.proofs.Opens.{guess_of}
-use Rattle.sk_guesses.proofs.Passes.{IsDone, one_done}
-
--- ---- lists that are the same in each place
-pub same_all : {A : Type 0} (xs ys : List A) → length xs ≡ length ys → ((k : ℕ) (d : A) → k < length xs → slice_index_or xs k d ≡ slice_index_or ys k d) → xs ≡ ys
-same_all [] [] many is = refl
-same_all [] (y ∷ ys) many is = absurd (omega (arith, many))
-same_all (x ∷ xs) [] many is = absurd (omega (arith, many))
-same_all (x ∷ xs) (y ∷ ys) many is =
-    let first : x ≡ y = is 0 x (omega arith) in
-    let rest = same_all xs ys (omega (arith, many)) (λ k d lt. is (suc k) d (omega arith)) in
-    λ j. first j ∷ rest j
 
 -- ---- a pass
 module _ {A : Type 0} (P : A → A → Type 0) where
@@ -30,91 +23,70 @@ module _ {A : Type 0} (P : A → A → Type 0) where
   pub none_passed : (os : List A) → IsPassed os os 0
   none_passed os = record { as_many = refl; done = λ k d lt. absurd (omega arith); left = λ k d le. refl }
 
-  pub all_pairs : (os ls : List A) → length ls ≡ length os → ((k : ℕ) (d : A) → k < length os → P (slice_index_or os k d) (slice_index_or ls k d)) → Pairs P os ls
+  pub all_pairs : (os ls : List A) → length ls ≡ length os
+      → ((k : ℕ) (d : A) → k < length os → P (slice_index_or os k d) (slice_index_or ls k d)) → Pairs P os ls
   all_pairs [] [] many is = tt
   all_pairs [] (y ∷ ys) many is = absurd (omega (arith, many))
   all_pairs (x ∷ xs) [] many is = absurd (omega (arith, many))
-  all_pairs (x ∷ xs) (y ∷ ys) many is = (is 0 x (omega arith), all_pairs xs ys (omega (arith, many)) (λ k d lt. is (suc k) d (omega arith)))
+  all_pairs (x ∷ xs) (y ∷ ys) many is =
+      (is 0 x (omega arith), all_pairs xs ys (omega (arith, many)) (λ k d lt. is (suc k) d (omega arith)))
 
-  pub all_passed : (os ls : List A) (i : ℕ) → IsPassed os ls i → length os ≤ i → Pairs P os ls
-  all_passed os ls i so le = all_pairs os ls so.as_many (λ k d lt. so.done k d (omega (arith, lt, le)) lt)
-
-pub set_here : {A : Type 0} (xs : List A) (i : ℕ) (d new : A) → i < length xs → slice_index_or (slice_set xs i new) i d ≡ new
-set_here [] i d new lt = absurd (omega arith)
-set_here (x ∷ xs) zero d new lt = refl
-set_here (x ∷ xs) (suc i) d new lt = set_here xs i d new (omega arith)
-
-pub set_before : {A : Type 0} (xs : List A) (i k : ℕ) (d new : A) → k < i → slice_index_or (slice_set xs i new) k d ≡ slice_index_or xs k d
-set_before [] i k d new lt = refl
-set_before (x ∷ xs) zero k d new lt = absurd (omega arith)
-set_before (x ∷ xs) (suc i) zero d new lt = refl
-set_before (x ∷ xs) (suc i) (suc k) d new lt = set_before xs i k d new (omega arith)
-
-pub set_behind : {A : Type 0} (xs : List A) (i k : ℕ) (d new : A) → suc i ≤ k → slice_index_or (slice_set xs i new) k d ≡ slice_index_or xs k d
-set_behind [] i k d new le = refl
-set_behind (x ∷ xs) i zero d new le = absurd (omega arith)
-set_behind (x ∷ xs) zero (suc k) d new le = refl
-set_behind (x ∷ xs) (suc i) (suc k) d new le = set_behind xs i k d new (omega arith)
-
--- within a list it is no matter what stands for what isn't there
-pub any_default : {A : Type 0} (xs : List A) (k : ℕ) (d e : A) → k < length xs → slice_index_or xs k d ≡ slice_index_or xs k e
-any_default [] k d e lt = absurd (omega arith)
-any_default (x ∷ xs) zero d e lt = refl
-any_default (x ∷ xs) (suc k) d e lt = any_default xs k d e (omega arith)
+-- a statement of all holds at each
+all_at : {A : Type 0} (P : A → Type 0) (xs : List A) (k : ℕ) (d : A) → AllByRecursion P xs → k < length xs → P (slice_index_or xs k d)
+all_at P [] k d all lt = absurd (omega arith)
+all_at P (x ∷ xs) zero d all lt = all.0
+all_at P (x ∷ xs) (suc k) d all lt = all_at P xs k d all.1 (omega arith)
 
 -- one place more
-before_or : (k i : ℕ) → (k < i) ⊎ (i ≤ k)
-before_or k i = elim (ltb k i) as (λ b. ltb k i ≡ b → (k < i) ⊎ (i ≤ k)) [ true ↦ λ is. inl (ltb-true k i is) | false ↦ λ is. inr (ltb-false k i is) ] refl
+cases_at : (k i : ℕ) → k < suc i → (k < i) ⊎ (k ≡ i)
+cases_at k i lt = elim (cases_lt k i) as (λ _. (k < i) ⊎ (k ≡ i)) [ inl less ↦ inl less | inr le ↦ inr (omega (arith, lt, le)) ]
 
-pub cases_at : (k i : ℕ) → k < suc i → (k < i) ⊎ (k ≡ i)
-cases_at k i lt = elim (before_or k i) as (λ _. (k < i) ⊎ (k ≡ i)) [ inl less ↦ inl less | inr le ↦ inr (omega (arith, lt, le)) ]
+module _ {A : Type 0} {P : A → A → Type 0} {os ls : List A} {i : ℕ} (so : IsPassed P os ls i) where
+  -- what held of each holds of the next
+  pub at_next : (S : A → Type 0) (l : A) → AllByRecursion S os → i < length os → l ≡ slice_index_or ls i l → S l
+  at_next S l all lt at = subst S (sym (at ∙ so.left i l (omega arith))) (all_at S os i l all lt)
 
-pub one_passed : {A : Type 0} (P : A → A → Type 0) (os ls : List A) (i : ℕ) (l new : A) → IsPassed P os ls i → i < length os → l ≡ slice_index_or ls i l → P l new
-    → IsPassed P os (slice_set ls i new) (i + 1)
-one_passed P os ls i l new so lt at is =
-    let many = so.as_many in
-    record {
-      as_many = rw length-set many;
-      done = λ k d less within.
-          elim (cases_at k i (omega (arith, less))) [
-            | inl before ↦ subst (P (slice_index_or os k d)) (sym (set_before ls i k d new before)) (so.done k d before within)
-            | inr here ↦
-                let old : slice_index_or os k d ≡ l = sym (so.left k d (omega (arith, here))) ∙ any_default ls k d l (omega (arith, many, within)) ∙ ap (λ n. slice_index_or ls n l) here ∙ sym at in
-                let now : slice_index_or (slice_set ls i new) k d ≡ new = ap (λ n. slice_index_or (slice_set ls i new) n d) here ∙ set_here ls i d new (omega (arith, many, lt)) in
-                subst (λ x. P x (slice_index_or (slice_set ls i new) k d)) (sym old) (subst (P l) (sym now) is)
-          ];
-      left = λ k d le. set_behind ls i k d new (omega arith) ∙ so.left k d (omega arith);
-    }
+  pub one_passed : (l new : A) → i < length os → l ≡ slice_index_or ls i l → P l new → IsPassed P os (slice_set ls i new) (i + 1)
+  one_passed l new lt at is =
+      let many = so.as_many in
+      record {
+        as_many = rw length-set many;
+        done = λ k d less within.
+            elim (cases_at k i (omega (arith, less))) [
+              | inl before ↦
+                  subst (P (slice_index_or os k d)) (sym (get_or-set_other ls i k new d (λ e. omega (arith, e, before))))
+                  (so.done k d before within)
+              | inr here ↦
+                  let old : slice_index_or os k d ≡ l =
+                  sym (so.left k d (omega (arith, here))) ∙ get_or_default ls k d l (omega (arith, many, within))
+                  ∙ ap (λ n. slice_index_or ls n l) here ∙ sym at in
+                  let now : slice_index_or (slice_set ls i new) k d ≡ new =
+                  ap (λ n. slice_index_or (slice_set ls i new) n d) here ∙ get_or-set_same ls i new d (omega (arith, many, lt)) in
+                  subst (λ x. P x (slice_index_or (slice_set ls i new) k d)) (sym old) (subst (P l) (sym now) is)
+            ];
+        left = λ k d le. get_or-set_other ls i k new d (λ e. omega (arith, e, le)) ∙ so.left k d (omega (arith, le));
+      }
+
+  pub all_passed : length os ≤ i → Pairs P os ls
+  all_passed le = all_pairs P os ls so.as_many (λ k d lt. so.done k d (omega (arith, lt, le)) lt)
 
 -- what stops in the middle is a pass of what all are
-pub stopped : {A : Type 0} (P Q : A → A → Type 0) (os ls : List A) (i : ℕ) (l new : A) → ((x y : A) → P x y → Q x y) → ((x : A) → Q x x) → IsPassed P os ls i → i < length os → l ≡ slice_index_or ls i l → Q l new
-    → Pairs Q os (slice_set ls i new)
-stopped P Q os ls i l new weaker same so lt at is =
+pub stopped : {A : Type 0} {P : A → A → Type 0} {os ls : List A} {i : ℕ} → IsPassed P os ls i → (Q : A → A → Type 0) (l new : A) → ((x y : A) → P x y → Q x y) → ((x : A) → Q x x)
+    → i < length os → l ≡ slice_index_or ls i l → Q l new → Pairs Q os (slice_set ls i new)
+stopped {os = os} {ls = ls} {i = i} so Q l new weaker same lt at is =
     let weak : IsPassed Q os ls i = record { as_many = so.as_many; done = λ k d less within. weaker _ _ (so.done k d less within); left = so.left } in
-    let more = one_passed Q os ls i l new weak lt at is in
-    all_pairs Q os (slice_set ls i new) more.as_many (λ k d within. elim (before_or k (i + 1)) [
+    let more = one_passed weak l new lt at is in
+    all_pairs Q os (slice_set ls i new) more.as_many (λ k d within. elim (cases_lt k (i + 1)) [
       | inl less ↦ more.done k d less within
       | inr le ↦ subst (Q (slice_index_or os k d)) (sym (more.left k d le)) (same (slice_index_or os k d))
     ])
-
-pub weaker_pairs : {A : Type 0} (P Q : A → A → Type 0) (xs ys : List A) → ((x y : A) → P x y → Q x y) → Pairs P xs ys → Pairs Q xs ys
-weaker_pairs P Q [] [] weaker ps = tt
-weaker_pairs P Q [] (y ∷ ys) weaker ps = absurd ps
-weaker_pairs P Q (x ∷ xs) [] weaker ps = absurd ps
-weaker_pairs P Q (x ∷ xs) (y ∷ ys) weaker ps = (weaker x y ps.0, weaker_pairs P Q xs ys weaker ps.1)
 
 pub more_at : {A : Type 0} (P : A → Type 0) (xs : List A) (i : ℕ) (x : A) → ((k : ℕ) (d : A) → k < i → P (slice_index_or xs k d)) → i < length xs → x ≡ slice_index_or xs i x → P x
     → (k : ℕ) (d : A) → k < i + 1 → P (slice_index_or xs k d)
 more_at P xs i x so lt at is = λ k d less. elim (cases_at k i (omega (arith, less))) [
   | inl before ↦ so k d before
-  | inr here ↦ subst P (at ∙ any_default xs i x d lt ∙ ap (λ n. slice_index_or xs n d) (sym here)) is
+  | inr here ↦ subst P (at ∙ get_or_default xs i x d lt ∙ ap (λ n. slice_index_or xs n d) (sym here)) is
 ]
-
--- a statement of all holds at each
-pub all_at : {A : Type 0} (P : A → Type 0) (xs : List A) (k : ℕ) (d : A) → AllByRecursion P xs → k < length xs → P (slice_index_or xs k d)
-all_at P [] k d all lt = absurd (omega arith)
-all_at P (x ∷ xs) zero d all lt = all.0
-all_at P (x ∷ xs) (suc k) d all lt = all_at P xs k d all.1 (omega arith)
 
 pub all_from : {A : Type 0} (P : A → Type 0) (xs : List A) → ((k : ℕ) (d : A) → k < length xs → P (slice_index_or xs k d)) → AllByRecursion P xs
 all_from P [] is = tt
@@ -124,30 +96,35 @@ pub on_err : {A B : Type 0} (r : Result A B) (P : Type 0) → P → OnErr r P
 on_err (Ok a) P p = tt
 on_err (Err e) P p = p
 
-pub on_ok : {A B : Type 0} (r : Result A B) (P : Type 0) → P → OnOk r P
-on_ok (Ok a) P p = p
-on_ok (Err e) P p = tt
+-- ---- what pairs tell
+pub pairs_map : {A B : Type 0} (P : A → A → Type 0) (f g : A → B) (xs ys : List A) → ((x y : A) → P x y → f y ≡ g x) → Pairs P xs ys → map f ys ≡ map g xs
+pairs_map P f g [] [] each ps = refl
+pairs_map P f g [] (y ∷ ys) each ps = absurd ps
+pairs_map P f g (x ∷ xs) [] each ps = absurd ps
+pairs_map P f g (x ∷ xs) (y ∷ ys) each ps = let first = each x y ps.0 in let rest = pairs_map P f g xs ys each ps.1 in λ j. first j ∷ rest j
+
+pub pairs_all : {A : Type 0} (P : A → A → Type 0) (Q S : A → Type 0) (xs ys : List A) → ((x y : A) → Q x → P x y → S y) → AllByRecursion Q xs → Pairs P xs ys → AllByRecursion S ys
+pairs_all P Q S [] [] each all ps = tt
+pairs_all P Q S [] (y ∷ ys) each all ps = absurd ps
+pairs_all P Q S (x ∷ xs) [] each all ps = absurd ps
+pairs_all P Q S (x ∷ xs) (y ∷ ys) each all ps = (each x y all.0 ps.0, pairs_all P Q S xs ys each all.1 ps.1)
+
+pub weaker_pairs : {A : Type 0} (P Q : A → A → Type 0) (xs ys : List A) → ((x y : A) → P x y → Q x y) → Pairs P xs ys → Pairs Q xs ys
+weaker_pairs P Q [] [] weaker ps = tt
+weaker_pairs P Q [] (y ∷ ys) weaker ps = absurd ps
+weaker_pairs P Q (x ∷ xs) [] weaker ps = absurd ps
+weaker_pairs P Q (x ∷ xs) (y ∷ ys) weaker ps = (weaker x y ps.0, weaker_pairs P Q xs ys weaker ps.1)
+
+pub pairs_self : {A : Type 0} (Q : A → Type 0) (P : A → A → Type 0) (xs : List A) → ((x : A) → Q x → P x x) → AllByRecursion Q xs → Pairs P xs xs
+pairs_self Q P [] each all = tt
+pairs_self Q P (x ∷ xs) each all = (each x all.0, pairs_self Q P xs each all.1)
+
+pub all_of : {A : Type 0} (P Q S : A → Type 0) (xs : List A) → ((x : A) → P x → Q x → S x) → AllByRecursion P xs → AllByRecursion Q xs → AllByRecursion S xs
+all_of P Q S [] each ps qs = tt
+all_of P Q S (x ∷ xs) each ps qs = (each x ps.0 qs.0, all_of P Q S xs each ps.1 qs.1)
 
 -- ---- what is seen
 module _ {E : Type 0} where
-  pub as_seen : (es : List E) (os : List (Sharing E)) → length (map (seen es) os) ≡ length os
-  as_seen es [] = refl
-  as_seen es (o ∷ os) = ap suc (as_seen es os)
-
-  pub seen_at : (es : List E) (os : List (Sharing E)) (k : ℕ) (d : Sharing E) (l : Listing E) → k < length os → slice_index_or (map (seen es) os) k l ≡ seen es (slice_index_or os k d)
-  seen_at es [] k d l lt = absurd (omega arith)
-  seen_at es (o ∷ os) zero d l lt = refl
-  seen_at es (o ∷ os) (suc k) d l lt = seen_at es os k d l (omega arith)
-
-  pub seen_set : (es : List E) (os : List (Sharing E)) (i : ℕ) (new : Sharing E) → map (seen es) (slice_set os i new) ≡ slice_set (map (seen es) os) i (seen es new)
-  seen_set es [] i new = refl
-  seen_set es (o ∷ os) zero new = refl
-  seen_set es (o ∷ os) (suc i) new = ap (λ xs. seen es o ∷ xs) (seen_set es os i new)
-
-  pub seen_more : (es : List E) (os : List (Sharing E)) (o : Sharing E) → map (seen es) (os ++ o ∷ []) ≡ map (seen es) os ++ seen es o ∷ []
-  seen_more es [] o = refl
-  seen_more es (x ∷ os) o = ap (λ xs. seen es x ∷ xs) (seen_more es os o)
-
   pub seen_remove : (es : List E) (os : List (Sharing E)) (i : ℕ) → i < length os → map (seen es) (remove os i) ≡ remove (map (seen es) os) i
   seen_remove es [] i lt = absurd (omega arith)
   seen_remove es (o ∷ os) zero lt = refl
@@ -156,40 +133,29 @@ module _ {E : Type 0} where
   without_its_list : (es : List E) (o : Sharing E) → record o.guess { dependents = [] } ≡ record (seen es o).guess { dependents = [] }
   without_its_list es o = elim (o.shares) as (λ b. record o.guess { dependents = [] } ≡ record (cond b (record o.guess { dependents = es }) o.guess) { dependents = [] }) [ true ↦ refl | false ↦ refl ]
 
-  its_own : (es : List E) (new : Sharing E) → new.shares ≡ false → seen es new ≡ record { guess = new.guess }
-  its_own es new is = ap (λ b. record { guess = cond b (record new.guess { dependents = es }) new.guess }) is
-
-  pub seen_taken : (es : List E) (os : List (Sharing E)) (i : ℕ) (l new : Sharing E) (d : Listing E) → i < length os → l ≡ slice_index_or os i l → new.guess ≡ record l.guess { dependents = [] } → new.shares ≡ false
-      → map (seen es) (slice_set os i new) ≡ slice_set (map (seen es) os) i (record { guess = record (slice_index_or (map (seen es) os) i d).guess { dependents = [] } })
-  seen_taken es [] i l new d lt at guess shares = absurd (omega arith)
-  seen_taken es (o ∷ os) zero l new d lt at guess shares =
-      let first : seen es new ≡ record { guess = record (seen es o).guess { dependents = [] } } =
-      its_own es new shares ∙ ap (λ g. record { guess = g }) guess ∙ ap (λ (x : Sharing E). record { guess = record x.guess { dependents = [] } }) at ∙ ap (λ g. record { guess = g }) (without_its_list es o) in
-      ap (λ x. x ∷ map (seen es) os) first
-  seen_taken es (o ∷ os) (suc i) l new d lt at guess shares = ap (λ xs. seen es o ∷ xs) (seen_taken es os i l new d (omega arith) at guess shares)
-
   retagged : (es : List E) (g : ℕ) (o : Sharing E) → seen es (record o { guess = without_tag g o.guess }) ≡ record { guess = without_tag g (seen es o).guess }
-  retagged es g o =
-      elim (o.shares) as (λ b. record { guess = cond b (record (without_tag g o.guess) { dependents = es }) (without_tag g o.guess) } ≡ record { guess = without_tag g (cond b (record o.guess { dependents = es }) o.guess) }) [
-        | true ↦ refl
-        | false ↦ refl
-      ]
+  retagged es g o = elim (o.shares) as (λ b. record { guess = cond b (record (without_tag g o.guess) { dependents = es }) (without_tag g o.guess) } ≡ record { guess = without_tag g (cond b (record o.guess { dependents = es }) o.guess) }) [ true ↦ refl | false ↦ refl ]
 
-  pub seen_retagged : (es : List E) (g : ℕ) (os : List (Sharing E)) (i : ℕ) (l new : Sharing E) (d : Listing E) → i < length os → l ≡ slice_index_or os i l → new ≡ record l { guess = without_tag g l.guess }
-      → map (seen es) (slice_set os i new) ≡ slice_set (map (seen es) os) i (record { guess = without_tag g (slice_index_or (map (seen es) os) i d).guess })
-  seen_retagged es g [] i l new d lt at is = absurd (omega arith)
-  seen_retagged es g (o ∷ os) zero l new d lt at is =
-      let first : seen es new ≡ record { guess = without_tag g (seen es o).guess } =
-      ap (seen es) is ∙ ap (λ (x : Sharing E). seen es (record x { guess = without_tag g x.guess })) at ∙ retagged es g o in
-      ap (λ x. x ∷ map (seen es) os) first
-  seen_retagged es g (o ∷ os) (suc i) l new d lt at is = ap (λ xs. seen es o ∷ xs) (seen_retagged es g os i l new d (omega arith) at is)
+  -- one place of them
+  module _ (es : List E) (os : List (Sharing E)) (i : ℕ) (l new : Sharing E) (d : Listing E) (lt : i < length os) (at : l ≡ slice_index_or os i l) where
+    seen_new : (f : OpenGuess E → OpenGuess E) → seen es new ≡ record { guess = f (seen es l).guess }
+        → map (seen es) (slice_set os i new) ≡ slice_set (map (seen es) os) i (record { guess = f (slice_index_or (map (seen es) os) i d).guess })
+    seen_new f is =
+        let there : seen es l ≡ slice_index_or (map (seen es) os) i d = ap (seen es) at ∙ sym (get_or-map (seen es) os i l d lt) in
+        map-set (seen es) os i new ∙ ap (slice_set (map (seen es) os) i) (is ∙ (λ j. record { guess = f (there j).guess }))
+
+    pub seen_taken : new.guess ≡ record l.guess { dependents = [] } → new.shares ≡ false
+        → map (seen es) (slice_set os i new) ≡ slice_set (map (seen es) os) i (record { guess = record (slice_index_or (map (seen es) os) i d).guess { dependents = [] } })
+    seen_taken guess shares =
+        let left = guess ∙ without_its_list es l in
+        seen_new (λ o. record o { dependents = [] })
+        (ap (λ b. record { guess = cond b (record new.guess { dependents = es }) new.guess }) shares ∙ (λ j. record { guess = left j }))
+
+    pub seen_retagged : (g : ℕ) → new ≡ record l { guess = without_tag g l.guess }
+        → map (seen es) (slice_set os i new) ≡ slice_set (map (seen es) os) i (record { guess = without_tag g (slice_index_or (map (seen es) os) i d).guess })
+    seen_retagged g is = seen_new (without_tag g) (ap (seen es) is ∙ retagged es g l)
 
   -- ---- whether they are ready
-  pub ready_set : (n : ℕ) (os : List (Sharing E)) (i : ℕ) (new : Sharing E) → AreReady n os → IsReady n new → AreReady n (slice_set os i new)
-  ready_set n [] i new all is = tt
-  ready_set n (o ∷ os) zero new all is = (is, all.1)
-  ready_set n (o ∷ os) (suc i) new all is = (all.0, ready_set n os i new all.1 is)
-
   pub ready_more : (n : ℕ) (os : List (Sharing E)) (o : Sharing E) → AreReady n os → IsReady n o → AreReady n (os ++ o ∷ [])
   ready_more n [] o all is = (is, tt)
   ready_more n (x ∷ os) o all is = (all.0, ready_more n os o all.1 is)
@@ -203,57 +169,40 @@ module _ {E : Type 0} where
   alone : (es fs : List E) (o : Sharing E) → o.shares ≡ false → seen es o ≡ seen fs o
   alone es fs o is = ap (λ b. record { guess = cond b (record o.guess { dependents = es }) o.guess }) is ∙ sym (ap (λ b. record { guess = cond b (record o.guess { dependents = fs }) o.guess }) is)
 
-  pub all_alone : (es fs : List E) (os : List (Sharing E)) → AllByRecursion (λ o. o.shares ≡ false) os → map (seen es) os ≡ map (seen fs) os
-  all_alone es fs [] all = refl
-  all_alone es fs (o ∷ os) all = let first = alone es fs o all.0 in let rest = all_alone es fs os all.1 in λ j. first j ∷ rest j
-
   -- the first to share has the list that it had
-  shared_first : (es xs : List E) (o l new : Sharing E) → o.shares ≡ false → l ≡ o → l.guess.dependents ≡ xs → new.guess ≡ record l.guess { dependents = [] } → new.shares ≡ true → seen xs new ≡ seen es o
-  shared_first es xs o l new alone at has_these guess shares =
-      let list : xs ≡ o.guess.dependents = sym has_these ∙ ap (λ (x : Sharing E). x.guess.dependents) at in
-      ap (λ b. record { guess = cond b (record new.guess { dependents = xs }) new.guess }) shares
-      ∙ ap (λ (g : OpenGuess E). record { guess = record g { dependents = xs } }) guess
-      ∙ ap (λ (x : Sharing E). record { guess = record x.guess { dependents = xs } }) at
-      ∙ ap (λ ys. record { guess = record o.guess { dependents = ys } }) list
-      ∙ sym (ap (λ b. record { guess = cond b (record o.guess { dependents = es }) o.guess }) alone)
-
   pub founded : (es xs : List E) (os : List (Sharing E)) (i : ℕ) (l new : Sharing E) → AllByRecursion (λ o. o.shares ≡ false) os → i < length os → l ≡ slice_index_or os i l
       → l.guess.dependents ≡ xs → new.guess ≡ record l.guess { dependents = [] } → new.shares ≡ true → map (seen xs) (slice_set os i new) ≡ map (seen es) os
-  founded es xs [] i l new all lt at these guess shares = absurd (omega arith)
-  founded es xs (o ∷ os) zero l new all lt at these guess shares =
-      let first = shared_first es xs o l new all.0 at these guess shares in
-      let rest = all_alone xs es os all.1 in
-      λ j. first j ∷ rest j
-  founded es xs (o ∷ os) (suc i) l new all lt at these guess shares =
-      let first = alone xs es o all.0 in
-      let rest = founded es xs os i l new all.1 (omega arith) at these guess shares in
-      λ j. first j ∷ rest j
+  founded es xs os i l new all lt at these guess shares =
+      let own : l.shares ≡ false = ap (λ (o : Sharing E). o.shares) at ∙ all_at (λ (o : Sharing E). o.shares ≡ false) os i l all lt in
+      map-set_same (seen xs) os i new l
+      ((λ j. record { guess = cond (shares j) (record (guess j) { dependents = xs }) (guess j) })
+      ∙ ap (λ ys. record { guess = record l.guess { dependents = ys } }) (sym these)
+      ∙ sym (ap (λ b. record { guess = cond b (record l.guess { dependents = xs }) l.guess }) own) ∙ ap (seen xs) at)
+      ∙ all_alone os all where
+        all_alone : (os : List (Sharing E)) → AllByRecursion (λ o. o.shares ≡ false) os → map (seen xs) os ≡ map (seen es) os
+        all_alone [] all = refl
+        all_alone (o ∷ os) all = let first = alone xs es o all.0 in let rest = all_alone os all.1 in λ j. first j ∷ rest j
 
-  pub alone_ready : (n : ℕ) (os : List (Sharing E)) → AllByRecursion (λ o. o.shares ≡ false) os → AreReady n os
-  alone_ready n [] all = tt
-  alone_ready n (o ∷ os) all = ((λ is. absurd (true≢false (sym is ∙ all.0))), alone_ready n os all.1)
+  -- ---- room for one entity more
+  -- where these were shared, and still are
+  pub record IsReserved (was xs es : List E) (os ls : List (Sharing E)) : Type 0 where
+    pub same : es ≡ was
+    pub count : xs ≡ es
+    pub ready : AreReady (length was) os
+    pub roomier : Pairs (IsRoomier (length xs)) os ls
 
-  -- ---- room
-  roomier_seen : (es : List E) (n : ℕ) (o new : Sharing E) → IsRoomier n o new → seen es new ≡ seen es o
-  roomier_seen es n o new is = λ j. record { guess = cond (is.shares j) (record (is.guess j) { dependents = es }) (is.guess j) }
+  module _ {was xs es : List E} {os ls : List (Sharing E)} (is : IsReserved was xs es os ls) where
+    pub reserved_ready : AreReady (length es) ls
+    reserved_ready =
+        let ready : AreReady (length xs) os = subst (λ ys. AreReady (length ys) os) (sym (is.count ∙ is.same)) is.ready in
+        subst (λ ys. AreReady (length ys) ls) is.count
+        (pairs_all (IsRoomier (length xs)) (IsReady (length xs)) (IsReady (length xs)) os ls (λ o l was more. more.ready was) ready is.roomier)
 
-  pub all_roomier : (es : List E) (n : ℕ) (os ls : List (Sharing E)) → Pairs (IsRoomier n) os ls → map (seen es) ls ≡ map (seen es) os
-  all_roomier es n [] [] ps = refl
-  all_roomier es n [] (l ∷ ls) ps = absurd ps
-  all_roomier es n (o ∷ os) [] ps = absurd ps
-  all_roomier es n (o ∷ os) (l ∷ ls) ps = let first = roomier_seen es n o l ps.0 in let rest = all_roomier es n os ls ps.1 in λ j. first j ∷ rest j
-
-  pub roomier_ready : (n : ℕ) (os ls : List (Sharing E)) → Pairs (IsRoomier n) os ls → AreReady n os → AreReady n ls
-  roomier_ready n [] [] ps all = tt
-  roomier_ready n [] (l ∷ ls) ps all = absurd ps
-  roomier_ready n (o ∷ os) [] ps all = absurd ps
-  roomier_ready n (o ∷ os) (l ∷ ls) ps all = (ps.0.ready all.0, roomier_ready n os ls ps.1 all.1)
-
-  pub all_placed : (c : ℕ → Bool) (n : ℕ) (os ls : List (Sharing E)) → Pairs (IsPlaced c n) os ls → AllByRecursion (HasPlace c n) ls
-  all_placed c n [] [] ps = tt
-  all_placed c n [] (l ∷ ls) ps = absurd ps
-  all_placed c n (o ∷ os) [] ps = absurd ps
-  all_placed c n (o ∷ os) (l ∷ ls) ps = (ps.0.place, all_placed c n os ls ps.1)
+    pub reserved_seen : map (seen es) ls ≡ map (seen was) os
+    reserved_seen =
+        pairs_map (IsRoomier (length xs)) (seen es) (seen es) os ls
+        (λ o l more j. record { guess = cond (more.shares j) (record (more.guess j) { dependents = es }) (more.guess j) }) is.roomier
+        ∙ ap (λ ys. map (seen ys) os) is.same
 
   -- ---- those that share agree
   parted_seen : (es : List E) (o new : Sharing E) → IsParted es o new → seen es new ≡ seen es o
@@ -265,16 +214,6 @@ module _ {E : Type 0} where
   agrees_seen es c b o new (inl is) = ap (seen es) is.0
   agrees_seen es c b o new (inr is) = parted_seen es o new is.0
 
-  pub all_agree_seen : (es : List E) (c : ℕ → Bool) (b : Bool) (os ls : List (Sharing E)) → Pairs (Agrees es c b) os ls → map (seen es) ls ≡ map (seen es) os
-  all_agree_seen es c b [] [] ps = refl
-  all_agree_seen es c b [] (l ∷ ls) ps = absurd ps
-  all_agree_seen es c b (o ∷ os) [] ps = absurd ps
-  all_agree_seen es c b (o ∷ os) (l ∷ ls) ps = let first = agrees_seen es c b o l ps.0 in let rest = all_agree_seen es c b os ls ps.1 in λ j. first j ∷ rest j
-
-  pub none_changes : (es : List E) (c : ℕ → Bool) (os : List (Sharing E)) → AllByRecursion (λ o. o.shares ≡ true → c o.guess.id ≡ false) os → Pairs (Agrees es c false) os os
-  none_changes es c [] all = tt
-  none_changes es c (o ∷ os) all = (inl (refl, all.0), none_changes es c os all.1)
-
   -- what is known once they agree
   pub record IsAgreed (c : ℕ → Bool) (b : Bool) (n : ℕ) (o : Sharing E) : Type 0 where
     pub agrees : o.shares ≡ true → c o.guess.id ≡ b
@@ -284,21 +223,18 @@ module _ {E : Type 0} where
   agreed es c b n o new ready (inl is) = subst (IsAgreed c b n) (sym is.0) (record { agrees = is.1; ready = ready })
   agreed es c b n o new ready (inr is) = record { agrees = λ e. absurd (true≢false (sym e ∙ is.0.shares)); ready = λ e. absurd (true≢false (sym e ∙ is.0.shares)) }
 
-  pub all_agreed : (es : List E) (c : ℕ → Bool) (b : Bool) (n : ℕ) (os ls : List (Sharing E)) → Pairs (Agrees es c b) os ls → AreReady n os → AllByRecursion (IsAgreed c b n) ls
-  all_agreed es c b n [] [] ps all = tt
-  all_agreed es c b n [] (l ∷ ls) ps all = absurd ps
-  all_agreed es c b n (o ∷ os) [] ps all = absurd ps
-  all_agreed es c b n (o ∷ os) (l ∷ ls) ps all = (agreed es c b n o l all.0 ps.0, all_agreed es c b n os ls ps.1 all.1)
-
   place_stays : (es : List E) (c : ℕ → Bool) (b : Bool) (n : ℕ) (o new : Sharing E) → HasPlace c n o → Agrees es c b o new → HasPlace c n new
   place_stays es c b n o new place (inl is) = subst (HasPlace c n) (sym is.0) place
   place_stays es c b n o new place (inr is) = λ e. absurd (true≢false (sym e ∙ ap (λ (g : OpenGuess E). c g.id) is.0.guess ∙ is.1))
 
-  pub places_stay : (es : List E) (c : ℕ → Bool) (b : Bool) (n : ℕ) (os ls : List (Sharing E)) → Pairs (Agrees es c b) os ls → AllByRecursion (HasPlace c n) os → AllByRecursion (HasPlace c n) ls
-  places_stay es c b n [] [] ps all = tt
-  places_stay es c b n [] (l ∷ ls) ps all = absurd ps
-  places_stay es c b n (o ∷ os) [] ps all = absurd ps
-  places_stay es c b n (o ∷ os) (l ∷ ls) ps all = (place_stays es c b n o l all.0 ps.0, places_stay es c b n os ls ps.1 all.1)
+  -- where room was made for those before they agree
+  pub places_stay : (c : ℕ → Bool) (b : Bool) (n : ℕ) (es : List E) (os ls ms : List (Sharing E)) → Pairs (IsPlaced c n) os ls → Pairs (Agrees es c b) ls ms → AllByRecursion (HasPlace c n) ms
+  places_stay c b n es os ls ms placed agree = pairs_all (Agrees es c b) (HasPlace c n) (HasPlace c n) ls ms (place_stays es c b n) (all_placed os ls placed) agree where
+    all_placed : (os ls : List (Sharing E)) → Pairs (IsPlaced c n) os ls → AllByRecursion (HasPlace c n) ls
+    all_placed [] [] ps = tt
+    all_placed [] (l ∷ ls) ps = absurd ps
+    all_placed (o ∷ os) [] ps = absurd ps
+    all_placed (o ∷ os) (l ∷ ls) ps = (ps.0.place, all_placed os ls ps.1)
 
   -- ---- a change of all
   -- what the shared list becomes
@@ -317,7 +253,7 @@ module _ {E : Type 0} where
         | false ↦ λ own. ap (λ s. cond s (record new.guess { dependents = shared_after f b es }) new.guess) (is.shares ∙ own) ∙ is.alone own
       ] refl
 
-  pub changed_all : (f : List E → List E) (c : ℕ → Bool) (b : Bool) (n : ℕ) (es : List E) (os ls : List (Sharing E)) → AllByRecursion (IsAgreed c b n) os → Pairs (IsChanged f c) os ls
+  changed_all : (f : List E → List E) (c : ℕ → Bool) (b : Bool) (n : ℕ) (es : List E) (os ls : List (Sharing E)) → AllByRecursion (IsAgreed c b n) os → Pairs (IsChanged f c) os ls
       → map guess_of (map (seen (shared_after f b es)) ls) ≡ map (changing f c) (map guess_of (map (seen es) os))
   changed_all f c b n es [] [] all ps = refl
   changed_all f c b n es [] (l ∷ ls) all ps = absurd ps
@@ -327,93 +263,84 @@ module _ {E : Type 0} where
       let rest = changed_all f c b n es os ls all.1 ps.1 in
       λ j. first j ∷ rest j
 
-  -- they are ready for what the shared list becomes
-  pub changed_ready : (f : List E → List E) (c : ℕ → Bool) (b : Bool) (n m : ℕ) (os ls : List (Sharing E)) → AllByRecursion (IsAgreed c b n) os → Pairs (IsChanged f c) os ls
-      → AllByRecursion (λ o. o.shares ≡ true → n ≤ o.room → c o.guess.id ≡ b → m ≤ o.room) os → AreReady m ls
-  changed_ready f c b n m [] [] all ps fits = tt
-  changed_ready f c b n m [] (l ∷ ls) all ps fits = absurd ps
-  changed_ready f c b n m (o ∷ os) [] all ps fits = absurd ps
-  changed_ready f c b n m (o ∷ os) (l ∷ ls) all ps fits = (
-    λ is.
-        let shares : o.shares ≡ true = sym ps.0.shares ∙ is in
-        let was = all.0.ready shares in
-        subst (λ (x : Sharing E). (x.guess.dependents ≡ []) × (m ≤ x.room)) (sym (ps.0.sharing shares)) (was.0, fits.0 shares was.1 (all.0.agrees shares)),
-    changed_ready f c b n m os ls all.1 ps.1 fits.1,
-  )
+  still_ready : (f : List E → List E) (c : ℕ → Bool) (m : ℕ) (o new : Sharing E) → IsReady m o → IsChanged f c o new → IsReady m new
+  still_ready f c m o new ready is = λ shares. let shared = sym is.shares ∙ shares in subst (IsReady m) (sym (is.sharing shared)) ready shares
 
-  pub own_places : (c : ℕ → Bool) (n : ℕ) (os : List (Sharing E)) → AllByRecursion (HasPlace c n) os → AllByRecursion (λ o. o.shares ≡ false → c o.guess.id ≡ true → 0 < o.room) os
-  own_places c n [] all = tt
-  own_places c n (o ∷ os) all = ((λ alone here. (all.0 here).1 alone), own_places c n os all.1)
+  -- the guesses agree, and then each list is changed, among them the shared one
+  pub record IsTurned (f : List E → List E) (c : ℕ → Bool) (b : Bool) (es : List E) (os ms ns : List (Sharing E)) : Type 0 where
+    pub ready : AreReady (length es) os
+    pub agree : Pairs (Agrees es c b) os ms
+    pub change : Pairs (IsChanged f c) ms ns
 
-  -- one more fits where there is a place, and no more fits anyway
-  pub one_fits : (c : ℕ → Bool) (b : Bool) (n m : ℕ) (os : List (Sharing E)) → (b ≡ true → m ≤ suc n) → (b ≡ false → m ≤ n) → AllByRecursion (HasPlace c n) os
-      → AllByRecursion (λ o. o.shares ≡ true → n ≤ o.room → c o.guess.id ≡ b → m ≤ o.room) os
-  one_fits c b n m [] more less all = tt
-  one_fits c b n m (o ∷ os) more less all = (
-    λ shares le is. elim b as (λ t. b ≡ t → m ≤ o.room) [
-      | true ↦ λ changes. let place = (all.0 (is ∙ changes)).0 shares in let longer = more changes in omega (arith, place, longer)
-      | false ↦ λ stays. let as_long = less stays in omega (arith, as_long, le)
-    ] refl,
-    one_fits c b n m os more less all.1,
-  )
+  module _ {f : List E → List E} {c : ℕ → Bool} {b : Bool} {es : List E} {os ms ns : List (Sharing E)} (is : IsTurned f c b es os ms ns) where
+    all_agreed : AllByRecursion (IsAgreed c b (length es)) ms
+    all_agreed = pairs_all (Agrees es c b) (IsReady (length es)) (IsAgreed c b (length es)) os ms (agreed es c b (length es)) is.ready is.agree
 
-  pub no_more_fit : (c : ℕ → Bool) (b : Bool) (n m : ℕ) (os : List (Sharing E)) → m ≤ n → AllByRecursion (λ o. o.shares ≡ true → n ≤ o.room → c o.guess.id ≡ b → m ≤ o.room) os
-  no_more_fit c b n m [] less = tt
-  no_more_fit c b n m (o ∷ os) less = ((λ shares le is. omega (arith, le, less)), no_more_fit c b n m os less)
+    pub turned_seen : map guess_of (map (seen (shared_after f b es)) ns) ≡ map (changing f c) (map guess_of (map (seen es) os))
+    turned_seen =
+        changed_all f c b (length es) es ms ns all_agreed is.change
+        ∙ ap (λ xs. map (changing f c) (map guess_of xs)) (pairs_map (Agrees es c b) (seen es) (seen es) os ms (agrees_seen es c b) is.agree)
+
+    turned_ready : (m : ℕ) (Q : Sharing E → Type 0) → AllByRecursion Q ms → ((o : Sharing E) → IsAgreed c b (length es) o → Q o → o.shares ≡ true → m ≤ o.room) → AreReady m ns
+    turned_ready m Q all fits =
+        pairs_all (IsChanged f c) (IsReady m) (IsReady m) ms ns (still_ready f c m)
+        (all_of (IsAgreed c b (length es)) Q (IsReady m) ms (λ o is q shares. ((is.ready shares).0, fits o is q shares)) all_agreed all) is.change
+
+  one_longer : (R : E → E → Ordering) (e : E) (xs : List E) → length (with_entity R xs e) ≤ suc (length xs)
+  one_longer R e [] = omega arith
+  one_longer R e (x ∷ xs) =
+      let rest = one_longer R e xs in
+      elim (R x e) as (λ o. length (by_order o (x ∷ with_entity R xs e) (x ∷ xs) (e ∷ x ∷ xs)) ≤ suc (suc (length xs))) [ Less ↦ omega (arith, rest) | Equal ↦ omega arith | Greater ↦ omega arith ]
+
+  more_fits : (R : E → E → Ordering) (e : E) (es : List E) (b : Bool) (room : ℕ) → length es ≤ room → (b ≡ true → length es < room) → length (shared_after (λ xs. with_entity R xs e) b es) ≤ room
+  more_fits R e es true room le place = let longer = one_longer R e es in let more = place refl in omega (arith, longer, more)
+  more_fits R e es false room le place = le
+
+  -- one more fits where there is a place
+  pub more_ready : (R : E → E → Ordering) (e : E) {c : ℕ → Bool} {b : Bool} {es : List E} {os ms ns : List (Sharing E)} → IsTurned (λ xs. with_entity R xs e) c b es os ms ns
+      → AllByRecursion (HasPlace c (length es)) ms → AreReady (length (shared_after (λ xs. with_entity R xs e) b es)) ns
+  more_ready R e {c} {b} {es} is places =
+      turned_ready is (length (shared_after (λ xs. with_entity R xs e) b es)) (HasPlace c (length es)) places
+      (λ o was place shares. more_fits R e es b o.room (was.ready shares).1 (λ turns. (place (was.agrees shares ∙ turns)).0 shares))
+
+  no_longer : (R : E → E → Ordering) (e : E) (xs : List E) → length (without_entity R xs e) ≤ length xs
+  no_longer R e [] = omega arith
+  no_longer R e (x ∷ xs) =
+      let rest = no_longer R e xs in
+      elim (not (eq_by_cmp R e x)) as (λ b. length (cond b (x ∷ without_entity R xs e) (without_entity R xs e)) ≤ suc (length xs)) [ true ↦ omega (arith, rest) | false ↦ omega (arith, rest) ]
+
+  less_fits : (R : E → E → Ordering) (e : E) (es : List E) (b : Bool) (room : ℕ) → length es ≤ room → length (shared_after (λ xs. without_entity R xs e) b es) ≤ room
+  less_fits R e es true room le = let less = no_longer R e es in omega (arith, less, le)
+  less_fits R e es false room le = le
+
+  -- no more fit anyway
+  pub less_ready : (R : E → E → Ordering) (e : E) {c : ℕ → Bool} {b : Bool} {es : List E} {os ms ns : List (Sharing E)} → IsTurned (λ xs. without_entity R xs e) c b es os ms ns
+      → AreReady (length (shared_after (λ xs. without_entity R xs e) b es)) ns
+  less_ready R e {c} {b} {es} is =
+      turned_ready is (length (shared_after (λ xs. without_entity R xs e) b es)) (IsAgreed c b (length es)) (all_agreed is)
+      (λ o was _ shares. less_fits R e es b o.room (was.ready shares).1)
 
   -- ---- where all share and change
-  pub will_agree : (c : ℕ → Bool) (n : ℕ) (os : List (Sharing E)) → AllByRecursion (WillChange c n) os → AreReady n os → AllByRecursion (IsAgreed c true n) os
-  will_agree c n [] all ready = tt
-  will_agree c n (o ∷ os) all ready = (record { agrees = λ _. all.0.1; ready = ready.0 }, will_agree c n os all.1 ready.1)
-
-  pub will_stay : (f : List E → List E) (c : ℕ → Bool) (n : ℕ) (os : List (Sharing E)) → AllByRecursion (WillChange c n) os → Pairs (IsChanged f c) os os
-  will_stay f c n [] all = tt
-  will_stay f c n (o ∷ os) all = (record { sharing = λ _. refl; alone = λ own. absurd (true≢false (sym all.0.0 ∙ own)); shares = refl }, will_stay f c n os all.1)
+  pub will_turn : (f : List E → List E) (c : ℕ → Bool) (n : ℕ) (es : List E) (os : List (Sharing E)) → AllByRecursion (WillChange c n) os → AreReady (length es) os → IsTurned f c true es os os os
+  will_turn f c n es os all ready = record {
+    ready = ready;
+    agree = pairs_self (WillChange c n) (Agrees es c true) os (λ o is. inl (refl, λ _. is.1)) all;
+    change = pairs_self (WillChange c n) (IsChanged f c) os (λ o is. record { sharing = λ _. refl; alone = λ own. absurd (true≢false (sym is.0 ∙ own)); shares = refl }) all;
+  }
 
   pub will_fit : (c : ℕ → Bool) (n : ℕ) (os : List (Sharing E)) → AllByRecursion (WillChange c n) os → AreReady n os → AllByRecursion (HasPlace c n) os
-  will_fit c n [] all ready = tt
-  will_fit c n (o ∷ os) all ready =
-      let none = ap length (ready.0 all.0.0).0 in
-      ((λ here. ((λ is. omega (arith, all.0.2, none)), (λ own. absurd (true≢false (sym all.0.0 ∙ own))))), will_fit c n os all.1 ready.1)
-
-  -- ---- how long lists become
-  pub no_longer : (R : E → E → Ordering) (e : E) (es : List E) → length (without_entity R es e) ≤ length es
-  no_longer R e [] = omega arith
-  no_longer R e (x ∷ es) =
-      let rest = no_longer R e es in
-      elim (not (eq_by_cmp R e x)) as (λ b. length (cond b (x ∷ without_entity R es e) (without_entity R es e)) ≤ suc (length es)) [ true ↦ omega (arith, rest) | false ↦ omega (arith, rest) ]
-
-  pub one_longer : (R : E → E → Ordering) (e : E) (es : List E) → length (with_entity R es e) ≤ suc (length es)
-  one_longer R e [] = omega arith
-  one_longer R e (x ∷ es) =
-      let rest = one_longer R e es in
-      elim (R x e) as (λ o. length (by_order o (x ∷ with_entity R es e) (x ∷ es) (e ∷ x ∷ es)) ≤ suc (suc (length es))) [ Less ↦ omega (arith, rest) | Equal ↦ omega arith | Greater ↦ omega arith ]
-
-  pub shared_no_longer : (R : E → E → Ordering) (e : E) (b : Bool) (es : List E) → length (shared_after (λ xs. without_entity R xs e) b es) ≤ length es
-  shared_no_longer R e true es = no_longer R e es
-  shared_no_longer R e false es = omega arith
-
-  pub shared_longer : (R : E → E → Ordering) (e : E) (b : Bool) (es : List E) → b ≡ true → length (shared_after (λ xs. with_entity R xs e) b es) ≤ suc (length es)
-  shared_longer R e true es is = one_longer R e es
-  shared_longer R e false es is = omega arith
-
-  pub shared_as_long : (R : E → E → Ordering) (e : E) (b : Bool) (es : List E) → b ≡ false → length (shared_after (λ xs. with_entity R xs e) b es) ≤ length es
-  shared_as_long R e true es is = absurd (true≢false is)
-  shared_as_long R e false es is = omega arith
+  will_fit c n os = all_of (WillChange c n) (IsReady n) (HasPlace c n) os (λ o will ready here.
+      let none = ap length (ready will.0).0 in
+      ((λ is. omega (arith, will.2, none)), (λ own. absurd (true≢false (sym will.0 ∙ own)))))
 
   -- ---- those that are among some, or are not
-  left_one : (R : E → E → Ordering) (tags : List ℕ) (e : E) (o : OpenGuess E) → changing (λ es. without_entity R es e) (is_named false tags) o ≡ left_to R tags e o
-  left_one R tags e o = elim (has o.id tags) as (λ b. cond (not b) (record o { dependents = without_entity R o.dependents e }) o ≡ cond b o (record o { dependents = without_entity R o.dependents e })) [ true ↦ refl | false ↦ refl ]
-
   pub left_all : (R : E → E → Ordering) (tags : List ℕ) (e : E) (os : List (OpenGuess E)) → map (changing (λ es. without_entity R es e) (is_named false tags)) os ≡ map (left_to R tags e) os
   left_all R tags e [] = refl
-  left_all R tags e (o ∷ os) = let first = left_one R tags e o in let rest = left_all R tags e os in λ j. first j ∷ rest j
+  left_all R tags e (o ∷ os) =
+      let first : changing (λ es. without_entity R es e) (is_named false tags) o ≡ left_to R tags e o =
+      elim (has o.id tags) as (λ b. cond (not b) (record o { dependents = without_entity R o.dependents e }) o ≡ cond b o (record o { dependents = without_entity R o.dependents e })) [ true ↦ refl | false ↦ refl ] in
+      let rest = left_all R tags e os in
+      λ j. first j ∷ rest j
 
-  -- ---- a pass over what is seen
   pub nothing : Listing E
   nothing = record { guess = record { id = 0; tags = []; dependents = [] } }
-
-  pub one_more_done : (f : OpenGuess E → OpenGuess E) (os ls : List (Listing E)) (i : ℕ) (d : Listing E) → IsDone f os ls i → i < length os → IsDone f os (slice_set ls i (record { guess = f (slice_index_or ls i d).guess })) (i + 1)
-  one_more_done f os ls i d so lt =
-      let many = so.as_many in
-      one_done f os ls i (slice_index_or ls i d) (record { guess = f (slice_index_or ls i d).guess }) so lt (any_default ls i d (slice_index_or ls i d) (omega (arith, lt, many))) refl

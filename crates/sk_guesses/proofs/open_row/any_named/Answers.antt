@@ -1,5 +1,5 @@
 -- None so far, and then none.
-use Rattle.sk_guesses.proofs.Names.{◌≡◌, arith, true, false, sym, ◌∙◌}
+use Rattle.sk_guesses.proofs.Names.{◌≡◌, arith, true, false}
 use Rattle.sk_guesses.specs.Shared.{Sharing, is_named}
 use Rattle.sk_guesses.proofs.Shared.{more_at, all_from}
 use Rattle.sk_guesses.proofs.open_row.any_named.Goals as goal

@@ -1,6 +1,6 @@
 -- None so far, and then none.
 use Rattle.sk_guesses.proofs.Names.{◌≡◌, arith, false, sym, ◌∙◌}
-use Rattle.sk_guesses.specs.Shared.{Sharing, is_named}
+use Rattle.sk_guesses.specs.Shared.{Sharing}
 use Rattle.sk_guesses.proofs.Shared.{more_at, all_from}
 use Rattle.sk_guesses.proofs.open_row.any_shares.Goals as goal
 

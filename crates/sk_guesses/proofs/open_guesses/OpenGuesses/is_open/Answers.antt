@@ -1,6 +1,6 @@
 -- It stands among the undecided ones where a search finds it.
 use Rattle.sk_guesses.proofs.Names.{◌≡◌, length, ◌∙◌, ap, arith, nat_lt, has, numbers, Kept, opens_of}
-use Rattle.sk_guesses.proofs.Kept.{is_there}
+use Rattle.sk_guesses.proofs.Opens.{is_there}
 use Rattle.sk_guesses.proofs.open_guesses.OpenGuesses.is_open.Goals as goal
 
 pub returns : goal.returns

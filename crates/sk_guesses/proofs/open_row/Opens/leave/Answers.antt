@@ -2,7 +2,7 @@
 use Rattle.sk_guesses.proofs.Names.{◌∙◌, List, length, map, ap, sym, subst, without_entity, InOrder}
 use Rattle.sk_guesses.specs.Shared.{is_named, changing, seen, AreReady, Agrees, Pairs}
 use Rattle.sk_guesses.proofs.Opens.{guess_of}
-use Rattle.sk_guesses.proofs.Shared.{all_agree_seen, all_agreed, changed_all, changed_ready, no_more_fit, shared_after, shared_no_longer}
+use Rattle.sk_guesses.proofs.Shared.{IsTurned, turned_seen, less_ready}
 use Rattle.sk_guesses.proofs.open_row.Opens.leave.Goals as goal
 
 pub agree-changes-requires-clause-ready : goal.agree-changes-requires-clause-ready
@@ -12,28 +12,25 @@ pub invariant_of-self : goal.invariant_of-self
 invariant_of-self g c =
     let os = c.self.inside.row.items in
     let ms = c.agree-changes.new.row.items in
+    let ns = c.leave_own.new.row.items in
     let es = c.self.inside.shared.entities in
     let c2 = is_named c.args.within c.args.tags.now in
     let b = c.agree-changes.result in
-    let f = λ (xs : List _). without_entity g.E.Key.order xs c.args.entity.now in
     let agree : Pairs (Agrees es c2 b) os ms = subst (λ xs. Pairs (Agrees xs c2 b) os ms) c.as_slice.ensures.entities c.agree-changes.ensures in
-    let agreed = all_agreed es c2 b (length es) os ms agree c.self.invariant.0 in (
-      subst (λ xs. AreReady (length xs) c.leave_own.new.row.items) (sym c.remove_if.ensures)
-          (changed_ready f c2 b (length es) (length (shared_after f b es)) ms c.leave_own.new.row.items agreed c.leave_own.ensures
-          (no_more_fit c2 b (length es) (length (shared_after f b es)) ms (shared_no_longer g.E.Key.order c.args.entity.now b es))),
-      c.self.invariant.1,
-    )
+    let turned : IsTurned (λ (xs : List _). without_entity g.E.Key.order xs c.args.entity.now) c2 b es os ms ns =
+    record { ready = c.self.invariant.0; agree = agree; change = c.leave_own.ensures } in
+    (subst (λ xs. AreReady (length xs) ns) (sym c.remove_if.ensures) (less_ready g.E.Key.order c.args.entity.now turned), c.self.invariant.1)
 
 pub returns : goal.returns
 returns g c =
     let os = c.self.inside.row.items in
     let ms = c.agree-changes.new.row.items in
+    let ns = c.leave_own.new.row.items in
     let es = c.self.inside.shared.entities in
     let c2 = is_named c.args.within c.args.tags.now in
     let b = c.agree-changes.result in
     let f = λ (xs : List _). without_entity g.E.Key.order xs c.args.entity.now in
     let agree : Pairs (Agrees es c2 b) os ms = subst (λ xs. Pairs (Agrees xs c2 b) os ms) c.as_slice.ensures.entities c.agree-changes.ensures in
-    let agreed = all_agreed es c2 b (length es) os ms agree c.self.invariant.0 in
-    ap (λ xs. map guess_of (map (seen xs) c.leave_own.new.row.items)) c.remove_if.ensures
-    ∙ changed_all f c2 b (length es) es ms c.leave_own.new.row.items agreed c.leave_own.ensures
-    ∙ ap (λ xs. map (changing f c2) (map guess_of xs)) (all_agree_seen es c2 b os ms agree ∙ ap (λ (r : InOrder _). r.items) c.self.view_is)
+    let turned : IsTurned f c2 b es os ms ns = record { ready = c.self.invariant.0; agree = agree; change = c.leave_own.ensures } in
+    ap (λ xs. map guess_of (map (seen xs) ns)) c.remove_if.ensures ∙ turned_seen turned
+    ∙ ap (λ (r : InOrder _). map (changing f c2) (map guess_of r.items)) c.self.view_is

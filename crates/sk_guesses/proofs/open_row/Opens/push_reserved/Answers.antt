@@ -1,7 +1,7 @@
 -- What is seen of it is what it begins with.
-use Rattle.sk_guesses.proofs.Names.{◌≡◌, ◌∙◌, ◌∷◌, ◌++◌, [], true, length, map, ap, sym, subst, InOrder}
+use Rattle.sk_guesses.proofs.Names.{◌≡◌, ◌∙◌, ◌∷◌, ◌++◌, [], true, length, map, map-append, ap, sym, subst, InOrder}
 use Rattle.sk_guesses.specs.Shared.{seen, AreReady}
-use Rattle.sk_guesses.proofs.Shared.{ready_more, seen_more}
+use Rattle.sk_guesses.proofs.Shared.{ready_more}
 use Rattle.sk_guesses.proofs.open_row.Opens.push_reserved.Goals as goal
 
 pub invariant_of-self : goal.invariant_of-self
@@ -16,4 +16,4 @@ returns-clause-items g c =
     let just : c.is_shared-shares.result ≡ true → es ≡ c.args.dependents.entities = λ is. c.is_shared-shares.ensures is ∙ c.as_slice-2.ensures.entities in
     let before = ap (λ (r : InOrder _). r.items) (c.self.view_is ∙ c.found.ensures) in
     let last = c.begun.ensures.seen es just in
-    ap (map (seen es)) c.push_reserved.ensures.items ∙ seen_more es c.self.inside.row.items c.begun.result ∙ (λ j. before j ++ last j ∷ [])
+    ap (map (seen es)) c.push_reserved.ensures.items ∙ map-append (seen es) c.self.inside.row.items (c.begun.result ∷ []) ∙ (λ j. before j ++ last j ∷ [])

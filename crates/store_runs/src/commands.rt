@@ -36,15 +36,14 @@ fn get_all(client: &mut Client, count: u64, keys: u64) -> Result<(), RunStop> {
     Ok(())
 }
 
-/// What is asked for.
-pub(crate) fn run(alloc: Global, plan: CommandPlan) -> Result<(), RunStop> {
-    let mut client = Client::new(alloc, plan.deed == Deed::Recover)?;
-    set_all(&mut client, 0, plan.present, plan.present, 1000)?;
+/// What is asked for, of a client.
+fn carry_out(client: &mut Client, alloc: Global, plan: &CommandPlan) -> Result<(), RunStop> {
+    set_all(client, 0, plan.present, plan.present, 1000)?;
     match plan.deed {
-        Deed::Set => set_all(&mut client, 0, plan.count, plan.keys, plan.batch),
-        Deed::Get => get_all(&mut client, plan.count, plan.keys),
+        Deed::Set => set_all(client, 0, plan.count, plan.keys, plan.batch),
+        Deed::Get => get_all(client, plan.count, plan.keys),
         Deed::Recover => {
-            set_all(&mut client, 0, plan.count, plan.keys, plan.batch)?;
+            set_all(client, 0, plan.count, plan.keys, plan.batch)?;
             let works = client.recover(alloc)?;
             if works == plan.present.wrapping_add(plan.count) {
                 Ok(())
@@ -54,4 +53,12 @@ pub(crate) fn run(alloc: Global, plan: CommandPlan) -> Result<(), RunStop> {
         }
         Deed::Connect => client.connect_all(plan.count),
     }
+}
+
+/// What is asked for, of a client that has done nothing.
+pub(crate) fn run(alloc: Global, plan: CommandPlan) -> Result<(), RunStop> {
+    let mut client = Client::new(alloc, plan.deed == Deed::Recover)?;
+    let done = carry_out(&mut client, alloc, &plan);
+    drop(client);
+    done
 }

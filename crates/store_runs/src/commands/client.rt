@@ -74,6 +74,15 @@ fn add_key(request: &mut Vec<u8>, number: u64) -> Result<(), RunStop> {
     Ok(())
 }
 
+/// Room for the bytes of a frame.
+fn frame_room(alloc: Global) -> Result<Vec<u8>, RunStop> {
+    let mut room = Vec::new(alloc);
+    for _ in 0..ROOM {
+        room.push(0)?;
+    }
+    Ok(room)
+}
+
 impl Client {
     /// A client of an empty store, whose log is kept or dropped.
     pub(crate) fn new(alloc: Global, keeps: bool) -> Result<Client, RunStop> {
@@ -89,12 +98,9 @@ impl Client {
             segment: 1,
             offset: 0,
         };
+        let room = frame_room(alloc)?;
         let mut store = Store::new(alloc, limits, 1, next, 7);
         let channel = store.connect()?;
-        let mut room = Vec::new(alloc);
-        for _ in 0..ROOM {
-            room.push(0)?;
-        }
         Ok(Client {
             store,
             channel,

@@ -1,8 +1,8 @@
 -- What depends on a guess hangs on which entities are dirty, and not on how they are listed.
-use Rattle.sk_plain.proofs.Cites.{◌≡◌, ℕ, Bool, true, false, ◌||◌, List, [], ◌∷◌, ◌++◌, refl, ◌∙◌, ap, list_any}
-use Rattle.sk_plain.proofs.Cites.{eq_by_cmp, list_any-append, MarkedEffect, is_in, is_marked, hit, hits, dirtied, keep}
-use Rattle.sk_plain.proofs.Cites.{touches, effects, dirtied_same, is_in_tied, Entity, entity_cmp, entity_total, State}
-use Rattle.sk_plain.proofs.Cites.{EntityState, EntryView, Scripts, Saying, plain, remaining}
+use Rattle.sk_plain.proofs.Cites.{◌≡◌, ℕ, Bool, true, false, ◌||◌, List, [], ◌∷◌, refl, ◌∙◌, ap, list_any, eq_by_cmp}
+use Rattle.sk_plain.proofs.Cites.{MarkedEffect, is_in, is_marked, hit, hits, dirtied, keep, touches, effects}
+use Rattle.sk_plain.proofs.Cites.{dirtied_same, is_in_tied, Entity, entity_cmp, entity_total, State, EntityState}
+use Rattle.sk_plain.proofs.Cites.{EntryView, Scripts, Saying, plain, remaining}
 
 abbrev Left : Type 0
 Left = MarkedEffect Entity EntityState Saying
@@ -26,22 +26,10 @@ hits_alike g one other same (f ∷ fs) =
 pub left_alike : (scripts : Scripts) (g : ℕ) (one other : List Entity) → AreAlike one other → (s : State) (ns : List EntryView) → remaining scripts g one s ns ≡ remaining scripts g other s ns
 left_alike scripts g one other same s ns = ap (λ bs. keep bs ns) (hits_alike g one other same (effects (plain scripts) s ns))
 
--- an entity that is there, and one that is put behind
-or_turned : (a b : Bool) → (a || (b || false)) ≡ (b || a)
-or_turned true true = refl
-or_turned true false = refl
-or_turned false true = refl
-or_turned false false = refl
-
+-- an entity that is there
 there_again : (dirty : List Entity) (x e : Entity) → is_in entity_cmp dirty x ≡ true → (b : Bool) → eq_by_cmp entity_cmp e x ≡ b → is_in entity_cmp dirty e ≡ (b || is_in entity_cmp dirty e)
 there_again dirty x e there true tied = is_in_tied entity_total dirty e x tied ∙ there
 there_again dirty x e there false apart = refl
 
 pub there_is : (dirty : List Entity) (x : Entity) → is_in entity_cmp dirty x ≡ true → AreAlike dirty (x ∷ dirty)
 there_is dirty x there e = there_again dirty x e there (eq_by_cmp entity_cmp e x) refl
-
-pub behind_is : (dirty : List Entity) (x : Entity) → AreAlike (dirty ++ x ∷ []) (x ∷ dirty)
-behind_is dirty x e = list_any-append (eq_by_cmp entity_cmp e) dirty (x ∷ []) ∙ or_turned (is_in entity_cmp dirty e) (eq_by_cmp entity_cmp e x)
-
-pub one_more : (dirty mid new : List Entity) (x : Entity) (more : List Entity) → AreAlike mid (more ++ dirty) → AreAlike new (x ∷ mid) → AreAlike new (x ∷ (more ++ dirty))
-one_more dirty mid new x more before after e = after e ∙ ap (λ b. eq_by_cmp entity_cmp e x || b) (before e)

@@ -1,8 +1,7 @@
 -- A process after a write of another entity, on whatever performs writes.
 use Rattle.sk_plain.proofs.Cites.{◌≡◌, ◌<◌, ℕ, true, false, Option, Some, Result, Ok, Err, refl, sym, ap, subst, ◌∙◌}
-use Rattle.sk_plain.proofs.Cites.{arith, OnOk, eq_by_cmp, Equal-is, is_err, true≢false, entity_exact, Entity, Proc, Sig}
-use Rattle.sk_plain.proofs.Cites.{Exit, Obj, Link, Copy, entity_cmp, Process, CanBecome, became, EntityState}
-use Rattle.sk_plain.proofs.Cites.{IsNoProcess}
+use Rattle.sk_plain.proofs.Cites.{arith, OnOk, eq_by_cmp, Equal-is, is_err, true≢false, entity_exact, Entity, Proc}
+use Rattle.sk_plain.proofs.Cites.{entity_cmp, Process, CanBecome, became, EntityState, IsNoProcess}
 
 pub then_ok : {A E P Q : Type 0} (r : Result A E) → OnOk r P → (P → Q) → OnOk r Q
 then_ok (Ok x) p f = f p
@@ -11,11 +10,7 @@ then_ok (Err e) p f = tt
 -- what is no process is not this one
 pub apart_from : (pid : ℕ) (e : Entity) → IsNoProcess e → eq_by_cmp entity_cmp (Proc pid) e ≡ false
 apart_from pid (Proc p) h = absurd h
-apart_from pid (Sig p) h = refl
-apart_from pid (Exit p) h = refl
-apart_from pid (Obj o) h = refl
-apart_from pid (Link o n) h = refl
-apart_from pid (Copy n) h = refl
+apart_from pid e h = refl
 
 pub from_ok : {A E P : Type 0} (r : Result A E) → false ≡ is_err r → OnOk r P → P
 from_ok (Ok x) is p = p
@@ -23,11 +18,7 @@ from_ok (Err e) is p = absurd (true≢false (sym is))
 
 abbrev pid_of : Entity → ℕ
 pid_of (Proc p) = p
-pid_of (Sig p) = p
-pid_of (Exit p) = p
-pid_of (Obj o) = 0
-pid_of (Link o n) = 0
-pid_of (Copy n) = 0
+pid_of e = 0
 
 -- nor is a greater one
 pub apart_from_child : (pid child : ℕ) → pid < child → eq_by_cmp entity_cmp (Proc pid) (Proc child) ≡ false

@@ -2,15 +2,13 @@
 use Rattle.sk_plain.proofs.Cites.{arith, zero, suc, ◌<◌, get_or, length, ◌≡◌, ℕ, Bool, true, false, cond, ◌||◌, List}
 use Rattle.sk_plain.proofs.Cites.{[], ◌∷◌, ◌++◌, map, Option, Some, None, Result, Ok, Err, IsOk, refl, sym, ◌∙◌, ap}
 use Rattle.sk_plain.proofs.Cites.{subst, OnOk, list_any, get, append_assoc, list_any-append, Effect, is_in, is_marked}
-use Rattle.sk_plain.proofs.Cites.{dirtied, hit, hits, keep, IsLegal, after, marked_effect, outcome, put, put_all, run}
-use Rattle.sk_plain.proofs.Cites.{effects, Entity, Proc, entity_cmp, State, EntryView, Scripts, Saying, plain, depends}
-use Rattle.sk_plain.proofs.Cites.{remaining, first_refusal, refusal_in, BeginsWell, EndsBy, written_beside, gone_in}
-use Rattle.sk_plain.proofs.Cites.{writes_of, wrote_all, effect_of, read_by, written_by, EntityState, Refusal, NoProcess}
-use Rattle.sk_plain.proofs.Cites.{Ended, Mismatch, NeedsReply, Blocked, NoRoom, TooMany, TraceFull, Plan, PlanView}
-use Rattle.sk_plain.proofs.Cites.{BesideView, Says, Birth, seen_with, looked, looks_of, written_in, Process}
+use Rattle.sk_plain.proofs.Cites.{dirtied, hit, hits, keep, after, marked_effect, outcome, put_all, effects, Entity}
+use Rattle.sk_plain.proofs.Cites.{Proc, entity_cmp, State, EntryView, Scripts, Saying, plain, depends, remaining}
+use Rattle.sk_plain.proofs.Cites.{BeginsWell, written_beside, gone_in, writes_of, effect_of, read_by, written_by}
+use Rattle.sk_plain.proofs.Cites.{EntityState, Plan, PlanView, BesideView, seen_with, looked, looks_of, written_in}
+use Rattle.sk_plain.proofs.Cites.{Process}
 use Rattle.sk_store.specs.declared.entity_state.EntityState.TheVariants as stored
-use Rattle.sk_plain.specs.declared.refusal.Refusal.TheVariants.{Memory}
-use Rattle.sk_plain.specs.Plan.{Nothing, One, Gone}
+use Rattle.sk_plain.specs.Plan.{Nothing}
 use Rattle.sk_plain.proofs.Plans.{written_is}
 
 pub asked : {A B : Type 0} (look : A → B) (es : List A) → map (λ (r : A × B). r.0) (map (λ e. (e, look e)) es) ≡ es
@@ -19,18 +17,10 @@ asked look (e ∷ es) = ap (λ rest. e ∷ rest) (asked look es)
 
 changed_by : (look : Entity → Option EntityState) (p : Process) (pid : ℕ) (v : Option EntityState) (b : BesideView) → map (λ (w : Entity × Option EntityState). w.0) (written_beside look p b ++ (Proc pid, v) ∷ map (λ e. (e, None)) (gone_in b)) ≡ written_by pid b
 changed_by look p pid v Nothing = refl
-changed_by look p pid v Says = refl
-changed_by look p pid v (One e becomes) = refl
-changed_by look p pid v (Birth c) = refl
-changed_by look p pid v (Gone e) = refl
+changed_by look p pid v b = refl
 
 pub changed_are : (look : Entity → Option EntityState) (pid : ℕ) (plan : PlanView) → map (λ (w : Entity × Option EntityState). w.0) (writes_of look pid plan) ≡ written_by pid plan.beside
 changed_are look pid plan = changed_by look plan.process pid (Some (stored.Process plan.process)) plan.beside
-
--- writes one after another are those of a finite map
-pub wrote_are : (ws : List (Entity × Option EntityState)) (s : State) → wrote_all put ws s ≡ put_all ws s
-wrote_are [] s = refl
-wrote_are (w ∷ ws) s = wrote_are ws (put s w.0 w.1)
 
 -- what holds where three others do
 pub on_all : {A F P Q R S : Type 0} (r : Result A F) → OnOk r P → OnOk r Q → OnOk r R → (P → Q → R → S) → OnOk r S
@@ -73,34 +63,6 @@ module _ (scripts : Scripts) (n : EntryView) (plan : Plan) (s t : State) (accept
       ∙ ap (λ b. before ++ keep (b ∷ hits entity_cmp g (dirtied b left_behind dirty) (effects (plain scripts) t rest)) (n ∷ rest)) (sym (hit_is scripts g n plan (get s) dirty))
       ∙ ap (λ (u : State). before ++ keep (hits entity_cmp g dirty (left_behind ∷ effects (plain scripts) u rest)) (n ∷ rest)) taken
       ∙ ap (λ o. before ++ keep (hits entity_cmp g dirty (marked_effect (plain scripts) n.guess o ∷ effects (plain scripts) (after (plain scripts) o s) rest)) (n ∷ rest)) (sym accepted)
-
-  -- the entry and the rest are legal where the rest is
-  pub legal_on : IsLegal (plain scripts) t rest → IsLegal (plain scripts) s (n ∷ rest)
-  legal_on h = subst (λ o. IsOk o × IsLegal (plain scripts) (after (plain scripts) o s) rest) (sym accepted) (refl, subst (λ (u : State). IsLegal (plain scripts) u rest) taken h)
-
-  -- and end where the rest does
-  pub run_on : run (plain scripts) t rest ≡ run (plain scripts) s (n ∷ rest)
-  run_on =
-      ap (λ (u : State). run (plain scripts) u rest) taken
-      ∙ ap (λ o. run (plain scripts) (after (plain scripts) o s) rest) (sym accepted)
-
-  -- and have the first refusal of the rest
-  pub passed_on : refusal_in scripts t rest ≡ refusal_in scripts s (n ∷ rest)
-  passed_on =
-      ap (λ (u : State). refusal_in scripts u rest) taken
-      ∙ ap (λ o. first_refusal o (refusal_in scripts (after (plain scripts) o s) rest)) (sym accepted)
-
--- a refusal is told
-pub told : (first : Option Refusal) (why : Refusal) → first ≡ Some why → EndsBy first why
-told first NoProcess is = is
-told first Ended is = is
-told first Mismatch is = is
-told first NeedsReply is = is
-told first Blocked is = is
-told first NoRoom is = is
-told first TooMany is = is
-told first TraceFull is = is
-told first Memory is = tt
 
 -- a step that is not refused begins a record well, or one before it did
 pub begins_here : (scripts : Scripts) (s start : State) (ns : List EntryView) (i : ℕ) (n : EntryView) → i < length ns → n ≡ get_or ns i n → (i ≡ 0 → s ≡ start) → (0 < i → BeginsWell scripts start ns)

@@ -15,14 +15,14 @@ use Rattle.sk_script.specs.Private.{moved, given, private_step}
 use Rattle.sk_store.specs.Processes.{IsProcess, process_in}
 use Rattle.sk_store.specs.declared.entity_state.EntityState.{EntityState}
 use Rattle.sk_store.specs.declared.entity_state.EntityState.TheVariants as stored
-use Rattle.sk_plain.specs.Act.{Scripts, StepTree, act, next_in}
+use Rattle.sk_plain.specs.Act.{Scripts, StepTree, act, next_in, with_input}
 use Rattle.sk_plain.specs.Rows.{answered, failed, filled}
 use Rattle.sk_plain.specs.Files.{after_read, file_in}
 use Rattle.sk_plain.specs.Processes.{with_handler, returned, handling}
 use Rattle.sk_plain.specs.Replies.{fetched}
 use Rattle.sk_record.specs.Step.{perform}
 use Rattle.sk_plain.specs.Plan.{PlanView, LooksView, Nowhere, At, AtBoth, BecomesView, Empty, Exited, Linked, Cached, Changed, BesideView, Nothing, Says, One, Birth, Gone}
-use Rattle.sk_plain.specs.Planned.{planned, signals_read, CanDo, IsBeside, IsPlainRefusal}
+use Rattle.sk_plain.specs.Planned.{planned, said_by, signals_read, CanDo, IsBeside, IsPlainRefusal}
 use Rattle.sk_plain.specs.declared.refusal.Refusal.{Refusal}
 use Rattle.sk_plain.specs.declared.refusal.Errno.TheVariants.{StaleCopy}
 use Rattle.sk_plain.specs.declared.plan.Plan.{Plan}
@@ -223,6 +223,18 @@ module _ (look : Entity → Option EntityState) (i : Option Instruction) (input 
     pub apart : IfOk result (λ plan. IsBeside pid (written_of plan))
     pub fits : IfOk result Fits
     pub named : IfErr result IsPlainRefusal
+
+-- a plan is that of a step without input, whatever instruction is next
+abbrev pub PlansAny : (Entity → Option EntityState) → Process → ℕ → StepTree → Plan → Type 0
+PlansAny look p pid step plan = (i : Option Instruction) → PlansAfter look i inputs.None p [] pid step (Ok plan)
+
+-- that of a step whose input is a reply
+abbrev pub PlansReply : (Entity → Option EntityState) → Option Instruction → Input → Process → ℕ → Result Plan Refusal → Type 0
+PlansReply look i input p pid result = PlansAfter look i input p [] pid (with_input pid p i input) result
+
+-- a plan says nothing
+abbrev pub IsQuiet : (Entity → Option EntityState) → Option Instruction → Input → Process → Plan → Type 0
+IsQuiet look i input p plan = said_by (seen look i input p plan) ≡ None
 
 -- the plan that is a row's
 abbrev pub plan_of : Result Row Refusal → Result Plan Refusal

@@ -1,5 +1,5 @@
 //! Doing what was planned, where things stand. Nothing here knows of instructions.
-ghost use Rattle.std.specs.Prelude.{◌≡◌, ◌≢◌, ◌≤◌, ◌+◌, ◌<◌, ◌^◌, true, OnOk, OnErr, IfOk, Some, None, [], length};
+ghost use Rattle.std.specs.Prelude.{◌≡◌, ◌≢◌, ◌≤◌, ◌+◌, ◌<◌, ◌^◌, true, OnOk, OnErr, Some, None, [], length};
 ghost use Rattle.sk_ids.specs.declared.entity.Entity.TheVariants.{Proc, Sig, Exit, Obj, Copy};
 ghost use Rattle.sk_changes.specs.declared.change.Change.TheVariants as changes;
 ghost use Rattle.sk_objects.specs.Value.{empty_of};
@@ -14,9 +14,10 @@ ghost use Rattle.sk_store.specs.Processes.{CanBecome as CanBecomeThere, became, 
 ghost use Rattle.sk_plain.specs.Files.{after_read, file_in};
 ghost use Rattle.sk_plain.specs.Plan.{Nowhere, Birth};
 ghost use Rattle.sk_plain.specs.Rows.{answered};
-ghost use Rattle.sk_plain.specs.Planned.{CanBecome, CanDo, IsBeside, IsNoProcess, child_of, value_of, said_by, texts_after, writes_of, wrote_all};
-ghost use Rattle.sk_plain.specs.Seen.{CanChange, CanPerform, HasContent, IsWritable, beside_of, content_in, process_given, row_seen, written, text_in, seen_with};
+ghost use Rattle.sk_plain.specs.Planned.{CanBecome, child_of, value_of, said_by, texts_after, writes_of, wrote_all};
+ghost use Rattle.sk_plain.specs.Seen.{CanPerform, HasContent, IsWritable, content_in, process_given, written, text_in, seen_with};
 ghost use Rattle.sk_plain.specs.Forked.{CanFork, forked};
+ghost use Rattle.sk_plain.specs.Writing.{CanAct, CanWriteBeside, HasBecome, HasWritten, acted, wrote_both};
 
 use crate::becomes::{Doing, FileReading, Filling, Forking, Measuring, Reading, read_there};
 use crate::{Becomes, Beside, Errno, InputRef, Looks, Plan, ProcessChange, Row, Writes};
@@ -66,11 +67,8 @@ fn version_of<K: Look>(keeper: &K, pid: Pid, version: u64) -> Content
 #[inline(never)]
 fn write_empty<K: Keeper>(keeper: &mut K, entity: Entity, kind: Kind) -> Result<K::Back, AllocError>
     requires { kind ≢ Kind.Link }
-    ensures ok { OnOk result
-        (keeper.new ≡ K.wrote keeper.old entity (Some (stored.Value (empty_of kind)))) }
-    ensures can { IfOk result (λ back. K.can_take_back keeper.new back) }
-    ensures back { IfOk result (λ back. K.taken_back keeper.new back ≡ keeper.old) }
-    ensures err { OnErr result (keeper.new ≡ keeper.old) }
+    ensures { HasWritten K.can_take_back K.taken_back result keeper.old keeper.new
+        (K.wrote keeper.old entity (Some (stored.Value (empty_of kind)))) }
 {
     let value = Value::empty(keeper.memory(), kind)?;
     keeper.write(entity, EntityState::Value(value))
@@ -80,15 +78,9 @@ fn write_empty<K: Keeper>(keeper: &mut K, entity: Entity, kind: Kind) -> Result<
 #[inline(never)]
 fn write_first<K: Keeper>(keeper: &mut K, pid: Pid, entity: Entity) -> Result<K::Back, AllocError>
     requires { IsProcess (K.look keeper.old (Proc pid)) }
-    ensures ok { OnOk result
-        (keeper.new
-        ≡ K.wrote keeper.old entity
-        (Some (stored.Value
-        (values.Copy
+    ensures { HasWritten K.can_take_back K.taken_back result keeper.old keeper.new
+        (K.wrote keeper.old entity (Some (stored.Value (values.Copy
         (record { version = 1; bytes = (process_in (K.look keeper.old (Proc pid))).buffer }))))) }
-    ensures can { IfOk result (λ back. K.can_take_back keeper.new back) }
-    ensures back { IfOk result (λ back. K.taken_back keeper.new back ≡ keeper.old) }
-    ensures err { OnErr result (keeper.new ≡ keeper.old) }
 {
     let content = version_of(keeper, pid, 1);
     let copy = EntityState::content(keeper.memory(), content)?;
@@ -102,12 +94,8 @@ fn write_link<K: Keeper>(
     entity: Entity,
     object: &ObjId,
 ) -> Result<K::Back, AllocError>
-    ensures ok { OnOk result
-        (keeper.new
-        ≡ K.wrote keeper.old entity (Some (stored.Value (values.Link object.now)))) }
-    ensures can { IfOk result (λ back. K.can_take_back keeper.new back) }
-    ensures back { IfOk result (λ back. K.taken_back keeper.new back ≡ keeper.old) }
-    ensures err { OnErr result (keeper.new ≡ keeper.old) }
+    ensures { HasWritten K.can_take_back K.taken_back result keeper.old keeper.new
+        (K.wrote keeper.old entity (Some (stored.Value (values.Link object.now)))) }
 {
     keeper.write(entity, EntityState::Value(Value::link(*object)))
 }
@@ -124,14 +112,10 @@ fn write_any<K: Keeper>(
     requires can { CanBecome (K.look keeper.old entity)
         (written (process_in (K.look keeper.old (Proc pid))) writes.now) }
     requires version { IsWritable (Beside.One entity writes.now) }
-    ensures ok { OnOk result
-        (keeper.new
-        ≡ K.wrote keeper.old entity
+    ensures { HasWritten K.can_take_back K.taken_back result keeper.old keeper.new
+        (K.wrote keeper.old entity
         (Some (value_of (K.look keeper.old entity)
         (written (process_in (K.look keeper.old (Proc pid))) writes.now)))) }
-    ensures can { IfOk result (λ back. K.can_take_back keeper.new back) }
-    ensures back { IfOk result (λ back. K.taken_back keeper.new back ≡ keeper.old) }
-    ensures err { OnErr result (keeper.new ≡ keeper.old) }
 {
     let change = match writes {
         Writes::Empty(kind) => return write_empty(keeper, entity, *kind),
@@ -163,14 +147,10 @@ fn write_one<K: Keeper>(
     requires can { CanBecome (K.look keeper.old entity)
         (written (process_in (K.look keeper.old (Proc pid))) writes.now) }
     requires version { IsWritable (Beside.One entity writes.now) }
-    ensures ok { OnOk result
-        (keeper.new
-        ≡ K.wrote keeper.old entity
+    ensures { HasWritten K.can_take_back K.taken_back result keeper.old keeper.new
+        (K.wrote keeper.old entity
         (Some (value_of (K.look keeper.old entity)
         (written (process_in (K.look keeper.old (Proc pid))) writes.now)))) }
-    ensures can { IfOk result (λ back. K.can_take_back keeper.new back) }
-    ensures back { IfOk result (λ back. K.taken_back keeper.new back ≡ keeper.old) }
-    ensures err { OnErr result (keeper.new ≡ keeper.old) }
 {
     match writes {
         Writes::Empty(kind) => write_empty(keeper, entity, *kind),
@@ -222,11 +202,9 @@ fn write_noted_gone<K: Keeper, C: Becoming>(
     by: &C,
 ) -> Result<(), AllocError>
     requires { CanBecomeThere (C.can by.now) (K.look keeper.old (Proc pid)) }
-    ensures ok { OnOk result
-        (keeper.new
-        ≡ K.wrote (K.wrote keeper.old (Proc pid)
-        (Some (became (C.after by.now) (K.look keeper.old (Proc pid))))) entity None) }
-    ensures err { OnErr result (keeper.new ≡ keeper.old) }
+    ensures { HasBecome result keeper.old keeper.new
+        (wrote_both K.wrote (K.look keeper.old) pid (C.after by.now)
+        (Beside.Gone entity) keeper.old) }
 {
     let process = changed(process_at(keeper, pid), by);
     let process = EntityState::process(keeper.memory(), process)?;
@@ -246,13 +224,11 @@ fn write_gone<K: Keeper, C: Becoming>(
     entity: &Entity,
     by: &C,
 ) -> Result<(), AllocError>
-    requires process { CanBecomeThere (C.can by.now) (K.look keeper.old (Proc pid)) }
-    requires apart { IsNoProcess entity.now }
-    ensures ok { OnOk result
-        (keeper.new
-        ≡ K.wrote (K.wrote keeper.old (Proc pid)
-        (Some (became (C.after by.now) (K.look keeper.old (Proc pid))))) entity.now None) }
-    ensures err { OnErr result (keeper.new ≡ keeper.old) }
+    requires { CanWriteBeside (K.look keeper.old) pid (C.can by.now)
+        (Beside.Gone entity.now) }
+    ensures { HasBecome result keeper.old keeper.new
+        (wrote_both K.wrote (K.look keeper.old) pid (C.after by.now)
+        (Beside.Gone entity.now) keeper.old) }
 {
     if keeper.goes_unnoted(pid) {
         return keeper.remove_beside(entity, pid, by);
@@ -269,18 +245,11 @@ fn write_apart<K: Keeper, C: Becoming>(
     writes: &Writes,
     by: &C,
 ) -> Result<(), AllocError>
-    requires process { CanBecomeThere (C.can by.now) (K.look keeper.old (Proc pid)) }
-    requires can { CanBecome (K.look keeper.old entity.now)
-        (written (process_in (K.look keeper.old (Proc pid))) writes.now) }
-    requires apart { IsNoProcess entity.now }
-    requires version { IsWritable (Beside.One entity.now writes.now) }
-    ensures ok { OnOk result
-        (keeper.new
-        ≡ K.wrote (K.wrote keeper.old entity.now
-        (Some (value_of (K.look keeper.old entity.now)
-        (written (process_in (K.look keeper.old (Proc pid))) writes.now)))) (Proc pid)
-        (Some (became (C.after by.now) (K.look keeper.old (Proc pid))))) }
-    ensures err { OnErr result (keeper.new ≡ keeper.old) }
+    requires { CanWriteBeside (K.look keeper.old) pid (C.can by.now)
+        (Beside.One entity.now writes.now) }
+    ensures { HasBecome result keeper.old keeper.new
+        (wrote_both K.wrote (K.look keeper.old) pid (C.after by.now)
+        (Beside.One entity.now writes.now) keeper.old) }
 {
     let back = write_one(keeper, pid, *entity, writes)?;
     write_last(keeper, back, pid, by)
@@ -295,14 +264,11 @@ fn link_apart<K: Keeper, C: Becoming>(
     object: &ObjId,
     by: &C,
 ) -> Result<(), AllocError>
-    requires process { CanBecomeThere (C.can by.now) (K.look keeper.old (Proc pid)) }
-    requires apart { IsNoProcess entity.now }
-    ensures ok { OnOk result
-        (keeper.new
-        ≡ K.wrote (K.wrote keeper.old entity.now
-        (Some (stored.Value (values.Link object.now)))) (Proc pid)
-        (Some (became (C.after by.now) (K.look keeper.old (Proc pid))))) }
-    ensures err { OnErr result (keeper.new ≡ keeper.old) }
+    requires { CanWriteBeside (K.look keeper.old) pid (C.can by.now)
+        (Beside.One entity.now (Writes.Linked object.now)) }
+    ensures { HasBecome result keeper.old keeper.new
+        (wrote_both K.wrote (K.look keeper.old) pid (C.after by.now)
+        (Beside.One entity.now (Writes.Linked object.now)) keeper.old) }
 {
     let name = EntityState::Value(Value::link(*object));
     let back = keeper.write(*entity, name)?;
@@ -318,15 +284,11 @@ fn make_apart<K: Keeper, C: Becoming>(
     kind: Kind,
     by: &C,
 ) -> Result<(), AllocError>
-    requires process { CanBecomeThere (C.can by.now) (K.look keeper.old (Proc pid)) }
-    requires apart { IsNoProcess entity.now }
-    requires kind { kind ≢ Kind.Link }
-    ensures ok { OnOk result
-        (keeper.new
-        ≡ K.wrote (K.wrote keeper.old entity.now
-        (Some (stored.Value (empty_of kind)))) (Proc pid)
-        (Some (became (C.after by.now) (K.look keeper.old (Proc pid))))) }
-    ensures err { OnErr result (keeper.new ≡ keeper.old) }
+    requires { CanWriteBeside (K.look keeper.old) pid (C.can by.now)
+        (Beside.One entity.now (Writes.Empty kind)) }
+    ensures { HasBecome result keeper.old keeper.new
+        (wrote_both K.wrote (K.look keeper.old) pid (C.after by.now)
+        (Beside.One entity.now (Writes.Empty kind)) keeper.old) }
 {
     let value = Value::empty(keeper.memory(), kind)?;
     let back = keeper.write(*entity, EntityState::Value(value))?;
@@ -344,14 +306,11 @@ fn link_beside<K: Keeper, C: Becoming>(
     object: &ObjId,
     by: &C,
 ) -> Result<(), AllocError>
-    requires process { CanBecomeThere (C.can by.now) (K.look keeper.old (Proc pid)) }
-    requires apart { IsNoProcess entity.now }
-    ensures ok { OnOk result
-        (keeper.new
-        ≡ K.wrote (K.wrote keeper.old entity.now
-        (Some (stored.Value (values.Link object.now)))) (Proc pid)
-        (Some (became (C.after by.now) (K.look keeper.old (Proc pid))))) }
-    ensures err { OnErr result (keeper.new ≡ keeper.old) }
+    requires { CanWriteBeside (K.look keeper.old) pid (C.can by.now)
+        (Beside.One entity.now (Writes.Linked object.now)) }
+    ensures { HasBecome result keeper.old keeper.new
+        (wrote_both K.wrote (K.look keeper.old) pid (C.after by.now)
+        (Beside.One entity.now (Writes.Linked object.now)) keeper.old) }
 {
     if keeper.goes_unnoted(pid) {
         let name = EntityState::Value(Value::link(*object));
@@ -370,15 +329,11 @@ fn make_beside<K: Keeper, C: Becoming>(
     kind: Kind,
     by: &C,
 ) -> Result<(), AllocError>
-    requires process { CanBecomeThere (C.can by.now) (K.look keeper.old (Proc pid)) }
-    requires apart { IsNoProcess entity.now }
-    requires kind { kind ≢ Kind.Link }
-    ensures ok { OnOk result
-        (keeper.new
-        ≡ K.wrote (K.wrote keeper.old entity.now
-        (Some (stored.Value (empty_of kind)))) (Proc pid)
-        (Some (became (C.after by.now) (K.look keeper.old (Proc pid))))) }
-    ensures err { OnErr result (keeper.new ≡ keeper.old) }
+    requires { CanWriteBeside (K.look keeper.old) pid (C.can by.now)
+        (Beside.One entity.now (Writes.Empty kind)) }
+    ensures { HasBecome result keeper.old keeper.new
+        (wrote_both K.wrote (K.look keeper.old) pid (C.after by.now)
+        (Beside.One entity.now (Writes.Empty kind)) keeper.old) }
 {
     if keeper.goes_unnoted(pid) {
         let value = EntityState::Value(Value::empty(keeper.memory(), kind)?);
@@ -404,17 +359,11 @@ fn write_behind<K: Keeper, C: Becoming>(
     entity: &Entity,
     by: &C,
 ) -> Result<(), AllocError>
-    requires process { CanBecomeThere (C.can by.now) (K.look keeper.old (Proc pid)) }
-    requires can { CanBecome (K.look keeper.old entity.now)
-        (written (process_in (K.look keeper.old (Proc pid))) Writes.Put) }
-    requires apart { IsNoProcess entity.now }
-    ensures ok { OnOk result
-        (keeper.new
-        ≡ K.wrote (K.wrote keeper.old entity.now
-        (Some (value_of (K.look keeper.old entity.now)
-        (written (process_in (K.look keeper.old (Proc pid))) Writes.Put)))) (Proc pid)
-        (Some (became (C.after by.now) (K.look keeper.old (Proc pid))))) }
-    ensures err { OnErr result (keeper.new ≡ keeper.old) }
+    requires { CanWriteBeside (K.look keeper.old) pid (C.can by.now)
+        (Beside.One entity.now Writes.Put) }
+    ensures { HasBecome result keeper.old keeper.new
+        (wrote_both K.wrote (K.look keeper.old) pid (C.after by.now)
+        (Beside.One entity.now Writes.Put) keeper.old) }
 {
     let Some(process) = keeper.unnoted(pid) else {
         return write_apart(keeper, pid, entity, &Writes::Put, by);
@@ -432,17 +381,11 @@ fn take_off<K: Keeper, C: Becoming>(
     count: u32,
     by: &C,
 ) -> Result<(), AllocError>
-    requires process { CanBecomeThere (C.can by.now) (K.look keeper.old (Proc pid)) }
-    requires can { CanBecome (K.look keeper.old entity.now)
-        (written (process_in (K.look keeper.old (Proc pid))) (Writes.Take count)) }
-    requires apart { IsNoProcess entity.now }
-    ensures ok { OnOk result
-        (keeper.new
-        ≡ K.wrote (K.wrote keeper.old entity.now
-        (Some (value_of (K.look keeper.old entity.now)
-        (written (process_in (K.look keeper.old (Proc pid))) (Writes.Take count))))) (Proc pid)
-        (Some (became (C.after by.now) (K.look keeper.old (Proc pid))))) }
-    ensures err { OnErr result (keeper.new ≡ keeper.old) }
+    requires { CanWriteBeside (K.look keeper.old) pid (C.can by.now)
+        (Beside.One entity.now (Writes.Take count)) }
+    ensures { HasBecome result keeper.old keeper.new
+        (wrote_both K.wrote (K.look keeper.old) pid (C.after by.now)
+        (Beside.One entity.now (Writes.Take count)) keeper.old) }
 {
     if !keeper.goes_unnoted(pid) {
         return write_apart(keeper, pid, entity, &Writes::Take(count), by);
@@ -459,18 +402,11 @@ fn write_both<K: Keeper, C: Becoming>(
     writes: &Writes,
     by: &C,
 ) -> Result<(), AllocError>
-    requires process { CanBecomeThere (C.can by.now) (K.look keeper.old (Proc pid)) }
-    requires can { CanBecome (K.look keeper.old entity.now)
-        (written (process_in (K.look keeper.old (Proc pid))) writes.now) }
-    requires apart { IsNoProcess entity.now }
-    requires version { IsWritable (Beside.One entity.now writes.now) }
-    ensures ok { OnOk result
-        (keeper.new
-        ≡ K.wrote (K.wrote keeper.old entity.now
-        (Some (value_of (K.look keeper.old entity.now)
-        (written (process_in (K.look keeper.old (Proc pid))) writes.now)))) (Proc pid)
-        (Some (became (C.after by.now) (K.look keeper.old (Proc pid))))) }
-    ensures err { OnErr result (keeper.new ≡ keeper.old) }
+    requires { CanWriteBeside (K.look keeper.old) pid (C.can by.now)
+        (Beside.One entity.now writes.now) }
+    ensures { HasBecome result keeper.old keeper.new
+        (wrote_both K.wrote (K.look keeper.old) pid (C.after by.now)
+        (Beside.One entity.now writes.now) keeper.old) }
 {
     match writes {
         Writes::Put => write_behind(keeper, pid, entity, by),
@@ -488,23 +424,11 @@ fn write_beside<K: Keeper, C: Becoming>(
     beside: &Beside,
     by: &C,
 ) -> Result<(), AllocError>
-    requires process { CanBecomeThere (C.can by.now) (K.look keeper.old (Proc pid)) }
-    requires can { CanDo (K.look keeper.old)
-        (beside_of (process_in (K.look keeper.old (Proc pid))) beside.now) }
-    requires apart { IsBeside pid
-        (beside_of (process_in (K.look keeper.old (Proc pid))) beside.now) }
-    requires version { IsWritable beside.now }
-    ensures ok { OnOk result
-        (keeper.new
-        ≡ wrote_all K.wrote
-        (writes_of (K.look keeper.old) pid
-        (record {
-          process = C.after by.now (process_in (K.look keeper.old (Proc pid)));
-          looks = Nowhere;
-          beside = beside_of (process_in (K.look keeper.old (Proc pid)))
-              beside.now;
-        })) keeper.old) }
-    ensures err { OnErr result (keeper.new ≡ keeper.old) }
+    requires { CanWriteBeside (K.look keeper.old) pid (C.can by.now)
+        beside.now }
+    ensures { HasBecome result keeper.old keeper.new
+        (wrote_both K.wrote (K.look keeper.old) pid (C.after by.now) beside.now
+        keeper.old) }
 {
     match beside {
         Beside::Nothing => keeper.change_process(pid, by),
@@ -524,21 +448,10 @@ fn fill_any<K: Keeper>(
     count: u32,
     number: Option<u64>,
 ) -> Result<(), AllocError>
-    requires there { IsProcess (K.look keeper.old (Proc pid)) }
     requires fills { row.now.change ≡ ProcessChange.Fills from count number }
-    requires change { CanChange (process_in (K.look keeper.old (Proc pid))) row.now.change }
-    requires can { CanDo (K.look keeper.old)
-        (beside_of (process_in (K.look keeper.old (Proc pid))) row.now.beside) }
-    requires apart { IsBeside pid
-        (beside_of (process_in (K.look keeper.old (Proc pid))) row.now.beside) }
-    requires version { IsWritable row.now.beside }
-    ensures ok { OnOk result
-        (keeper.new
-        ≡ wrote_all K.wrote
-        (writes_of (K.look keeper.old) pid
-        (row_seen (K.look keeper.old) (process_in (K.look keeper.old (Proc pid))) row.now))
-        keeper.old) }
-    ensures err { OnErr result (keeper.new ≡ keeper.old) }
+    requires can { CanAct (K.look keeper.old) pid row.now }
+    ensures { HasBecome result keeper.old keeper.new
+        (acted K.wrote (K.look keeper.old) pid row.now keeper.old) }
 {
     let mut text = Text::empty();
     read(keeper, &row.looks, from, count, &mut text);
@@ -559,21 +472,10 @@ fn fill<K: Keeper>(
     count: u32,
     number: Option<u64>,
 ) -> Result<(), AllocError>
-    requires there { IsProcess (K.look keeper.old (Proc pid)) }
     requires fills { row.now.change ≡ ProcessChange.Fills from count number }
-    requires change { CanChange (process_in (K.look keeper.old (Proc pid))) row.now.change }
-    requires can { CanDo (K.look keeper.old)
-        (beside_of (process_in (K.look keeper.old (Proc pid))) row.now.beside) }
-    requires apart { IsBeside pid
-        (beside_of (process_in (K.look keeper.old (Proc pid))) row.now.beside) }
-    requires version { IsWritable row.now.beside }
-    ensures ok { OnOk result
-        (keeper.new
-        ≡ wrote_all K.wrote
-        (writes_of (K.look keeper.old) pid
-        (row_seen (K.look keeper.old) (process_in (K.look keeper.old (Proc pid))) row.now))
-        keeper.old) }
-    ensures err { OnErr result (keeper.new ≡ keeper.old) }
+    requires can { CanAct (K.look keeper.old) pid row.now }
+    ensures { HasBecome result keeper.old keeper.new
+        (acted K.wrote (K.look keeper.old) pid row.now keeper.old) }
 {
     match (&row.looks, &row.beside) {
         (Looks::At(entity @ (Entity::Obj(_) | Entity::Copy(_))), Beside::Nothing) => {
@@ -591,20 +493,9 @@ fn fill<K: Keeper>(
 /// A row, as it was planned.
 #[inline(never)]
 fn act<K: Keeper>(keeper: &mut K, pid: Pid, row: &Row) -> Result<(), AllocError>
-    requires there { IsProcess (K.look keeper.old (Proc pid)) }
-    requires change { CanChange (process_in (K.look keeper.old (Proc pid))) row.now.change }
-    requires can { CanDo (K.look keeper.old)
-        (beside_of (process_in (K.look keeper.old (Proc pid))) row.now.beside) }
-    requires apart { IsBeside pid
-        (beside_of (process_in (K.look keeper.old (Proc pid))) row.now.beside) }
-    requires version { IsWritable row.now.beside }
-    ensures ok { OnOk result
-        (keeper.new
-        ≡ wrote_all K.wrote
-        (writes_of (K.look keeper.old) pid
-        (row_seen (K.look keeper.old) (process_in (K.look keeper.old (Proc pid))) row.now))
-        keeper.old) }
-    ensures err { OnErr result (keeper.new ≡ keeper.old) }
+    requires { CanAct (K.look keeper.old) pid row.now }
+    ensures { HasBecome result keeper.old keeper.new
+        (acted K.wrote (K.look keeper.old) pid row.now keeper.old) }
 {
     match &row.change {
         ProcessChange::Does(becomes) => write_beside(keeper, pid, &row.beside, becomes),
@@ -626,13 +517,11 @@ fn read_file<K: Keeper>(
 ) -> Result<(), AllocError>
     requires there { IsProcess (K.look keeper.old (Proc pid)) }
     requires place { (process_in (K.look keeper.old (Proc pid))).place + 1 < 2 ^ 32 }
-    ensures ok { OnOk result
-        (keeper.new
-        ≡ K.wrote keeper.old (Proc pid)
+    ensures { HasBecome result keeper.old keeper.new
+        (K.wrote keeper.old (Proc pid)
         (Some (stored.Process
         (after_read (process_in (K.look keeper.old (Proc pid)))
         (file_in (K.look keeper.old (Obj object.now))) from)))) }
-    ensures err { OnErr result (keeper.new ≡ keeper.old) }
 {
     keeper.change_by(pid, &Entity::Obj(*object), &FileReading { from })
 }
@@ -649,15 +538,13 @@ fn write_file<K: Keeper>(
     requires place { (process_in (K.look keeper.old (Proc pid))).place + 1 < 2 ^ 32 }
     requires fits { FitsAt (K.look keeper.old (Obj object.now))
         (changes.WriteAt at (process_in (K.look keeper.old (Proc pid))).buffer) }
-    ensures ok { OnOk result
-        (keeper.new
-        ≡ K.wrote (K.wrote keeper.old (Obj object.now)
+    ensures { HasBecome result keeper.old keeper.new
+        (K.wrote (K.wrote keeper.old (Obj object.now)
         (Some (changed_there (K.look keeper.old (Obj object.now))
         (changes.WriteAt at (process_in (K.look keeper.old (Proc pid))).buffer)))) (Proc pid)
         (Some (stored.Process
         (answered (process_in (K.look keeper.old (Proc pid)))
         (length (process_in (K.look keeper.old (Proc pid))).buffer))))) }
-    ensures err { OnErr result (keeper.new ≡ keeper.old) }
 {
     keeper.write_buffer(object, at, pid, &Measuring)
 }
@@ -694,13 +581,11 @@ fn receive<K: Keeper>(
     requires there { IsProcess (K.look keeper.old (Proc pid)) }
     requires place { (process_in (K.look keeper.old (Proc pid))).place + 1 < 2 ^ 32 }
     requires content { HasContent (input_in input) }
-    ensures ok { OnOk result
-        (keeper.new
-        ≡ K.wrote (K.wrote keeper.old (Copy name.now)
+    ensures { HasBecome result keeper.old keeper.new
+        (K.wrote (K.wrote keeper.old (Copy name.now)
         (Some (stored.Value (values.Copy (content_in (input_in input.entry)))))) (Proc pid)
         (Some (stored.Process
         (process_given (process_in (K.look keeper.old (Proc pid))) (input_in input.entry))))) }
-    ensures err { OnErr result (keeper.new ≡ keeper.old) }
 {
     match input {
         InputRef::Fresh(content) => {
@@ -857,13 +742,10 @@ fn speak<K: Keeper>(
     pid: Pid,
     process: &Process,
 ) -> Result<(), AllocError>
-    ensures writes { OnOk result
-        (keeper.new ≡ K.wrote keeper.old (Proc pid) (Some (stored.Process process.now))) }
-    ensures says { OnOk result
-        (terminals.new
-        ≡ said_to terminals.old process.now.terminal (process.now.buffer, K.step_tags keeper.old)) }
-    ensures unwritten { OnErr result (keeper.new ≡ keeper.old) }
-    ensures unsaid { OnErr result (terminals.new ≡ terminals.old) }
+    ensures writes { HasBecome result keeper.old keeper.new
+        (K.wrote keeper.old (Proc pid) (Some (stored.Process process.now))) }
+    ensures says { HasBecome result terminals.old terminals.new
+        (said_to terminals.old process.now.terminal (process.now.buffer, K.step_tags keeper.old)) }
 {
     let tags = keeper.step_tags()?;
     let spoken = EntityState::process(keeper.memory(), *process)?;
@@ -887,16 +769,12 @@ fn say_unnoted<K: Keeper>(
     requires unnoted { K.goes_unnoted keeper.old pid ≡ true }
     requires there { IsProcess (K.look keeper.old (Proc pid)) }
     requires place { (process_in (K.look keeper.old (Proc pid))).place + 1 < 2 ^ 32 }
-    ensures writes { OnOk result
-        (keeper.new
-        ≡ K.wrote keeper.old (Proc pid)
+    ensures writes { HasBecome result keeper.old keeper.new
+        (K.wrote keeper.old (Proc pid)
         (Some (stored.Process (moved (process_in (K.look keeper.old (Proc pid))))))) }
-    ensures says { OnOk result
-        (terminals.new
-        ≡ said_to terminals.old (process_in (K.look keeper.old (Proc pid))).terminal
+    ensures says { HasBecome result terminals.old terminals.new
+        (said_to terminals.old (process_in (K.look keeper.old (Proc pid))).terminal
         ((process_in (K.look keeper.old (Proc pid))).buffer, K.step_tags keeper.old)) }
-    ensures unwritten { OnErr result (keeper.new ≡ keeper.old) }
-    ensures unsaid { OnErr result (terminals.new ≡ terminals.old) }
 {
     let tags = keeper.step_tags()?;
     let process = process_at(keeper, pid);
@@ -914,16 +792,12 @@ fn say_buffer<K: Keeper>(
 ) -> Result<(), AllocError>
     requires there { IsProcess (K.look keeper.old (Proc pid)) }
     requires place { (process_in (K.look keeper.old (Proc pid))).place + 1 < 2 ^ 32 }
-    ensures writes { OnOk result
-        (keeper.new
-        ≡ K.wrote keeper.old (Proc pid)
+    ensures writes { HasBecome result keeper.old keeper.new
+        (K.wrote keeper.old (Proc pid)
         (Some (stored.Process (moved (process_in (K.look keeper.old (Proc pid))))))) }
-    ensures says { OnOk result
-        (terminals.new
-        ≡ said_to terminals.old (process_in (K.look keeper.old (Proc pid))).terminal
+    ensures says { HasBecome result terminals.old terminals.new
+        (said_to terminals.old (process_in (K.look keeper.old (Proc pid))).terminal
         ((process_in (K.look keeper.old (Proc pid))).buffer, K.step_tags keeper.old)) }
-    ensures unwritten { OnErr result (keeper.new ≡ keeper.old) }
-    ensures unsaid { OnErr result (terminals.new ≡ terminals.old) }
 {
     if keeper.goes_unnoted(pid) {
         return say_unnoted(keeper, terminals, pid);
@@ -943,18 +817,14 @@ fn perform_any<K: Keeper>(
     plan: &Plan,
 ) -> Result<(), AllocError>
     requires { CanPerform (K.look keeper.old) scripts.now pid (input_in input) plan.now }
-    ensures writes { OnOk result
-        (keeper.new
-        ≡ wrote_all K.wrote
+    ensures writes { HasBecome result keeper.old keeper.new
+        (wrote_all K.wrote
         (writes_of (K.look keeper.old) pid
         (seen_with (K.look keeper.old) scripts.now pid (input_in input.entry) plan.now))
         keeper.old) }
-    ensures says { OnOk result
-        (terminals.new
-        ≡ texts_after terminals.old (K.step_tags keeper.old)
+    ensures says { HasBecome result terminals.old terminals.new
+        (texts_after terminals.old (K.step_tags keeper.old)
         (said_by (seen_with (K.look keeper.old) scripts.now pid (input_in input.entry) plan.now))) }
-    ensures unwritten { OnErr result (keeper.new ≡ keeper.old) }
-    ensures unsaid { OnErr result (terminals.new ≡ terminals.old) }
 {
     let Plan::Speaks = plan else {
         return apply_plan(keeper, scripts, pid, input, plan);

@@ -1,5 +1,5 @@
 //! What the instructions on new objects and on files will do.
-ghost use Rattle.std.specs.Prelude.{◌≡◌, ◌≢◌, ◌+◌, ◌<◌, ◌^◌, [], Some, Ok, Option, pos, neg_ℤ};
+ghost use Rattle.std.specs.Prelude.{◌≡◌, ◌≢◌, ◌+◌, ◌<◌, ◌^◌, Some, Ok, pos, neg_ℤ};
 ghost use Rattle.sk_record.specs.Step.{Ask};
 ghost use Rattle.sk_ids.specs.declared.entity.Entity.TheVariants.{Obj};
 ghost use Rattle.sk_objects.specs.declared.value.Value.TheVariants as values;
@@ -7,13 +7,11 @@ ghost use Rattle.sk_store.specs.declared.entity_state.EntityState.TheVariants as
 ghost use Rattle.sk_script.specs.Registers.{held};
 ghost use Rattle.sk_script.specs.declared.register.Val.TheVariants as vals;
 ghost use Rattle.sk_plain.specs.Refusal.{error_number};
-ghost use Rattle.sk_plain.specs.declared.plan.Beside.TheVariants as Beside;
-ghost use Rattle.sk_plain.specs.declared.plan.Looks.TheVariants as Looks;
 ghost use Rattle.sk_plain.specs.Rows.{object_in, number_in};
 ghost use Rattle.sk_plain.specs.Files.{made as made_row, size as size_row, read as read_row, written_at, write as write_row, cut_to, cut as cut_row};
-ghost use Rattle.sk_plain.specs.Seen.{PlansAfter, PlansRow};
-ghost use Rattle.sk_script.specs.declared.instruction.Input.TheVariants as Input;
-ghost use Rattle.sk_script.specs.declared.instruction.Instruction.{Instruction};
+ghost use Rattle.sk_plain.specs.declared.plan.Beside.TheVariants as Beside;
+ghost use Rattle.sk_plain.specs.declared.plan.Looks.TheVariants as Looks;
+ghost use Rattle.sk_plain.specs.Seen.{PlansAny, PlansRow};
 
 use crate::shapes::{alone, answered, changed, failed, given, looked, wrote};
 use crate::values::{file_at, number_at, object_at};
@@ -65,9 +63,8 @@ pub(crate) fn put_made<S: Look>(
 )
     requires place { process.now.place + 1 < 2 ^ 32 }
     requires kind { kind ≢ Kind.Link }
-    ensures { (i : Option Instruction)
-        → PlansAfter (S.look store.now) i Input.None process.now [] pid
-        (made_row pid process.now register kind) (Ok plan.new) }
+    ensures { PlansAny (S.look store.now) process.now pid
+        (made_row pid process.now register kind) plan.new }
 {
     *plan = Plan::Acts(made(store, pid, process, register, kind));
 }
@@ -127,10 +124,9 @@ pub(crate) fn put_read<S: Look>(
     plan: &mut Plan,
 )
     requires { process.now.place + 1 < 2 ^ 32 }
-    ensures { (i : Option Instruction)
-        → PlansAfter (S.look _store.now) i Input.None process.now [] pid
+    ensures { PlansAny (S.look _store.now) process.now pid
         (read_row pid process.now (object_in (held process.now.registers file))
-        (number_in (held process.now.registers at))) (Ok plan.new) }
+        (number_in (held process.now.registers at))) plan.new }
 {
     match object_at(process, file) {
         Some(object) => *plan = Plan::ReadsFile(object, number_at(process, at)),
@@ -151,9 +147,8 @@ fn put_written<S: Look>(
 )
     requires place { process.now.place + 1 < 2 ^ 32 }
     requires there { S.look _store.now (Obj object) ≡ Some (stored.Value (values.File file.now)) }
-    ensures { (i : Option Instruction)
-        → PlansAfter (S.look _store.now) i Input.None process.now [] pid
-        (Ask (Obj object) (λ v. written_at pid process.now object file.now at)) (Ok plan.new) }
+    ensures { PlansAny (S.look _store.now) process.now pid
+        (Ask (Obj object) (λ v. written_at pid process.now object file.now at)) plan.new }
 {
     let len = process.buffer.len() as u64;
     if at > FILE_LIMIT as u64 - len {
@@ -176,10 +171,9 @@ pub(crate) fn put_write<S: Look>(
     plan: &mut Plan,
 )
     requires { process.now.place + 1 < 2 ^ 32 }
-    ensures { (i : Option Instruction)
-        → PlansAfter (S.look store.now) i Input.None process.now [] pid
+    ensures { PlansAny (S.look store.now) process.now pid
         (write_row pid process.now (object_in (held process.now.registers file))
-        (number_in (held process.now.registers at))) (Ok plan.new) }
+        (number_in (held process.now.registers at))) plan.new }
 {
     let Some(object) = object_at(process, file) else {
         return put_missing(plan);

@@ -1,13 +1,11 @@
 //! What the instructions on names of directories will do.
-ghost use Rattle.std.specs.Prelude.{◌≡◌, ◌+◌, ◌<◌, ◌^◌, [], IfSome, Ok, Option};
+ghost use Rattle.std.specs.Prelude.{◌+◌, ◌<◌, ◌^◌, IfSome, Ok};
 ghost use Rattle.sk_record.specs.Step.{Ask};
 ghost use Rattle.sk_ids.specs.declared.entity.Entity.TheVariants.{Obj, Link};
-ghost use Rattle.sk_script.specs.Registers.{held};
-ghost use Rattle.sk_plain.specs.Rows.{object_in};
-ghost use Rattle.sk_plain.specs.Names.{look as look_row, link_to, link as link_row, unlink as unlink_row};
-ghost use Rattle.sk_plain.specs.Seen.{PlansAfter, PlansRow};
-ghost use Rattle.sk_script.specs.declared.instruction.Input.TheVariants as Input;
-ghost use Rattle.sk_script.specs.declared.instruction.Instruction.{Instruction};
+ghost use Rattle.sk_plain.specs.Act.{row};
+ghost use Rattle.sk_plain.specs.Names.{link_to};
+ghost use Rattle.sk_plain.specs.Seen.{PlansAny, PlansRow};
+ghost use Rattle.sk_script.specs.declared.instruction.Instruction.TheVariants as Instruction;
 
 use crate::shapes::{alone, answered, failed, given, linked, looked, looked_up, unlinked};
 use crate::values::{no_directory, object_at, target_at};
@@ -27,8 +25,7 @@ pub(crate) fn look<S: Look>(
 ) -> Row
     requires { process.now.place + 1 < 2 ^ 32 }
     ensures { PlansRow (S.look store.now) process.now pid
-        (look_row pid process.now register (object_in (held process.now.registers directory))
-        name.now) (Ok result) }
+        (row pid process.now (Instruction.Look register directory name.now)) (Ok result) }
 {
     let held = object_at(process, directory);
     let Some(at) = &held else {
@@ -55,9 +52,8 @@ fn look_found<S: Look>(
 ) -> Option<Row>
     requires { process.now.place + 1 < 2 ^ 32 }
     ensures { IfSome result
-        (λ row. PlansRow (S.look store.now) process.now pid
-        (look_row pid process.now register (object_in (held process.now.registers directory))
-        name.now) (Ok row)) }
+        (λ found. PlansRow (S.look store.now) process.now pid
+        (row pid process.now (Instruction.Look register directory name.now)) (Ok found)) }
 {
     let at = object_at(process, directory)?;
     if no_directory(store, &at).is_some() {
@@ -80,10 +76,8 @@ fn put_any_look<S: Look>(
     plan: &mut Plan,
 )
     requires { process.now.place + 1 < 2 ^ 32 }
-    ensures { (i : Option Instruction)
-        → PlansAfter (S.look store.now) i Input.None process.now [] pid
-        (look_row pid process.now register (object_in (held process.now.registers directory))
-        name.now) (Ok plan.new) }
+    ensures { PlansAny (S.look store.now) process.now pid
+        (row pid process.now (Instruction.Look register directory name.now)) plan.new }
 {
     *plan = Plan::Acts(look(store, pid, process, register, directory, name));
 }
@@ -101,10 +95,8 @@ pub(crate) fn put_look<S: Look>(
     plan: &mut Plan,
 )
     requires { process.now.place + 1 < 2 ^ 32 }
-    ensures { (i : Option Instruction)
-        → PlansAfter (S.look store.now) i Input.None process.now [] pid
-        (look_row pid process.now register (object_in (held process.now.registers directory))
-        name.now) (Ok plan.new) }
+    ensures { PlansAny (S.look store.now) process.now pid
+        (row pid process.now (Instruction.Look register directory name.now)) plan.new }
 {
     match look_found(store, pid, process, register, directory, name) {
         Some(row) => *plan = Plan::Acts(row),
@@ -144,8 +136,7 @@ pub(crate) fn link<S: Look>(
 ) -> Row
     requires { process.now.place + 1 < 2 ^ 32 }
     ensures { PlansRow (S.look store.now) process.now pid
-        (link_row pid process.now (object_in (held process.now.registers directory)) name.now
-        (object_in (held process.now.registers object))) (Ok result) }
+        (row pid process.now (Instruction.Link directory name.now object)) (Ok result) }
 {
     let Some(at) = object_at(process, directory) else {
         return alone(failed(Errno::BadObject));
@@ -171,9 +162,8 @@ fn link_free<S: Look>(
 ) -> Option<Row>
     requires { process.now.place + 1 < 2 ^ 32 }
     ensures { IfSome result
-        (λ row. PlansRow (S.look store.now) process.now pid
-        (link_row pid process.now (object_in (held process.now.registers directory)) name.now
-        (object_in (held process.now.registers object))) (Ok row)) }
+        (λ found. PlansRow (S.look store.now) process.now pid
+        (row pid process.now (Instruction.Link directory name.now object)) (Ok found)) }
 {
     let at = object_at(process, directory)?;
     let object = object_at(process, object)?;
@@ -196,10 +186,8 @@ fn put_any_link<S: Look>(
     plan: &mut Plan,
 )
     requires { process.now.place + 1 < 2 ^ 32 }
-    ensures { (i : Option Instruction)
-        → PlansAfter (S.look store.now) i Input.None process.now [] pid
-        (link_row pid process.now (object_in (held process.now.registers directory)) name.now
-        (object_in (held process.now.registers object))) (Ok plan.new) }
+    ensures { PlansAny (S.look store.now) process.now pid
+        (row pid process.now (Instruction.Link directory name.now object)) plan.new }
 {
     *plan = Plan::Acts(link(store, pid, process, directory, name, object));
 }
@@ -217,10 +205,8 @@ pub(crate) fn put_link<S: Look>(
     plan: &mut Plan,
 )
     requires { process.now.place + 1 < 2 ^ 32 }
-    ensures { (i : Option Instruction)
-        → PlansAfter (S.look store.now) i Input.None process.now [] pid
-        (link_row pid process.now (object_in (held process.now.registers directory)) name.now
-        (object_in (held process.now.registers object))) (Ok plan.new) }
+    ensures { PlansAny (S.look store.now) process.now pid
+        (row pid process.now (Instruction.Link directory name.now object)) plan.new }
 {
     match link_free(store, pid, process, directory, name, object) {
         Some(row) => *plan = Plan::Acts(row),
@@ -238,8 +224,7 @@ pub(crate) fn unlink<S: Look>(
 ) -> Row
     requires { process.now.place + 1 < 2 ^ 32 }
     ensures { PlansRow (S.look store.now) process.now pid
-        (unlink_row pid process.now (object_in (held process.now.registers directory)) name.now)
-        (Ok result) }
+        (row pid process.now (Instruction.Unlink directory name.now)) (Ok result) }
 {
     let held = object_at(process, directory);
     let Some(at) = &held else {
@@ -265,9 +250,8 @@ fn unlink_found<S: Look>(
 ) -> Option<Row>
     requires { process.now.place + 1 < 2 ^ 32 }
     ensures { IfSome result
-        (λ row. PlansRow (S.look store.now) process.now pid
-        (unlink_row pid process.now (object_in (held process.now.registers directory)) name.now)
-        (Ok row)) }
+        (λ found. PlansRow (S.look store.now) process.now pid
+        (row pid process.now (Instruction.Unlink directory name.now)) (Ok found)) }
 {
     let at = object_at(process, directory)?;
     if no_directory(store, &at).is_some() || store.value(Entity::Link(at, *name)).is_none() {
@@ -288,10 +272,8 @@ fn put_any_unlink<S: Look>(
     plan: &mut Plan,
 )
     requires { process.now.place + 1 < 2 ^ 32 }
-    ensures { (i : Option Instruction)
-        → PlansAfter (S.look store.now) i Input.None process.now [] pid
-        (unlink_row pid process.now (object_in (held process.now.registers directory)) name.now)
-        (Ok plan.new) }
+    ensures { PlansAny (S.look store.now) process.now pid
+        (row pid process.now (Instruction.Unlink directory name.now)) plan.new }
 {
     *plan = Plan::Acts(unlink(store, pid, process, directory, name));
 }
@@ -308,10 +290,8 @@ pub(crate) fn put_unlink<S: Look>(
     plan: &mut Plan,
 )
     requires { process.now.place + 1 < 2 ^ 32 }
-    ensures { (i : Option Instruction)
-        → PlansAfter (S.look store.now) i Input.None process.now [] pid
-        (unlink_row pid process.now (object_in (held process.now.registers directory)) name.now)
-        (Ok plan.new) }
+    ensures { PlansAny (S.look store.now) process.now pid
+        (row pid process.now (Instruction.Unlink directory name.now)) plan.new }
 {
     match unlink_found(store, pid, process, directory, name) {
         Some(row) => *plan = Plan::Acts(row),

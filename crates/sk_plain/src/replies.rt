@@ -1,14 +1,13 @@
 //! What the instructions with a reply of the server will do.
-ghost use Rattle.std.specs.Prelude.{◌≡◌, ◌+◌, ◌<◌, ◌^◌, [], true, Ok, Some, None, Option, IfOk, IsSome};
+ghost use Rattle.std.specs.Prelude.{◌≡◌, ◌+◌, ◌<◌, ◌^◌, [], true, Ok, Some, Option, IfOk, IsSome};
 ghost use Rattle.std.specs.Option.{option_copied};
 ghost use Rattle.sk_record.specs.Step.{Ask};
 ghost use Rattle.sk_ids.specs.declared.entity.Entity.TheVariants.{Copy};
 ghost use Rattle.sk_ids.specs.declared.text.TheConstants.{TEXT_LIMIT};
 ghost use Rattle.sk_script.specs.declared.instruction.Input.TheVariants as Input;
 ghost use Rattle.sk_script.specs.declared.instruction.Instruction.{Instruction};
-ghost use Rattle.sk_plain.specs.Replies.{from_copy, over_copy, good as good_row, fresh as fresh_row, stale as stale_row};
-ghost use Rattle.sk_plain.specs.Planned.{said_by};
-ghost use Rattle.sk_plain.specs.Seen.{PlansAfter, PlansRow, seen, told};
+ghost use Rattle.sk_plain.specs.Replies.{from_copy, over_copy, good as good_row};
+ghost use Rattle.sk_plain.specs.Seen.{IsQuiet, PlansAfter, PlansReply, PlansRow, told};
 
 use crate::shapes::{answered, changed, looked};
 use crate::{Plan, ProcessChange, Refusal, Row, Writes};
@@ -98,7 +97,7 @@ fn puts_fetch<S: Look>(store: &S, pid: Pid, process: &Process, name: &Name, plan
         (Ask (Copy name.now) (from_copy pid process.now)) (Ok plan.new) }
     ensures quiet { result ≡ true
         → (i : Option Instruction)
-        → said_by (seen (S.look store.now) i Input.Good process.now plan.new) ≡ None }
+        → IsQuiet (S.look store.now) i Input.Good process.now plan.new }
 {
     match store.value(Entity::Copy(*name)) {
         Some(EntityState::Value(Value::Copy(held))) => {
@@ -122,13 +121,10 @@ fn put_any_good<S: Look>(
     plan: &mut Plan,
 ) -> Result<(), Refusal>
     requires { IsSome instruction → process.now.place + 1 < 2 ^ 32 }
-    ensures row { PlansAfter (S.look store.now) (option_copied instruction.entry) Input.Good
-        process.now [] pid (good_row pid process.now (option_copied instruction.entry))
-        (told result plan.new) }
+    ensures row { PlansReply (S.look store.now) (option_copied instruction.entry) Input.Good
+        process.now pid (told result plan.new) }
     ensures quiet { IfOk (told result plan.new)
-        (λ plan. said_by
-        (seen (S.look store.now) (option_copied instruction.entry) Input.Good process.now
-        plan) ≡ None) }
+        (IsQuiet (S.look store.now) (option_copied instruction.entry) Input.Good process.now) }
 {
     match good(store, pid, process, instruction) {
         Ok(row) => {
@@ -150,13 +146,10 @@ pub(crate) fn put_good<S: Look>(
     plan: &mut Plan,
 ) -> Result<(), Refusal>
     requires { IsSome instruction → process.now.place + 1 < 2 ^ 32 }
-    ensures row { PlansAfter (S.look store.now) (option_copied instruction.entry) Input.Good
-        process.now [] pid (good_row pid process.now (option_copied instruction.entry))
-        (told result plan.new) }
+    ensures row { PlansReply (S.look store.now) (option_copied instruction.entry) Input.Good
+        process.now pid (told result plan.new) }
     ensures quiet { IfOk (told result plan.new)
-        (λ plan. said_by
-        (seen (S.look store.now) (option_copied instruction.entry) Input.Good process.now
-        plan) ≡ None) }
+        (IsQuiet (S.look store.now) (option_copied instruction.entry) Input.Good process.now) }
 {
     if let Some(Instruction::Fetch(name)) = instruction {
         if puts_fetch(store, pid, process, name, plan) {
@@ -175,13 +168,11 @@ pub(crate) fn fresh<S: Look>(
     content: &Content,
 ) -> Result<Plan, Refusal>
     requires { IsSome instruction → process.now.place + 1 < 2 ^ 32 }
+    ensures row { PlansReply (S.look _store.now) (option_copied instruction.entry)
+        (Input.Fresh content.now) process.now pid result }
     ensures quiet { IfOk result
-        (λ plan. said_by
-        (seen (S.look _store.now) (option_copied instruction.entry) (Input.Fresh content.now)
-        process.now plan) ≡ None) }
-    ensures row { PlansAfter (S.look _store.now) (option_copied instruction.entry)
-        (Input.Fresh content.now) process.now [] pid
-        (fresh_row pid process.now content.now (option_copied instruction.entry)) result }
+        (IsQuiet (S.look _store.now) (option_copied instruction.entry) (Input.Fresh content.now)
+        process.now) }
 {
     match instruction {
         Some(Instruction::Fetch(name)) => Ok(Plan::Received(*name)),
@@ -198,13 +189,11 @@ pub(crate) fn stale<S: Look>(
     content: &Content,
 ) -> Result<Plan, Refusal>
     requires { IsSome instruction → process.now.place + 1 < 2 ^ 32 }
+    ensures row { PlansReply (S.look _store.now) (option_copied instruction.entry)
+        (Input.Stale content.now) process.now pid result }
     ensures quiet { IfOk result
-        (λ plan. said_by
-        (seen (S.look _store.now) (option_copied instruction.entry) (Input.Stale content.now)
-        process.now plan) ≡ None) }
-    ensures row { PlansAfter (S.look _store.now) (option_copied instruction.entry)
-        (Input.Stale content.now) process.now [] pid
-        (stale_row pid process.now content.now (option_copied instruction.entry)) result }
+        (IsQuiet (S.look _store.now) (option_copied instruction.entry) (Input.Stale content.now)
+        process.now) }
 {
     match instruction {
         Some(Instruction::Store(name)) => Ok(Plan::Received(*name)),

@@ -13,7 +13,7 @@ ghost use Rattle.sk_plain.specs.Act.{row, does, next_in, is_frequent, due, handl
 ghost use Rattle.sk_plain.specs.Planned.{signals_read, IsReply, said_by};
 ghost use Rattle.sk_plain.specs.declared.plan.Beside.TheVariants as Beside;
 ghost use Rattle.sk_plain.specs.declared.plan.Looks.TheVariants as Looks;
-ghost use Rattle.sk_plain.specs.Seen.{DoesNext, IsNext, PlansAfter, PlansRow, PlansStep, plan_of, seen, seen_with, told};
+ghost use Rattle.sk_plain.specs.Seen.{DoesNext, IsNext, IsQuiet, PlansAfter, PlansReply, PlansStep, plan_of, seen_with, told};
 
 use crate::processes::{ends, fork, is_killed, kill, status_of, wait};
 use crate::shapes::{alone, wrote};
@@ -344,14 +344,11 @@ fn replied<S: Look>(
 ) -> Result<(), Refusal>
     requires reply { IsReply (input_in input) }
     requires small { IsSome instruction → process.now.place + 1 < 2 ^ 32 }
-    ensures row { PlansAfter (S.look store.now) (option_copied instruction.entry)
-        (input_in input.entry) process.now [] pid
-        (with_input pid process.now (option_copied instruction.entry) (input_in input.entry))
-        (told result plan.new) }
+    ensures row { PlansReply (S.look store.now) (option_copied instruction.entry)
+        (input_in input.entry) process.now pid (told result plan.new) }
     ensures quiet { IfOk (told result plan.new)
-        (λ plan. said_by
-        (seen (S.look store.now) (option_copied instruction.entry) (input_in input.entry)
-        process.now plan) ≡ None) }
+        (IsQuiet (S.look store.now) (option_copied instruction.entry) (input_in input.entry)
+        process.now) }
 {
     match input {
         InputRef::Good => replies::put_good(store, pid, process, instruction, plan),
@@ -384,9 +381,8 @@ fn with_input<'a, S: Look>(
         (told result plan.new) }
     ensures quiet { IsReply (input_in input.entry)
         → IfOk (told result plan.new)
-        (λ plan. said_by
-        (seen (S.look store.now) (option_copied instruction.entry) (input_in input.entry)
-        process.now plan) ≡ None) }
+        (IsQuiet (S.look store.now) (option_copied instruction.entry) (input_in input.entry)
+        process.now) }
     ensures next { IfOk result (λ found. IfSome found
         (λ i. IsNext plan.new (option_copied instruction.entry) i.now)) }
 {

@@ -18,9 +18,11 @@ use Rattle.sk_speculator.proofs.Names.{exact_as, exact_more, begun, tags_written
 use Rattle.sk_speculator.proofs.Names.{with_told, told_more, untagged, takes_told, commits_told, fails_told}
 use Rattle.sk_speculator.proofs.Names.{stands_told, performs, allowed, first, SlotView, look_at, log_at, merges, Said}
 use Rattle.sk_speculator.proofs.Names.{said_at, Parts, undo_state_of, machine_of, any_rests, Performed, IsWhole}
-use Rattle.sk_speculator.proofs.Names.{IsSound, IsSame, says, next_of, Takes, Commits, FailsIn}
+use Rattle.sk_speculator.proofs.Names.{IsSound, IsSame, says, next_of, Takes, Commits, FailsIn, Forgets, IsStranger}
+use Rattle.sk_speculator.proofs.Names.{Result, forgotten, without}
 use Rattle.sk_record.specs.declared.status.Status.TheVariants as status_as
 use Rattle.sk_record.proofs.Merged as merged
+use Rattle.sk_guesses.specs.declared.guess.Redeemed.{Redeemed}
 use Rattle.sk_guesses.specs.declared.guess.Redeemed.TheVariants as redeemed_as
 use Rattle.sk_speculator.proofs.Saying.{says_at, lightened_at, dropped_at}
 
@@ -326,61 +328,79 @@ known_agrees v os status g are =
       ] refl
     ] refl
 
--- a token is of a guess that is undecided, or struck, or comes back
-module _ (v : KeptView) (os : List Open) (t : Token) where
-  known_undecided : (g : ℕ) → redeemed_at (known v os t.id) t ≡ Ok (redeemed_as.Undecided g) → (has t.id (numbers os) ≡ true) × (g ≡ t.id)
-  known_undecided g is =
-      elim (has t.id (numbers os)) as (λ b. has t.id (numbers os) ≡ b → redeemed_at (cond b (Some Undecided) (cond (has t.id v.struck) (Some Struck) None)) t ≡ Ok (redeemed_as.Undecided g) → (has t.id (numbers os) ≡ true) × (g ≡ t.id)) [
-        | true ↦ λ here told. (here, cc)
-        | false ↦ λ _. elim (has t.id v.struck) as (λ b. redeemed_at (cond b (Some Struck) None) t ≡ Ok (redeemed_as.Undecided g) → (has t.id (numbers os) ≡ true) × (g ≡ t.id)) [ true ↦ λ told. cc | false ↦ λ told. cc ]
-      ] refl is
+-- what a token redeems, by whether it is of this kernel, and of a guess that is undecided, or struck
+module _ (t : Token) where
+  abbrev redeems : Bool → Bool → Bool → Result Redeemed Token
+  redeems own here struck = cond own (redeemed_at (cond here (Some Undecided) (cond struck (Some Struck) None)) t) (Err t)
 
-  known_struck : (g : ℕ) → redeemed_at (known v os t.id) t ≡ Ok (redeemed_as.Struck g) → (has t.id v.struck ≡ true) × (g ≡ t.id)
-  known_struck g is =
-      elim (has t.id (numbers os)) as (λ b. redeemed_at (cond b (Some Undecided) (cond (has t.id v.struck) (Some Struck) None)) t ≡ Ok (redeemed_as.Struck g) → (has t.id v.struck ≡ true) × (g ≡ t.id)) [
-        | true ↦ λ told. cc
-        | false ↦ elim (has t.id v.struck) as (λ b. has t.id v.struck ≡ b → redeemed_at (cond b (Some Struck) None) t ≡ Ok (redeemed_as.Struck g) → (has t.id v.struck ≡ true) × (g ≡ t.id)) [
-          | true ↦ λ here told. (here, cc)
-          | false ↦ λ _ told. cc
-        ] refl
-      ] is
+  of_undecided : (own here struck : Bool) (g : ℕ) → redeems own here struck ≡ Ok (redeemed_as.Undecided g)
+      → (own ≡ true) × (here ≡ true) × (g ≡ t.id)
+  of_undecided true true struck g is = (refl, refl, cc)
+  of_undecided true false true g is = cc
+  of_undecided own here struck g is = cc
 
-  known_back : (back : Token) → redeemed_at (known v os t.id) t ≡ Err back → (has t.id (numbers os) ≡ false) × (has t.id v.struck ≡ false) × (back ≡ t)
-  known_back back is =
-      elim (has t.id (numbers os)) as (λ b. has t.id (numbers os) ≡ b → redeemed_at (cond b (Some Undecided) (cond (has t.id v.struck) (Some Struck) None)) t ≡ Err back → (has t.id (numbers os) ≡ false) × (has t.id v.struck ≡ false) × (back ≡ t)) [
-        | true ↦ λ _ told. cc
-        | false ↦ λ closed. elim (has t.id v.struck) as (λ b. has t.id v.struck ≡ b → redeemed_at (cond b (Some Struck) None) t ≡ Err back → (has t.id (numbers os) ≡ false) × (has t.id v.struck ≡ false) × (back ≡ t)) [
-          | true ↦ λ _ told. cc
-          | false ↦ λ out told. (closed, out, cc)
-        ] refl
-      ] refl is
+  of_struck : (own here struck : Bool) (g : ℕ) → redeems own here struck ≡ Ok (redeemed_as.Struck g)
+      → (own ≡ true) × (struck ≡ true) × (g ≡ t.id)
+  of_struck true false true g is = (refl, refl, cc)
+  of_struck own here struck g is = cc
 
-  pub undecided_told : (g : ℕ) → redeemed_kept v os t ≡ Ok (redeemed_as.Undecided g) → (t.kernel ≡ v.kernel) × (has t.id (numbers os) ≡ true) × (g ≡ t.id)
-  undecided_told g is =
-      elim (t.kernel == v.kernel) as (λ b. (t.kernel == v.kernel) ≡ b → cond b (redeemed_at (known v os t.id) t) (Err t) ≡ Ok (redeemed_as.Undecided g) → (t.kernel ≡ v.kernel) × (has t.id (numbers os) ≡ true) × (g ≡ t.id)) [
-        | true ↦ λ same told. let there = known_undecided g told in (eqb-true t.kernel v.kernel same, there.0, there.1)
-        | false ↦ λ _ told. cc
-      ] refl is
+  of_back : (own here struck : Bool) (back : Token) → redeems own here struck ≡ Err back
+      → (own ≡ true → (here ≡ false) × (struck ≡ false)) × (back ≡ t)
+  of_back true false false back is = (λ _. (refl, refl), cc)
+  of_back false here struck back is = (λ no. absurd (false≢true no), cc)
+  of_back own here struck back is = cc
 
-  pub struck_told : (g : ℕ) → redeemed_kept v os t ≡ Ok (redeemed_as.Struck g) → (t.kernel ≡ v.kernel) × (has t.id v.struck ≡ true) × (g ≡ t.id)
-  struck_told g is =
-      elim (t.kernel == v.kernel) as (λ b. (t.kernel == v.kernel) ≡ b → cond b (redeemed_at (known v os t.id) t) (Err t) ≡ Ok (redeemed_as.Struck g) → (t.kernel ≡ v.kernel) × (has t.id v.struck ≡ true) × (g ≡ t.id)) [
-        | true ↦ λ same told. let there = known_struck g told in (eqb-true t.kernel v.kernel same, there.0, there.1)
-        | false ↦ λ _ told. cc
-      ] refl is
+-- a token was redeemed, and nothing else was done
+module _ {K V O : Type 0} {slots : List (K × SlotView V)} {said : Said O} {v w : KeptView}
+    {lists new : List (OpenGuess K)} {p : Parts K V O} {told : Result Redeemed Token} (t : Token)
+    (result : told ≡ redeemed_kept v (opens_of lists) t) (view : w ≡ forgotten v told) (opens : new ≡ lists)
+    (is : record { slots = slots; guesses = v; opens = opens_of lists; said = said } ≡ p) where
+  abbrev parts : Parts K V O
+  parts = record { slots = slots; guesses = w; opens = opens_of new; said = said }
 
-  pub back_told : (back : Token) → redeemed_kept v os t ≡ Err back → (t.kernel ≡ v.kernel → (has t.id (numbers os) ≡ false) × (has t.id v.struck ≡ false)) × (back ≡ t)
-  back_told back is =
-      elim (t.kernel == v.kernel) as (λ b. (t.kernel == v.kernel) ≡ b → cond b (redeemed_at (known v os t.id) t) (Err t) ≡ Err back → (t.kernel ≡ v.kernel → (has t.id (numbers os) ≡ false) × (has t.id v.struck ≡ false)) × (back ≡ t)) [
-        | true ↦ λ _ told. let there = known_back back told in ((λ _. (there.0, there.1)), there.2)
-        | false ↦ λ other told. ((λ same. absurd (true≢false (sym (eq-eqb t.kernel v.kernel same) ∙ other))), cc)
-      ] refl is
+  own_kernel : (t.kernel == v.kernel) ≡ true → t.kernel ≡ p.guesses.kernel
+  own_kernel same = eqb-true t.kernel v.kernel same ∙ ap (λ (q : Parts K V O). q.guesses.kernel) is
+
+  parts_are : (u : KeptView) → w ≡ u
+      → parts ≡ record { slots = slots; guesses = u; opens = opens_of lists; said = said }
+  parts_are u same = λ i. record { slots = slots; guesses = same i; opens = opens_of (opens i); said = said }
+
+  pub undecided_spent : {g : ℕ} → told ≡ Ok (redeemed_as.Undecided g)
+      → (t.kernel ≡ p.guesses.kernel) × (has g (numbers parts.opens) ≡ true) × (parts ≡ p) × (g ≡ t.id)
+  undecided_spent {g} at =
+      let so = of_undecided t (t.kernel == v.kernel) (has t.id (numbers (opens_of lists))) (has t.id v.struck) g
+      (sym result ∙ at) in (
+        own_kernel so.0,
+        (λ i. has (so.2 i) (numbers (opens_of (opens i)))) ∙ so.1,
+        parts_are v (view ∙ ap (forgotten v) at) ∙ is,
+        so.2,
+      )
+
+  pub struck_spent : {g : ℕ} (R : K → K → Ordering) → told ≡ Ok (redeemed_as.Struck g)
+      → (t.kernel ≡ p.guesses.kernel) × Forgets R p t.id parts
+  struck_spent {g} R at =
+      let so = of_struck t (t.kernel == v.kernel) (has t.id (numbers (opens_of lists))) (has t.id v.struck) g
+      (sym result ∙ at) in
+      let left : KeptView = record v { struck = without t.id v.struck } in
+      let is_left : w ≡ left = view ∙ ap (forgotten v) at ∙ ap (λ n. record v { struck = without n v.struck }) so.2 in
+      (own_kernel so.0, subst (λ q. Forgets R q t.id parts) is (record { struck = so.1; left = parts_are left is_left }))
+
+  pub back_spent : {back : Token} → told ≡ Err back → IsStranger p t × (back ≡ t) × (parts ≡ p)
+  back_spent {back} at =
+      let so = of_back t (t.kernel == v.kernel) (has t.id (numbers (opens_of lists))) (has t.id v.struck) back
+      (sym result ∙ at) in (
+        subst (λ q. IsStranger q t) is (λ same. so.0 (eq-eqb t.kernel v.kernel same)),
+        so.1,
+        parts_are v (view ∙ ap (forgotten v) at) ∙ is,
+      )
 
 -- what stands after a token came back or was spent
-pub sound_redeemed : {K V O : Type 0} {R : K → K → Ordering} (slots : List (K × SlotView V)) (said : Said O) (v w : KeptView) (lists new : List (OpenGuess K))
-    → IsSound R (record { slots = slots; guesses = v; opens = opens_of lists; said = said }) lists → new ≡ lists → ((status : ℕ → Option Status) → AreStatuses v (opens_of lists) status → AreStatuses w (opens_of new) status)
+pub sound_redeemed : {K V O : Type 0} {R : K → K → Ordering} {slots : List (K × SlotView V)} {said : Said O}
+    {v w : KeptView} {lists new : List (OpenGuess K)}
+    → IsSound R (record { slots = slots; guesses = v; opens = opens_of lists; said = said }) lists → new ≡ lists
+    → ((status : ℕ → Option Status) → AreStatuses v (opens_of lists) status → AreStatuses w (opens_of new) status)
     → IsSound R (record { slots = slots; guesses = w; opens = opens_of new; said = said }) new
-sound_redeemed {K} {V} {O} {R} slots said v w lists new sound same agrees =
+sound_redeemed {R = R} {slots} {said} {w = w} sound same agrees =
     let whole = sound.whole in
     record {
       settled = sound.settled;

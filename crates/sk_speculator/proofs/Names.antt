@@ -17,7 +17,7 @@ pub use Rattle.std.specs.List.{list_any}
 pub use Rattle.std.specs.List.Sorted.{IsStrictlySortedBy}
 pub use Rattle.std.specs.Option.{unwrap_or}
 pub use Rattle.std.specs.Ordering.{nat_cmp, eq_by_cmp}
-pub use Rattle.std.specs.Prelude.{get_or, slice_set, ◌⊎◌, IfSome, is_none, is_some, OnErr, OnOk, ◌==◌}
+pub use Rattle.std.specs.Prelude.{get_or, slice_set, ◌⊎◌, IfSome, is_none, is_some, OnErr, OnOk, Result, ◌==◌}
 pub use Rattle.std.specs.Result.{is_err}
 pub use Rattle.std.specs.declared.cmp.Ordering.{Ordering}
 pub use Rattle.sk_deeds.proofs.Runs.{first, allowed, performs}

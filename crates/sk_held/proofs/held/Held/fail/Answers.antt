@@ -1,22 +1,20 @@
 -- A guess is decided by the token at its place.
-use Rattle.sk_held.proofs.Names.{rules, ◌≡◌, Some, slice_get, get_or, remove, ids}
+use Rattle.sk_held.proofs.Names.{rules}
 use Rattle.sk_held.proofs.Deciding.{fail_met, fail_holds}
 use Rattle.sk_held.proofs.held.Held.fail.Goals as goal
 
 pub unreachable-requires : goal.unreachable-requires
 unreachable-requires c =
-    let at : slice_get (ids c.self.inside.tokens.items) c.in_ok-place.place ≡ Some c.args.guess = search rules in
-    let value : c.remove-token.result ≡ get_or c.self.inside.tokens.items c.in_ok-place.place c.remove-token.result = search rules in
-    let rest : c.remove-token.new.self.items ≡ remove c.self.inside.tokens.items c.in_ok-place.place = search rules in
-    fail_met c.self.inside.kernel c.self.inside.tokens.items c.remove-token.new.self.items c.remove-token.result c.in_ok-place.place c.args.guess c.self.invariant.0 at value rest
-    c.fail.result c.in-Err._stranger c.fail.new.self c.fail.ensures c.in-Err.is
+    let i = c.self.inside in
+    let left = c.remove-token in
+    fail_met i.kernel i.tokens.items left.new.self.items left.result c.in_ok-place.place c.args.guess c.self.invariant.0
+    (search rules) (search rules) (search rules) c.fail.result c.in-Err._stranger c.fail.new.self c.fail.ensures c.in-Err.is
 
 pub invariant_of-self : goal.invariant_of-self
 invariant_of-self c =
-    let at : slice_get (ids c.self.inside.tokens.items) c.in_ok-place.place ≡ Some c.args.guess = search rules in
-    let value : c.remove-token.result ≡ get_or c.self.inside.tokens.items c.in_ok-place.place c.remove-token.result = search rules in
-    let rest : c.remove-token.new.self.items ≡ remove c.self.inside.tokens.items c.in_ok-place.place = search rules in (
-      fail_holds c.self.inside.kernel c.self.inside.tokens.items c.remove-token.new.self.items c.remove-token.result c.in_ok-place.place c.args.guess c.self.invariant.0 at value rest
-          c.fail.result _ c.fail.new.self c.fail.ensures c.in-Ok.is,
+    let i = c.self.inside in
+    let left = c.remove-token in (
+      fail_holds i.kernel i.tokens.items left.new.self.items left.result c.in_ok-place.place c.args.guess c.self.invariant.0
+          (search rules) (search rules) (search rules) c.fail.result _ c.fail.new.self c.fail.ensures c.in-Ok.is,
       c.self.invariant.1,
     )

@@ -1,18 +1,23 @@
 -- What is kept of guesses after a draw and a decision, and the statuses that agree with it.
 use Rattle.sk_guesses.proofs.Names.{◌≡◌, ◌≢◌, ℕ, suc, ◌<◌, ◌≤◌, ◌+◌, length, length-append, Bool, true, false, cond}
 use Rattle.sk_guesses.proofs.Names.{not, ◌||◌, ◌&&◌, List, [], ◌∷◌, ◌++◌, map, Option, Some, None, inl, inr, refl, sym}
-use Rattle.sk_guesses.proofs.Names.{◌∙◌, ap, subst, append_assoc, arith, ◌==◌, Ok, Err, AllByRecursion, filter}
-use Rattle.sk_guesses.proofs.Names.{nat_cmp, true≢false, eqb-true, or_left, or_right, or_cases, length-map}
-use Rattle.sk_guesses.proofs.Names.{map-append, list_any-append, IsStrictlySortedBy-filter, LAST_GUESS, has, without}
-use Rattle.sk_guesses.proofs.Names.{rests_on, with_drawn, with_failure, with_status, Open, numbers, not_struck}
-use Rattle.sk_guesses.proofs.Names.{still_open, Status, Undecided, Committed, Failed, Struck, has_filter, and_both}
-use Rattle.sk_guesses.proofs.Names.{KeptView, AreKept, AreStatuses, forgotten, known, one_drawn, struck_with}
-use Rattle.sk_guesses.proofs.Names.{with_struck, OpenGuess, after_commit, but, not_resting, open_in, opens_of}
-use Rattle.sk_guesses.proofs.Names.{without_tag, Listing, Token, Redeemed}
+use Rattle.sk_guesses.proofs.Names.{◌∙◌, ap, subst, append_assoc, arith, ◌==◌, Ok, Err, AllByRecursion, filter, nat_cmp}
+use Rattle.sk_guesses.proofs.Names.{true≢false, eqb-true, or_left, or_right, or_cases, length-map, map-append}
+use Rattle.sk_guesses.proofs.Names.{list_any-append, IsStrictlySortedBy-filter, LAST_GUESS, has, without, rests_on}
+use Rattle.sk_guesses.proofs.Names.{with_drawn, with_failure, with_status, Open, numbers, not_struck, still_open}
+use Rattle.sk_guesses.proofs.Names.{Status, Undecided, Committed, Failed, Struck, has_filter, and_both, KeptView}
+use Rattle.sk_guesses.proofs.Names.{AreKept, AreStatuses, forgotten, known, one_drawn, struck_with, with_struck}
+use Rattle.sk_guesses.proofs.Names.{OpenGuess, after_commit, but, not_resting, open_in, opens_of, without_tag, Listing}
+use Rattle.sk_guesses.proofs.Names.{Token, Redeemed, AreBelow}
 use Rattle.std.specs.Prelude.{Result}
 use Rattle.std.specs.List.Sorted.{IsStrictlySortedBy}
 use Rattle.sk_guesses.specs.declared.guess.Redeemed.TheVariants as redeemed_as
-use Rattle.sk_guesses.proofs.Opens.{guess_of, named, but_named, same_named, named_more, turned, all_kept, own_left, own_more, own_same, still_rises, none_named, unless, more_rises, or_one, open_is, resting_named}
+use Rattle.sk_guesses.proofs.Opens.{guess_of, named, but_named, same_named, named_more, turned, all_kept, own_left}
+use Rattle.sk_guesses.proofs.Opens.{own_more, own_same, still_rises, none_named, unless, more_rises, or_one, open_is}
+use Rattle.sk_guesses.proofs.Opens.{resting_named, as_long, same_opens}
+use Rattle.sk_guesses.proofs.Passes.{below_committed, below_left}
+use Rattle.std.proofs.Math.Bool.{and-false}
+use Rattle.std.proofs.lemmas.Bool.{not-true}
 
 -- nothing is known to be open that is not
 pub not_known : (v : KeptView) (os : List Open) (g : ℕ) → known v os g ≢ Some Undecided → has g (numbers os) ≡ false
@@ -83,12 +88,6 @@ rising_committed g os rising = subst (IsStrictlySortedBy nat_cmp) (sym (same_nam
 committed_named : {E : Type 0} (g h : ℕ) (os : List (OpenGuess E)) → has h (named (after_commit g os)) ≡ (not (h == g) && has h (named os))
 committed_named g h os = ap (has h) (same_named g (but g os) ∙ but_named g os) ∙ has_filter (λ t. not (t == g)) h (named os)
 
-pub below_committed : {E : Type 0} (g n : ℕ) (os : List (OpenGuess E)) → ((h : ℕ) → has h (named os) ≡ true → h ≤ n) → (h : ℕ) → has h (named (after_commit g os)) ≡ true → h ≤ n
-below_committed g n os below h here = below h (and_both _ _ (sym (committed_named g h os) ∙ here)).1
-
-pub below_failed : {E : Type 0} (g n : ℕ) (os : List (OpenGuess E)) → IsStrictlySortedBy nat_cmp (named os) → ((h : ℕ) → has h (named os) ≡ true → h ≤ n) → (h : ℕ) → has h (named (not_resting g os)) ≡ true → h ≤ n
-below_failed g n os rising below h here = below h (and_both _ _ (sym (resting_named g h os rising) ∙ here)).0
-
 -- a guess that is open is not struck, and was drawn
 module _ (v : KeptView) (os : List Open) (status : ℕ → Option Status) (are : AreStatuses v os status) (g : ℕ) (here : has g (numbers os) ≡ true) where
   is_undecided : status g ≡ Some Undecided
@@ -135,14 +134,11 @@ struck_rests g h (o ∷ os) here =
         | inl same ↦
             (let both = and_both _ _ is in
             let number = eqb-true o.0 h same in
-            (or_left _ _ (λ i. same i && both.0 i), ap (λ n. n == g) (sym number) ∙ off (o.0 == g) both.1))
+            (or_left _ _ (λ i. same i && both.0 i), ap (λ n. n == g) (sym number) ∙ not-true (o.0 == g) both.1))
         | inr later ↦ (let rest = struck_rests g h os later in (or_right _ _ rest.0, rest.1))
       ]
       | false ↦ λ _ later. let rest = struck_rests g h os later in (or_right _ _ rest.0, rest.1)
-    ] refl here where
-      off : (b : Bool) → not b ≡ true → b ≡ false
-      off true is = sym is
-      off false is = refl
+    ] refl here
 
 pub statuses_failed : {E : Type 0} (v : KeptView) (os : List (OpenGuess E)) (status : ℕ → Option Status) (g : ℕ) → IsStrictlySortedBy nat_cmp (named os) → AllByRecursion (λ (o : OpenGuess E). has o.id o.tags ≡ true) os
     → AreStatuses v (opens_of os) status → has g (named os) ≡ true → AreStatuses (with_struck g (opens_of os) v) (opens_of (not_resting g os)) (with_failure g (opens_of os) status)
@@ -152,7 +148,7 @@ statuses_failed v os status g rising own are here = record {
       ∙ elim (h == g) as (λ b. (h == g) ≡ b → (has h (named os) && not (rests_on g (opens_of os) h)) ≡ open_in (cond b (Some Failed) (cond (rests_on g (opens_of os) h) (Some Struck) (status h)))) [
         | true ↦ λ is.
             let rests : rests_on g (opens_of os) h ≡ true = ap (rests_on g (opens_of os)) (eqb-true h g is) ∙ rests_itself g os own here in
-            ap (λ b. has h (named os) && not b) rests ∙ none_of (has h (named os))
+            ap (λ b. has h (named os) && not b) rests ∙ and-false (has h (named os))
         | false ↦ λ _. ap (λ b. b && not (rests_on g (opens_of os) h)) (are.undecided h) ∙ unless (status h) (rests_on g (opens_of os) h)
       ] refl;
   struck = λ h kept.
@@ -172,10 +168,7 @@ statuses_failed v os status g rising own are here = record {
             let none : status h ≡ None = are.fresh h above in
             ap (λ b. cond b (Some Struck) (status h)) (none_named g h os (are.undecided h ∙ ap open_in none)) ∙ none
       ] refl;
-} where
-  none_of : (b : Bool) → (b && false) ≡ false
-  none_of true = refl
-  none_of false = refl
+}
 
 -- ---- a token
 pub statuses_redeemed : (v : KeptView) (os : List Open) (r : Result Redeemed Token) (status : ℕ → Option Status) → AreStatuses v os status → AreStatuses (forgotten v r) os status
@@ -201,64 +194,63 @@ as_few g (o ∷ os) =
     ]
 
 -- ---- between calls
-module _ {E : Type 0} (v : KeptView) (ls ms : List (Listing E)) (next : List E) (strikes : ℕ) where
-  -- numbers and tags stay
-  pub kept_same : opens_of (map guess_of ms) ≡ opens_of (map guess_of ls) → length ms ≤ length ls → AreKept v ls next strikes → AreKept v ms next strikes
-  kept_same is fewer kept = record {
-    rising = subst (λ ps. IsStrictlySortedBy nat_cmp (numbers ps)) (sym is) kept.rising;
-    own = own_same (map guess_of ms) (map guess_of ls) is kept.own;
-    below = λ g here. kept.below g (ap (λ ps. has g (numbers ps)) (sym is) ∙ here);
-    few = let few = kept.few in omega (arith, few, fewer);
-    numbered = kept.numbered;
-    places = let places = kept.places in omega (arith, places, fewer);
-    empty = kept.empty;
+module _ {E : Type 0} {v : KeptView} {ls : List (Listing E)} {next : List E} {strikes : ℕ} {low : Bool} (kept : AreKept v ls next strikes × (low ≡ true → AreBelow (opens_of (map guess_of ls)))) where
+  -- some of them are left
+  kept_left : (ms : List (Listing E)) (struck : List ℕ) (room : ℕ) → IsStrictlySortedBy nat_cmp (named (map guess_of ms)) → AllByRecursion (λ (o : OpenGuess E). has o.id o.tags ≡ true) (map guess_of ms)
+      → ((g : ℕ) → has g (named (map guess_of ms)) ≡ true → has g (named (map guess_of ls)) ≡ true) → length ms ≤ length ls → length struck + length ms ≤ room → AreKept (record v { struck = struck }) ms next room
+  kept_left ms struck room rising own among fewer places = record {
+    rising = rising;
+    own = own;
+    below = λ g here. kept.0.below g (among g here);
+    few = let few = kept.0.few in omega (arith, few, fewer);
+    numbered = kept.0.numbered;
+    places = places;
+    empty = kept.0.empty;
   }
 
   -- a struck one is forgotten
-  pub kept_forgotten : (struck : List ℕ) (room : ℕ) → length struck ≤ length v.struck → room ≡ strikes → AreKept v ls next strikes → AreKept (record v { struck = struck }) ls next room
-  kept_forgotten struck room fewer same kept = record {
-    rising = kept.rising;
-    own = kept.own;
-    below = kept.below;
-    few = kept.few;
-    numbered = kept.numbered;
-    places = let places = kept.places in omega (arith, places, fewer, same);
-    empty = kept.empty;
-  }
+  pub kept_forgotten : (struck : List ℕ) (room : ℕ) → length struck ≤ length v.struck → room ≡ strikes → AreKept (record v { struck = struck }) ls next room
+  kept_forgotten struck room fewer same = kept_left ls struck room kept.0.rising kept.0.own (λ g here. here) (omega arith) (let places = kept.0.places in omega (arith, places, fewer, same))
 
-  -- one is committed
-  pub kept_committed : (g : ℕ) → map guess_of ms ≡ after_commit g (map guess_of ls) → length ms ≤ length ls → AreKept v ls next strikes → AreKept v ms next strikes
-  kept_committed g is fewer kept =
-      let os = map guess_of ls in
-      record {
-        rising = subst (λ xs. IsStrictlySortedBy nat_cmp (named xs)) (sym is) (rising_committed g os kept.rising);
-        own = subst (AllByRecursion (λ (o : OpenGuess E). has o.id o.tags ≡ true)) (sym is) (own_left g os kept.own);
-        below = subst (λ xs. (h : ℕ) → has h (named xs) ≡ true → h ≤ v.drawn) (sym is) (below_committed g v.drawn os kept.below);
-        few = let few = kept.few in omega (arith, few, fewer);
-        numbered = kept.numbered;
-        places = let places = kept.places in omega (arith, places, fewer);
-        empty = kept.empty;
-      }
+  module _ (ms : List (Listing E)) where
+    -- numbers and tags stay
+    pub kept_same : opens_of (map guess_of ms) ≡ opens_of (map guess_of ls) → length ms ≤ length ls → AreKept v ms next strikes × (low ≡ true → AreBelow (opens_of (map guess_of ms)))
+    kept_same is fewer = (
+      kept_left ms v.struck strikes (subst (λ ps. IsStrictlySortedBy nat_cmp (numbers ps)) (sym is) kept.0.rising) (own_same (map guess_of ms) (map guess_of ls) is kept.0.own)
+          (λ g here. ap (λ ps. has g (numbers ps)) (sym is) ∙ here) fewer (let places = kept.0.places in omega (arith, places, fewer)),
+      λ so. subst AreBelow (sym is) (kept.1 so),
+    )
 
-  -- one fails
-  pub kept_failed : (g : ℕ) (struck : List ℕ) → struck ≡ v.struck ++ struck_with g (opens_of (map guess_of ls)) → map guess_of ms ≡ not_resting g (map guess_of ls) → length ms ≤ length ls → AreKept v ls next strikes
-      → AreKept (record v { struck = struck }) ms next strikes
-  kept_failed g struck so is fewer kept =
-      let os = map guess_of ls in
-      let both : length struck ≡ length v.struck + length (struck_with g (opens_of os)) = ap length so ∙ rw length-append refl in
-      let left : length ms ≡ length (not_resting g os) = sym (length-map ms guess_of) ∙ ap length is in
-      let some = as_few g os in
-      let all = length-map ls guess_of in
-      record {
-        rising = subst (λ xs. IsStrictlySortedBy nat_cmp (named xs)) (sym is) (still_rises g os kept.rising);
-        own = subst (AllByRecursion (λ (o : OpenGuess E). has o.id o.tags ≡ true)) (sym is) (all_kept (λ (o : OpenGuess E). has o.id o.tags ≡ true) (λ o. not (has g o.tags)) os kept.own);
-        below = subst (λ xs. (h : ℕ) → has h (named xs) ≡ true → h ≤ v.drawn) (sym is) (below_failed g v.drawn os kept.rising kept.below);
-        few = let few = kept.few in omega (arith, few, fewer);
-        numbered = kept.numbered;
-        places = let places = kept.places in omega (arith, both, left, some, all, places);
-        empty = kept.empty;
-      }
+    pub kept_mapped : (f : OpenGuess E → OpenGuess E) → ((o : OpenGuess E) → (f o).id ≡ o.id × (f o).tags ≡ o.tags) → map guess_of ms ≡ map f (map guess_of ls) → AreKept v ms next strikes × (low ≡ true → AreBelow (opens_of (map guess_of ms)))
+    kept_mapped f keeps is = kept_same (ap opens_of is ∙ same_opens f keeps (map guess_of ls)) (let many = as_long f ms ls is in omega (arith, many))
 
+    -- one is committed
+    pub kept_committed : (g : ℕ) → map guess_of ms ≡ after_commit g (map guess_of ls) → length ms ≤ length ls → AreKept v ms next strikes × (low ≡ true → AreBelow (opens_of (map guess_of ms)))
+    kept_committed g is fewer =
+        let os = map guess_of ls in (
+          kept_left ms v.struck strikes (subst (λ xs. IsStrictlySortedBy nat_cmp (named xs)) (sym is) (rising_committed g os kept.0.rising))
+              (subst (AllByRecursion (λ (o : OpenGuess E). has o.id o.tags ≡ true)) (sym is) (own_left g os kept.0.own))
+              (λ h here. (and_both _ _ (sym (committed_named g h os) ∙ ap (λ xs. has h (named xs)) (sym is) ∙ here)).1) fewer (let places = kept.0.places in omega (arith, places, fewer)),
+          λ so. subst (λ xs. AreBelow (opens_of xs)) (sym is) (below_committed g os (kept.1 so)),
+        )
+
+    -- one fails
+    pub kept_failed : (g : ℕ) (struck : List ℕ) (room : ℕ) → room ≡ strikes → struck ≡ v.struck ++ struck_with g (opens_of (map guess_of ls)) → map guess_of ms ≡ not_resting g (map guess_of ls) → length ms ≤ length ls
+        → AreKept (record v { struck = struck }) ms next room × (low ≡ true → AreBelow (opens_of (map guess_of ms)))
+    kept_failed g struck room same so is fewer =
+        let os = map guess_of ls in
+        let both : length struck ≡ length v.struck + length (struck_with g (opens_of os)) = ap length so ∙ rw length-append refl in
+        let left : length ms ≡ length (not_resting g os) = sym (length-map ms guess_of) ∙ ap length is in
+        let some = as_few g os in
+        let all = length-map ls guess_of in (
+          kept_left ms struck room (subst (λ xs. IsStrictlySortedBy nat_cmp (named xs)) (sym is) (still_rises g os kept.0.rising))
+              (subst (AllByRecursion (λ (o : OpenGuess E). has o.id o.tags ≡ true)) (sym is) (all_kept (λ (o : OpenGuess E). has o.id o.tags ≡ true) (λ o. not (has g o.tags)) os kept.0.own))
+              (λ h here. (and_both _ _ (sym (resting_named g h os kept.0.rising) ∙ ap (λ xs. has h (named xs)) (sym is) ∙ here)).0)
+              fewer (let places = kept.0.places in omega (arith, both, left, some, all, places, same)),
+          λ low. subst AreBelow (sym (ap opens_of is ∙ fail_opens g os)) (below_left g (opens_of os) (kept.1 low)),
+        )
+
+module _ {E : Type 0} (v : KeptView) (ls ms : List (Listing E)) (next : List E) (strikes : ℕ) where
   -- one is drawn
   pub kept_drawn : (l : Listing E) (n : ℕ) (after : List E) → ms ≡ ls ++ l ∷ [] → l.guess.id ≡ v.drawn + 1 → n ≡ v.drawn + 1 → after ≡ [] → has l.guess.id l.guess.tags ≡ true → length ls < v.limit → v.drawn < LAST_GUESS
       → length v.struck + length ls < strikes → AreKept v ls next strikes → AreKept (record v { drawn = n }) ms after strikes

@@ -1,17 +1,12 @@
 -- It is undecided no more.
-use Rattle.sk_guesses.proofs.Names.{map, sym, ◌∙◌, ap, subst, vec_capacity, with_status, has, numbers, still_open}
-use Rattle.sk_guesses.proofs.Names.{Committed, Kept, KeptView, AreStatuses, opens_of, AreBelow}
+use Rattle.sk_guesses.proofs.Names.{map, sym, ◌∙◌, ap, subst, with_status, has, numbers, still_open, Committed, Kept}
+use Rattle.sk_guesses.proofs.Names.{KeptView, AreStatuses, opens_of}
 use Rattle.sk_guesses.proofs.Kept.{commit_opens, kept_committed, statuses_committed}
 use Rattle.sk_guesses.proofs.Opens.{guess_of}
-use Rattle.sk_guesses.proofs.Passes.{below_committed}
 use Rattle.sk_guesses.proofs.open_guesses.OpenGuesses.commit.Goals as goal
 
 pub invariant_of-self : goal.invariant_of-self
-invariant_of-self g c =
-    let v : KeptView = record { kernel = c.self.inside.kernel; limit = c.self.inside.limit; drawn = c.self.inside.drawn; struck = c.self.inside.struck.items } in (
-      kept_committed v c.self.inside.opens.items c.close_committed.new.opens.items c.self.inside.next.entities (vec_capacity c.self.inside.struck) c.args.id c.close_committed.ensures.opens c.close_committed.ensures.fewer c.self.invariant.0,
-      λ is. subst (λ xs. AreBelow (opens_of xs)) (sym c.close_committed.ensures.opens) (below_committed c.args.id (map guess_of c.self.inside.opens.items) (c.self.invariant.1 is)),
-    )
+invariant_of-self g c = kept_committed c.self.invariant c.close_committed.new.opens.items c.args.id c.close_committed.ensures.opens c.close_committed.ensures.fewer
 
 pub returns-clause-machine : goal.returns-clause-machine
 returns-clause-machine g c =

@@ -1,7 +1,7 @@
 -- One undecided guess more.
 use Rattle.sk_guesses.proofs.Names.{◌≡◌, ◌+◌, ◌<◌, ◌∷◌, ◌++◌, [], true, length, map, Some, refl, sym, ◌∙◌, ap, subst}
-use Rattle.sk_guesses.proofs.Names.{arith, ℕ, ◌≤◌, length-map, map-append, vec_capacity, LAST_GUESS, with_drawn, has}
-use Rattle.sk_guesses.proofs.Names.{SetView, Kept, KeptView, AreStatuses, opens_of, Listing, AreBelow}
+use Rattle.sk_guesses.proofs.Names.{arith, length-map, map-append, vec_capacity, LAST_GUESS, with_drawn, has, SetView}
+use Rattle.sk_guesses.proofs.Names.{Kept, KeptView, AreStatuses, opens_of, Listing, AreBelow}
 use Rattle.sk_guesses.proofs.Kept.{kept_drawn, statuses_drawn}
 use Rattle.sk_guesses.proofs.Opens.{guess_of}
 use Rattle.sk_guesses.proofs.Passes.{below_more}

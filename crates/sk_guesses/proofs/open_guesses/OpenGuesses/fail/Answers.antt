@@ -1,10 +1,8 @@
 -- It is undecided no more, and so are those whose own steps rest on it.
-use Rattle.sk_guesses.proofs.Names.{◌≡◌, ◌++◌, map, sym, ◌∙◌, ap, subst, vec_capacity, with_failure, has, not_struck}
-use Rattle.sk_guesses.proofs.Names.{numbers, Kept, KeptView, AreKept, AreStatuses, struck_with, with_struck, opens_of}
-use Rattle.sk_guesses.proofs.Names.{AreBelow}
+use Rattle.sk_guesses.proofs.Names.{◌≡◌, ◌++◌, map, sym, ◌∙◌, ap, subst, with_failure, has, not_struck, numbers, Kept}
+use Rattle.sk_guesses.proofs.Names.{KeptView, AreStatuses, struck_with, with_struck, opens_of}
 use Rattle.sk_guesses.proofs.Kept.{fail_opens, kept_failed, statuses_failed}
 use Rattle.sk_guesses.proofs.Opens.{guess_of}
-use Rattle.sk_guesses.proofs.Passes.{below_left}
 use Rattle.sk_guesses.proofs.open_guesses.OpenGuesses.fail.Goals as goal
 
 pub strike_all-requires : goal.strike_all-requires
@@ -16,13 +14,8 @@ returns-clause-machine g c =
 
 pub invariant_of-self : goal.invariant_of-self
 invariant_of-self g c =
-    let v : KeptView = record { kernel = c.self.inside.kernel; limit = c.self.inside.limit; drawn = c.self.inside.drawn; struck = c.self.inside.struck.items } in
-    let so : c.strike_all.new.struck.items ≡ v.struck ++ struck_with c.args.id (opens_of (map guess_of c.self.inside.opens.items)) =
-    c.strike_all.ensures.struck in (
-      kept_failed v c.self.inside.opens.items c.close_resting.new.opens.items c.self.inside.next.entities (vec_capacity c.strike_all.new.struck) c.args.id c.strike_all.new.struck.items so
-          c.close_resting.ensures.opens c.close_resting.ensures.fewer (subst (AreKept v c.self.inside.opens.items c.self.inside.next.entities) (sym c.strike_all.ensures.room) c.self.invariant.0),
-      λ is. subst AreBelow (sym (ap opens_of c.close_resting.ensures.opens ∙ fail_opens c.args.id (map guess_of c.self.inside.opens.items))) (below_left c.args.id (opens_of (map guess_of c.self.inside.opens.items)) (c.self.invariant.1 is)),
-    )
+    kept_failed c.self.invariant c.close_resting.new.opens.items c.args.id c.strike_all.new.struck.items _ c.strike_all.ensures.room c.strike_all.ensures.struck
+    c.close_resting.ensures.opens c.close_resting.ensures.fewer
 
 pub returns-clause-statuses : goal.returns-clause-statuses
 returns-clause-statuses g c = λ status are here.

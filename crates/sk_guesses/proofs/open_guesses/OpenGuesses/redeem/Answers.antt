@@ -1,5 +1,5 @@
 -- What agrees with what was kept agrees with what is left.
-use Rattle.sk_guesses.proofs.Names.{map, sym, subst, vec_capacity, Kept, KeptView, AreStatuses, opens_of}
+use Rattle.sk_guesses.proofs.Names.{map, sym, subst, Kept, KeptView, AreStatuses, opens_of}
 use Rattle.std.proofs.Common.{Ok}
 use Rattle.sk_guesses.specs.declared.guess.Redeemed.TheVariants as redeemed_as
 use Rattle.sk_guesses.proofs.Opens.{guess_of}
@@ -7,11 +7,7 @@ use Rattle.sk_guesses.proofs.Kept.{kept_forgotten, statuses_redeemed}
 use Rattle.sk_guesses.proofs.open_guesses.OpenGuesses.redeem.Goals as goal
 
 pub invariant_of-self : goal.invariant_of-self
-invariant_of-self g c =
-    let v : KeptView = record { kernel = c.self.inside.kernel; limit = c.self.inside.limit; drawn = c.self.inside.drawn; struck = c.self.inside.struck.items } in (
-      kept_forgotten v c.self.inside.opens.items c.self.inside.opens.items c.self.inside.next.entities (vec_capacity c.self.inside.struck) c.forget.new.struck.items (vec_capacity c.forget.new.struck) c.forget.ensures.fewer c.forget.ensures.room c.self.invariant.0,
-      c.self.invariant.1,
-    )
+invariant_of-self g c = (kept_forgotten c.self.invariant c.forget.new.struck.items _ c.forget.ensures.fewer c.forget.ensures.room, c.self.invariant.1)
 
 pub returns-in-Some-Struck-clause-statuses : goal.returns-in-Some-Struck-clause-statuses
 returns-in-Some-Struck-clause-statuses g c = λ status are.

@@ -1,6 +1,5 @@
 -- Numbers and tags stay.
-use Rattle.sk_guesses.proofs.Names.{◌∙◌, ap, map, arith, subst, sym, Kept, KeptView, not_resting, opens_of}
-use Rattle.sk_guesses.proofs.Names.{vec_capacity, AreBelow}
+use Rattle.sk_guesses.proofs.Names.{◌∙◌, ap, map, arith, Kept, not_resting, opens_of}
 use Rattle.sk_guesses.proofs.Kept.{kept_same}
 use Rattle.sk_guesses.proofs.Listed.{taken_first}
 use Rattle.sk_guesses.proofs.Opens.{guess_of, taken_opens}
@@ -8,11 +7,8 @@ use Rattle.sk_guesses.proofs.open_guesses.OpenGuesses.take_dependents.Goals as g
 
 pub invariant_of-self : goal.invariant_of-self
 invariant_of-self g c =
-    let v : KeptView = record { kernel = c.self.inside.kernel; limit = c.self.inside.limit; drawn = c.self.inside.drawn; struck = c.self.inside.struck.items } in (
-      kept_same v c.self.inside.opens.items c.take_list.new.opens.items c.self.inside.next.entities (vec_capacity c.self.inside.struck)
-          (ap opens_of c.take_list.ensures.opens ∙ taken_opens c.args.id (map guess_of c.self.inside.opens.items)) (omega (arith, c.take_list.ensures.as_many)) c.self.invariant.0,
-      λ is. subst AreBelow (sym (ap opens_of c.take_list.ensures.opens ∙ taken_opens c.args.id (map guess_of c.self.inside.opens.items))) (c.self.invariant.1 is),
-    )
+    kept_same c.self.invariant c.take_list.new.opens.items
+    (ap opens_of c.take_list.ensures.opens ∙ taken_opens c.args.id (map guess_of c.self.inside.opens.items)) (omega (arith, c.take_list.ensures.as_many))
 
 pub returns-clause-resting : goal.returns-clause-resting
 returns-clause-resting g c =

@@ -1,20 +1,20 @@
 -- Steps that rest on just what their process rests on.
-use Rattle.sk_machine.proofs.Names.{◌≡◌, ℕ, suc, ◌<◌, ◌≤◌, length, true, false, cond, List, [], ◌∷◌, ◌++◌, Option, None}
-use Rattle.sk_machine.proofs.Names.{Result, Ok, Err, inl, inr, refl, sym, ◌∙◌, ap, subst, arith, list_any, OnOk, OnErr}
-use Rattle.sk_machine.proofs.Names.{slice_index_or, both_ways, eq_by_cmp_equiv, nat_cmp, eq_by_cmp, or_cases, or_left}
-use Rattle.sk_machine.proofs.Names.{or_right, true≢false, false≢true, eq-eqb, eqb-true, append-nil, list_any-append}
-use Rattle.sk_machine.proofs.Names.{above, is_in, has, IsTidy, Open, numbers, step_tags, entity_cmp, Entity, Proc, Sig}
-use Rattle.sk_machine.proofs.Names.{entity_total, entity_exact, OpenGuess, opens_of, tied_is, Input, EntityState}
-use Rattle.sk_machine.proofs.Names.{is_empty, SlotMap, look_at, undo_state, PlanView, LooksView, Nowhere, Scripts}
-use Rattle.sk_machine.proofs.Names.{looked_at, read_by, signals_read, written_by, writes_of, looked, looks_of}
-use Rattle.sk_machine.proofs.Names.{seen_with, written_in, Plan, Private, written_is, changed_are, tags_in, with_tags}
-use Rattle.sk_machine.proofs.Names.{AllExact, Covers, IsEnough, RestAlike, Parts, undo_state_of, planned_effect}
-use Rattle.sk_machine.proofs.Names.{IsClean, Performed, entities_of}
+use Rattle.sk_machine.proofs.Names.{both_ways, or_left, ◌≡◌, ℕ, suc, ◌<◌, ◌≤◌, length, true, List, [], ◌∷◌, ◌++◌}
+use Rattle.sk_machine.proofs.Names.{Option, None, Result, Ok, Err, inl, inr, refl, sym, ◌∙◌, ap, subst, arith, list_any}
+use Rattle.sk_machine.proofs.Names.{OnOk, OnErr, slice_index_or, eq_by_cmp_equiv, nat_cmp, eq_by_cmp, or_cases}
+use Rattle.sk_machine.proofs.Names.{or_right, true≢false, false≢true, eqb-true, append-nil, list_any-append, above, has}
+use Rattle.sk_machine.proofs.Names.{IsTidy, Open, numbers, step_tags, entity_cmp, Entity, Proc, Sig, entity_total}
+use Rattle.sk_machine.proofs.Names.{entity_exact, OpenGuess, opens_of, tied_is, Input, EntityState, is_empty, SlotMap}
+use Rattle.sk_machine.proofs.Names.{look_at, undo_state, PlanView, LooksView, Nowhere, Scripts, looked_at, read_by}
+use Rattle.sk_machine.proofs.Names.{signals_read, written_by, writes_of, looked, looks_of, seen_with, written_in, Plan}
+use Rattle.sk_machine.proofs.Names.{Private, written_is, changed_are, tags_in, with_tags, AllExact, Covers, IsEnough}
+use Rattle.sk_machine.proofs.Names.{RestAlike, Parts, undo_state_of, planned_effect, IsClean, Performed, entities_of}
 use Rattle.std.specs.List.Sorted.{IsStrictlySortedBy}
 use Rattle.sk_script.specs.declared.instruction.Input.TheVariants as inputs
 use Rattle.sk_machine.proofs.Joins.{clean_of}
 use Rattle.sk_machine.proofs.Listed.{exact_as, performed_exact}
 use Rattle.sk_machine.proofs.Tags.{tags_are}
+use Rattle.std.proofs.lemmas.Bool.Decides.{nat_tests}
 
 -- ---- rising lists
 next_above : (x y : ℕ) (xs : List ℕ) → IsStrictlySortedBy nat_cmp (x ∷ xs) → has y xs ≡ true → x < y
@@ -26,22 +26,12 @@ unfolding IsStrictlySortedBy
 rest_rises x xs s = s.1
 
 itself : (g : ℕ) (gs : List ℕ) → has g (g ∷ gs) ≡ true
-itself g gs = or_left _ _ (eq-eqb g g refl)
+itself g gs = grind (arith, nat_tests)
 
 -- what is behind the first of a list is behind the first of one that has all of it
 rest_in : (x y : ℕ) (xs ys : List ℕ) → IsStrictlySortedBy nat_cmp (x ∷ xs) → IsStrictlySortedBy nat_cmp (y ∷ ys)
     → ((g : ℕ) → has g (x ∷ xs) ≡ true → has g (y ∷ ys) ≡ true) → (g : ℕ) → has g xs ≡ true → has g ys ≡ true
-rest_in x y xs ys s t h g here =
-    elim (or_cases _ _ (h g (or_right _ _ here))) [
-      | inl is ↦
-          let same = eqb-true y g is in
-          let more = next_above x g xs s here in
-          elim (or_cases _ _ (h x (itself x xs))) [
-            | inl at ↦ let first = eqb-true y x at in absurd (omega arith)
-            | inr behind ↦ let later = next_above y x ys t behind in absurd (omega arith)
-          ]
-      | inr later ↦ later
-    ]
+rest_in x y xs ys s t h g here = grind (arith, nat_tests, h g, h x, next_above x g xs s, next_above y x ys t)
 
 -- a rising list is no longer than one that has all of it
 no_longer : (xs ys : List ℕ) → IsStrictlySortedBy nat_cmp xs → IsStrictlySortedBy nat_cmp ys → ((g : ℕ) → has g xs ≡ true → has g ys ≡ true) → length xs ≤ length ys
@@ -78,11 +68,7 @@ count_is (o ∷ os) = ap suc (count_is os)
 
 -- ---- what rests on no more
 pub covers_one : (tags : List ℕ) (x : Entity) (base : Entity → List ℕ) → ((g : ℕ) → has g (base x) ≡ true → has g tags ≡ true) → Covers tags (x ∷ []) base
-covers_one tags x base h e g there rests =
-    elim (or_cases _ _ there) [
-      | inl same ↦ h g (ap (λ y. has g (base y)) (sym (tied_is entity_total entity_exact e x same)) ∙ rests)
-      | inr none ↦ absurd (false≢true none)
-    ]
+covers_one tags x base h e g there rests = grind (arith, h g, tied_is entity_total entity_exact e x)
 
 -- where it rests on one
 pub one_within : (xs own : List ℕ) (one id : ℕ) (x : Entity) (base : Entity → List ℕ) → length xs ≡ 1 → one ≡ slice_index_or xs 0 one → one ≡ id → xs ≡ own → own ≡ base x → Covers (id ∷ []) (x ∷ []) base
@@ -114,11 +100,7 @@ covers_reads tags pid input looks base own signals looked =
     (covers_both tags (Proc pid ∷ []) (signals_read pid input) base (covers_one tags (Proc pid) base (λ g here. ap (has g) (sym own) ∙ here)) signals) looked
 
 pub alike_one : (tags : List ℕ) (x : Entity) (base : Entity → List ℕ) → base x ≡ tags → RestAlike tags (x ∷ []) base
-alike_one tags x base own e there =
-    elim (or_cases _ _ there) [
-      | inl same ↦ ap base (tied_is entity_total entity_exact e x same) ∙ own
-      | inr none ↦ absurd (false≢true none)
-    ]
+alike_one tags x base own e there = grind (arith, tied_is entity_total entity_exact e x)
 
 alike_both : (tags : List ℕ) (xs ys : List Entity) (base : Entity → List ℕ) → RestAlike tags xs base → RestAlike tags ys base → RestAlike tags (xs ++ ys) base
 alike_both tags xs ys base a b e there =
@@ -162,18 +144,15 @@ pub reads_on : (pid : ℕ) (input : Input) (base : Entity → List ℕ) → Cove
 reads_on pid input base signals = covers_reads (base (Proc pid)) pid input Nowhere base refl (when input) (covers_none (base (Proc pid)) base) where
   when : (input : Input) → Covers (base (Proc pid)) (signals_read pid input) base
   when inputs.None = signals
-  when inputs.Good = covers_none (base (Proc pid)) base
-  when (inputs.Fresh content) = covers_none (base (Proc pid)) base
-  when (inputs.Stale content) = covers_none (base (Proc pid)) base
+  when other = covers_none (base (Proc pid)) base
 
 -- ---- the tags of the step
 covers_any : (tags : List ℕ) (base : Entity → List ℕ) (g : ℕ) (es : List Entity) → Covers tags es base → list_any (λ e. has g (base e)) es ≡ true → has g tags ≡ true
 covers_any tags base g [] covers rests = absurd (false≢true rests)
 covers_any tags base g (x ∷ es) covers rests =
-    elim (or_cases _ _ rests) [
-      | inl here ↦ covers x g (or_left _ _ ((eq_by_cmp_equiv entity_total).refl x)) here
-      | inr later ↦ covers_any tags base g es (λ e h there. covers e h (or_right _ _ there)) later
-    ]
+    let later : list_any (λ e. has g (base e)) es ≡ true → has g tags ≡ true =
+    covers_any tags base g es (λ e h there. covers e h (or_right _ _ there)) in
+    grind (arith, covers x g, (eq_by_cmp_equiv entity_total).refl x)
 
 alike_covers : (tags : List ℕ) (base : Entity → List ℕ) (es : List Entity) → RestAlike tags es base → Covers tags es base
 alike_covers tags base es alike e g there rests = ap (has g) (sym (alike e there)) ∙ rests
@@ -212,9 +191,7 @@ module _ (p : Parts) (scripts : Scripts) (pid : ℕ) (input : Input) (plan : Pla
 
 -- ---- the lists stay as they are
 pub alike_exact : (tags : List ℕ) (es : List Entity) (base : Entity → List ℕ) → RestAlike tags es base → (os : List (OpenGuess Entity)) → AllExact base os → AllExact (with_tags tags es base) os
-alike_exact tags es base alike os all = exact_as base (with_tags tags es base) same os all where
-  same : (e : Entity) → base e ≡ with_tags tags es base e
-  same e = elim (is_in entity_cmp es e) as (λ b. is_in entity_cmp es e ≡ b → base e ≡ cond b tags (base e)) [ true ↦ λ here. alike e here | false ↦ λ _. refl ] refl
+alike_exact tags es base alike os all = exact_as base (with_tags tags es base) (λ e. grind (arith, alike e)) os all
 
 pub alike_performed : {A F : Type 0} (m n : SlotMap) (tags : List ℕ) (ws : List (Entity × Option EntityState)) (r : Result A F) → IsClean m tags (entities_of ws) → RestAlike tags (entities_of ws) (tags_in m)
     → OnOk r (Performed m tags ws n) → OnErr r (n ≡ m) → (os : List (OpenGuess Entity)) → AllExact (tags_in m) os → AllExact (tags_in n) os

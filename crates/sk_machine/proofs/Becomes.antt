@@ -1,13 +1,14 @@
 -- What the parts become, as the machine of records has it: after a step, a commit and a failure.
-use Rattle.sk_machine.proofs.Names.{◌≡◌, ℕ, true, false, cond, not, List, [], ◌∷◌, ◌++◌, Option, Some, None, Ok, refl}
-use Rattle.sk_machine.proofs.Names.{sym, ◌∙◌, ap, subst, ◌==◌, eqb-true, append-nil, perform, has, without, noted}
-use Rattle.sk_machine.proofs.Names.{opened, step_tags, still_open, not_struck, Fails, lightened, not_dropped}
-use Rattle.sk_machine.proofs.Names.{with_drawn, with_status, with_failure, Merges, MergedTakes, MergedCommits, is_in}
-use Rattle.sk_machine.proofs.Names.{said_by, Committed, status_since, drawn, next_of, status-drawn, Input, TaggedText}
+use Rattle.sk_machine.proofs.Names.{◌≡◌, ℕ, true, false, cond, List, [], ◌∷◌, ◌++◌, Option, Some, None, Ok, refl, sym}
+use Rattle.sk_machine.proofs.Names.{◌∙◌, ap, subst, ◌==◌, eqb-true, append-nil, perform, without, noted, opened}
+use Rattle.sk_machine.proofs.Names.{step_tags, still_open, not_struck, Fails, lightened, not_dropped, with_drawn}
+use Rattle.sk_machine.proofs.Names.{with_status, with_failure, Merges, MergedTakes, MergedCommits, is_in, said_by}
+use Rattle.sk_machine.proofs.Names.{Committed, status_since, drawn, next_of, status-drawn, Input, TaggedText}
 use Rattle.sk_machine.proofs.Names.{TerminalMap, texts_at, texts_said, entity_cmp, look_at, log_at, Lightened, Unwound}
 use Rattle.sk_machine.proofs.Names.{EntryView, Scripts, Saying, act, plain, effect_of, writes_of, texts_after}
 use Rattle.sk_machine.proofs.Names.{said_in_plan, PlanView, Parts, machine_of, undo_state_of, planned_effect, said_at}
 use Rattle.sk_machine.proofs.Names.{Performed, entities_of}
+use Rattle.std.proofs.Common.{arith}
 
 -- ---- texts
 
@@ -33,11 +34,7 @@ said_lightened t g (x ∷ xs) = ap (λ ys. (record { to = t; text = x.0 }, witho
 -- and after its failure
 said_left : (t g : ℕ) (xs : List TaggedText) → said_at t (not_dropped g xs) ≡ not_dropped g (said_at t xs)
 said_left t g [] = refl
-said_left t g (x ∷ xs) =
-    elim (not (has g x.1)) as (λ b. said_at t (cond b (x ∷ not_dropped g xs) (not_dropped g xs)) ≡ cond b ((record { to = t; text = x.0 }, x.1) ∷ not_dropped g (said_at t xs)) (not_dropped g (said_at t xs))) [
-      | true ↦ ap (λ ys. (record { to = t; text = x.0 }, x.1) ∷ ys) (said_left t g xs)
-      | false ↦ said_left t g xs
-    ]
+said_left t g (x ∷ xs) = grind (arith, said_left t g xs)
 
 -- ---- the parts
 

@@ -1,24 +1,23 @@
 -- It is in them already, or is added to those that it does not rest on, of which none is open where it rests on all that are.
-use Rattle.sk_machine.proofs.Names.{◌≡◌, ℕ, Bool, true, false, not, cond, filter, ◌&&◌, ◌||◌, List, [], ◌∷◌, refl, sym, ◌∙◌, ap}
-use Rattle.sk_machine.proofs.Names.{false≢true, or_left, or_right, entity_cmp, Entity, has, and_both, OpenGuess}
-use Rattle.sk_machine.proofs.Names.{depending, numbers, opens_of, eq-eqb}
+use Rattle.sk_machine.proofs.Names.{◌≡◌, ℕ, Bool, true, false, not, cond, filter, ◌&&◌, ◌||◌, List, [], ◌∷◌, refl, sym}
+use Rattle.sk_machine.proofs.Names.{◌∙◌, ap, false≢true, or_left, or_right, entity_cmp, Entity, has, and_both}
+use Rattle.sk_machine.proofs.Names.{OpenGuess, depending, numbers, opens_of, eq-eqb}
 use Rattle.sk_guesses.specs.EntitySet.{with_entity}
 use Rattle.sk_record.proofs.Machine.{has_filter}
 use Rattle.std.specs.Prelude.{map}
 use Rattle.sk_machine.proofs.Given.{then_ok}
 use Rattle.sk_machine.proofs.lists.depend.Goals as goal
+use Rattle.std.proofs.Common.{arith}
 
 to_none : (e : Entity) (os : List (OpenGuess Entity)) → os ≡ map (depending entity_cmp [] e) os
 to_none e [] = refl
 to_none e (o ∷ os) = ap (λ ys. o ∷ ys) (to_none e os)
 
 split : (own there more : Bool) → more ≡ (there && not own) → there ≡ true → (own || more) ≡ true
-split true there more is here = refl
-split false there more is here = is ∙ ap (λ b. b && true) here
+split own there more is here = grind arith
 
 rest_of : (own there : Bool) → there ≡ true → (own || (not own && there)) ≡ true
-rest_of true there here = refl
-rest_of false there here = here
+rest_of own there here = grind arith
 
 -- an entity that is added to the lists of guesses that are not open is added to none
 unlisted : (more : List ℕ) (e : Entity) (os : List (OpenGuess Entity)) → ((g : ℕ) → has g (numbers (opens_of os)) ≡ true → has g more ≡ false) → os ≡ map (depending entity_cmp more e) os

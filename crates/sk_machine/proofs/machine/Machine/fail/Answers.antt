@@ -16,70 +16,54 @@ unwind-requires-clause-listed c =
     let grows = subst (λ (p : Parts). AllGrow p.slots) (sym c.self.view_is) c.requires.grow in
     subst (λ (es : List Entity). AreListed c.args.id m es) (sym c.dependents.ensures.value) (listed c.args.id m os c.self.invariant.0 grows (c.dependents.ensures.known undecided))
 
-pub relieve_freed-requires-clause-almost : goal.relieve_freed-requires-clause-almost
-relieve_freed-requires-clause-almost c =
+pub relieve_freed-requires : goal.relieve_freed-requires
+relieve_freed-requires c =
+    let id = c.args.id in
     let m = c.self.inside.logs.slots in
     let n = c.unwind.new.self.slots in
     let os = c.self.inside.guesses.opens in
-    let undecided : status_since c.self.inside.guesses.view c.args.id ≡ Some Undecided = ap (λ (p : Parts). status_since p.guesses c.args.id) c.self.view_is ∙ c.requires.undecided in
+    let undecided : status_since c.self.inside.guesses.view id ≡ Some Undecided = ap (λ (p : Parts). status_since p.guesses id) c.self.view_is ∙ c.requires.undecided in
     let grows = subst (λ (p : Parts). AllGrow p.slots) (sym c.self.view_is) c.requires.grow in
-    let still : status_since c.take_dependents-freed.new.self.view c.args.id ≡ Some Undecided = ap (λ v. status_since v c.args.id) c.take_dependents-freed.ensures.view ∙ undecided in
-    let left : c.strike_resting.new.self.opens ≡ not_resting c.args.id (but c.args.id os) =
-    c.strike_resting.ensures.opens ∙ ap (not_resting c.args.id) ((c.fail.ensures.undecided still).opens ∙ ap (but c.args.id) c.take_dependents-freed.ensures.opens ∙ but_taken c.args.id os) in
-    let freed : c.as_slice.result.now ≡ dependents_of c.args.id os = c.as_slice.ensures.entities ∙ c.take_dependents-freed.ensures.list in
-    subst (λ (es : List Entity). AllAlmostExact (tags_in n) es c.strike_resting.new.self.opens) (sym freed)
-    (subst (AllAlmostExact (tags_in n) (dependents_of c.args.id os)) (sym left) (failed_almost c.args.id m n grows c.unwind.ensures.slots os c.self.invariant.0 (c.dependents.ensures.known undecided)))
+    let still : status_since c.take_dependents-freed.new.self.view id ≡ Some Undecided = ap (λ v. status_since v id) c.take_dependents-freed.ensures.view ∙ undecided in
+    let left : c.strike_resting.new.self.opens ≡ not_resting id (but id os) =
+    c.strike_resting.ensures.opens ∙ ap (not_resting id) ((c.fail.ensures.undecided still).opens ∙ ap (but id) c.take_dependents-freed.ensures.opens ∙ but_taken id os) in
+    let freed : c.as_slice.result.now ≡ dependents_of id os = c.as_slice.ensures.entities ∙ c.take_dependents-freed.ensures.list in
+    let known = c.dependents.ensures.known undecided in
+    record {
+      almost = subst (λ (es : List Entity). AllAlmostExact (tags_in n) es c.strike_resting.new.self.opens) (sym freed)
+          (subst (AllAlmostExact (tags_in n) (dependents_of id os)) (sym left) (failed_almost id m n grows c.unwind.ensures.slots os c.self.invariant.0 known));
+      alone = λ is. subst (AllExact (tags_in n)) (sym left)
+          (failed_exact id m n grows c.unwind.ensures.slots os c.self.invariant.0 known (c.is_alone-alone.ensures is));
+      untagged = c.self.invariant.1;
+    }
 
-pub relieve_freed-requires-clause-alone : goal.relieve_freed-requires-clause-alone
-relieve_freed-requires-clause-alone c = λ is.
-    let m = c.self.inside.logs.slots in
-    let n = c.unwind.new.self.slots in
-    let os = c.self.inside.guesses.opens in
-    let undecided : status_since c.self.inside.guesses.view c.args.id ≡ Some Undecided = ap (λ (p : Parts). status_since p.guesses c.args.id) c.self.view_is ∙ c.requires.undecided in
-    let grows = subst (λ (p : Parts). AllGrow p.slots) (sym c.self.view_is) c.requires.grow in
-    let still : status_since c.take_dependents-freed.new.self.view c.args.id ≡ Some Undecided = ap (λ v. status_since v c.args.id) c.take_dependents-freed.ensures.view ∙ undecided in
-    let left : c.strike_resting.new.self.opens ≡ not_resting c.args.id (but c.args.id os) =
-    c.strike_resting.ensures.opens ∙ ap (not_resting c.args.id) ((c.fail.ensures.undecided still).opens ∙ ap (but c.args.id) c.take_dependents-freed.ensures.opens ∙ but_taken c.args.id os) in
-    subst (AllExact (tags_in n)) (sym left) (failed_exact c.args.id m n grows c.unwind.ensures.slots os c.self.invariant.0 (c.dependents.ensures.known undecided) (c.is_alone-alone.ensures is))
-
-pub returns-clause-fails : goal.returns-clause-fails
-returns-clause-fails c =
+pub returns : goal.returns
+returns c =
+    let id = c.args.id in
     let os = c.self.inside.guesses.opens in
     let a : Parts = record { slots = c.self.inside.logs.slots; opens = opens_of os; guesses = c.self.inside.guesses.view; texts = c.self.inside.terminals } in
     let b : Parts = record { slots = c.unwind.new.self.slots; opens = opens_of c.reuse.new.self.opens; guesses = c.reuse.new.self.view; texts = c.drop_of.new.self } in
-    let undecided : status_since a.guesses c.args.id ≡ Some Undecided = ap (λ (p : Parts). status_since p.guesses c.args.id) c.self.view_is ∙ c.requires.undecided in
-    let still : status_since c.take_dependents-freed.new.self.view c.args.id ≡ Some Undecided = ap (λ v. status_since v c.args.id) c.take_dependents-freed.ensures.view ∙ undecided in
+    let undecided : status_since a.guesses id ≡ Some Undecided = ap (λ (p : Parts). status_since p.guesses id) c.self.view_is ∙ c.requires.undecided in
+    let taken = c.take_dependents-freed.ensures in
+    let still : status_since c.take_dependents-freed.new.self.view id ≡ Some Undecided = ap (λ v. status_since v id) taken.view ∙ undecided in
     let failed = c.fail.ensures.undecided still in
-    let view : c.fail.new.self.view ≡ decided a.guesses c.args.id Failed = failed.view ∙ ap (λ v. decided v c.args.id Failed) c.take_dependents-freed.ensures.view in
-    let kept : c.fail.new.self.opens ≡ but c.args.id os = failed.opens ∙ ap (but c.args.id) c.take_dependents-freed.ensures.opens ∙ but_taken c.args.id os in
-    let opens : b.opens ≡ not_struck c.args.id a.opens =
-    ap opens_of c.reuse.ensures.opens ∙ c.relieve_freed.ensures.opens ∙ ap opens_of c.strike_resting.ensures.opens ∙ c.fail.ensures.resting
-    ∙ ap (not_struck c.args.id) (ap opens_of c.take_dependents-freed.ensures.opens ∙ taken_opens c.args.id os) in
-    let statuses : (h : ℕ) → status_since b.guesses h ≡ with_failure c.args.id a.opens (status_since a.guesses) h = λ h.
-    ap (λ v. status_since v h) (c.reuse.ensures.view ∙ c.relieve_freed.ensures.view) ∙ c.strike_resting.ensures.statuses h
-    ∙ (λ i. cond (rests_on c.args.id (opens_of (kept i)) h) (Some Struck) (status_since (view i) h))
-    ∙ failed_status a.guesses c.args.id os undecided h in
-    subst (λ (p : Parts). Fails (machine_of p) c.args.id (machine_of b)) c.self.view_is
-    (fails_of a b c.args.id c.unwind.ensures.slots opens statuses c.drop_of.ensures.texts)
-
-pub returns-clause-kernel : goal.returns-clause-kernel
-returns-clause-kernel c =
-    let undecided : status_since c.self.inside.guesses.view c.args.id ≡ Some Undecided = ap (λ (p : Parts). status_since p.guesses c.args.id) c.self.view_is ∙ c.requires.undecided in
-    let still : status_since c.take_dependents-freed.new.self.view c.args.id ≡ Some Undecided = ap (λ v. status_since v c.args.id) c.take_dependents-freed.ensures.view ∙ undecided in
-    ap (λ (v : GuessesView). v.kernel) (c.reuse.ensures.view ∙ c.relieve_freed.ensures.view) ∙ c.strike_resting.ensures.kernel ∙ ap (λ (v : GuessesView). v.kernel) ((c.fail.ensures.undecided still).view)
-    ∙ ap (λ (v : GuessesView). v.kernel) c.take_dependents-freed.ensures.view ∙ ap (λ (p : Parts). p.guesses.kernel) c.self.view_is
-
-pub returns-clause-drawn : goal.returns-clause-drawn
-returns-clause-drawn c =
-    let undecided : status_since c.self.inside.guesses.view c.args.id ≡ Some Undecided = ap (λ (p : Parts). status_since p.guesses c.args.id) c.self.view_is ∙ c.requires.undecided in
-    let still : status_since c.take_dependents-freed.new.self.view c.args.id ≡ Some Undecided = ap (λ v. status_since v c.args.id) c.take_dependents-freed.ensures.view ∙ undecided in
-    let set : length c.fail.new.self.view.statuses ≡ length c.take_dependents-freed.new.self.view.statuses = ap (λ (v : GuessesView). length v.statuses) ((c.fail.ensures.undecided still).view) ∙ rw length-set refl in
-    ap (λ (v : GuessesView). length v.statuses) (c.reuse.ensures.view ∙ c.relieve_freed.ensures.view) ∙ c.strike_resting.ensures.drawn ∙ set
-    ∙ ap (λ (v : GuessesView). length v.statuses) c.take_dependents-freed.ensures.view ∙ ap (λ (p : Parts). length p.guesses.statuses) c.self.view_is
-
-pub returns-clause-earlier : goal.returns-clause-earlier
-returns-clause-earlier c =
-    let undecided : status_since c.self.inside.guesses.view c.args.id ≡ Some Undecided = ap (λ (p : Parts). status_since p.guesses c.args.id) c.self.view_is ∙ c.requires.undecided in
-    let still : status_since c.take_dependents-freed.new.self.view c.args.id ≡ Some Undecided = ap (λ v. status_since v c.args.id) c.take_dependents-freed.ensures.view ∙ undecided in
-    ap (λ (v : GuessesView). v.earlier) (c.reuse.ensures.view ∙ c.relieve_freed.ensures.view) ∙ c.strike_resting.ensures.earlier ∙ ap (λ (v : GuessesView). v.earlier) ((c.fail.ensures.undecided still).view)
-    ∙ ap (λ (v : GuessesView). v.earlier) c.take_dependents-freed.ensures.view ∙ ap (λ (p : Parts). p.guesses.earlier) c.self.view_is
+    let struck = c.strike_resting.ensures in
+    let after : b.guesses ≡ c.strike_resting.new.self.view = c.reuse.ensures.view ∙ c.relieve_freed.ensures.view in
+    let view : c.fail.new.self.view ≡ decided a.guesses id Failed = failed.view ∙ ap (λ v. decided v id Failed) taken.view in
+    let kept : c.fail.new.self.opens ≡ but id os = failed.opens ∙ ap (but id) taken.opens ∙ but_taken id os in
+    let opens : b.opens ≡ not_struck id a.opens =
+    ap opens_of c.reuse.ensures.opens ∙ c.relieve_freed.ensures.opens ∙ ap opens_of struck.opens ∙ c.fail.ensures.resting
+    ∙ ap (not_struck id) (ap opens_of taken.opens ∙ taken_opens id os) in
+    let statuses : (h : ℕ) → status_since b.guesses h ≡ with_failure id a.opens (status_since a.guesses) h = λ h.
+    ap (λ v. status_since v h) after ∙ struck.statuses h
+    ∙ (λ i. cond (rests_on id (opens_of (kept i)) h) (Some Struck) (status_since (view i) h)) ∙ failed_status a.guesses id os undecided h in
+    let count : length (decided a.guesses id Failed).statuses ≡ length a.guesses.statuses = rw length-set refl in
+    record {
+      fails = subst (λ (p : Parts). Fails (machine_of p) id (machine_of b)) c.self.view_is
+          (fails_of a b id c.unwind.ensures.slots opens statuses c.drop_of.ensures.texts);
+      kernel = ap (λ (v : GuessesView). v.kernel) after ∙ struck.kernel ∙ ap (λ (v : GuessesView). v.kernel) view ∙ ap (λ (p : Parts). p.guesses.kernel) c.self.view_is;
+      earlier = ap (λ (v : GuessesView). v.earlier) after ∙ struck.earlier ∙ ap (λ (v : GuessesView). v.earlier) view
+          ∙ ap (λ (p : Parts). p.guesses.earlier) c.self.view_is;
+      drawn = ap (λ (v : GuessesView). length v.statuses) after ∙ struck.drawn ∙ ap (λ (v : GuessesView). length v.statuses) view
+          ∙ count ∙ ap (λ (p : Parts). length p.guesses.statuses) c.self.view_is;
+    }

@@ -9,8 +9,8 @@ use Rattle.sk_machine.proofs.Becomes.{same_parts, takes_of}
 use Rattle.sk_machine.proofs.Joins.{apart_of}
 use Rattle.sk_machine.proofs.machine.Machine.take_step.Goals as goal
 
-pub perform_next-requires-clause-can : goal.perform_next-requires-clause-can
-perform_next-requires-clause-can c =
+pub perform_next-requires : goal.perform_next-requires
+perform_next-requires c =
     let scripts = c.args.scripts.now in
     let pid = c.args.pid in
     let input = input_in c.args.input in
@@ -19,39 +19,18 @@ perform_next-requires-clause-can c =
     let was : Parts = record { slots = c.self.inside.logs.slots; opens = opens_of os; guesses = c.self.inside.guesses.view; texts = c.self.inside.terminals } in
     let p : Parts = record { slots = c.set_alike.new.logs.slots; opens = opens_of os; guesses = c.self.inside.guesses.view; texts = c.self.inside.terminals } in
     let view = same_parts p was c.set_alike.ensures.slots refl refl refl ∙ c.self.view_is in
-    subst (λ (q : Parts). CanPerform (look_at q.slots) scripts pid input plan) (sym view) c.requires.planned.can
-
-pub perform_next-requires-clause-apart : goal.perform_next-requires-clause-apart
-perform_next-requires-clause-apart c =
-    let scripts = c.args.scripts.now in
-    let pid = c.args.pid in
-    let input = input_in c.args.input in
-    let plan = c.args.plan.now in
-    let os = c.self.inside.guesses.opens in
-    let was : Parts = record { slots = c.self.inside.logs.slots; opens = opens_of os; guesses = c.self.inside.guesses.view; texts = c.self.inside.terminals } in
-    let p : Parts = record { slots = c.set_alike.new.logs.slots; opens = opens_of os; guesses = c.self.inside.guesses.view; texts = c.self.inside.terminals } in
-    let view = same_parts p was c.set_alike.ensures.slots refl refl refl ∙ c.self.view_is in
-    subst (λ (q : Parts). AreApart (entities_of (writes_of (look_at q.slots) pid (seen_with (look_at q.slots) scripts pid input plan)))) (sym view)
-    (apart_of (look_at c.args.self.now.slots) pid (seen_with (look_at c.args.self.now.slots) scripts pid input plan) c.requires.planned.can.apart)
-
-pub perform_next-requires-clause-clean : goal.perform_next-requires-clause-clean
-perform_next-requires-clause-clean c =
-    let scripts = c.args.scripts.now in
-    let pid = c.args.pid in
-    let input = input_in c.args.input in
-    let plan = c.args.plan.now in
-    let os = c.self.inside.guesses.opens in
-    let was : Parts = record { slots = c.self.inside.logs.slots; opens = opens_of os; guesses = c.self.inside.guesses.view; texts = c.self.inside.terminals } in
-    let p : Parts = record { slots = c.set_alike.new.logs.slots; opens = opens_of os; guesses = c.self.inside.guesses.view; texts = c.self.inside.terminals } in
-    let view = same_parts p was c.set_alike.ensures.slots refl refl refl ∙ c.self.view_is in
-    let tags = c.set_alike.new.logs.tags in
+    let planned = λ (q : Parts). seen_with (look_at q.slots) scripts pid input plan in
     let tidy = subst (λ (q : Parts). IsTidy (undo_state_of q)) (sym view) c.requires.tidy in
     let opens_rise = subst (λ (q : Parts). IsStrictlySortedBy nat_cmp (numbers q.opens)) (sym view) c.requires.rising in
-    let rises = c.in_ok-alike.ensures.rising in
     let own = c.in_ok-alike.ensures.own c.if-alike.true in
     let reads = c.in_ok-alike.ensures.reads c.if-alike.true in
     let writes = c.in_ok-alike.ensures.writes c.if-alike.true in
-    planned_clean p scripts pid input plan tags tidy opens_rise rises own reads writes
+    record {
+      can = subst (λ (q : Parts). CanPerform (look_at q.slots) scripts pid input plan) (sym view) c.requires.planned.can;
+      apart = subst (λ (q : Parts). AreApart (entities_of (writes_of (look_at q.slots) pid (planned q)))) (sym view)
+          (apart_of (look_at c.args.self.now.slots) pid (planned c.args.self.now) c.requires.planned.can.apart);
+      clean = planned_clean p scripts pid input plan c.set_alike.new.logs.tags tidy opens_rise c.in_ok-alike.ensures.rising own reads writes;
+    }
 
 pub invariant_of-self : goal.invariant_of-self
 invariant_of-self c = (subst (λ k. AllExact (tags_in k) c.self.inside.guesses.opens) (sym c.set_alike.ensures.slots) c.self.invariant.0, c.self.invariant.1)

@@ -1,17 +1,15 @@
 -- The step of an asked request is accepted, told of a world's calls.
-use Rattle.sk_client.proofs.Names.{Some, Bool, subst, refl, [], ◌∷◌, Option, List, ℕ, true, sym, cond, ap, length}
-use Rattle.sk_client.proofs.Names.{false, Ok, Err, ◌≡◌, None, ◌∙◌, ForgottenAreDropped, TakesStep, StepsAreTaken}
-use Rattle.sk_client.proofs.Names.{is_void, decision_answer, given, answered, given_to, input_of, entry, stepped}
-use Rattle.sk_client.proofs.Names.{step_answer, given_answer, DeskView, Exchanges, Leads, Begins, IsJoined, WorldView}
-use Rattle.sk_client.proofs.Names.{Replies, Given, PendingRequest, WorldEvent, with_event, undecided_at, step_refused}
-use Rattle.sk_client.proofs.Names.{last_guess, KernelView, record_at, has, Input, Answer, Reply}
+use Rattle.sk_client.proofs.Names.{Some, Bool, subst, refl, [], ◌∷◌, Option, List, ℕ, true, sym, cond, ap, false, Ok}
+use Rattle.sk_client.proofs.Names.{Err, ◌≡◌, None, ◌∙◌, TakesStep, is_void, decision_answer, given, answered, given_to}
+use Rattle.sk_client.proofs.Names.{input_of, entry, stepped, step_answer, given_answer, DeskView, Exchanges, IsJoined}
+use Rattle.sk_client.proofs.Names.{WorldView, Replies, Given, PendingRequest, with_event, undecided_at, step_refused}
+use Rattle.sk_client.proofs.Names.{KernelView, has, Input, Answer, Reply, true_from_ne_false}
 use Rattle.sk_trace.specs.declared.event.Event.TheVariants.{Step}
 use Rattle.sk_server.specs.declared.reply.Answer.TheVariants as answers
 use Rattle.sk_client.specs.Desk.{answer_to}
 use Rattle.sk_client.specs.declared.desk.Given.TheVariants as gives
 use Rattle.sk_client.specs.declared.world.WorldAnswer.TheVariants as told
 use Rattle.sk_client.specs.declared.world.Cause.TheVariants as causes
-use Rattle.sk_client.proofs.First.{first_world, reached}
 use Rattle.sk_client.proofs.EventsKeep.{Comes}
 use Rattle.sk_client.proofs.SeenReply.{comes, whole, accepted}
 use Rattle.sk_client.proofs.SeenWorld.{World}
@@ -38,33 +36,22 @@ never_decided false g a h = h
 never_decided true g answers.Yes h = h
 never_decided true g a h = h
 
-step_took : (k : KernelView) (q : PendingRequest) (a : Answer) (number : ℕ) → q.guess ≡ None → is_void k q ≡ false → (o : Option Input) → input_of a ≡ o → gives.Taken number ≡ step_answer q.number o
-    → Took k q a number
-step_took k q a number asked whole None given is = absurd cc
-step_took k q a number asked whole (Some input) given is = record {
-  asked = asked;
-  whole = whole;
-  input = input;
-  gives = given;
-  its_number = (let same : number ≡ q.number = cc in sym same);
-}
+-- then its request has no guess
+is_asked : (k : KernelView) (q : PendingRequest) (a : Answer) (said : Given) → IsOfStep said → (g : Option ℕ) → said ≡ answer_to k q a g → g ≡ None
+is_asked k q a said of_step None is = refl
+is_asked k q a said of_step (Some g) is = absurd (never_decided (has g (undecided_at k)) g a (subst IsOfStep is of_step))
 
-took : (k : KernelView) (q : PendingRequest) (a : Answer) (number : ℕ) (g : Option ℕ) → q.guess ≡ g → gives.Taken number ≡ answer_to k q a g → Took k q a number
-took k q a number (Some g) its is = absurd (never_decided (has g (undecided_at k)) g a (subst IsOfStep is tt))
-took k q a number None asked is =
-    elim (is_void k q) as (λ b. is_void k q ≡ b → gives.Taken number ≡ cond b (gives.Forgotten q.number) (step_answer q.number (input_of a)) → Took k q a number) [
-      | true ↦ λ void is. absurd cc
-      | false ↦ λ whole is. step_took k q a number asked whole (input_of a) refl is
-    ] refl is
+took : (k : KernelView) (q : PendingRequest) (a : Answer) (number : ℕ) → q.guess ≡ None → (void : Bool) → is_void k q ≡ void → (o : Option Input) → input_of a ≡ o
+    → gives.Taken number ≡ cond void (gives.Forgotten q.number) (step_answer q.number o) → Took k q a number
+took k q a number asked false whole (Some input) given is =
+    let same : number ≡ q.number = cc in
+    record { asked = asked; whole = whole; input = input; gives = given; its_number = sym same }
+took k q a number asked void whole o given is = absurd cc
 
 -- a reply that gives an input to an asked request is forgotten where the request is void
-forgot : (k : KernelView) (q : PendingRequest) (a : Answer) (number : ℕ) (g : Option ℕ) (input : Input) → input_of a ≡ Some input → gives.Forgotten number ≡ answer_to k q a g → is_void k q ≡ true
-forgot k q a number (Some g) input given is = absurd (never_decided (has g (undecided_at k)) g a (subst IsOfStep is tt))
-forgot k q a number None input given is =
-    elim (is_void k q) as (λ b. gives.Forgotten number ≡ cond b (gives.Forgotten q.number) (step_answer q.number (input_of a)) → b ≡ true) [
-      | true ↦ λ is. refl
-      | false ↦ λ is. (let both : gives.Forgotten number ≡ gives.Taken q.number = is ∙ ap (step_answer q.number) given in absurd cc)
-    ] is
+forgot : (k : KernelView) (q : PendingRequest) (a : Answer) (number : ℕ) (input : Input) → input_of a ≡ Some input → gives.Forgotten number ≡ answer_to k q a None → is_void k q ≡ true
+forgot k q a number input given is = true_from_ne_false _ (λ whole.
+    let both : gives.Forgotten number ≡ gives.Taken q.number = is ∙ (λ i. cond (whole i) (gives.Forgotten q.number) (step_answer q.number (given i))) in cc)
 
 -- the desk after the step of an asked request
 desk_after : (d : DeskView) (q : PendingRequest) (a : Answer) (number : ℕ) (t : Took d.kernel q a number) → step_refused d.kernel (entry q.process t.input None) ≡ None
@@ -86,16 +73,19 @@ module _ (drawn begun : ℕ) (old : World) (xs : Exchanges) (v : WorldView) (r :
     forgotten n answers.Dropped its h = refl
     forgotten n a its h =
         absurd (sound (λ is. (let both : a ≡ answers.Dropped = sym its ∙ is in cc))
-        (forgot v.desk.kernel o.request p.answer n o.request.guess _ (ap input_of its) h))
+        (forgot v.desk.kernel o.request p.answer n _ (ap input_of its)
+        (h ∙ ap (answer_to v.desk.kernel o.request p.answer) (is_asked v.desk.kernel o.request p.answer (gives.Forgotten n) tt o.request.guess h))))
 
   oldest_here : (p : Reply) (rs : List Reply) → v.replies ≡ p ∷ rs → Oldest v.desk p rs v.back
   oldest_here p rs is = oldest v.desk v.server p rs v.back (subst (λ (ys : List Reply). IsJoined v.desk v.server ys v.back) is r.1)
 
-  takes : (n : ℕ) (new : WorldView) (rs : List Reply) → v.replies ≡ rs → Replies (Ok (told.Given (gives.Taken n))) v new rs → TakesStep v n new
+  pub takes : (n : ℕ) (new : WorldView) (rs : List Reply) → v.replies ≡ rs → Replies (Ok (told.Given (gives.Taken n))) v new rs → TakesStep v n new
   takes n new [] is h = absurd (let bad : Ok (told.Given (gives.Taken n)) ≡ Err causes.Idle = h.0 in cc)
   takes n new (p ∷ rs) is h =
       let o = oldest_here p rs is in
-      let t = took v.desk.kernel o.request p.answer n o.request.guess refl (h.0.1 ∙ ap (given_answer v.desk p) o.taken) in
+      let said = h.0.1 ∙ ap (given_answer v.desk p) o.taken in
+      let asks = is_asked v.desk.kernel o.request p.answer (gives.Taken n) tt o.request.guess said in
+      let t = took v.desk.kernel o.request p.answer n asks (is_void v.desk.kernel o.request) refl (input_of p.answer) refl (said ∙ ap (answer_to v.desk.kernel o.request p.answer) asks) in
       let ok = accepted drawn begun old xs v o.request o.later p.number rs p.answer (comes drawn begun old xs v r.0 p rs is o) t.asked t.input t.gives in
       let desk : new.desk ≡ record v.desk { taken = o.later; kernel = with_event v.desk.kernel (Step o.request.process t.input) } =
       h.0.2 ∙ ap (given v.desk p) o.taken ∙ desk_after (record v.desk { taken = o.later }) o.request p.answer n t ok in
@@ -112,18 +102,8 @@ module _ (drawn begun : ℕ) (old : World) (xs : Exchanges) (v : WorldView) (r :
         kernel = ap (λ (d : DeskView). d.kernel) desk;
       }
 
-  forgets : (n : ℕ) (new : WorldView) (rs : List Reply) → v.replies ≡ rs → Replies (Ok (told.Given (gives.Forgotten n))) v new rs → (p : Reply) × (v.replies ≡ p ∷ new.replies) × (p.answer ≡ answers.Dropped)
+  pub forgets : (n : ℕ) (new : WorldView) (rs : List Reply) → v.replies ≡ rs → Replies (Ok (told.Given (gives.Forgotten n))) v new rs → (p : Reply) × (v.replies ≡ p ∷ new.replies) × (p.answer ≡ answers.Dropped)
   forgets n new [] is h = absurd (let bad : Ok (told.Given (gives.Forgotten n)) ≡ Err causes.Idle = h.0 in cc)
   forgets n new (p ∷ rs) is h =
       let o = oldest_here p rs is in
       (p, is ∙ ap (λ (x : WorldView). p ∷ x.replies) (sym h.1), forgotten p rs is o n p.answer refl (h.0.1 ∙ ap (given_answer v.desk p) o.taken))
-
-module _ (first : WorldView) (begins : Begins first) (es : List WorldEvent) (xs : Exchanges) (v : WorldView) (leads : Leads first es xs v) where
-  abbrev now : Comes (last_guess first.desk.kernel) (length (record_at first.desk.kernel)) (first_world first.desk.kernel first.server) xs v
-  now = reached first.desk.kernel begins.ready first.server begins.last es xs v (subst (λ (w : WorldView). Leads w es xs v) begins.world leads)
-
-  pub steps_are_taken : StepsAreTaken v
-  steps_are_taken n new e = takes (last_guess first.desk.kernel) (length (record_at first.desk.kernel)) (first_world first.desk.kernel first.server) xs v now n new v.replies refl e
-
-  pub forgotten_are_dropped : ForgottenAreDropped v
-  forgotten_are_dropped n new e = forgets (last_guess first.desk.kernel) (length (record_at first.desk.kernel)) (first_world first.desk.kernel first.server) xs v now n new v.replies refl e

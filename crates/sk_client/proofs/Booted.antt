@@ -1,43 +1,146 @@
--- A kernel that was booted is such after each of its calls, in whatever epoch.
-use Rattle.sk_client.proofs.Names.{◌≡◌, ℕ, zero, suc, ◌+◌, ◌≤◌, ◌<◌, length, true, List, [], ◌∷◌, ◌++◌, Some, None}
-use Rattle.sk_client.proofs.Names.{Result, Ok, Err, inl, inr, refl, sym, ◌∙◌, ap, subst, arith, nat_lt, replicate}
-use Rattle.sk_client.proofs.Names.{Contains, eq_by_cmp, true≢false, ltb-false, append-nil, length-append}
-use Rattle.sk_client.proofs.Names.{length-replicate, Contains-append_cases, has, noted, status_in, StatusOr, Machine}
-use Rattle.sk_client.proofs.Names.{machine_after, MergedStands, HandsIn, alone_tags, with_value, Happens, Taken}
-use Rattle.sk_client.proofs.Names.{IsDrawn, undecided_of, machine_stands, all_kept, entity_cmp, Entity, Proc}
-use Rattle.sk_client.proofs.Names.{entity_total, entity_exact, Undecided, sound_first, nothing_in, Token, BootView}
-use Rattle.sk_client.proofs.Names.{Input, LeaseView, after_private, start_of, EntityState, TerminalMap, EntryView}
-use Rattle.sk_client.proofs.Names.{TraceView, plain, Saying, alone_reads, refusal_of, Refusal, TraceFull, KernelView}
-use Rattle.sk_client.proofs.Names.{booted, events_of, record_at, undecided_at, HasStatus, next_guess, room, effect_at}
-use Rattle.sk_client.proofs.Names.{or_else, state_at, no_room, step_misfit, trace_full, step_refused, guess_misfits}
-use Rattle.sk_client.proofs.Names.{too_many, guess_refused, with_event, StepPost, GuessPost, CommitPost, FailPost}
+-- A kernel that was booted is such after each of its calls, in whatever epoch: its trace is sound, and has its places.
+use Rattle.sk_client.proofs.Names.{Some, Bool, subst, arith, ◌++◌, suc, refl, [], ◌∷◌, inl, List, ℕ, true, sym, not}
+use Rattle.sk_client.proofs.Names.{cond, inr, ap, length, ◌≤◌, false, Ok, ◌&&◌, ◌≡◌, ◌+◌, None, ◌<◌, ◌∙◌, cases_Bool}
+use Rattle.sk_client.proofs.Names.{eqb-true, eq-eqb, true≢false, or_cases, map-append, length-append, FinMap, filter}
+use Rattle.sk_client.proofs.Names.{◌==◌, is_ok, entry, decided_shut, entity_exact, entity_total, epoch_commit}
+use Rattle.sk_client.proofs.Names.{epoch_fail, epoch_guess, epoch_step, below_next, effect_at, with_event, undecided_at}
+use Rattle.sk_client.proofs.Names.{next_guess, KernelView, events_of, HasSoundTrace, shorter, plain, image, has_filter}
+use Rattle.sk_client.proofs.Names.{sound_taken, is_undecided, sound_fail, sound_commit, recorded_more, has, effects}
+use Rattle.sk_client.proofs.Names.{System, strike, Event, Record, still_marked, IsDrawn, Fail, StatusIs, Taken, marks}
+use Rattle.sk_client.proofs.Names.{no_record, undecided_of, IsSound, Commit, all_recorded, Undecided, Input, Logged}
+use Rattle.sk_client.proofs.Names.{zero, Result, Err, nat_lt, replicate, Contains, eq_by_cmp, ltb-false, append-nil}
+use Rattle.sk_client.proofs.Names.{length-replicate, Contains-append_cases, noted, status_in, StatusOr, Machine}
+use Rattle.sk_client.proofs.Names.{machine_after, MergedStands, HandsIn, alone_tags, with_value, Happens}
+use Rattle.sk_client.proofs.Names.{machine_stands, all_kept, entity_cmp, Entity, Proc, sound_first, nothing_in, Token}
+use Rattle.sk_client.proofs.Names.{BootView, LeaseView, after_private, EntityState, TerminalMap, EntryView, TraceView}
+use Rattle.sk_client.proofs.Names.{Saying, alone_reads, refusal_of, Refusal, TraceFull, booted, record_at, HasStatus}
+use Rattle.sk_client.proofs.Names.{room, or_else, state_at, no_room, step_misfit, trace_full, step_refused}
+use Rattle.sk_client.proofs.Names.{guess_misfits, too_many, guess_refused, StepPost, GuessPost, CommitPost, FailPost}
 use Rattle.sk_client.proofs.Names.{IsNextEpoch, EpochPost, IsAsLent, HandInPost, TakesIn, alone_step, alone_entry}
 use Rattle.sk_client.proofs.Names.{with_steps, HandIn, NoPlaces, Memory, EpochRefusal, Outcome, Stranger, FailRefusal}
-use Rattle.sk_client.proofs.Names.{HasSoundTrace, images_more, no_step, stands_handed, IsNumbered, entry, WasBooted}
-use Rattle.sk_client.proofs.Names.{cons_cases, no_member, plain_tidy, tidy_start}
-use Rattle.std.proofs.Common.{append_assoc}
+use Rattle.sk_client.proofs.Names.{images_more, no_step, stands_handed, IsNumbered, WasBooted, plain_tidy, tidy_start}
+use Rattle.sk_client.proofs.Names.{All-contains, All-replicate, append_assoc, IsTidyState}
+use Rattle.sk_trace.specs.declared.event.Event.TheVariants as events
+use Rattle.sk_client.proofs.DeskFacts.{Did, none_first, none_later, none_test, ok_of}
 use Rattle.sk_script.specs.declared.instruction.Input.TheVariants as inputs
 use Rattle.sk_store.specs.declared.entity_state.EntityState.TheVariants as stored
-use Rattle.sk_trace.specs.declared.event.Event.{Event}
-use Rattle.sk_trace.specs.declared.event.Event.TheVariants as events
 use Rattle.sk_kernel.specs.declared.hand_in.HandIn.TheVariants.{Stale}
 use Rattle.sk_kernel.specs.declared.kernel.EpochRefusal.TheVariants as epoch_refusals
 use Rattle.sk_kernel.specs.declared.kernel.Outcome.TheVariants as outcomes
 use Rattle.sk_kernel.specs.declared.kernel.FailRefusal.TheVariants as refusals
 use Rattle.sk_kernel.proofs.Undecided.{undecided_is}
-use Rattle.sk_client.proofs.PlaceFacts.{used, opens_taken, used_step, used_guess, used_commit, step_sound, guess_sound, commit_sound, fail_sound, used_fail}
-use Rattle.sk_client.proofs.DeskFacts.{Did, none_first, none_later, none_test, ok_of}
 
-pub was_booted : (number : ℕ) (boot : BootView) (limit : ℕ) → IsNumbered boot → WasBooted (booted number boot limit)
-was_booted number boot limit numbered = record {
-  start = tidy_start boot numbered;
-  sound = record {
-    sound = sound_first (plain boot.scripts) (start_of boot);
-    decided = λ g is. (let none : None ≡ Some Undecided = sym (nothing_in g) ∙ is in cc);
-    above = λ g drawn. (let below = drawn.1.1 in absurd (omega arith));
-  };
+-- a filter that drops a number makes the list shorter
+pub filter_shorter : (p : ℕ → Bool) (g : ℕ) → p g ≡ false → (xs : List ℕ) → has g xs ≡ true → length (filter p xs) < length xs
+filter_shorter p g none [] here = absurd (true≢false (sym here))
+filter_shorter p g none (x ∷ xs) here =
+    let short = shorter p xs in
+    elim (or_cases (x == g) (has g xs) here) [
+      | inl is ↦
+          let out : p x ≡ false = ap p (eqb-true x g is) ∙ none in
+          subst (λ b. length (cond b (x ∷ filter p xs) (filter p xs)) < suc (length xs)) (sym out) (omega arith)
+      | inr later ↦
+          let less = filter_shorter p g none xs later in
+          elim (p x) as (λ b. length (cond b (x ∷ filter p xs) (filter p xs)) < suc (length xs)) [ true ↦ omega arith | false ↦ omega arith ]
+    ]
+
+module _ {E V W F N : Type 0} (K : System E V W F N) (start : FinMap K.order V) where
+  pub opens_taken : (es : List (Event N)) (n : N) → length (undecided_of K start (es ++ Taken n ∷ [])) ≡ length (undecided_of K start es) + length (marks (K.mark n))
+  opens_taken es n = ap (λ (r : Record N). length r.undecided) (recorded_more K start no_record es (Taken n)) ∙ length-append (undecided_of K start es) (marks (K.mark n))
+
+  pub opens_commit : (es : List (Event N)) (g : ℕ) → has g (undecided_of K start es) ≡ true → length (undecided_of K start (es ++ Commit g ∷ [])) < length (undecided_of K start es)
+  opens_commit es g here =
+      subst (λ (r : Record N). length r.undecided < length (undecided_of K start es)) (sym (recorded_more K start no_record es (Commit g)))
+      (filter_shorter (λ t. not (t == g)) g (ap not (eq-eqb g g refl)) (undecided_of K start es) here)
+
+  pub opens_fail : (es : List (Event N)) (g : ℕ) → IsSound K start (es ++ Fail g ∷ []) → has g (undecided_of K start es) ≡ true
+      → length (undecided_of K start (es ++ Fail g ∷ [])) < length (undecided_of K start es)
+  opens_fail es g sound here =
+      let us = undecided_of K start es in
+      let p : ℕ → Bool = still_marked (effects K start (strike K start (all_recorded K start no_record es).entries g)) in
+      let same : undecided_of K start (es ++ Fail g ∷ []) ≡ filter p us = ap (λ (r : Record N). r.undecided) (recorded_more K start no_record es (Fail g)) in
+      let none : p g ≡ false = elim (cases_Bool (p g)) [
+        | inl is ↦ absurd (true≢false (sym (has_filter p g us ∙ (λ i. is i && here i)) ∙ ap (has g) (sym same) ∙ decided_shut K start es (Fail g) g sound (inr refl)))
+        | inr is ↦ is
+      ] in
+      subst (λ xs. length xs < length us) (sym same) (filter_shorter p g none us here)
+
+-- the places of a kernel's trace that are taken, or kept free for a decision
+abbrev pub used : KernelView → ℕ
+used k = length k.trace + length (undecided_at k)
+
+module _ (k : KernelView) where
+  open_event : (e : Logged) → undecided_at (with_event k e) ≡ undecided_of (plain k.scripts) k.start (events_of k ++ image e ∷ [])
+  open_event e = ap (undecided_of (plain k.scripts) k.start) (map-append image k.trace (e ∷ []))
+
+  pub used_step : (p : ℕ) (input : Input) → used (with_event k (events.Step p input)) ≡ used k + 1
+  used_step p input =
+      let a = length-append k.trace (events.Step p input ∷ []) in
+      let b = ap length (open_event (events.Step p input)) ∙ opens_taken (plain k.scripts) k.start (events_of k) (entry p input None) in
+      omega (arith, a, b)
+
+  pub used_guess : (g p : ℕ) (input : Input) → used (with_event k (events.Guess g p input)) ≡ used k + 2
+  used_guess g p input =
+      let a = length-append k.trace (events.Guess g p input ∷ []) in
+      let b = ap length (open_event (events.Guess g p input)) ∙ opens_taken (plain k.scripts) k.start (events_of k) (entry p input (Some g)) in
+      omega (arith, a, b)
+
+  used_shut : (e : Logged) → length (undecided_of (plain k.scripts) k.start (events_of k ++ image e ∷ [])) < length (undecided_at k) → used (with_event k e) ≤ used k
+  used_shut e less =
+      let a = length-append k.trace (e ∷ []) in
+      let b = ap length (open_event e) in
+      omega (arith, a, b, less)
+
+  pub used_commit : (g : ℕ) → has g (undecided_at k) ≡ true → used (with_event k (events.Commit g)) ≤ used k
+  used_commit g here = used_shut (events.Commit g) (opens_commit (plain k.scripts) k.start (events_of k) g here)
+
+-- ---- a sound trace stays so
+
+module _ (k : KernelView) (sound : HasSoundTrace k) where
+  sound_more : (e : Logged) → IsSound (plain k.scripts) k.start (events_of k ++ image e ∷ []) → IsSound (plain k.scripts) k.start (events_of (with_event k e))
+  sound_more e is = subst (IsSound (plain k.scripts) k.start) (sym (map-append image k.trace (e ∷ []))) is
+
+  pub step_sound : (p : ℕ) (input : Input) (f : Did) → effect_at k (entry p input None) ≡ Ok f → HasSoundTrace (with_event k (events.Step p input))
+  step_sound p input f is =
+      epoch_step k sound p input (sound_more (events.Step p input) (sound_taken (plain k.scripts) k.start (events_of k) (entry p input None) sound.sound (λ g h mark drawn. absurd cc) (ap is_ok is)))
+
+  drawn_below : (g h : ℕ) → Some (next_guess k) ≡ Some g → IsDrawn (plain k.scripts) (events_of k) h → h < g
+  drawn_below g h mark drawn =
+      let same : next_guess k ≡ g = cc in
+      let less = below_next k sound h drawn in
+      omega (arith, same, less)
+
+  pub guess_sound : (p : ℕ) (input : Input) (f : Did) → effect_at k (entry p input (Some (next_guess k))) ≡ Ok f → HasSoundTrace (with_event k (events.Guess (next_guess k) p input))
+  guess_sound p input f is =
+      epoch_guess k sound p input (sound_more (events.Guess (next_guess k) p input) (sound_taken (plain k.scripts) k.start (events_of k) (entry p input (Some (next_guess k))) sound.sound drawn_below (ap is_ok is)))
+
+  module _ (g : ℕ) (here : has g (undecided_at k) ≡ true) where
+    status : StatusIs (plain k.scripts) k.start (events_of k) g Undecided
+    status = (is_undecided (plain k.scripts) k.start (events_of k) sound.sound g).0 here
+
+    pub commit_sound : HasSoundTrace (with_event k (events.Commit g))
+    commit_sound = epoch_commit k sound g (sound_more (events.Commit g) (sound_commit (plain k.scripts) k.start (events_of k) g sound.sound status))
+
+    fails : IsSound (plain k.scripts) k.start (events_of k ++ Fail g ∷ [])
+    fails = sound_fail (plain k.scripts) k.start entity_total entity_exact (events_of k) g sound.sound status
+
+    pub fail_sound : HasSoundTrace (with_event k (events.Fail g))
+    fail_sound = epoch_fail k sound g (sound_more (events.Fail g) fails)
+
+    pub used_fail : used (with_event k (events.Fail g)) ≤ used k
+    used_fail = used_shut k (events.Fail g) (opens_fail (plain k.scripts) k.start (events_of k) g fails here)
+
+-- before its first event, where no guess of earlier epochs is undecided
+at_first : (k : KernelView) → IsTidyState k.start → ((g : ℕ) → status_in k.earlier g ≡ Some Undecided → ⊥) → WasBooted (record k { trace = [] })
+at_first k tidy decided = record {
+  start = tidy;
+  sound = record { sound = sound_first (plain k.scripts) k.start; decided = decided; above = λ g drawn. (let below = drawn.1.1 in absurd (omega arith)) };
   place = omega arith;
 }
+
+pub was_booted : (number : ℕ) (boot : BootView) (limit : ℕ) → IsNumbered boot → WasBooted (booted number boot limit)
+was_booted number boot limit numbered =
+    at_first (booted number boot limit) (tidy_start boot numbered) (λ g is. (let none : None ≡ Some Undecided = sym (nothing_in g) ∙ is in cc))
 
 fits : (input : Input) (does : Result Did Refusal) → guess_misfits input does ≡ None → refusal_of does ≡ None
 fits inputs.None does h = absurd cc
@@ -45,7 +148,7 @@ fits input does h = h
 
 module _ (k : KernelView) (b : WasBooted k) where
   -- one event more
-  longer : (e : Event) → HasSoundTrace (with_event k e) → used (with_event k e) ≤ k.limit → WasBooted (with_event k e)
+  longer : (e : Logged) → HasSoundTrace (with_event k e) → used (with_event k e) ≤ k.limit → WasBooted (with_event k e)
   longer e sound place = record { start = b.start; sound = sound; place = place }
 
   places_left : (n : ℕ) → trace_full k n ≡ None → n ≤ room k
@@ -80,10 +183,6 @@ module _ (k : KernelView) (b : WasBooted k) where
 
 -- ---- a hand-in
 
-none_else : {A : Type 0} (n : ℕ) (x y : A) → Contains (replicate n x) y → x ≡ y
-none_else zero x y there = absurd (no_member y there)
-none_else (suc n) x y there = elim (cons_cases x (replicate n x) y there) [ inl is ↦ is | inr more ↦ none_else n x y more ]
-
 module _ (k : KernelView) (pid : ℕ) where
   abbrev alone : Happens EntryView
   alone = Taken (alone_entry pid)
@@ -94,7 +193,7 @@ module _ (k : KernelView) (pid : ℕ) where
       elim (Contains-append_cases (events_of k) (replicate n alone) (Taken d.0) (subst (λ es. Contains es (Taken d.0)) (images_more k.trace n (alone_step pid)) d.1)) [
         | inl before ↦ (d.0, before, d.2)
         | inr new ↦ absurd (
-            let same : alone ≡ Taken d.0 = none_else n alone (Taken d.0) new in
+            let same : alone ≡ Taken d.0 = All-contains (λ e. alone ≡ e) (replicate n alone) (Taken d.0) (All-replicate (λ e. alone ≡ e) n alone refl) new in
             let entry : alone_entry pid ≡ d.0 = cc in
             let none : None ≡ Some g = ap (λ (n : EntryView). n.guess) entry ∙ d.2 in
             cc)
@@ -176,15 +275,9 @@ module _ (old new : KernelView) (b : WasBooted old) (done : undecided_at old ≡
       true≢false (sym ((undecided_is old b.sound g).1 ((next.statuses g Undecided).0 now)) ∙ ap (has g) done)
 
   pub begins_anew : WasBooted new
-  begins_anew = subst WasBooted (sym next.view) (record {
-    start = plain_tidy old.scripts old.start (record_at old) b.start;
-    sound = record {
-      sound = sound_first (plain old.scripts) (state_at old);
-      decided = none_undecided;
-      above = λ g drawn. (let below = drawn.1.1 in absurd (omega arith));
-    };
-    place = omega arith;
-  })
+  begins_anew =
+      subst WasBooted (sym next.view)
+      (at_first (record old { start = state_at old; earlier = new.earlier }) (plain_tidy old.scripts old.start (record_at old) b.start) none_undecided)
 
 -- ---- each call
 

@@ -1,22 +1,22 @@
 -- What the definitions of a desk come to; and what it lends, from what its kernel would lend.
 use Rattle.sk_client.proofs.Names.{Some, Bool, subst, ◌-◌, arith, ◌++◌, refl, [], ◌∷◌, inl, Option, List, get_or, ℕ}
 use Rattle.sk_client.proofs.Names.{true, sym, not, cond, inr, ap, Bor, length, ◌≤◌, false, Ok, ◌&&◌, Err, ◌≡◌, ◌+◌}
-use Rattle.sk_client.proofs.Names.{◌||◌, drop, None, ◌<◌, Result, ◌∙◌, false_from_ne_true, or_cases, le-ltb}
-use Rattle.sk_client.proofs.Names.{drop_more, append_assoc, length-append, append-nil, filter-append}
-use Rattle.sk_client.proofs.Names.{IsStrictlySortedBy-filter, both_ways, get, list_any, filter, IsStrictlySortedBy}
-use Rattle.sk_client.proofs.Names.{nat_cmp, ◌↔◌, ◌==◌, IfOk, nat_lt, AllocError, commits, is_lost, lost_by, given}
-use Rattle.sk_client.proofs.Names.{given_to, no_number, asked_count, decided, input_of, pending, rests_of, asks_for}
-use Rattle.sk_client.proofs.Names.{entry, kept_for, no_place, rule_refused, guess_refused_at, DeskView, is_asked}
-use Rattle.sk_client.proofs.Names.{IsTidy, guesses_of, unless_asked, blocked_why, desk_lease, buffer_of, KeptAnswer}
-use Rattle.sk_client.proofs.Names.{PendingRequest, HolderView, DecidesPost, Entity, CopyOf, Proc, undecided_sorted}
-use Rattle.sk_client.proofs.Names.{effect_at, state_at, room, no_room, with_event, undecided_at, step_refused}
-use Rattle.sk_client.proofs.Names.{trace_full, tags_at, guess_refused, HasStatus, next_guess, KernelView, crowded}
-use Rattle.sk_client.proofs.Names.{step_misfit, too_many, or_else, guess_misfits, events_of, HasSoundTrace, Outcome}
-use Rattle.sk_client.proofs.Names.{Value, NoneAdded, reply_adds, Saying, plain, lease_of, Lends, IsReply, refusal_of}
-use Rattle.sk_client.proofs.Names.{image, Shows, Refusal, Blocked, TraceFull, beyond, has_filter, same_rising}
-use Rattle.sk_client.proofs.Names.{has_commit, is_undecided, is_commit, one_status, and_both, StatusOr, has, Effect}
-use Rattle.sk_client.proofs.Names.{StatusIs, marks, Status, Committed, Undecided, LeaseView, Input, Answer, Reply}
-use Rattle.sk_client.proofs.Names.{EntityState, and-false}
+use Rattle.sk_client.proofs.Names.{◌||◌, drop, None, ◌<◌, Result, ◌∙◌, false_from_ne_true, or_cases, le-ltb, drop_more}
+use Rattle.sk_client.proofs.Names.{append_assoc, length-append, append-nil, filter-append, IsStrictlySortedBy-filter}
+use Rattle.sk_client.proofs.Names.{both_ways, get, list_any, filter, IsStrictlySortedBy, nat_cmp, ◌↔◌, ◌==◌, IfOk}
+use Rattle.sk_client.proofs.Names.{nat_lt, AllocError, commits, is_lost, lost_by, given, given_to, no_number}
+use Rattle.sk_client.proofs.Names.{asked_count, decided, input_of, pending, rests_of, asks_for, entry, kept_for}
+use Rattle.sk_client.proofs.Names.{no_place, rule_refused, guess_refused_at, DeskView, is_asked, IsTidy, guesses_of}
+use Rattle.sk_client.proofs.Names.{unless_asked, blocked_why, desk_lease, buffer_of, KeptAnswer, PendingRequest}
+use Rattle.sk_client.proofs.Names.{HolderView, DecidesPost, Entity, CopyOf, Proc, undecided_sorted, effect_at, state_at}
+use Rattle.sk_client.proofs.Names.{room, no_room, with_event, undecided_at, step_refused, trace_full, tags_at}
+use Rattle.sk_client.proofs.Names.{guess_refused, HasStatus, next_guess, KernelView, crowded, step_misfit, too_many}
+use Rattle.sk_client.proofs.Names.{or_else, guess_misfits, events_of, HasSoundTrace, Outcome, Value, NoneAdded}
+use Rattle.sk_client.proofs.Names.{reply_adds, Saying, plain, lease_of, Lends, IsReply, refusal_of, image, Shows}
+use Rattle.sk_client.proofs.Names.{Refusal, Blocked, TraceFull, beyond, has_filter, same_rising, has_commit}
+use Rattle.sk_client.proofs.Names.{is_undecided, is_commit, one_status, and_both, StatusOr, has, Effect, StatusIs}
+use Rattle.sk_client.proofs.Names.{marks, Status, Committed, Undecided, LeaseView, Input, Answer, Reply, EntityState}
+use Rattle.sk_client.proofs.Names.{and-false, nil_from_length}
 use Rattle.sk_server.specs.declared.reply.Answer.TheVariants as answers
 use Rattle.sk_script.specs.declared.instruction.Input.TheVariants as inputs
 use Rattle.sk_store.specs.declared.entity_state.EntityState.TheVariants as stored
@@ -25,7 +25,7 @@ use Rattle.sk_trace.specs.declared.event.Event.TheVariants as events
 use Rattle.sk_plain.specs.declared.view.View.TheVariants as views
 use Rattle.sk_client.specs.Rule as rules
 use Rattle.sk_kernel.specs.declared.kernel.Outcome.TheVariants as outcomes
-use Rattle.sk_client.proofs.Each.{any_map, any_same}
+use Rattle.sk_client.proofs.Each.{any_map}
 
 -- ---- what is done, or refused
 
@@ -47,13 +47,9 @@ asked_more xs ys = ap length (filter-append is_asked xs ys) ∙ length-append (f
 
 -- ---- where no guess is undecided
 
-none_kept : (p : ℕ → Bool) (ids : List ℕ) → length ids ≡ 0 → [] ≡ filter p ids
-none_kept p [] none = refl
-none_kept p (id ∷ ids) none = absurd (omega (arith, none))
-
 -- nothing is rested on
 pub none_rested : (k : KernelView) (pid : ℕ) (name : List ℕ) → length (undecided_at k) ≡ 0 → [] ≡ rests_of k pid name
-none_rested k pid name none = none_kept (λ g. has g (tags_at k (Proc pid)) || has g (tags_at k (CopyOf name))) (undecided_at k) none
+none_rested k pid name none = ap (filter (λ g. has g (tags_at k (Proc pid)) || has g (tags_at k (CopyOf name)))) (sym (nil_from_length (undecided_at k) none))
 
 -- ---- places of the trace
 
@@ -122,7 +118,7 @@ module _ (k : KernelView) (sound : HasSoundTrace k) where
   commits_is id e = refl
 
   pub committed_is : (g : ℕ) → list_any (commits g) k.trace ≡ list_any (is_commit g) (events_of k)
-  committed_is g = any_same (commits g) (λ e. is_commit g (image e)) k.trace (commits_is g) ∙ sym (any_map (is_commit g) image k.trace)
+  committed_is g = (λ i. list_any (λ e. commits_is g e i) k.trace) ∙ sym (any_map (is_commit g) image k.trace)
 
   -- a guess of an earlier epoch is none of the trace
   pub earlier_lost : (g : ℕ) → g < length k.earlier + 1 → true ≡ is_lost k g
@@ -183,10 +179,6 @@ tidy_more tokens more taken waiting q taken2 waiting2 n n2 m m2 tidy is same_tak
           ∙ sym (ap guesses_of one_more ∙ guesses_more all (q ∷ []) ∙ ap (λ gs. guesses_of all ++ gs) (append-nil (marks q.guess)));
       keeps = omega (arith, longer, same_n, answers);
     }
-
-pub no_more : (qs : List PendingRequest) → length qs ≤ 0 → qs ≡ []
-no_more [] h = refl
-no_more (q ∷ qs) h = absurd (omega (arith, h))
 
 -- ---- of two causes there is none
 

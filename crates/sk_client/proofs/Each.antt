@@ -1,11 +1,11 @@
 -- Parts of two lists side by side, and membership.
 use Rattle.sk_client.proofs.Names.{Some, Bool, subst, arith, ◌++◌, suc, refl, [], ◌∷◌, inl, List, ℕ, true, sym, cond}
-use Rattle.sk_client.proofs.Names.{inr, zero, ap, length, ◌≤◌, false, ◌≡◌, ◌∙◌, cases_Bool, or_right, or_parts}
-use Rattle.sk_client.proofs.Names.{eqb-true, eq-eqb, true≢false, or_left, Contains-push_cases, list_any-append}
-use Rattle.sk_client.proofs.Names.{list_any, filter, Contains, ◌==◌, ◌⊎◌, paired, cons_cases, cons_first, cons_later}
-use Rattle.sk_client.proofs.Names.{no_member, keep, has}
-use Rattle.std.proofs.Common.{slice_get}
-use Rattle.std.specs.Prelude.{◌||◌, map}
+use Rattle.sk_client.proofs.Names.{inr, zero, ap, ◌≤◌, false, ◌≡◌, ◌∙◌, cases_Bool, or_right, or_parts, eqb-true}
+use Rattle.sk_client.proofs.Names.{eq-eqb, true≢false, Contains-push_cases, list_any-append, list_any, filter, Contains}
+use Rattle.sk_client.proofs.Names.{◌==◌, ◌⊎◌, paired, cons_cases, cons_first, cons_later, no_member, keep, has}
+use Rattle.sk_client.proofs.Names.{All-contains, All-contains_itself, All-filter, All-map, All-weaker, slice_get_within}
+use Rattle.sk_client.proofs.Names.{get_or_from_slice_get, slice_get-get_or, slice_get-keep, place, length-map}
+use Rattle.sk_client.proofs.Names.{get_or-map, slice_get, ◌||◌, map}
 
 abbrev pub Each : {A B : Type 0} → (A → B → Type 0) → List A → List B → Type 0
 Each X [] ys = Unit {0}
@@ -67,25 +67,10 @@ survives X (false ∷ bs) (y ∷ xs) h x there =
       | inr later ↦ elim (survives X bs xs h.1 x later) [ inl kept ↦ inl (cons_later y (keep bs xs) x kept) | inr is ↦ inr is ]
     ]
 
--- what is kept was there
-pub kept_was : {A : Type 0} (bs : List Bool) (xs : List A) (x : A) → Contains (keep bs xs) x → Contains xs x
-kept_was [] xs x h = h
-kept_was (b ∷ bs) [] x h = h
-kept_was (true ∷ bs) (y ∷ xs) x h = cons_later y xs x (kept_was bs xs x h)
-kept_was (false ∷ bs) (y ∷ xs) x h =
-    elim (cons_cases y (keep bs xs) x h) [
-      | inl is ↦ subst (Contains (y ∷ xs)) is (cons_first y xs)
-      | inr later ↦ cons_later y xs x (kept_was bs xs x later)
-    ]
-
 -- ---- tests of any element
 pub any_map : {A B : Type 0} (p : B → Bool) (f : A → B) (xs : List A) → list_any p (map f xs) ≡ list_any (λ x. p (f x)) xs
 any_map p f [] = refl
 any_map p f (x ∷ xs) = ap (λ b. p (f x) || b) (any_map p f xs)
-
-pub any_same : {A : Type 0} (p q : A → Bool) (xs : List A) → ((x : A) → p x ≡ q x) → list_any p xs ≡ list_any q xs
-any_same p q [] same = refl
-any_same p q (x ∷ xs) same = λ i. same x i || any_same p q xs same i
 
 -- ---- functions changed at one number
 abbrev pub at_number : {A : Type 0} → ℕ → A → (ℕ → A) → ℕ → A
@@ -102,19 +87,11 @@ at_other k a f x apart =
     ]
 
 -- ---- numbers in a list
-pub has_left : (x : ℕ) (xs ys : List ℕ) → has x xs ≡ true → has x (xs ++ ys) ≡ true
-has_left x xs ys h = list_any-append (λ t. t == x) xs ys ∙ or_left (has x xs) (has x ys) h
-
 pub has_right : (x : ℕ) (xs ys : List ℕ) → has x ys ≡ true → has x (xs ++ ys) ≡ true
 has_right x xs ys h = list_any-append (λ t. t == x) xs ys ∙ or_right (has x xs) (has x ys) h
 
 pub filter_was : {A : Type 0} (p : A → Bool) (xs : List A) (x : A) → Contains (filter p xs) x → Contains xs x
-filter_was p [] x h = h
-filter_was p (y ∷ xs) x h =
-    elim (p y) as (λ b. Contains (cond b (y ∷ filter p xs) (filter p xs)) x → Contains (y ∷ xs) x) [
-      | true ↦ λ h. elim (cons_cases y (filter p xs) x h) [ inl is ↦ subst (Contains (y ∷ xs)) is (cons_first y xs) | inr later ↦ cons_later y xs x (filter_was p xs x later) ]
-      | false ↦ λ h. cons_later y xs x (filter_was p xs x h)
-    ] h
+filter_was p xs x h = All-contains (Contains xs) (filter p xs) x (All-filter p (Contains xs) xs (All-contains_itself xs)) h
 
 -- ---- places of lists
 
@@ -131,20 +108,27 @@ at_kept (true ∷ bs) (x ∷ xs) i y at = (let k = at_kept bs xs i y at in let l
 at_kept (false ∷ bs) (x ∷ xs) zero y at = (zero, omega arith, at)
 at_kept (false ∷ bs) (x ∷ xs) (suc i) y at = (let k = at_kept bs xs i y at in let le = k.1 in (suc k.0, omega (arith, le), k.2))
 
-pub at_end : {A : Type 0} (xs : List A) (i : ℕ) (y : A) → length xs ≤ i → slice_get xs i ≡ Some y → ⊥
-at_end [] i y le at = cc
-at_end (x ∷ xs) zero y le at = absurd (omega (arith, le))
-at_end (x ∷ xs) (suc i) y le at = at_end xs i y (omega (arith, le)) at
-
 pub contains_at : {A : Type 0} (xs : List A) (i : ℕ) (x : A) → slice_get xs i ≡ Some x → Contains xs x
-contains_at [] i x at = cc
-contains_at (y ∷ xs) zero x at = let is : y ≡ x = cc in subst (Contains (y ∷ xs)) is (cons_first y xs)
-contains_at (y ∷ xs) (suc i) x at = cons_later y xs x (contains_at xs i x at)
+contains_at xs i x at = (i, slice_get_within xs i x at, get_or_from_slice_get xs i x x at)
 
 pub place_at : {A : Type 0} (xs : List A) (x : A) → Contains xs x → (i : ℕ) × (slice_get xs i ≡ Some x)
-place_at [] x h = absurd (no_member x h)
-place_at (y ∷ xs) x h =
-    elim (cons_cases y xs x h) [
-      | inl is ↦ (zero, ap Some is)
-      | inr later ↦ let rest = place_at xs x later in (suc rest.0, rest.1)
-    ]
+place_at xs x h = (h.0, slice_get-get_or xs h.0 x h.1 ∙ ap Some h.2)
+
+-- what is kept was there
+pub kept_was : {A : Type 0} (bs : List Bool) (xs : List A) (x : A) → Contains (keep bs xs) x → Contains xs x
+kept_was bs xs x h =
+    let at = place_at (keep bs xs) x h in
+    contains_at xs (place bs at.0) x (sym (slice_get-keep bs xs at.0) ∙ at.1)
+
+-- ---- elements of a mapped list
+
+pub in_map : {A B : Type 0} (f : A → B) (xs : List A) (x : A) → Contains xs x → Contains (map f xs) (f x)
+in_map f xs x h =
+    let long = length-map xs f in
+    let within = h.1 in
+    (h.0, omega (arith, long, within), get_or-map f xs h.0 x (f x) h.1 ∙ ap f h.2)
+
+pub out_of_map : {A B : Type 0} (g : A → B) (xs : List A) (y : B) → Contains (map g xs) y → (x : A) × Contains xs x × (g x ≡ y)
+out_of_map {A = A} {B = B} g xs y h =
+    let from : B → Type 0 = λ y. (x : A) × Contains xs x × (g x ≡ y) in
+    All-contains from (map g xs) y (All-map from g xs (All-weaker (Contains xs) (λ x. from (g x)) (λ x there. (x, there, refl)) xs (All-contains_itself xs))) h

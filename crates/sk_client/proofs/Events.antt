@@ -12,8 +12,7 @@ use Rattle.sk_client.proofs.Names.{record_of, Taken, HasEntry, no_record, undeci
 use Rattle.sk_client.proofs.Names.{Input, Good, remembered, Answer, Yes, Dropped, Store, not-true}
 use Rattle.sk_client.proofs.CausedWorld.{For, Caused, Served, Table, kernel, is_lost, Sets, IsTable, Takes}
 use Rattle.sk_client.proofs.Each.{survives, at_number, at_same, at_other, pairs_push}
-use Rattle.sk_client.proofs.TraceFacts.{has_mark, legal_of, entry_drawn, open_entry}
-use Rattle.sk_client.proofs.Records.{Quiet, entries_taken, entries_failed, ready_taken, ready_failed, lost_more, ready_kept, tags_of_step}
+use Rattle.sk_client.proofs.Records.{has_mark, legal_of, entry_drawn, open_entry, Quiet, entries_taken, entries_failed, ready_taken, ready_failed, lost_more, ready_kept, tags_of_step}
 use Rattle.sk_client.proofs.Invariant.{IsMadeAt, never_dropped, Allowed, RestsOnRefused, Entries, Void, tag_at, Ready, HasStep, Invariant, counted, Queue, IsServed, Guesses, ReadyFor, is_accepted, queue_fewer, queue_le, queue_push, remembers_push, still_remembered}
 
 pub no_guess : (o : Option ℕ) (g : ℕ) → o ≡ None → o ≡ Some g → ⊥

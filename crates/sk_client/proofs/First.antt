@@ -7,19 +7,18 @@ use Rattle.sk_client.proofs.Names.{IsLegal, has, strike, struck, Happens, Taken,
 use Rattle.sk_client.proofs.Names.{IsDrawn, IsSound, record_of, record_after, undecided_of, Undecided, Committed}
 use Rattle.sk_client.proofs.Names.{Failed, Good, EntryView, plain, KernelView, events_of, record_at, last_guess}
 use Rattle.sk_client.proofs.Names.{below_next, ServerView, LAST_REQUEST, Get, Yes, paired, opened_at, Exchanges, Leads}
-use Rattle.sk_client.proofs.Names.{IsReady, WorldView, joined, PendingRequest, WorldEvent}
-use Rattle.sk_client.proofs.Names.{no_member, cons_first, cons_later, cons_cases}
+use Rattle.sk_client.proofs.Names.{IsReady, WorldView, joined, PendingRequest, WorldEvent, no_member, cons_first}
+use Rattle.sk_client.proofs.Names.{cons_later, slice_get_within}
 use Rattle.sk_record.proofs.Laws.{one_status}
-use Rattle.sk_client.proofs.Labels.{bare_event, labelled, is_bare}
-use Rattle.sk_client.proofs.CausedWorld.{Before, For, Caused, Served, kernel, undecided, bare, table}
-use Rattle.sk_client.proofs.Each.{Each, contains_at, at_end, kept_was}
+use Rattle.sk_client.proofs.CausedWorld.{bare_event, labelled, is_bare, Before, For, Caused, Served, kernel, undecided, bare, table}
+use Rattle.sk_client.proofs.Each.{Each, contains_at, kept_was, in_map, out_of_map}
 use Rattle.sk_client.proofs.Invariant.{HasStep, queue_le}
 use Rattle.sk_client.proofs.Events.{no_guess}
-use Rattle.sk_client.proofs.RequestFacts.{Once, Rising, in_map}
+use Rattle.sk_client.proofs.RequestFacts.{Once, Rising}
 use Rattle.sk_client.proofs.EventsKeep.{Comes, all_events}
 use Rattle.sk_client.proofs.SeenWorld.{World, all_served, all_waiting, entries_of, from_before, event_before}
 use Rattle.sk_client.proofs.Table.{is_table}
-use Rattle.sk_client.proofs.TraceFacts.{entry_drawn}
+use Rattle.sk_client.proofs.Records.{entry_drawn}
 use Rattle.sk_client.proofs.WorldFacts.{begun_joined}
 use Rattle.sk_client.proofs.Worlds.{good_yes, All, Reached}
 
@@ -57,14 +56,6 @@ module _ {E V W F N : Type 0} (K : System E V W F N) where
       let f = marked_effect K (K.mark x) (outcome K s x) in
       (f, ap (λ n. Some (n, f)) is)
   step_at s (x ∷ ns) (suc i) n at = step_at (after K (outcome K s x) s) ns i n at
-
-pub out_of_map : {A B : Type 0} (g : A → B) (xs : List A) (y : B) → Contains (map g xs) y → (x : A) × Contains xs x × (g x ≡ y)
-out_of_map g [] y h = absurd (no_member y h)
-out_of_map g (x ∷ xs) y h =
-    elim (cons_cases (g x) (map g xs) y h) [
-      | inl is ↦ (x, cons_first x xs, is)
-      | inr later ↦ let rest = out_of_map g xs y later in (rest.0, cons_later x xs rest.0 rest.1, rest.2)
-    ]
 
 -- ---- a trace is sound where it is without its labels
 
@@ -216,7 +207,7 @@ module _ (k : KernelView) (ready : IsReady k) (server : ServerView) where
             still_served = λ x there. there;
             still_given = λ x there. there;
             still_made = λ q there. there;
-            new = λ i n le at _. at_end ns i n (subst (λ m. m ≤ i) (sym length_is) le) at;
+            new = λ i n le at _. (let lt = slice_get_within ns i n at in absurd (omega (arith, lt, le, length_is)));
             came = λ n q g there _ _ _. there;
             reach = omega arith;
           };

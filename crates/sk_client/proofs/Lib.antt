@@ -5,24 +5,18 @@ pub mod DeskFacts
 pub mod WorldFacts
 pub mod SeenWorld
 pub mod SeenTurn
-pub mod SeenServe
 pub mod SeenReply
 pub mod Booted
 pub mod EventsKeep
 pub mod RequestSteps
 pub mod AskedReplies
 pub mod Writes
-pub mod Replies
 pub mod Upcoming
 pub mod CausedWorld
 pub mod Each
-pub mod TraceFacts
 pub mod Invariant
 pub mod Records
 pub mod Events
 pub mod Worlds
 pub mod First
-pub mod PlaceFacts
 pub mod RequestFacts
-pub mod Labels
-mod WorldEpochs

@@ -1,8 +1,10 @@
 -- What the proofs of this crate cite from outside of them, passed on from one place. Declares nothing.
 pub use Rattle.std.proofs.Common.{Some, Bool, subst, ◌-◌, arith, ◌++◌, suc, refl, [], le_trans, map, ◌∷◌, inl, Option}
 pub use Rattle.std.proofs.Common.{List, tests, get_or, ℕ, true, sym, not, cond, inr, zero, rules, ap, Bor, length}
-pub use Rattle.std.proofs.Common.{IsSome, ◌≤◌, take, false, set, Ok, ◌&&◌, Err, ◌≡◌, ◌+◌, ◌||◌, drop, None, ◌<◌}
-pub use Rattle.std.proofs.Common.{Result, ◌∙◌}
+pub use Rattle.std.proofs.Common.{IsSome, ◌≤◌, take, false, set, Ok, ◌&&◌, Err, ◌≡◌, ◌+◌, ◌||◌, drop, None, ◌<◌, Result}
+pub use Rattle.std.proofs.Common.{◌∙◌, fold, filter, Contains, option_map, nat_cmp, ◌↔◌, ◌==◌, replicate, bytes_eq, ◌⊎◌}
+pub use Rattle.std.proofs.Common.{is_none, is_some, slice_get, All, is_ok, IfOk, nat_le, nat_lt, vec_capacity, Ordering}
+pub use Rattle.std.proofs.Common.{append_assoc, append-nil}
 pub use Rattle.std.proofs.Math.Bool.{and-true, and-false}
 pub use Rattle.std.proofs.lemmas.Bool.{cases_Bool, or_right, lt-ltb, or_parts, leb-true, eqb-true, ltb-true}
 pub use Rattle.std.proofs.lemmas.Bool.{false_from_ne_true, eq-eqb, cases_eq, or_from, true_from_ne_false, ltb-false}
@@ -10,40 +12,35 @@ pub use Rattle.std.proofs.lemmas.Bool.{true≢false, or_cases, or_left, le-leb, 
 pub use Rattle.std.proofs.lemmas.Fn.{filter_same}
 pub use Rattle.std.proofs.lemmas.Iterator.Consumers.{YieldsList-from_deque}
 pub use Rattle.std.proofs.lemmas.Iterator.Search.{any_from_yields_List}
-pub use Rattle.std.proofs.lemmas.List.{drop_more, drop_all, append_assoc, length-map, map-append, take-append-drop}
-pub use Rattle.std.proofs.lemmas.List.{length-append, length-replicate, take_more, map-set, append-nil, set-get_or}
-pub use Rattle.std.proofs.lemmas.List.{drop-set-lt, take_all, drop-append-le, get_or_at, get_or-map, drop-map}
-pub use Rattle.std.proofs.lemmas.List.{length-set}
+pub use Rattle.std.proofs.lemmas.List.{drop_more, drop_all, length-map, map-append, take-append-drop, length-append}
+pub use Rattle.std.proofs.lemmas.List.{length-replicate, take_more, map-set, set-get_or, drop-set-lt, take_all}
+pub use Rattle.std.proofs.lemmas.List.{drop-append-le, get_or_at, get_or-map, drop-map, length-set, nil_from_length}
 pub use Rattle.std.proofs.lemmas.List.Elements.{All-head, All-tail, Contains-push, Contains-push_cases}
 pub use Rattle.std.proofs.lemmas.List.Elements.{Contains-append_cases, All-more, Contains-append_left}
-pub use Rattle.std.proofs.lemmas.List.Elements.{Contains-append_right, filter-append, All-push}
+pub use Rattle.std.proofs.lemmas.List.Elements.{Contains-append_right, filter-append, All-push, All-filter, All-map}
+pub use Rattle.std.proofs.lemmas.List.Elements.{All-contains, All-contains_itself, All-weaker, All-replicate}
 pub use Rattle.std.proofs.lemmas.List.Folds.{list_any-append}
 pub use Rattle.std.proofs.lemmas.List.Kept.{IsStrictlySortedBy-filter}
 pub use Rattle.std.proofs.lemmas.List.Sums.{fold-append, length-filter, count_by-le-length}
-pub use Rattle.std.proofs.lemmas.Option.{slice_get-map}
+pub use Rattle.std.proofs.lemmas.Option.{slice_get-map, slice_get_within, get_or_from_slice_get, slice_get-get_or}
 pub use Rattle.std.proofs.lemmas.Slice.Eq.{bytes_eq-Decides}
 pub use Rattle.std.specs.Cmp.{both_ways, IsTotalOrder}
 pub use Rattle.std.specs.FinMap.{get, IsAntisymmetric, FinMap}
-pub use Rattle.std.specs.List.{list_any, fold, filter, Contains}
+pub use Rattle.std.specs.List.{list_any}
 pub use Rattle.std.specs.List.Sorted.{IsStrictlySortedBy}
-pub use Rattle.std.specs.Option.{option_map}
-pub use Rattle.std.specs.Ordering.{nat_cmp, eq_by_cmp}
-pub use Rattle.std.specs.Prelude.{◌↔◌, ◌==◌, replicate, bytes_eq, ◌⊎◌, is_none, is_some, slice_get, All, is_ok, IfOk}
-pub use Rattle.std.specs.Prelude.{nat_le, nat_lt}
-pub use Rattle.std.specs.Vec.{vec_capacity}
+pub use Rattle.std.specs.Ordering.{eq_by_cmp}
 pub use Rattle.std.specs.declared.alloc.AllocError.{AllocError}
-pub use Rattle.std.specs.declared.cmp.Ordering.{Ordering}
 pub use Rattle.sk_client.specs.AcceptedStores.{paired, steps_at, DoesAsked, IsStepAt, IsGiven, IsDue, DueStore}
 pub use Rattle.sk_client.specs.AcceptedStores.{StoresStand, StoresStood, StandApart}
 pub use Rattle.sk_client.specs.AskedSteps.{ForgottenAreDropped, TakesStep, StepsAreTaken}
 pub use Rattle.sk_client.specs.Boxed.{ask_of}
 pub use Rattle.sk_client.specs.Desk.{commits, request_of, is_void, name_of, rule_next, is_lost, asks_on, rule_of}
 pub use Rattle.sk_client.specs.Desk.{decision_answer, first_taken, cached, rule, lost_by, first_sent, given, answered}
-pub use Rattle.sk_client.specs.Desk.{fetch_rule, given_to, no_number, asked_count, decided, input_of, pending}
-pub use Rattle.sk_client.specs.Desk.{decision, buffer, opened_at, rests_of, asks_for, store_rule, sent, unless_kept}
-pub use Rattle.sk_client.specs.Desk.{entry, kept_for, first_guess, kept_after, stepped, fits_ask, opened, forgotten}
-pub use Rattle.sk_client.specs.Desk.{turned, no_place, answer_kept, rule_refused, step_answer, guess_refused_at}
-pub use Rattle.sk_client.specs.Desk.{given_answer, answered as stepped_for, DeskView, is_asked}
+pub use Rattle.sk_client.specs.Desk.{fetch_rule, given_to, no_number, asked_count, decided, input_of, pending, decision}
+pub use Rattle.sk_client.specs.Desk.{buffer, opened_at, rests_of, asks_for, store_rule, sent, unless_kept, entry}
+pub use Rattle.sk_client.specs.Desk.{kept_for, first_guess, kept_after, stepped, fits_ask, opened, forgotten, turned}
+pub use Rattle.sk_client.specs.Desk.{no_place, answer_kept, rule_refused, step_answer, guess_refused_at, given_answer}
+pub use Rattle.sk_client.specs.Desk.{answered as stepped_for, DeskView, is_asked}
 pub use Rattle.sk_client.specs.DeskCalls.{RulePost, DeskEpochPost, ByRule, TurnPost}
 pub use Rattle.sk_client.specs.DeskInvariant.{IsTidy, guesses_of}
 pub use Rattle.sk_client.specs.Exchanges.{exchanged, Exchanges, with_reply, exchange, Leads}
@@ -56,10 +53,10 @@ pub use Rattle.sk_client.specs.Table.{HasNumber, IsNumbered, copy_of, buffer_of,
 pub use Rattle.sk_client.specs.Upcoming.{reply_step, upcoming, turn_step, first_reply_step}
 pub use Rattle.sk_client.specs.Wish.{brought}
 pub use Rattle.sk_client.specs.WorldView.{served, ServesNext, joined, Turns, taken_from, Numbered, IsJoined, IsNext}
-pub use Rattle.sk_client.specs.WorldView.{WorldEpochPost, EditsFile, RunsTo, EventPost, AreReplies, taken_by}
-pub use Rattle.sk_client.specs.WorldView.{WorldView, Serves, Replies, reply_to}
-pub use Rattle.sk_client.specs.Writes.{AllFit, all_written, store_of, Write, writes_of, AreWritten, stores_of}
-pub use Rattle.sk_client.specs.Writes.{is_store, written_by}
+pub use Rattle.sk_client.specs.WorldView.{WorldEpochPost, EditsFile, RunsTo, EventPost, AreReplies, taken_by, WorldView}
+pub use Rattle.sk_client.specs.WorldView.{Serves, Replies, reply_to}
+pub use Rattle.sk_client.specs.Writes.{AllFit, all_written, store_of, Write, writes_of, AreWritten, stores_of, is_store}
+pub use Rattle.sk_client.specs.Writes.{written_by}
 pub use Rattle.sk_client.specs.declared.desk.Given.{Given}
 pub use Rattle.sk_client.specs.declared.desk.Turn.{Turn, Turn as Told}
 pub use Rattle.sk_client.specs.declared.pending.KeptAnswer.{KeptAnswer}
@@ -73,7 +70,7 @@ pub use Rattle.sk_client.specs.declared.world.WorldStop.{WorldStop}
 pub use Rattle.sk_guesses.proofs.Statuses.{nothing_in}
 pub use Rattle.sk_guesses.specs.Token.{Token}
 pub use Rattle.sk_holder.specs.Holder.{HolderView, DecidesPost}
-pub use Rattle.sk_holder.proofs.Opens.{open_taken, open_commit, open_fail, decided_shut, has_filtered}
+pub use Rattle.sk_holder.proofs.Opens.{open_taken, open_commit, open_fail, decided_shut, has_filtered, mark_has}
 pub use Rattle.sk_ids.specs.EntityLemma.{entity_exact, entity_total}
 pub use Rattle.sk_ids.specs.Entity.{entity_cmp}
 pub use Rattle.sk_ids.specs.declared.entity.Entity.{Entity}
@@ -104,8 +101,7 @@ pub use Rattle.sk_objects.specs.declared.value.Value.{Value}
 pub use Rattle.sk_plain.proofs.Adds.{NoneAdded, reply_adds}
 pub use Rattle.sk_record.proofs.Lemmas.{cons_cases, cons_first, cons_later, no_member, shorter}
 pub use Rattle.sk_plain.proofs.Rows.{IsOf, CanWrite, one_of_two, only_one}
-pub use Rattle.sk_plain.proofs.Runs.{found, plain_tidy, IsAt, IsFree, next_turn, fetch_at, store_at, turn_at}
-pub use Rattle.sk_plain.proofs.Runs.{steps_on}
+pub use Rattle.sk_plain.proofs.Runs.{found, plain_tidy, IsAt, IsFree, next_turn, fetch_at, store_at, turn_at, steps_on}
 pub use Rattle.sk_plain.proofs.Tidy.{IsNextChild, unborn, tidy_start}
 pub use Rattle.sk_plain.specs.Act.{act, Saying, Scripts, with_input, plain}
 pub use Rattle.sk_plain.specs.Leased.{lease_of, Lends, alone_reads}
@@ -123,18 +119,18 @@ pub use Rattle.sk_plain.specs.declared.refusal.Refusal.TheVariants.{Mismatch, Bl
 pub use Rattle.sk_record.proofs.Chains.{slice_get-keep, dirt_is, in_from}
 pub use Rattle.sk_record.proofs.Epoch.{beyond}
 pub use Rattle.sk_record.proofs.Later.{dirtied_other}
-pub use Rattle.sk_record.proofs.Machine.{nil_right, own_dirt, has_filter, unmarked_hits}
+pub use Rattle.sk_record.proofs.Machine.{own_dirt, has_filter, run_append, unmarked_hits}
 pub use Rattle.sk_record.proofs.MachineRuns.{machine_stands}
 pub use Rattle.sk_record.proofs.Merged.{all_kept}
 pub use Rattle.sk_record.proofs.Rising.{above, same_rising}
 pub use Rattle.sk_record.proofs.Sets.{get-put_all_other}
-pub use Rattle.sk_record.proofs.Sound.{sound_taken, mark_is, any_from, marked_is, undecided_is, drawn_more}
-pub use Rattle.sk_record.proofs.Sound.{record_more, has_commit, sound_fail, fresh_from, sound_first, has_entry}
-pub use Rattle.sk_record.proofs.Sound.{sound_commit, undecided_is as is_undecided, entries_are, is_commit, is_drawn}
+pub use Rattle.sk_record.proofs.Sound.{sound_taken, mark_is, any_from, marked_is, undecided_is, drawn_more, record_more}
+pub use Rattle.sk_record.proofs.Sound.{has_commit, sound_fail, fresh_from, sound_first, has_entry, sound_commit}
+pub use Rattle.sk_record.proofs.Sound.{undecided_is as is_undecided, entries_are, is_commit, is_drawn}
 pub use Rattle.sk_record.proofs.Statuses.{one_status}
 pub use Rattle.sk_record.proofs.Struck.{later_dep, footprint, later, struck_runs}
 pub use Rattle.sk_record.proofs.Tidy.{recorded_more}
-pub use Rattle.sk_record.proofs.UndoStates.{any_at, and_both}
+pub use Rattle.sk_record.proofs.UndoStates.{any_at, and_both, has_more}
 pub use Rattle.sk_record.specs.Effects.{hit, place, dirt, dirtied, keep, hits, touches, MarkedEffect, is_in}
 pub use Rattle.sk_record.specs.Epoch.{StatusOr, status_in}
 pub use Rattle.sk_record.specs.Machine.{Machine, machine_after}
@@ -144,13 +140,12 @@ pub use Rattle.sk_record.specs.Run.{effects, run, IsLegal, marked_effect, System
 pub use Rattle.sk_record.specs.Step.{Refuse, perform, with_read, Step, Effect}
 pub use Rattle.sk_record.specs.Strike.{strike, struck}
 pub use Rattle.sk_record.specs.Trace.{Event, Record, still_marked, IsDrawn, IsAllowed, recorded, Fail, StatusIs}
-pub use Rattle.sk_record.specs.Trace.{record_of, Taken, marks, HasEntry, no_record, record_after, undecided_of}
-pub use Rattle.sk_record.specs.Trace.{IsSound, Event as Happens, Commit, all_recorded}
+pub use Rattle.sk_record.specs.Trace.{record_of, Taken, marks, HasEntry, no_record, record_after, undecided_of, IsSound}
+pub use Rattle.sk_record.specs.Trace.{Event as Happens, Commit, all_recorded}
 pub use Rattle.sk_record.specs.declared.status.Status.{Status}
 pub use Rattle.sk_record.specs.declared.status.Status.TheVariants.{Committed, Failed, Undecided}
 pub use Rattle.sk_script.specs.Boot.{BootView}
 pub use Rattle.sk_script.specs.Lease.{after_private, LeaseView}
-pub use Rattle.sk_script.specs.Scripts.{ScriptMap}
 pub use Rattle.sk_script.specs.declared.boot.BootProcess.{BootProcess}
 pub use Rattle.sk_script.specs.declared.instruction.Input.{Input}
 pub use Rattle.sk_script.specs.declared.instruction.Input.TheVariants.{Stale, Fresh, Good}

@@ -4,8 +4,8 @@ use Rattle.sk_client.proofs.Names.{List, [], ◌∷◌, ◌++◌, length, Option
 use Rattle.sk_client.proofs.Names.{list_any, take-append-drop, length-append, length-map, length-set, map-set}
 use Rattle.sk_client.proofs.Names.{set-get_or, drop-append-le, drop-map, drop_more, take_more, drop-set-lt, get_or-map}
 use Rattle.sk_client.proofs.Names.{All-push, All-head, All-tail, PendingRequest, Queued, requests_in, IsWhole, IsQueue}
-use Rattle.std.proofs.Common.{All}
 use Rattle.sk_client.proofs.Names.{is_asked, asked_count, map-append, ◌&&◌, ◌||◌, length-filter, count_by-le-length}
+use Rattle.sk_client.proofs.Names.{All}
 use Rattle.sk_client.proofs.DeskFacts.{asked_more}
 use Rattle.sk_client.proofs.Each.{any_map}
 

@@ -2,13 +2,12 @@
 use Rattle.sk_client.proofs.Names.{Some, Bool, subst, arith, ◌++◌, suc, refl, [], le_trans, map, ◌∷◌, inl, List, ℕ}
 use Rattle.sk_client.proofs.Names.{true, sym, inr, ap, ◌≤◌, false, ◌≡◌, None, ◌<◌, ◌∙◌, map-append, Contains-push}
 use Rattle.sk_client.proofs.Names.{Contains-push_cases, Contains-append_left, Contains-append_right, FinMap, Contains}
-use Rattle.sk_client.proofs.Names.{◌⊎◌, input_of, KeptAnswer, PendingRequest, cons_cases, cons_first, cons_later}
-use Rattle.sk_client.proofs.Names.{no_member, record_more, keep, struck, Event, Fail, record_of, Taken, Commit, Good}
-use Rattle.sk_client.proofs.Names.{Answer, Yes}
-use Rattle.std.proofs.Common.{append_assoc, slice_get}
+use Rattle.sk_client.proofs.Names.{◌⊎◌, input_of, KeptAnswer, PendingRequest, cons_cases, cons_first, no_member}
+use Rattle.sk_client.proofs.Names.{record_more, keep, struck, Event, Fail, record_of, Taken, Commit, Good, Answer, Yes}
+use Rattle.sk_client.proofs.Names.{append_assoc, slice_get}
 use Rattle.sk_client.proofs.CausedWorld.{Before, Own, For, Caused, Served, Table, kernel}
 use Rattle.sk_client.proofs.SeenWorld.{World, all_served, all_waiting, entries_of}
-use Rattle.sk_client.proofs.Each.{Pairs, pairs_push, kept_was, at_push, at_kept}
+use Rattle.sk_client.proofs.Each.{Pairs, pairs_push, kept_was, at_push, at_kept, in_map}
 use Rattle.sk_client.proofs.Events.{no_guess}
 
 -- ---- request numbers
@@ -167,14 +166,6 @@ decided_commit drawn es given q g its h = record {
 -- ---- lists of requests
 pub map_front : {A B : Type 0} (f : A → B) (xs ys : List A) (zs : List B) → map f (xs ++ ys) ++ zs ≡ map f xs ++ (map f ys ++ zs)
 map_front f xs ys zs = ap (λ bs. bs ++ zs) (map-append f xs ys) ∙ append_assoc (map f xs) (map f ys) zs
-
-pub in_map : {A B : Type 0} (f : A → B) (xs : List A) (x : A) → Contains xs x → Contains (map f xs) (f x)
-in_map f [] x there = absurd (no_member x there)
-in_map f (y ∷ xs) x there =
-    elim (cons_cases y xs x there) [
-      | inl is ↦ subst (λ z. Contains (f y ∷ map f xs) (f z)) is (cons_first (f y) (map f xs))
-      | inr later ↦ cons_later (f y) (map f xs) (f x) (in_map f xs x later)
-    ]
 
 -- no process is kept a Good
 abbrev pub NoGood : List KeptAnswer → Type 0

@@ -1,30 +1,31 @@
 -- The steps of requests in a record: those of accepted stores stand, each at a place of its own; and the steps that count and the
 -- accepted requests whose reply was given are one for one. No request has two replies. Told of a world's calls.
-use Rattle.sk_client.proofs.Names.{Some, Bool, subst, arith, ◌++◌, suc, refl, [], map, ◌∷◌, inl, Option, List, ℕ}
-use Rattle.sk_client.proofs.Names.{true, sym, cond, inr, zero, ap, length, IsSome, ◌≤◌, false, Ok, ◌≡◌, None, ◌<◌}
-use Rattle.sk_client.proofs.Names.{◌∙◌, eqb-true, false_from_ne_true, eq-eqb, true≢false, Contains-append_cases}
-use Rattle.sk_client.proofs.Names.{Contains-append_left, Contains-append_right, slice_get-map, Contains, option_map}
-use Rattle.sk_client.proofs.Names.{◌==◌, slice_get, paired, steps_at, DoesAsked, IsStepAt, IsGiven, IsDue, DueStore}
-use Rattle.sk_client.proofs.Names.{StoresStand, StoresStood, StandApart, input_of, pending, opened_at, opened}
-use Rattle.sk_client.proofs.Names.{DeskView, DeskEpochPost, Exchanges, Leads, WasBooted, IsReady, Begins}
-use Rattle.sk_client.proofs.Names.{PlacesAreKept, CountsAt, AreRepliedOnce, StepsAreReplied, IsStepOf, Replied}
-use Rattle.sk_client.proofs.Names.{joined, WorldView, PendingRequest, WorldEvent, Entity, undecided_at, last_guess}
-use Rattle.sk_client.proofs.Names.{KernelView, record_at, cons_cases, cons_first, cons_later, no_member, Saying}
-use Rattle.sk_client.proofs.Names.{MarkedEffect, effects, Fail, Taken, Happens, Commit, Input, Good, ServerView}
-use Rattle.sk_client.proofs.Names.{Answer, Yes, Reply, Ask, Store, Sent, EntityState, TerminalMap, EntryView}
-use Rattle.sk_client.proofs.Names.{TraceView}
-use Rattle.sk_client.proofs.CausedWorld.{Caused, Served, kernel, bare, table, Cause, Before, Own, For}
+use Rattle.sk_client.proofs.Names.{Some, Bool, subst, arith, ◌++◌, suc, refl, [], map, ◌∷◌, inl, Option, List, ℕ, sym}
+use Rattle.sk_client.proofs.Names.{cond, inr, zero, ap, length, IsSome, ◌≤◌, false, Ok, ◌≡◌, None, ◌<◌, ◌∙◌}
+use Rattle.sk_client.proofs.Names.{false_from_ne_true, Contains-append_cases, Contains-append_left}
+use Rattle.sk_client.proofs.Names.{Contains-append_right, slice_get-map, Contains, option_map, slice_get, paired}
+use Rattle.sk_client.proofs.Names.{steps_at, DoesAsked, IsStepAt, IsGiven, IsDue, DueStore, StoresStand, StoresStood}
+use Rattle.sk_client.proofs.Names.{StandApart, input_of, pending, opened_at, opened, DeskView, DeskEpochPost, Exchanges}
+use Rattle.sk_client.proofs.Names.{Leads, WasBooted, IsReady, Begins, PlacesAreKept, CountsAt, AreRepliedOnce}
+use Rattle.sk_client.proofs.Names.{StepsAreReplied, IsStepOf, Replied, joined, WorldView, PendingRequest, WorldEvent}
+use Rattle.sk_client.proofs.Names.{Entity, undecided_at, last_guess, KernelView, record_at, cons_cases, cons_first}
+use Rattle.sk_client.proofs.Names.{cons_later, no_member, Saying, MarkedEffect, effects, Fail, Taken, Happens, Commit}
+use Rattle.sk_client.proofs.Names.{Input, Good, ServerView, Answer, Yes, Reply, Ask, Store, Sent, EntityState}
+use Rattle.sk_client.proofs.Names.{TerminalMap, EntryView, TraceView, mark_has, marks, has, StepsAreTaken}
+use Rattle.sk_client.proofs.Names.{ForgottenAreDropped}
+use Rattle.sk_client.proofs.CausedWorld.{Caused, Served, kernel, bare, table, Cause, For, bare_event}
 use Rattle.sk_client.proofs.Events.{same_request}
-use Rattle.sk_client.proofs.Each.{contains_at, each_at, place_at}
-use Rattle.sk_client.proofs.First.{out_of_map, first_world, reached, world_of, later_on, Stands, IsDueStep, request_stands, step_at, rising_places, Counts, its_reply, its_step}
-use Rattle.sk_client.proofs.RequestFacts.{in_map, map_front, Once, Rising, rising_apart, rising_same}
+use Rattle.sk_client.proofs.Each.{contains_at, each_at, place_at, in_map, out_of_map}
+use Rattle.sk_client.proofs.First.{first_world, reached, world_of, later_on, Stands, IsDueStep, request_stands, step_at, rising_places, Counts, its_reply, its_step}
+use Rattle.sk_client.proofs.RequestFacts.{map_front, Once, Rising, rising_apart, rising_same}
 use Rattle.sk_client.proofs.SeenWorld.{entries_seen, steps_seen, Traced, World, all_served, entries_of, law_served, answered_there, answered_here, all_waiting, unanswered}
 use Rattle.sk_client.proofs.Worlds.{All, Reached}
 use Rattle.sk_client.proofs.Booted.{begins_anew}
-use Rattle.sk_client.proofs.Replies.{hands_on}
+use Rattle.sk_client.proofs.Writes.{hands_on}
 use Rattle.sk_client.proofs.WorldFacts.{no_requests}
-use Rattle.sk_client.proofs.Labels.{bare_event}
 use Rattle.sk_client.proofs.EventsKeep.{Comes}
+use Rattle.sk_client.proofs.Records.{has_mark}
+use Rattle.sk_client.proofs.AskedReplies.{takes, forgets}
 
 -- ---- elements of lists
 
@@ -102,19 +103,21 @@ mapped_at f g xs ys same i y at =
 
 -- ---- the first entry of a request of this number
 
+-- the number of the request that an entry is for, where it is for one
+abbrev number_for : Cause → Option ℕ
+number_for (For q) = Some q.number
+number_for cause = None
+
+is_number : (n : ℕ) (c : Cause) → number_for c ≡ Some n → (q : PendingRequest) × (c ≡ For q) × (q.number ≡ n)
+is_number n (For q) h = (q, refl, (let same : q.number ≡ n = cc in same))
+is_number n c h = absurd cc
+
 abbrev is_for : ℕ → Cause → Bool
-is_for n (For q) = q.number == n
-is_for n Before = false
-is_for n Own = false
+is_for n c = has n (marks (number_for c))
 
 abbrev place_in : List Caused → ℕ → ℕ
 place_in [] n = zero
 place_in (x ∷ xs) n = cond (is_for n x.cause) zero (suc (place_in xs n))
-
-for_of : (n : ℕ) (c : Cause) → is_for n c ≡ true → (q : PendingRequest) × (c ≡ For q) × (q.number ≡ n)
-for_of n (For q) h = (q, refl, eqb-true q.number n h)
-for_of n Before h = absurd (true≢false (sym h))
-for_of n Own h = absurd (true≢false (sym h))
 
 -- where a request's one entry is
 first_is : (ns : List Caused) → Once ns → (i : ℕ) (e : Caused) (q : PendingRequest) (n : ℕ) → slice_get ns i ≡ Some e → e.cause ≡ For q → q.number ≡ n
@@ -122,10 +125,10 @@ first_is : (ns : List Caused) → Once ns → (i : ℕ) (e : Caused) (q : Pendin
 first_is [] once i e q n at cause number = cc
 first_is (x ∷ ns) once zero e q n at cause number =
     let same : x ≡ e = cc in
-    ap (λ b. cond b zero (suc (place_in ns n))) (ap (λ (m : Caused). is_for n m.cause) same ∙ ap (is_for n) cause ∙ eq-eqb q.number n number)
+    ap (λ b. cond b zero (suc (place_in ns n))) (has_mark (number_for x.cause) n (ap (λ (m : Caused). number_for m.cause) same ∙ ap number_for cause ∙ ap Some number))
 first_is (x ∷ ns) once (suc i) e q n at cause number =
     let other : is_for n x.cause ≡ false =
-    false_from_ne_true _ (λ is. (let r = for_of n x.cause is in once.0 e (contains_at ns i e at) r.0 q r.1 cause (r.2 ∙ sym number))) in
+    false_from_ne_true _ (λ is. (let r = is_number n x.cause (mark_has (number_for x.cause) n is) in once.0 e (contains_at ns i e at) r.0 q r.1 cause (r.2 ∙ sym number))) in
     ap (λ b. cond b zero (suc (place_in ns n))) other ∙ ap suc (first_is ns once.1 i e q n at cause number)
 
 -- ---- requests have numbers of their own
@@ -167,12 +170,6 @@ module _ (w : World) (t : Traced w.trace w.view.desk.kernel) where
       let e = out_of_map (bare_event bare) w.trace (Commit g.0) (subst (λ es. Contains es (Commit g.0)) (sym t.trace) g.2) in
       inr (g.0, g.1, subst (Contains w.trace) (commit_back g.0 e.0 e.2) e.1)
 
--- the number of the request that an entry is for, where it is for one
-abbrev number_for : Cause → Option ℕ
-number_for (For q) = Some q.number
-number_for Before = None
-number_for Own = None
-
 abbrev number_at : Option Caused → Option ℕ
 number_at None = None
 number_at (Some x) = number_for x.cause
@@ -180,11 +177,6 @@ number_at (Some x) = number_for x.cause
 -- that of the entry at a place
 abbrev number_in : List Caused → ℕ → Option ℕ
 number_in ns place = number_at (slice_get ns place)
-
-is_number : (n : ℕ) (c : Cause) → number_for c ≡ Some n → (q : PendingRequest) × (c ≡ For q) × (q.number ≡ n)
-is_number n (For q) h = (q, refl, (let same : q.number ≡ n = cc in same))
-is_number n Before h = absurd cc
-is_number n Own h = absurd cc
 
 numbered : (n : ℕ) (o : Option Caused) → number_at o ≡ Some n → (x : Caused) × (o ≡ Some x) × (q : PendingRequest) × (x.cause ≡ For q) × (q.number ≡ n)
 numbered n None h = absurd cc
@@ -502,6 +494,12 @@ module _ (first : WorldView) (begins : Begins first) (es : List WorldEvent) (xs 
   abbrev now : Comes drawn begun start xs v
   now = reached first.desk.kernel begins.ready first.server begins.last es xs v (subst (λ (w : WorldView). Leads w es xs v) begins.world leads)
 
+  pub steps_are_taken : StepsAreTaken v
+  steps_are_taken n new e = takes drawn begun start xs v now n new v.replies refl e
+
+  pub forgotten_are_dropped : ForgottenAreDropped v
+  forgotten_are_dropped n new e = forgets drawn begun start xs v now n new v.replies refl e
+
   pub places_kept : PlacesAreKept v
   places_kept = now.0.all.room
 
@@ -521,7 +519,7 @@ module _ (first : WorldView) (begins : Begins first) (es : List WorldEvent) (xs 
       let all = now.0.all in
       let room = all.room in
       let was : WasBooted v.desk.kernel = record { start = all.tidy; sound = all.traced.sound; place = omega (arith, room) } in
-      let next : v.desk.next ≡ v.server.next = no_requests v.desk v.server v.replies v.back e.0 now.1 in
+      let next = (no_requests v.desk v.server v.replies v.back e.0 now.1).next in
       let last = now.1.last in
       record {
         ready = (begins_anew v.desk.kernel new.kernel was e.1.0 e.1.3, ap undecided_at e.1.3.view);

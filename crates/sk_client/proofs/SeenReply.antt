@@ -7,15 +7,15 @@ use Rattle.sk_client.proofs.Names.{given, answered, given_to, asked_count, decid
 use Rattle.sk_client.proofs.Names.{stepped, fits_ask, answer_kept, DeskView, is_asked, Exchanges, IsTidyState}
 use Rattle.sk_client.proofs.Names.{WorldView, KeptAnswer, PendingRequest, effect_at, room, with_event, undecided_at}
 use Rattle.sk_client.proofs.Names.{step_refused, trace_full, last_guess, KernelView, or_else, cons_first, refusal_of}
-use Rattle.sk_client.proofs.Names.{Refusal, TraceFull, record_more, has_commit, is_commit, has, Event, Fail}
-use Rattle.sk_client.proofs.Names.{record_of, Taken, Commit, Input, Good, Answer, Yes, No, Dropped, Reply}
+use Rattle.sk_client.proofs.Names.{Refusal, TraceFull, record_more, has_commit, is_commit, has, Event, Fail, record_of}
+use Rattle.sk_client.proofs.Names.{Taken, Commit, Input, Good, Answer, Yes, No, Dropped, Reply}
 use Rattle.sk_trace.specs.declared.event.Event.TheVariants as events
 use Rattle.sk_server.specs.declared.reply.Answer.TheVariants.{Copy}
 use Rattle.sk_client.proofs.CausedWorld.{Caused, For, Served, kernel, state, undecided, asked_entry, is_lost, is_void as law_void, table, Takes, Sets}
-use Rattle.sk_client.proofs.DeskFacts.{reply_free, given_reply}
+use Rattle.sk_client.proofs.DeskFacts.{reply_free, given_reply, asked_more}
 use Rattle.sk_client.proofs.Invariant.{Invariant, Ready, HasStep, is_accepted, any_of, never_dropped}
 use Rattle.sk_client.proofs.Events.{no_guess, inv_plain, inv_commit, inv_fail, inv_drop, inv_done}
-use Rattle.sk_client.proofs.PlaceFacts.{used, used_step, used_commit, used_fail}
+use Rattle.sk_client.proofs.Booted.{used, used_step, used_commit, used_fail}
 use Rattle.sk_client.proofs.Records.{tags_of_step}
 use Rattle.sk_client.proofs.RequestFacts.{RequestFacts, NoGood, facts_none, facts_commit, facts_fail, facts_step}
 use Rattle.sk_client.proofs.SeenWorld.{Traced, does_seen, undecided_seen, void_seen, last_more, traced_step, traced_commit, traced_fail, World, law_served, unanswered, answered_there}
@@ -26,9 +26,6 @@ use Rattle.sk_client.proofs.Worlds.{IsFor, not_copied, takes_by, keeps_input, ne
 -- an asked request has a place of the trace
 asked_one : (q : PendingRequest) (qs : List PendingRequest) → q.guess ≡ None → asked_count (q ∷ qs) ≡ asked_count qs + 1
 asked_one q qs none = ap (λ b. length (cond b (q ∷ filter is_asked qs) (filter is_asked qs))) (ap is_none none) ∙ (let one : suc (asked_count qs) ≡ asked_count qs + 1 = omega arith in one)
-
-asked_less : (q : PendingRequest) (qs : List PendingRequest) → asked_count qs ≤ asked_count (q ∷ qs)
-asked_less q qs = elim (is_asked q) as (λ b. length (filter is_asked qs) ≤ length (cond b (q ∷ filter is_asked qs) (filter is_asked qs))) [ true ↦ omega arith | false ↦ omega arith ]
 
 module _ (drawn begun : ℕ) (old : World) (xs : Exchanges) (v : WorldView) (q : PendingRequest) (later : List PendingRequest) (number : ℕ) (rs : List Reply) where
   abbrev K : KernelView
@@ -111,7 +108,7 @@ module _ (drawn begun : ℕ) (old : World) (xs : Exchanges) (v : WorldView) (q :
     left = inv_drop (table K.scripts) K.start (is_table K.scripts) c.0.trace (last_guess K) served c.0.given q rest unserved v.server.refused c.0.all.holds
 
     fewer : used v.desk.kernel + asked_count rest ≤ v.desk.kernel.limit
-    fewer = (let was : used v.desk.kernel + asked_count (q ∷ rest) ≤ v.desk.kernel.limit = c.0.all.room in let le = asked_less q rest in omega (arith, was, le))
+    fewer = (let was : used v.desk.kernel + asked_count (q ∷ rest) ≤ v.desk.kernel.limit = c.0.all.room in let more = asked_more (q ∷ []) rest in omega (arith, was, more))
 
     -- a reply that leaves the kernel as it is
     unchanged : ((x : Input) → input_of a ≡ Some x → q.guess ≡ None → ⊥) → ((g : ℕ) → a ≡ Yes → q.guess ≡ Some g → Contains c.0.trace (Commit g))

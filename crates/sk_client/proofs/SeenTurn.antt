@@ -1,15 +1,15 @@
 -- A turn keeps all that holds of a world.
-use Rattle.sk_client.proofs.Names.{Some, Bool, subst, ◌-◌, arith, ◌++◌, suc, refl, [], ◌∷◌, Option, List, ℕ, true}
-use Rattle.sk_client.proofs.Names.{sym, cond, ap, ◌≤◌, false, Ok, ◌&&◌, Err, ◌≡◌, ◌+◌, None, ◌<◌, Result, ◌∙◌}
-use Rattle.sk_client.proofs.Names.{ltb-true, ltb-false, append_assoc, get, is_some, nat_lt, request_of, name_of}
-use Rattle.sk_client.proofs.Names.{rule_next, asks_on, rule_of, cached, fetch_rule, no_number, asked_count, pending}
-use Rattle.sk_client.proofs.Names.{buffer, asks_for, store_rule, unless_kept, entry, kept_for, turned, no_place}
-use Rattle.sk_client.proofs.Names.{rule_refused, DeskView, RulePost, ByRule, TurnPost, Exchanges, buffer_of}
-use Rattle.sk_client.proofs.Names.{version_of, Bytes, WorldView, Told, PendingRequest, Rule, CopyOf, Proc, effect_at}
-use Rattle.sk_client.proofs.Names.{state_at, room, no_room, with_event, next_guess, last_guess, KernelView, is_other}
-use Rattle.sk_client.proofs.Names.{or_full, step_misfit, too_many, or_else, guess_misfits, LAST_VERSION, fetch_at}
-use Rattle.sk_client.proofs.Names.{store_at, next_of, refusal_of, Next, Refusal, Blocked, TraceFull, record_of}
-use Rattle.sk_client.proofs.Names.{Taken, Input, Ask, State}
+use Rattle.sk_client.proofs.Names.{Some, Bool, subst, ◌-◌, arith, ◌++◌, suc, refl, [], ◌∷◌, Option, List, ℕ, true, sym}
+use Rattle.sk_client.proofs.Names.{cond, ap, ◌≤◌, false, Ok, ◌&&◌, Err, ◌≡◌, ◌+◌, None, ◌<◌, Result, ◌∙◌, ltb-true}
+use Rattle.sk_client.proofs.Names.{ltb-false, append_assoc, get, is_some, nat_lt, request_of, name_of, rule_next}
+use Rattle.sk_client.proofs.Names.{asks_on, rule_of, cached, fetch_rule, no_number, asked_count, pending, buffer}
+use Rattle.sk_client.proofs.Names.{asks_for, store_rule, unless_kept, entry, kept_for, turned, no_place, rule_refused}
+use Rattle.sk_client.proofs.Names.{DeskView, RulePost, ByRule, TurnPost, Exchanges, buffer_of, version_of, Bytes}
+use Rattle.sk_client.proofs.Names.{WorldView, Told, PendingRequest, Rule, CopyOf, Proc, effect_at, state_at, room}
+use Rattle.sk_client.proofs.Names.{no_room, with_event, next_guess, last_guess, KernelView, is_other, or_full}
+use Rattle.sk_client.proofs.Names.{step_misfit, too_many, or_else, guess_misfits, LAST_VERSION, fetch_at, store_at}
+use Rattle.sk_client.proofs.Names.{next_of, refusal_of, Next, Refusal, Blocked, TraceFull, record_of, Taken, Input, Ask}
+use Rattle.sk_client.proofs.Names.{State}
 use Rattle.sk_script.specs.declared.instruction.Input.TheVariants as inputs
 use Rattle.sk_trace.specs.declared.event.Event.TheVariants as events
 use Rattle.sk_plain.specs.declared.next.Next.TheVariants as nexts
@@ -19,7 +19,7 @@ use Rattle.sk_client.proofs.CausedWorld.{Caused, For, kernel, state, own, or_zer
 use Rattle.sk_client.proofs.DeskFacts.{asked_more, none_first, none_later, none_test, ok_of}
 use Rattle.sk_client.proofs.Invariant.{Invariant, ReadyFor}
 use Rattle.sk_client.proofs.Events.{inv_plain, inv_ask, inv_guess}
-use Rattle.sk_client.proofs.PlaceFacts.{used_step, used_guess}
+use Rattle.sk_client.proofs.Booted.{used_step, used_guess}
 use Rattle.sk_client.proofs.RequestFacts.{RequestFacts, facts_own, facts_ask, facts_guess}
 use Rattle.sk_client.proofs.SeenWorld.{does_seen, state_seen, made_seen, last_more, traced_step, traced_guess, World, law_served, unanswered}
 use Rattle.sk_client.proofs.Table.{is_table, not_there, takes_fresh, takes_checked, takes_stale, takes_store}
@@ -149,24 +149,20 @@ module _ (drawn begun : ℕ) (old : World) (xs : Exchanges) (v : WorldView) (r :
     by_rule rule h make = subst (λ (d : DeskView). Now (record v { desk = d })) (sym h.2) (make h.0)
 
     module _ (none : asks_for p (pending v.desk) ≡ false) where
-      by_kept : (t : Result Next Refusal) → does_next ≡ t → IsClear (pending v.desk) t → (t ≡ Ok nexts.Signal → ⊥) → (input : Input) → kept_for p v.desk.kept ≡ Some input → RulePost (Ok turn) v.desk p (rules.Steps input) new
-          → Now (record v { desk = new })
-      by_kept t is clear due input kept h = by_rule (rules.Steps input) h (steps_on none t is clear input (no_good v.desk.kept r.all.answers p input kept) (λ at. absurd (due at)))
+      -- a kept answer is used first
+      by_kept : (t : Result Next Refusal) → does_next ≡ t → IsClear (pending v.desk) t → (t ≡ Ok nexts.Signal → ⊥) → (rule : Rule) → (RulePost (Ok turn) v.desk p rule new → Now (record v { desk = new }))
+          → (kept : Option Input) → kept_for p v.desk.kept ≡ kept → RulePost (Ok turn) v.desk p (unless_kept kept rule) new → Now (record v { desk = new })
+      by_kept t is clear due rule make (Some input) has h = by_rule (rules.Steps input) h (steps_on none t is clear input (no_good v.desk.kept r.all.answers p input has) (λ at. absurd (due at)))
+      by_kept t is clear due rule make None has h = make h
 
       by_none : (t : Result Next Refusal) → does_next ≡ t → IsClear (pending v.desk) t → RulePost (Ok turn) v.desk p (rules.Steps inputs.None) new → Now (record v { desk = new })
       by_none t is clear h = by_rule (rules.Steps inputs.None) h (steps_on none t is clear inputs.None (λ good. cc) (λ _. refl))
 
-      by_else : (t : Result Next Refusal) → does_next ≡ t → IsClear (pending v.desk) t → (t ≡ Ok nexts.Signal → ⊥) → (kept : Option Input) → kept_for p v.desk.kept ≡ kept
-          → RulePost (Ok turn) v.desk p (unless_kept kept (rules.Steps inputs.None)) new → Now (record v { desk = new })
-      by_else t is clear due (Some input) has h = by_kept t is clear due input has h
-      by_else t is clear due None has h = by_none t is clear h
-
-      by_fetch : (name : Bytes) → does_next ≡ Ok (nexts.Fetch name) → asks_on name (pending v.desk) ≡ false → (kept : Option Input) → kept_for p v.desk.kept ≡ kept
-          → (version : Option ℕ) → version_of (get its_state (CopyOf name)) ≡ version → RulePost (Ok turn) v.desk p (unless_kept kept (fetch_rule name version)) new → Now (record v { desk = new })
-      by_fetch name is free (Some input) has version at h = by_kept (Ok (nexts.Fetch name)) is free (λ due. cc) input has h
-      by_fetch name is free None has (Some ver) at h =
+      by_fetch : (name : Bytes) → does_next ≡ Ok (nexts.Fetch name) → asks_on name (pending v.desk) ≡ false → (version : Option ℕ) → version_of (get its_state (CopyOf name)) ≡ version
+          → RulePost (Ok turn) v.desk p (fetch_rule name version) new → Now (record v { desk = new })
+      by_fetch name is free (Some ver) at h =
           by_rule (rules.Guesses (asks.Check name ver)) h (guesses_on none (Ok (nexts.Fetch name)) is free (asks.Check name ver) tt (takes_checked K.scripts its_state p name ver (fetch_at K.scripts its_state p name is) at) (λ due. cc))
-      by_fetch name is free None has None at h =
+      by_fetch name is free None at h =
           by_rule (rules.Asks (asks.Get name)) h (asks_on_it none (Ok (nexts.Fetch name)) is free (asks.Get name) tt (λ c. takes_fresh K.scripts its_state p name c (fetch_at K.scripts its_state p name is)) (not_there K.scripts its_state p (does_.Fetch name) (fetch_at K.scripts its_state p name is)) free)
 
       module _ (name : Bytes) (is : does_next ≡ Ok (nexts.Store name)) (free : asks_on name (pending v.desk) ≡ false) where
@@ -181,11 +177,9 @@ module _ (drawn begun : ℕ) (old : World) (xs : Exchanges) (v : WorldView) (r :
             by_rule (rules.Asks (asks.Store name version (buffer v.desk.kernel p))) h (asks_on_it none (Ok (nexts.Store name)) is free (asks.Store name version (buffer v.desk.kernel p)) tt
             (store_good version at, λ c. takes_stale K.scripts its_state p name version (buffer K p) c (store_at K.scripts its_state p name is)) (not_there K.scripts its_state p (does_.Store name) (store_at K.scripts its_state p name is)) free)
 
-        by_store : (kept : Option Input) → kept_for p v.desk.kept ≡ kept
-            → (version : Option ℕ) → version_of (get its_state (CopyOf name)) ≡ version → RulePost (Ok turn) v.desk p (unless_kept kept (store_rule name (buffer v.desk.kernel p) version)) new → Now (record v { desk = new })
-        by_store (Some input) has version at h = by_kept (Ok (nexts.Store name)) is free (λ due. cc) input has h
-        by_store None has None at h = store_asks 0 (ap or_zero at) h
-        by_store None has (Some ver) at h =
+        by_store : (version : Option ℕ) → version_of (get its_state (CopyOf name)) ≡ version → RulePost (Ok turn) v.desk p (store_rule name (buffer v.desk.kernel p) version) new → Now (record v { desk = new })
+        by_store None at h = store_asks 0 (ap or_zero at) h
+        by_store (Some ver) at h =
             elim (nat_lt ver LAST_VERSION) as (λ b. nat_lt ver LAST_VERSION ≡ b → RulePost (Ok turn) v.desk p (cond b (rules.Guesses (asks.Store name ver (buffer v.desk.kernel p))) (rules.Asks (asks.Store name ver (buffer v.desk.kernel p)))) new → Now (record v { desk = new })) [
               | true ↦ λ less h. by_rule (rules.Guesses (asks.Store name ver (buffer v.desk.kernel p))) h
                   (guesses_on none (Ok (nexts.Store name)) is free (asks.Store name ver (buffer v.desk.kernel p)) tt (store_good ver (ap or_zero at) (ltb-true ver LAST_VERSION less)) (λ due. cc))
@@ -206,10 +200,10 @@ module _ (drawn begun : ℕ) (old : World) (xs : Exchanges) (v : WorldView) (r :
       by_next : (n : Next) → does_next ≡ Ok n → ByRule (Ok turn) v.desk p new (rule_next v.desk p n) → Now (record v { desk = new })
       by_next nexts.Signal is h = by_none (Ok nexts.Signal) is tt h
       by_next (nexts.Fetch name) is h =
-          by_name name (unless_kept (kept_for p v.desk.kept) (fetch_rule name (cached K name))) (λ free. by_fetch name is free (kept_for p v.desk.kept) refl (cached K name) (cached_seen name)) h
+          by_name name (unless_kept (kept_for p v.desk.kept) (fetch_rule name (cached K name))) (λ free. by_kept (Ok (nexts.Fetch name)) is free (λ due. cc) (fetch_rule name (cached K name)) (by_fetch name is free (cached K name) (cached_seen name)) (kept_for p v.desk.kept) refl) h
       by_next (nexts.Store name) is h =
-          by_name name (unless_kept (kept_for p v.desk.kept) (store_rule name (buffer K p) (cached K name))) (λ free. by_store name is free (kept_for p v.desk.kept) refl (cached K name) (cached_seen name)) h
-      by_next n is h = by_else (Ok n) is tt (λ due. cc) (kept_for p v.desk.kept) refl h
+          by_name name (unless_kept (kept_for p v.desk.kept) (store_rule name (buffer K p) (cached K name))) (λ free. by_kept (Ok (nexts.Store name)) is free (λ due. cc) (store_rule name (buffer K p) (cached K name)) (by_store name is free (cached K name) (cached_seen name)) (kept_for p v.desk.kept) refl) h
+      by_next n is h = by_kept (Ok n) is tt (λ due. cc) (rules.Steps inputs.None) (by_none (Ok n) is tt) (kept_for p v.desk.kept) refl h
 
     by_result : (n : Result Next Refusal) → does_next ≡ n → ByRule (Ok turn) v.desk p new (rule_of v.desk p n) → Now (record v { desk = new })
     by_result (Err why) is h = absurd (let bad : Ok turn ≡ Err why = h.0 in cc)

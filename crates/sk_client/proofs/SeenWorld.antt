@@ -1,28 +1,25 @@
 -- A world as its callers see it, with what the laws know of it besides. What the laws compute of
 -- a kernel's trace, whose entries have causes, is what its callers compute.
 use Rattle.sk_client.proofs.Names.{Some, Bool, subst, arith, ◌++◌, suc, refl, [], map, ◌∷◌, inl, Option, List, get_or}
-use Rattle.sk_client.proofs.Names.{ℕ, true, sym, not, inr, ap, ◌≤◌, Ok, ◌&&◌, ◌≡◌, ◌||◌, None, ◌∙◌, and-true}
-use Rattle.sk_client.proofs.Names.{eqb-true, eq-eqb, true≢false, or_cases, or_left, map-append, fold-append, get}
-use Rattle.sk_client.proofs.Names.{list_any, nat_cmp, ◌==◌, is_void, name_of, is_lost, rests_of, entry, WorldView}
-use Rattle.sk_client.proofs.Names.{PendingRequest, has_filtered, entity_cmp, Entity, CopyOf, Proc, below_next}
-use Rattle.sk_client.proofs.Names.{undecided_sorted, effect_at, state_at, with_event, settled, undecided_at, tags_at}
-use Rattle.sk_client.proofs.Names.{next_guess, number_after, last_guess, KernelView, record_at, events_of}
-use Rattle.sk_client.proofs.Names.{HasSoundTrace, act, plain, image, has_filter, above, is_undecided, entries_are}
-use Rattle.sk_client.proofs.Names.{is_commit, dirt, is_in, has, effects, run, outcome, perform, Fail, record_of}
-use Rattle.sk_client.proofs.Names.{Taken, no_record, undecided_of, Happens, Commit, all_recorded, Input, Answer}
-use Rattle.sk_client.proofs.Names.{Reply, Ask, Sent, EntryView}
-use Rattle.std.specs.Prelude.{length}
+use Rattle.sk_client.proofs.Names.{ℕ, true, sym, not, inr, ap, ◌≤◌, Ok, ◌&&◌, ◌≡◌, ◌||◌, None, ◌∙◌, and-true, eqb-true}
+use Rattle.sk_client.proofs.Names.{eq-eqb, true≢false, or_cases, or_left, map-append, fold-append, get, list_any}
+use Rattle.sk_client.proofs.Names.{nat_cmp, ◌==◌, is_void, name_of, is_lost, rests_of, entry, WorldView, PendingRequest}
+use Rattle.sk_client.proofs.Names.{has_filtered, entity_cmp, Entity, CopyOf, Proc, below_next, undecided_sorted}
+use Rattle.sk_client.proofs.Names.{effect_at, state_at, with_event, settled, undecided_at, tags_at, next_guess}
+use Rattle.sk_client.proofs.Names.{number_after, last_guess, KernelView, record_at, events_of, HasSoundTrace, act}
+use Rattle.sk_client.proofs.Names.{plain, image, has_filter, above, is_undecided, entries_are, is_commit, dirt, is_in}
+use Rattle.sk_client.proofs.Names.{has, effects, run, outcome, perform, Fail, record_of, Taken, no_record, undecided_of}
+use Rattle.sk_client.proofs.Names.{Happens, Commit, all_recorded, Input, Answer, Reply, Ask, Sent, EntryView, length}
 use Rattle.std.specs.List.Sorted.{IsStrictlySortedBy}
 use Rattle.sk_script.specs.declared.instruction.Input.TheVariants as inputs
 use Rattle.sk_trace.specs.declared.event.Event.{Event}
 use Rattle.sk_trace.specs.declared.event.Event.TheVariants as events
-use Rattle.sk_client.proofs.Labels.{bare_event, is_bare}
-use Rattle.sk_client.proofs.CausedWorld.{Caused, kernel, state, undecided, own, is_lost as law_lost, is_void as law_void, bare, table, Before, Served}
+use Rattle.sk_client.proofs.CausedWorld.{bare_event, is_bare, Caused, kernel, state, undecided, own, is_lost as law_lost, is_void as law_void, bare, table, Before, Served}
 use Rattle.sk_client.proofs.Invariant.{IsMadeAt}
 use Rattle.sk_client.proofs.DeskFacts.{Did, committed_is}
-use Rattle.sk_client.proofs.Each.{any_map, any_same}
-use Rattle.sk_client.proofs.PlaceFacts.{step_sound, guess_sound, commit_sound, fail_sound}
-use Rattle.sk_client.proofs.TraceFacts.{entry_drawn}
+use Rattle.sk_client.proofs.Each.{any_map}
+use Rattle.sk_client.proofs.Booted.{step_sound, guess_sound, commit_sound, fail_sound}
+use Rattle.sk_client.proofs.Records.{entry_drawn}
 
 -- the oldest requests have the replies that are on their way
 abbrev pub law_served : List PendingRequest → List Reply → List Served
@@ -148,13 +145,13 @@ module _ (es : List (Happens Caused)) (k : KernelView) (t : Traced es k) where
   -- ---- guesses that are lost
 
   committed_seen : (g : ℕ) → list_any (is_commit g) es ≡ list_any (is_commit g) (events_of k)
-  committed_seen g = any_same (is_commit g) (λ e. is_commit g (bare_event bare e)) es (commit_seen g) ∙ sym (any_map (is_commit g) (bare_event bare) es) ∙ ap (list_any (is_commit g)) t.trace
+  committed_seen g = (λ i. list_any (λ e. commit_seen g e i) es) ∙ sym (any_map (is_commit g) (bare_event bare) es) ∙ ap (list_any (is_commit g)) t.trace
 
   lost_seen : (g : ℕ) → law_lost (table k.scripts) k.start es g ≡ is_lost k g
   lost_seen g = λ i. not (has g (undecided_seen i)) && not ((committed_seen g ∙ sym (committed_is k t.sound g)) i)
 
   pub void_seen : (q : PendingRequest) → law_void (table k.scripts) k.start es q ≡ is_void k q
-  void_seen q = any_same (law_lost (table k.scripts) k.start es) (is_lost k) q.rests lost_seen
+  void_seen q = λ i. list_any (λ g. lost_seen g i) q.rests
 
   -- ---- one event more
 

@@ -12,11 +12,10 @@ use Rattle.sk_client.proofs.Names.{Process, Get, Check, Store, State, EntityStat
 use Rattle.sk_script.specs.declared.instruction.Instruction.TheVariants as does_
 use Rattle.sk_store.specs.declared.entity_state.EntityState.TheVariants as stored
 use Rattle.sk_plain.specs.declared.next.Next.TheVariants as nexts
-use Rattle.sk_client.proofs.CausedWorld.{Caused, kernel, own, table, bare, IsTable, or_zero, Takes, IsEither}
+use Rattle.sk_client.proofs.CausedWorld.{Caused, kernel, own, table, bare, IsTable, or_zero, Takes, IsEither, run_bare}
 use Rattle.sk_script.specs.declared.instruction.Input.TheVariants as inputs
 use Rattle.sk_client.proofs.DeskFacts.{Did}
 use Rattle.sk_plain.specs.Act.{next_in}
-use Rattle.sk_client.proofs.Labels.{run_bare}
 use Rattle.sk_objects.specs.declared.value.Value.TheVariants as values
 use Rattle.sk_plain.specs.Rows.{answered}
 

@@ -4,16 +4,15 @@ use Rattle.sk_client.proofs.Names.{sym, ap, subst, ◌∙◌, has, Input, Refusa
 use Rattle.sk_client.proofs.Names.{step_refused, appended, IsForeseen, unchanged_foreseen, appended_foreseen, Request}
 use Rattle.sk_client.proofs.Names.{Reply, Answer, Yes, PendingRequest, Rule, Turn, WorldEvent, WorldAnswer, Cause}
 use Rattle.sk_client.proofs.Names.{DeskView, rule, turned, given, given_to, decided, answered, stepped, entry, input_of}
-use Rattle.sk_client.proofs.Names.{is_void, ByRule, WorldView, EventPost, Turns, Serves, Replies, EditsFile, taken_by}
-use Rattle.sk_client.proofs.Names.{upcoming, turn_step, reply_step, first_reply_step}
-use Rattle.std.proofs.Common.{option_map}
+use Rattle.sk_client.proofs.Names.{is_void, ByRule, WorldView, EventPost, Turns, Serves, Replies, taken_by, upcoming}
+use Rattle.sk_client.proofs.Names.{turn_step, reply_step, first_reply_step, option_map}
 use Rattle.sk_script.specs.declared.instruction.Input.TheVariants as inputs
 use Rattle.sk_trace.specs.declared.event.Event.TheVariants as trace
 use Rattle.sk_client.specs.Rule as rules
 use Rattle.sk_client.specs.declared.world.WorldEvent.TheVariants as events
 use Rattle.sk_client.specs.declared.world.WorldAnswer.TheVariants as answers
 use Rattle.sk_client.specs.declared.world.Cause.TheVariants as causes
-use Rattle.sk_client.proofs.WorldFacts.{taken_same}
+use Rattle.sk_client.proofs.WorldFacts.{taken_same, edit_rest}
 
 -- ---- a turn
 
@@ -33,9 +32,8 @@ same u w new is = unchanged_foreseen u w.desk.kernel new.desk.kernel (ap (λ (x 
 
 turn_foreseen : (r : Result WorldAnswer Cause) (w : WorldView) (pid : ℕ) (new : WorldView) → Turns r w pid new → IsForeseen (turn_step pid (rule w.desk pid)) (appended w.desk.kernel new.desk.kernel)
 turn_foreseen (Ok (answers.Turn turn)) w pid new h = by_rule (Ok turn) w.desk new.desk pid (rule w.desk pid) h.0
-turn_foreseen (Ok told) w pid new h = absurd h
 turn_foreseen (Err (causes.Turn why)) w pid new h = same (turn_step pid (rule w.desk pid)) w new h.1
-turn_foreseen (Err why) w pid new h = absurd h
+turn_foreseen told w pid new h = absurd h
 
 -- ---- a request that is served
 
@@ -85,17 +83,11 @@ replies_foreseen (Ok (answers.Given told)) w new (r ∷ rs) h = reply_foreseen w
 replies_foreseen (Ok told) w new (r ∷ rs) h = absurd h
 replies_foreseen (Err why) w new (r ∷ rs) h = same (reply_step r w.desk.taken) w new h.2
 
--- ---- an edit
-
-edit_keeps : (r : Result WorldAnswer Cause) (w : WorldView) (name : List ℕ) (expected : ℕ) (bytes : List ℕ) (new : WorldView) → EditsFile r w name expected bytes new → new.desk.kernel ≡ w.desk.kernel
-edit_keeps (Ok (answers.Edited version)) w name expected bytes new h = ap (λ (x : WorldView). x.desk.kernel) h.1
-edit_keeps (Ok told) w name expected bytes new h = absurd h
-edit_keeps (Err (causes.Edit why)) w name expected bytes new h = ap (λ (x : WorldView). x.desk.kernel) h.1
-edit_keeps (Err why) w name expected bytes new h = absurd h
+-- ---- any event
 
 pub event_foreseen : (r : Result WorldAnswer Cause) (w : WorldView) (e : WorldEvent) (new : WorldView) → EventPost r w e new → IsForeseen (upcoming w e) (appended w.desk.kernel new.desk.kernel)
 event_foreseen r w (events.Turn pid) new h = turn_foreseen r w pid new h
 event_foreseen r w events.Serve new h =
     unchanged_foreseen None w.desk.kernel new.desk.kernel (serve_keeps r (taken_by w w.back) new (taken_by w w.back).back h ∙ (taken_same w w.back).1)
 event_foreseen r w events.Reply new h = replies_foreseen r w new w.replies h
-event_foreseen r w (events.Edit name expected bytes) new h = unchanged_foreseen None w.desk.kernel new.desk.kernel (edit_keeps r w name expected bytes new h)
+event_foreseen r w (events.Edit name expected bytes) new h = unchanged_foreseen None w.desk.kernel new.desk.kernel (ap (λ (x : WorldView). x.desk.kernel) (edit_rest r w name expected bytes new h))

@@ -4,15 +4,20 @@ use Rattle.sk_client.proofs.Names.{not, cond, ap, length, ◌≤◌, false, Ok, 
 use Rattle.sk_client.proofs.Names.{eqb-true, ltb-true, ltb-false, true≢false, length-append, get_or_at, ◌==◌, is_some}
 use Rattle.sk_client.proofs.Names.{nat_lt, request_of, is_void, first_taken, rule, first_sent, given, given_to}
 use Rattle.sk_client.proofs.Names.{no_number, decided, input_of, sent, entry, fits_ask, turned, no_place}
-use Rattle.sk_client.proofs.Names.{guess_refused_at, stepped_for, DeskView, ByRule, TurnPost, served, ServesNext}
-use Rattle.sk_client.proofs.Names.{taken_from, Numbered, IsJoined, IsNext, AreReplies, taken_by, WorldView, reply_to}
-use Rattle.sk_client.proofs.Names.{Turn, PendingRequest, Rule, effect_at, undecided_at, next_guess, too_many, or_else}
-use Rattle.sk_client.proofs.Names.{guess_misfits, LAST_VERSION, Refusal, TooMany, and_both, has, Input, file_of}
-use Rattle.sk_client.proofs.Names.{FileMap, is_fitting, is_dropped, judged, remembered, ServerView, answer_to, Answer}
-use Rattle.sk_client.proofs.Names.{Yes, No, Dropped, Reply, Ask, Get, Check, Store, Request, LAST_REQUEST}
+use Rattle.sk_client.proofs.Names.{guess_refused_at, stepped_for, DeskView, ByRule, TurnPost, taken_from, Numbered}
+use Rattle.sk_client.proofs.Names.{IsJoined, IsNext, AreReplies, taken_by, WorldView, reply_to, Turn, PendingRequest}
+use Rattle.sk_client.proofs.Names.{Rule, effect_at, undecided_at, next_guess, too_many, or_else, guess_misfits}
+use Rattle.sk_client.proofs.Names.{LAST_VERSION, Refusal, TooMany, and_both, has, Input, file_of, FileMap, is_fitting}
+use Rattle.sk_client.proofs.Names.{is_dropped, judged, remembered, ServerView, answer_to, Answer, Yes, No, Dropped}
+use Rattle.sk_client.proofs.Names.{Reply, Ask, Get, Check, Store, Request, LAST_REQUEST, opened_at, DeskEpochPost}
+use Rattle.sk_client.proofs.Names.{WorldEpochPost, EpochRefusal, TerminalMap, TraceView, WorldAnswer, Cause, Turns}
+use Rattle.sk_client.proofs.Names.{EditsFile}
 use Rattle.sk_script.specs.declared.instruction.Input.TheVariants as inputs
 use Rattle.sk_server.specs.Server.{answered}
 use Rattle.sk_client.specs.Rule as rules
+use Rattle.sk_client.specs.declared.world.WorldAnswer.TheVariants as answers
+use Rattle.sk_client.specs.declared.world.Cause.TheVariants as causes
+use Rattle.sk_kernel.specs.declared.kernel.EpochRefusal.TheVariants as epoch_refusals
 use Rattle.sk_client.proofs.DeskFacts.{none_first, none_later, none_test}
 
 -- ---- one request more
@@ -26,18 +31,15 @@ next_same s None d e w n h = (subst (Numbered s.next) (sym w) h.0, n ∙ h.1 ∙
 next_same s (Some b) d e w n h =
     (h.0, h.1, subst (Numbered (s.next + 1)) (sym w) h.2, n ∙ h.3 ∙ ap (λ (qs : List PendingRequest). s.next + 1 + length qs) (sym w))
 
-longer : (qs : List PendingRequest) (q : PendingRequest) → length (qs ++ q ∷ []) ≡ length qs + 1
-longer qs q = length-append qs (q ∷ [])
-
 next_more : (s : ServerView) (b : Option Request) (d e : DeskView) (q : PendingRequest) → e.waiting ≡ d.waiting ++ q ∷ [] → e.next ≡ d.next + 1 → q.number ≡ d.next
     → IsNext s b d → IsNext s b e
 next_more s None d e q w n is h =
     let here = h.1 in
-    let count : length e.waiting ≡ length d.waiting + 1 = ap length w ∙ longer d.waiting q in
+    let count : length e.waiting ≡ length d.waiting + 1 = ap length w ∙ length-append d.waiting (q ∷ []) in
     (subst (Numbered s.next) (sym w) (numbered_more s.next d.waiting q h.0 (is ∙ here)), omega (arith, n, here, count))
 next_more s (Some b) d e q w n is h =
     let here = h.3 in
-    let count : length e.waiting ≡ length d.waiting + 1 = ap length w ∙ longer d.waiting q in
+    let count : length e.waiting ≡ length d.waiting + 1 = ap length w ∙ length-append d.waiting (q ∷ []) in
     (h.0, h.1, subst (Numbered (s.next + 1)) (sym w) (numbered_more (s.next + 1) d.waiting q h.2 (is ∙ here)), omega (arith, n, here, count))
 
 -- ---- a turn
@@ -95,17 +97,17 @@ replies_taken [] [] q h = refl
 replies_taken (r ∷ rs) (x ∷ xs) q h = (h.0, h.1, replies_taken rs xs q h.2)
 replies_taken rs qs q h = absurd h
 
-pub taken_joined : (s : ServerView) (rs : List Reply) (d e : DeskView) (q : PendingRequest) (qs : List PendingRequest) → d.waiting ≡ q ∷ qs → e ≡ first_taken d (q ∷ qs)
-    → IsJoined d s rs None → IsJoined e s rs (Some (sent q))
-taken_joined s rs d e q qs w is j =
+pub taken_joined : (s : ServerView) (rs : List Reply) (d : DeskView) (q : PendingRequest) (qs : List PendingRequest) → d.waiting ≡ q ∷ qs
+    → IsJoined d s rs None → IsJoined (first_taken d (q ∷ qs)) s rs (Some (sent q))
+taken_joined s rs d q qs w j =
     let numbered : Numbered s.next (q ∷ qs) = subst (Numbered s.next) w j.next.0 in
     let next : d.next ≡ s.next + length (q ∷ qs) = j.next.1 ∙ ap (λ (xs : List PendingRequest). s.next + length xs) w in
     let last = j.last in
-    subst (λ (x : DeskView). IsJoined x s rs (Some (sent q))) (sym is) (record {
+    record {
       replies = replies_taken rs d.taken q j.replies;
       next = (numbered.0, omega (arith, next, last), numbered.1, omega (arith, next));
       last = last;
-    })
+    }
 
 -- the server, the kernel and the replies are as they were
 pub taken_same : (w : WorldView) (b : Option Request) → ((taken_by w b).server ≡ w.server) × ((taken_by w b).desk.kernel ≡ w.desk.kernel) × ((taken_by w b).replies ≡ w.replies)
@@ -114,6 +116,19 @@ taken_same w None = from w.desk.waiting where
   from : (qs : List PendingRequest) → ((taken_from w qs).server ≡ w.server) × ((taken_from w qs).desk.kernel ≡ w.desk.kernel) × ((taken_from w qs).replies ≡ w.replies)
   from [] = (refl, refl, refl)
   from (q ∷ qs) = (refl, refl, refl)
+
+-- a turn changes the desk alone
+pub turn_rest : (told : Result WorldAnswer Cause) (w : WorldView) (pid : ℕ) (new : WorldView) → Turns told w pid new → new ≡ record w { desk = new.desk }
+turn_rest (Ok (answers.Turn turn)) w pid new h = h.1
+turn_rest (Err (causes.Turn why)) w pid new h = subst (λ (x : WorldView). x ≡ record w { desk = x.desk }) (sym h.1) refl
+turn_rest told w pid new h = absurd h
+
+-- and an edit the server alone
+pub edit_rest : (told : Result WorldAnswer Cause) (w : WorldView) (name : List ℕ) (expected : ℕ) (bytes : List ℕ) (new : WorldView) → EditsFile told w name expected bytes new
+    → new ≡ record w { server = new.server }
+edit_rest (Ok (answers.Edited version)) w name expected bytes new h = h.1
+edit_rest (Err (causes.Edit why)) w name expected bytes new h = subst (λ (x : WorldView). x ≡ record w { server = x.server }) (sym h.1) refl
+edit_rest told w name expected bytes new h = absurd h
 
 pub none_is : (o : Option Request) → is_some o ≡ false → o ≡ None
 none_is None h = refl
@@ -180,10 +195,6 @@ back_joined d s t rs all b is more j =
 
 -- ---- a request that is served
 
--- the one that was handed back
-pub back_served : (w new : WorldView) (q : Request) → w.back ≡ Some q → new ≡ served w q → ServesNext (Ok tt) w new w.back
-back_served w new q is h = subst (λ (b : Option Request). ServesNext (Ok tt) w new b) (sym is) h
-
 -- the desk once the oldest of those that wait was handed out
 pub next_joined : (s : ServerView) (rs : List Reply) (b : Option Request) (d : DeskView) (ws : List PendingRequest) (q : Request) → is_some b ≡ false → d.waiting ≡ ws → first_sent ws ≡ Some q
     → IsJoined d s rs b → IsJoined (first_taken d ws) s rs (Some q)
@@ -191,7 +202,7 @@ next_joined s rs b d [] q none w is j = absurd cc
 next_joined s rs b d (p ∷ ps) q none w is j =
     let same : sent p ≡ q = cc in
     subst (λ (x : Request). IsJoined (first_taken d (p ∷ ps)) s rs (Some x)) same
-    (taken_joined s rs d (first_taken d (p ∷ ps)) p ps w refl (subst (λ (o : Option Request). IsJoined d s rs o) (none_is b none) j))
+    (taken_joined s rs d p ps w (subst (λ (o : Option Request). IsJoined d s rs o) (none_is b none) j))
 
 -- ---- what was served is the newest reply
 
@@ -255,14 +266,48 @@ begun_joined d s t w n last = record {
   last = omega (arith, n, last);
 }
 
-none_back : (d : DeskView) (s : ServerView) (rs : List Reply) (b : Option Request) → AreReplies rs b [] → IsNext s b d → d.waiting ≡ [] → d.next ≡ s.next
-none_back d s [] None replies next none = (let count : length d.waiting ≡ 0 = ap length none in let more = next.1 in omega (arith, count, more))
-none_back d s rs b replies next none = absurd replies
-
 pub none_of_both : (xs ys : List PendingRequest) → xs ++ ys ≡ [] → (xs ≡ []) × (ys ≡ [])
 none_of_both [] ys h = (refl, h)
 none_of_both (x ∷ xs) ys h = cc
 
--- where no request is pending, the desk's next one is the server's next
-pub no_requests : (d : DeskView) (s : ServerView) (rs : List Reply) (b : Option Request) → d.taken ++ d.waiting ≡ [] → IsJoined d s rs b → d.next ≡ s.next
-no_requests d s rs b none j = let e = none_of_both d.taken d.waiting none in none_back d s rs b (subst (AreReplies rs b) e.0 j.replies) j.next e.1
+-- where no request was taken, no reply is on its way, and none was handed back
+none_on_its_way : (rs : List Reply) (b : Option Request) → AreReplies rs b [] → (rs ≡ []) × (b ≡ None)
+none_on_its_way [] None h = (refl, refl)
+none_on_its_way rs b h = absurd h
+
+-- where no request is pending, nothing is on its way, and the desk's next one is the server's next
+pub record Idle (d : DeskView) (s : ServerView) (rs : List Reply) (b : Option Request) : Type 0 where
+  pub replies : rs ≡ []
+  pub back : b ≡ None
+  pub next : d.next ≡ s.next
+
+pub no_requests : (d : DeskView) (s : ServerView) (rs : List Reply) (b : Option Request) → d.taken ++ d.waiting ≡ [] → IsJoined d s rs b → Idle d s rs b
+no_requests d s rs b none j =
+    let e = none_of_both d.taken d.waiting none in
+    let on = none_on_its_way rs b (subst (AreReplies rs b) e.0 j.replies) in
+    let next : IsNext s None d = subst (λ (o : Option Request). IsNext s o d) on.1 j.next in
+    let waits = next.1 in
+    let count : length d.waiting ≡ 0 = ap length e.1 in
+    record { replies = on.0; back = on.1; next = omega (arith, waits, count) }
+
+-- ---- a new epoch of the desk
+
+pub epoch_joined : (s : ServerView) (rs : List Reply) (b : Option Request) (result : Result (TraceView × TerminalMap) EpochRefusal) (old new : DeskView) → DeskEpochPost result old new
+    → IsJoined old s rs b → IsJoined new s rs b
+epoch_joined s rs b (Ok left) old new h j =
+    let idle = no_requests old s rs b h.0 j in
+    let next = idle.next in
+    let last = j.last in
+    subst (λ (x : DeskView × (List Reply × Option Request)). IsJoined x.0 s x.1.0 x.1.1) (λ i. (sym h.2 i, (sym idle.replies i, sym idle.back i)))
+    (begun_joined (opened_at new.kernel old.next) s refl refl next (omega (arith, next, last)))
+epoch_joined s rs b (Err (epoch_refusals.Undecided n)) old new h j = subst (λ (d : DeskView). IsJoined d s rs b) (sym h.2) j
+epoch_joined s rs b (Err epoch_refusals.Memory) old new h j = subst (λ (d : DeskView). IsJoined d s rs b) (sym h.1) j
+
+abbrev pub world_of : DeskView → ServerView → List Reply → Option Request → WorldView
+world_of d s rs b = record { desk = d; server = s; replies = rs; back = b }
+
+pub epoch_left : (s : ServerView) (rs : List Reply) (b : Option Request) (result : Result (TraceView × TerminalMap) EpochRefusal) (old new : DeskView) → DeskEpochPost result old new
+    → IsJoined old s rs b → WorldEpochPost result (world_of old s rs b) (world_of new s rs b)
+epoch_left s rs b (Ok left) old new h j = (let idle = no_requests old s rs b h.0 j in (h, λ i. world_of new s (idle.replies i) (idle.back i)))
+epoch_left s rs b (Err (epoch_refusals.Undecided n)) old new h j = ((h.0, h.1, refl), λ i. world_of (h.2 i) s rs b)
+epoch_left s rs b (Err epoch_refusals.Memory) old new h j = ((h.0, refl), λ i. world_of (h.1 i) s rs b)

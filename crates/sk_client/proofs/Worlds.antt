@@ -8,10 +8,8 @@ use Rattle.sk_client.proofs.Names.{Fresh, Stale, State, Scripts, Next, Refusal, 
 use Rattle.sk_client.proofs.Names.{refused_by, listed, remembered, is_dropped, judged, answer_to, Ask, Get, Check}
 use Rattle.sk_client.proofs.Names.{Store, Answer, Yes, No, Dropped, pending, name_of, sent, kept_for, forgotten}
 use Rattle.sk_client.proofs.Names.{kept_after, answer_kept, asks_for, asks_on, fits_ask, input_of, Exchanges}
-use Rattle.sk_client.proofs.Names.{PlacesAreKept, Bytes, WorldView, KeptAnswer, PendingRequest, IsTidyState}
-use Rattle.sk_client.proofs.Names.{cons_first, cons_later, next_turn}
-use Rattle.sk_client.proofs.Names.{not-true}
-use Rattle.std.specs.Prelude.{◌||◌}
+use Rattle.sk_client.proofs.Names.{PlacesAreKept, Bytes, WorldView, KeptAnswer, PendingRequest, IsTidyState, cons_first}
+use Rattle.sk_client.proofs.Names.{cons_later, next_turn, not-true, ◌||◌}
 use Rattle.sk_script.specs.declared.instruction.Input.TheVariants as inputs
 use Rattle.sk_plain.specs.declared.next.Next.TheVariants as nexts
 use Rattle.sk_server.specs.declared.reply.Answer.TheVariants.{Copy}
@@ -83,16 +81,13 @@ keeps_input kept answers p (Some x) never k there good =
       | inr is ↦ never x refl (ap (λ (k : KeptAnswer). k.input) is ∙ good)
     ]
 
-kept_in : (p : ℕ) (ks : List KeptAnswer) (x : Input) → kept_for p ks ≡ Some x → (k : KeptAnswer) × Contains ks k × (k.input ≡ x)
-kept_in p [] x is = cc
-kept_in p (k ∷ ks) x is =
-    elim (k.process == p) as (λ b. cond b (Some k.input) (kept_for p ks) ≡ Some x → (j : KeptAnswer) × Contains (k ∷ ks) j × (j.input ≡ x)) [
-      | true ↦ λ is. (k, cons_first k ks, (let same : k.input ≡ x = cc in same))
-      | false ↦ λ is. (let rest = kept_in p ks x is in (rest.0, cons_later k ks rest.0 rest.1, rest.2))
-    ] is
-
 pub no_good : (kept : List KeptAnswer) → NoGood kept → (p : ℕ) (x : Input) → kept_for p kept ≡ Some x → x ≡ Good → ⊥
-no_good kept answers p x is good = (let k = kept_in p kept x is in answers k.0 k.1 (k.2 ∙ good))
+no_good [] answers p x is good = cc
+no_good (k ∷ ks) answers p x is good =
+    elim (k.process == p) as (λ b. cond b (Some k.input) (kept_for p ks) ≡ Some x → ⊥) [
+      | true ↦ λ is. answers k (cons_first k ks) (let same : k.input ≡ x = cc in same ∙ good)
+      | false ↦ λ is. no_good ks (λ j there. answers j (cons_later k ks j there)) p x is good
+    ] is
 
 -- ---- asked requests
 

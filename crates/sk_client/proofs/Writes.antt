@@ -1,16 +1,17 @@
--- The server's files after any list of a world's events.
+-- The server's files after any list of a world's events, and the replies that are given.
 use Rattle.sk_client.proofs.Names.{◌≡◌, ℕ, List, [], ◌∷◌, ◌++◌, Option, Some, None, Result, Ok, Err, refl, sym, ◌∙◌, ap}
 use Rattle.sk_client.proofs.Names.{subst, append_assoc, filter-append, fold-append, FileMap, written, ServerView}
 use Rattle.sk_client.proofs.Names.{answer_to, files_after, Sent, Ask, Answer, Reply, Exchanges, with_reply, exchange}
 use Rattle.sk_client.proofs.Names.{exchanged, Leads, Write, is_store, store_of, stores_of, written_by, writes_of}
 use Rattle.sk_client.proofs.Names.{all_written, AllFit, AreWritten, WorldView, taken_by, reply_to, served, Serves}
-use Rattle.sk_client.proofs.Names.{Replies, Turns, EditsFile, EventPost, WorldEvent, WorldAnswer, Cause}
+use Rattle.sk_client.proofs.Names.{Replies, EditsFile, EventPost, WorldEvent, WorldAnswer, Cause, map, inl, inr}
+use Rattle.sk_client.proofs.Names.{map-append, append-nil, Contains-append_cases, Contains, cons_cases, no_member}
 use Rattle.sk_server.specs.declared.request.Ask.TheVariants as asks
 use Rattle.sk_server.specs.declared.reply.Answer.TheVariants as answers
 use Rattle.sk_client.specs.declared.world.WorldEvent.TheVariants as events
 use Rattle.sk_client.specs.declared.world.WorldAnswer.TheVariants as told
 use Rattle.sk_client.specs.declared.world.Cause.TheVariants as causes
-use Rattle.sk_client.proofs.WorldFacts.{Fitting, answer_suits, taken_same}
+use Rattle.sk_client.proofs.WorldFacts.{Fitting, answer_suits, taken_same, turn_rest, edit_rest}
 
 -- ---- one list of writes after another
 
@@ -35,13 +36,7 @@ then w v last ws vs xs ys a b = record {
 nothing : (w new : WorldView) → new.server ≡ w.server → AreWritten w [] [] new
 nothing w new same = record { files = ap (λ (s : ServerView). s.files) same; fit = tt; stores = refl }
 
--- ---- turns, replies and edits
-
-turns : (answer : Result WorldAnswer Cause) (w new : WorldView) (p : ℕ) → Turns answer w p new → new.server ≡ w.server
-turns (Ok (told.Turn turn)) w new p h = ap (λ (x : WorldView). x.server) h.1
-turns (Ok x) w new p h = absurd h
-turns (Err (causes.Turn why)) w new p h = ap (λ (x : WorldView). x.server) h.1
-turns (Err why) w new p h = absurd h
+-- ---- replies and edits
 
 replies : (answer : Result WorldAnswer Cause) (w new : WorldView) (rs : List Reply) → Replies answer w new rs → new.server ≡ w.server
 replies answer w new [] h = ap (λ (x : WorldView). x.server) h.1
@@ -52,9 +47,8 @@ replies (Err why) w new (r ∷ rs) h = ap (λ (x : WorldView). x.server) h.2
 edits : (answer : Result WorldAnswer Cause) (w new : WorldView) (name : List ℕ) (expected : ℕ) (bytes : List ℕ) → EditsFile answer w name expected bytes new
     → AreWritten w (written_by answer w (events.Edit name expected bytes)) [] new
 edits (Ok (told.Edited version)) w new name expected bytes h = record { files = ap (λ (s : ServerView). s.files) h.0.2; fit = (h.0.0, tt); stores = refl }
-edits (Ok x) w new name expected bytes h = absurd h
 edits (Err (causes.Edit why)) w new name expected bytes h = nothing w new (ap (λ (x : WorldView). x.server) h.1)
-edits (Err why) w new name expected bytes h = absurd h
+edits x w new name expected bytes h = absurd h
 
 -- ---- the server's answer
 
@@ -74,7 +68,7 @@ serves (Err why) w new (Some q) h = nothing w new (ap (λ (x : WorldView). x.ser
 -- ---- all events
 
 one : (answer : Result WorldAnswer Cause) (w : WorldView) (e : WorldEvent) (new : WorldView) → EventPost answer w e new → AreWritten w (written_by answer w e) (exchanged answer w e) new
-one answer w (events.Turn p) new h = nothing w new (turns answer w new p h)
+one answer w (events.Turn p) new h = nothing w new (ap (λ (x : WorldView). x.server) (turn_rest answer w p new h))
 one answer w events.Serve new h =
     let t = taken_by w w.back in
     let a : AreWritten t (stores_of (exchange t.back answer)) (exchange t.back answer) new = serves answer t new t.back h in
@@ -93,3 +87,92 @@ all_are_written w [] served last h =
 all_are_written w (e ∷ es) served last h =
     subst (λ (xs : Exchanges). AreWritten w (writes_of w (e ∷ es) served last h) xs last) (sym h.5)
     (then w h.1 last (written_by h.0 w e) (writes_of h.1 es h.2 last h.4) (exchanged h.0 w e) h.2 (one h.0 w e h.1 h.3) (all_are_written h.1 es h.2 last h.4))
+
+-- ---- replies: each has the number of its request, and they are given in the order in which they were made
+
+-- the replies of these exchanges were put behind those that were on their way, and the first ones were given
+pub record HandsOn (w : WorldView) (xs : Exchanges) (new : WorldView) : Type 0 where
+  pub numbers : (q : Sent) (r : Reply) → Contains xs (q, r) → r.number ≡ q.number
+  pub given : List Reply
+  pub order : w.replies ++ map (λ x. x.1) xs ≡ given ++ new.replies
+
+hands_none : (w new : WorldView) → new.replies ≡ w.replies → HandsOn w [] new
+hands_none w new same = record {
+  numbers = λ q r there. absurd (no_member (q, r) there);
+  given = [];
+  order = append-nil w.replies ∙ sym same;
+}
+
+hands_same : (w new : WorldView) → new ≡ w → HandsOn w [] new
+hands_same w new is = hands_none w new (ap (λ (x : WorldView). x.replies) is)
+
+-- the oldest one is given
+gives : (answer : Result WorldAnswer Cause) (w new : WorldView) (rs : List Reply) → w.replies ≡ rs
+    → Replies answer w new rs → HandsOn w [] new
+gives answer w new [] is h = hands_same w new h.1
+gives (Ok (told.Given given)) w new (r ∷ rs) is h = record {
+  numbers = λ q x there. absurd (no_member (q, x) there);
+  given = r ∷ [];
+  order = append-nil w.replies ∙ is ∙ ap (λ (x : WorldView). r ∷ x.replies) (sym h.1);
+}
+gives (Err why) w new (r ∷ rs) is h = hands_same w new h.2
+gives answer w new (r ∷ rs) is h = absurd h
+
+-- one is made
+served_one : (t : WorldView) (b : Sent) → HandsOn t ((b, reply_to t.server b) ∷ []) (served t b)
+served_one t b = record {
+  numbers = λ q r there. elim (cons_cases (b, reply_to t.server b) [] (q, r) there) [
+    | inl is ↦ ap (λ (x : Sent × Reply). x.1.number) (sym is) ∙ ap (λ (x : Sent × Reply). x.0.number) is
+    | inr none ↦ absurd (no_member (q, r) none)
+  ];
+  given = [];
+  order = refl;
+}
+
+hands_served : (answer : Result WorldAnswer Cause) (t new : WorldView) (b : Option Sent) → Serves answer t new b
+    → HandsOn t (exchange b answer) new
+hands_served answer t new None h = hands_same t new h.1
+hands_served (Ok x) t new (Some b) h =
+    subst (λ (y : WorldAnswer). HandsOn t (with_reply b (Ok y)) new) (sym h.0)
+    (subst (λ (y : WorldView). HandsOn t ((b, reply_to t.server b) ∷ []) y) (sym h.1) (served_one t b))
+hands_served (Err why) t new (Some b) h = hands_same t new h.1
+
+hands_one : (answer : Result WorldAnswer Cause) (w : WorldView) (e : WorldEvent) (new : WorldView) → EventPost answer w e new
+    → HandsOn w (exchanged answer w e) new
+hands_one answer w (events.Turn p) new h = hands_none w new (ap (λ (x : WorldView). x.replies) (turn_rest answer w p new h))
+hands_one answer w events.Serve new h =
+    let t = taken_by w w.back in
+    let s = hands_served answer t new t.back h in
+    record {
+      numbers = s.numbers;
+      given = s.given;
+      order =
+          ap (λ rs. rs ++ map (λ x. x.1) (exchange t.back answer)) (sym (taken_same w w.back).2)
+          ∙ s.order;
+    }
+hands_one answer w events.Reply new h = gives answer w new w.replies refl h
+hands_one answer w (events.Edit name expected bytes) new h = hands_none w new (ap (λ (x : WorldView). x.replies) (edit_rest answer w name expected bytes new h))
+
+chain : (w mid last : WorldView) (xs ys : Exchanges) → HandsOn w xs mid → HandsOn mid ys last
+    → HandsOn w (xs ++ ys) last
+chain w mid last xs ys a b = record {
+  numbers = λ q r there. elim (Contains-append_cases xs ys (q, r) there) [
+    | inl first ↦ a.numbers q r first
+    | inr later ↦ b.numbers q r later
+  ];
+  given = a.given ++ b.given;
+  order =
+      ap (λ rs. w.replies ++ rs) (map-append (λ x. x.1) xs ys)
+      ∙ sym (append_assoc w.replies (map (λ x. x.1) xs) (map (λ x. x.1) ys))
+      ∙ ap (λ rs. rs ++ map (λ x. x.1) ys) a.order
+      ∙ append_assoc a.given mid.replies (map (λ x. x.1) ys)
+      ∙ ap (λ rs. a.given ++ rs) b.order
+      ∙ sym (append_assoc a.given b.given last.replies);
+}
+
+pub hands_on : (w : WorldView) (es : List WorldEvent) (xs : Exchanges) (last : WorldView) → Leads w es xs last
+    → HandsOn w xs last
+hands_on w [] xs last h = subst (λ (ys : Exchanges). HandsOn w ys last) (sym h.0) (hands_same w last h.1)
+hands_on w (e ∷ es) xs last h =
+    subst (λ (ys : Exchanges). HandsOn w ys last) (sym h.5)
+    (chain w h.1 last (exchanged h.0 w e) h.2 (hands_one h.0 w e h.1 h.3) (hands_on h.1 es h.2 last h.4))

@@ -1,5 +1,5 @@
 -- From the law of worlds, told of a world's calls.
-use Rattle.sk_client.proofs.AskedReplies.{steps_are_taken, forgotten_are_dropped}
+use Rattle.sk_client.proofs.RequestSteps.{steps_are_taken, forgotten_are_dropped}
 use Rattle.sk_client.proofs.laws.taken.Goals as goal
 
 pub returns-clause-steps : goal.returns-clause-steps

@@ -1,7 +1,7 @@
 -- The request that was handed back is in turn; answered, it has its reply.
 use Rattle.sk_client.proofs.Names.{◌≡◌, Option, Some, None, Ok, sym, ◌∙◌, ap, subst, Request, request_in, WorldView}
 use Rattle.sk_client.proofs.Names.{IsJoined, ServesNext, served}
-use Rattle.sk_client.proofs.WorldFacts.{answer_joined, back_served}
+use Rattle.sk_client.proofs.WorldFacts.{answer_joined}
 use Rattle.sk_client.proofs.world.World.answer.Goals as goal
 
 pub invariant_of-self-2 : goal.invariant_of-self-2
@@ -21,4 +21,5 @@ returns c =
     let before : WorldView = record { desk = inside.desk; server = inside.server; replies = inside.replies.items; back = inside.back } in
     let after : WorldView = record { desk = inside.desk; server = c.answer_with.new.server; replies = c.answer_with.new.replies.items; back = None } in
     let done : after ≡ served before (request_in c.lent_with-lent.result) = (λ i. record { desk = inside.desk; server = c.in_ok-answer_with.ensures.0 i; replies = c.in_ok-answer_with.ensures.1 i; back = None }) in
-    subst (λ (w : WorldView). ServesNext (Ok tt) w after w.back) c.self.view_is (back_served before after c.in-Some.request c.in-Some.is (done ∙ ap (served before) same))
+    subst (λ (w : WorldView). ServesNext (Ok tt) w after w.back) c.self.view_is
+    (subst (λ (b : Option Request). ServesNext (Ok tt) before after b) (sym c.in-Some.is) (done ∙ ap (served before) same))

@@ -128,16 +128,13 @@ module _ {V : Type 0} where
   bare_log s bare = sym (empty_is s.log (and_both _ _ bare).1)
 
 -- ---- what is done twice
-cut_twice_go : {V : Type 0} (g : ℕ) (log : List (Note V)) → cut g (cut g log) ≡ cut g log
-cut_twice_go g [] = refl
-cut_twice_go g (n ∷ log) =
+pub cut_twice : {V : Type 0} (g : ℕ) (log : List (Note V)) → cut g (cut g log) ≡ cut g log
+cut_twice g [] = refl
+cut_twice g (n ∷ log) =
     elim (has g n.tags) as (λ b. has g n.tags ≡ b → cut g (cond b [] (n ∷ cut g log)) ≡ cond b [] (n ∷ cut g log)) [
       | true ↦ λ _. refl
-      | false ↦ λ off. ap (λ b. cond b [] (n ∷ cut g (cut g log))) off ∙ ap (λ ns. n ∷ ns) (cut_twice_go g log)
+      | false ↦ λ off. ap (λ b. cond b [] (n ∷ cut g (cut g log))) off ∙ ap (λ ns. n ∷ ns) (cut_twice g log)
     ] refl
-
-pub cut_twice : {V : Type 0} (g : ℕ) (log : List (Note V)) → cut g (cut g log) ≡ cut g log
-cut_twice = cut_twice_go
 
 pub unwound_twice : {V : Type 0} (g : ℕ) (log : List (Note V)) (now : Option V) → unwound g (cut g log) now ≡ now
 unwound_twice g [] now = refl

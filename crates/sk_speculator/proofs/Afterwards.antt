@@ -293,12 +293,9 @@ whole_first {R = R} total exact a number limit look log opens guesses said = rec
   });
 }
 
-none_marked : {P : Type 0} (g : ℕ) → None ≡ Some g → P
-none_marked g is = cc
-
 -- a step that is no guess has no number
 pub no_next : (n g : ℕ) → None ≡ Some g → n < g
-no_next n g is = none_marked g is
+no_next n g is = cc
 
 pub next_above : (n g : ℕ) → Some (n + 1) ≡ Some g → n < g
 next_above n g is = let same : n + 1 ≡ g = ap (λ o. unwrap_or o 0) is in omega (arith, same)

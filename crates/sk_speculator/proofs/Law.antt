@@ -22,9 +22,6 @@ same_events (Does e ∷ cs) = ap (λ es. e ∷ es) (same_events cs)
 same_events (Tells t output ∷ cs) = same_events cs
 same_events (Returns g ∷ cs) = same_events cs
 
-none_number : {P : Type 0} (g : ℕ) → None ≡ Some g → P
-none_number g is = cc
-
 module _ {K V O F N : Type 0} (own : System K V (ℕ × O) F N) where
   -- where an event leads
   pub record Goes (a : Parts K V O) (status : ℕ → Option Status) (e : Event N) (b : Parts K V O) : Type 0 where
@@ -33,7 +30,7 @@ module _ {K V O F N : Type 0} (own : System K V (ℕ × O) F N) where
     pub moves : Moves own (machine_of own.order a status) e (machine_of own.order b later)
 
   fresh : (a : Parts K V O) (status : ℕ → Option Status) (mark : Option ℕ) → AreStatuses a.guesses a.opens status → (mark ≡ None) ⊎ (mark ≡ Some (next_of a.guesses)) → IsNext (machine_of own.order a status) mark
-  fresh a status mark are (inl none) g h is le = none_number g (sym none ∙ is)
+  fresh a status mark are (inl none) g h is le = cc
   fresh a status mark are (inr next) g h is le =
       let same : next_of a.guesses ≡ g = ap (λ o. unwrap_or o 0) (sym next ∙ is) in
       are.fresh h (omega (arith, same, le))

@@ -88,12 +88,9 @@ performed_settled R old mid new tags ws look log did = record {
   logs = λ q. subst (Merges [] (log_at R old q ++ noted (is_in R (keys_of ws) q) tags (look_at R old q) [])) (sym (log q)) (did.logs q);
 }
 
-or_none : (b : Bool) → (b || false) ≡ b
-or_none true = refl
-or_none false = refl
-
 pub none_more : (b : Bool) → b ≡ (b || false)
-none_more b = sym (or_none b)
+none_more true = refl
+none_more false = refl
 
 -- what holds of the first and of one more holds of those
 pub either_key : {K : Type 0} {R : K → K → Ordering} → IsAntisymmetric R → (P : K → Type 0) (b : Bool) (q e : K) → (b || eq_by_cmp R q e) ≡ true → (b ≡ true → P q) → P e → P q

@@ -1,6 +1,6 @@
 -- Where no guess is undecided, what comes later is as it would be from the state there.
-use Rattle.sk_kernel.proofs.Names.{◌≡◌, ℕ, ◌<◌, ◌≤◌, length, Bool, true, false, ◌||◌, List, [], ◌∷◌, ◌++◌, Option}
-use Rattle.sk_kernel.proofs.Names.{Some, None, inl, inr, IsOk, refl, sym, ◌∙◌, ap, subst, arith, append_assoc, filter}
+use Rattle.sk_kernel.proofs.Names.{◌≡◌, ℕ, ◌<◌, ◌≤◌, length, Bool, true, false, ◌||◌, List, [], ◌∷◌, ◌++◌, Option, Some}
+use Rattle.sk_kernel.proofs.Names.{None, inl, inr, IsOk, refl, sym, ◌∙◌, ap, subst, arith, append_assoc, filter}
 use Rattle.sk_kernel.proofs.Names.{list_any, fold, Ordering, IsTotalOrder, FinMap, IsAntisymmetric, or_parts, or_left}
 use Rattle.sk_kernel.proofs.Names.{or_right, or_from, false≢true, false_from_ne_true, Contains-append_left}
 use Rattle.sk_kernel.proofs.Names.{Contains-append_right, Contains-append_cases, list_any-append, MarkedEffect, is_in}
@@ -13,8 +13,7 @@ use Rattle.sk_kernel.proofs.Names.{trail_append, is_mark, is_commit, is_fail, dr
 use Rattle.sk_kernel.proofs.Names.{entries_are, record_more, each_event, sound_before, sound_first, sound_taken}
 use Rattle.sk_kernel.proofs.Names.{sound_commit, sound_fail, accepted_last, drawn_more, undecided_is, tests, status_by}
 use Rattle.sk_kernel.proofs.Names.{status_is, next_epoch, either_is, recorded_more, tags_from, machine_stands}
-use Rattle.sk_kernel.proofs.Names.{plain_run, machine_after}
-use Rattle.sk_kernel.proofs.Names.{any_no, filter_alike}
+use Rattle.sk_kernel.proofs.Names.{plain_run, machine_after, any_no, filter_alike}
 use Rattle.std.proofs.Common.{◌↔◌}
 use Rattle.sk_record.specs.Trace.{Event}
 use Rattle.sk_record.proofs.Statuses.{status_of}
@@ -41,24 +40,12 @@ strike_later K s (n ∷ ns) ms g none =
     (ap (λ xs. n ∷ xs) (strike_later K next ns ms g parts.1))
 
 stays : (c f h : Bool) → status_by (c || false) (f || false) (h || false) true ≡ or_since (status_by c f h true) None
-stays true f h = refl
-stays false true h = refl
-stays false false true = refl
-stays false false false = refl
+stays c f h = grind arith
 
 -- the status of a guess that was drawn in the first part or in the second, by the tests of both
 by_either : (c f h d k x m w : Bool) → (d ≡ false → (c ≡ false) × (f ≡ false) × (h ≡ false)) → (w ≡ false → (k ≡ false) × (x ≡ false) × (m ≡ false)) → (d ≡ true → w ≡ true → ⊥)
     → status_by (c || k) (f || x) (h || m) (d || w) ≡ or_since (status_by c f h d) (status_by k x m w)
-by_either c f h true k x m true one two apart = absurd (apart refl refl)
-by_either c f h true k x m false one two apart =
-    let none = two refl in
-    subst (λ k. status_by (c || k) (f || x) (h || m) true ≡ or_since (status_by c f h true) (status_by k x m false)) (sym none.0)
-    (subst (λ x. status_by (c || false) (f || x) (h || m) true ≡ or_since (status_by c f h true) (status_by false x m false)) (sym none.1)
-    (subst (λ m. status_by (c || false) (f || false) (h || m) true ≡ or_since (status_by c f h true) (status_by false false m false)) (sym none.2)
-    (stays c f h)))
-by_either c f h false k x m w one two apart =
-    let none = one refl in
-    (λ i. status_by (none.0 i || k) (none.1 i || x) (none.2 i || m) w) ∙ (λ i. or_since (status_by (sym none.0 i) (sym none.1 i) (sym none.2 i) false) (status_by k x m w))
+by_either c f h d k x m w one two apart = grind arith
 
 -- the computed tags of a sound trace are those of the relation
 tags_rest : {E V W F N : Type 0} (K : System E V W F N) → IsTotalOrder K.order → IsAntisymmetric K.order → (start : FinMap K.order V) (es : List (Event N)) → IsSound K start es

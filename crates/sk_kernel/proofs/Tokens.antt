@@ -1,63 +1,41 @@
 -- What a redeemed token says of its guess, and what stands after a decision and after a guess.
 use Rattle.sk_kernel.proofs.Names.{◌≡◌, ℕ, suc, ◌<◌, ◌≤◌, ◌+◌, length, Bool, true, false, cond, not, ◌||◌, List, []}
-use Rattle.sk_kernel.proofs.Names.{◌∷◌, ◌++◌, map, Option, Some, None, Ok, Err, inl, inr, refl, sym, ◌∙◌, ap, subst}
-use Rattle.sk_kernel.proofs.Names.{arith, ◌==◌, nat_le, nat_lt, filter, false_from_ne_true, true≢false, eqb-true}
-use Rattle.sk_kernel.proofs.Names.{eq-eqb, or_cases, or_parts, length-set, has, without, Open, numbers, Fails, rests_on}
-use Rattle.sk_kernel.proofs.Names.{MergedTakes, MergedCommits, Status, Undecided, Committed, Failed, Struck, LAST_GUESS}
-use Rattle.sk_kernel.proofs.Names.{GUESS_LIMIT, Token, GuessesView, status_of, status_since, decided, drawn, next_of}
-use Rattle.sk_kernel.proofs.Names.{is_full, redeemed, redeemed_at, Input, Event, plain, TooMany, Parts, machine_of}
-use Rattle.sk_kernel.proofs.Names.{KernelView, HasStatus, events_of, next_guess, with_event, too_many, IsNew}
-use Rattle.sk_kernel.proofs.Names.{IsStranger, DecisionPost, IsWhole, StatusOr, beyond, entity_total, entity_exact}
-use Rattle.sk_kernel.proofs.Names.{shorter}
+use Rattle.sk_kernel.proofs.Names.{◌∷◌, ◌++◌, map, Option, Some, None, Ok, Err, refl, sym, ◌∙◌, ap, subst, arith, ◌==◌}
+use Rattle.sk_kernel.proofs.Names.{nat_le, nat_lt, filter, false_from_ne_true, true≢false, eq-eqb, length-set, has}
+use Rattle.sk_kernel.proofs.Names.{without, Open, numbers, Fails, rests_on, MergedTakes, MergedCommits, Status}
+use Rattle.sk_kernel.proofs.Names.{Undecided, Committed, Failed, Struck, LAST_GUESS, GUESS_LIMIT, Token, GuessesView}
+use Rattle.sk_kernel.proofs.Names.{status_of, status_since, decided, drawn, next_of, is_full, redeemed, redeemed_at}
+use Rattle.sk_kernel.proofs.Names.{Input, Event, plain, TooMany, Parts, machine_of, KernelView, HasStatus, events_of}
+use Rattle.sk_kernel.proofs.Names.{next_guess, with_event, too_many, IsNew, IsStranger, DecisionPost, IsWhole, StatusOr}
+use Rattle.sk_kernel.proofs.Names.{beyond, entity_total, entity_exact, shorter}
 use Rattle.sk_guesses.specs.declared.guess.Redeemed.TheVariants as redeemed_as
 use Rattle.sk_trace.specs.declared.event.Event.TheVariants as events
 use Rattle.sk_kernel.specs.declared.kernel.Outcome.TheVariants as outcomes
-use Rattle.sk_kernel.proofs.Whole.{status_is, undecided_since, open_undecided, undecided_counted, stands_committed, stands_failed, stands_guessed, drawn_below, after_event, stands_more, stands_after, last_after_event, earlier_long}
+use Rattle.sk_kernel.proofs.Whole.{status_is, undecided_since, open_undecided, undecided_counted, stands_committed}
+use Rattle.sk_kernel.proofs.Whole.{stands_failed, stands_guessed, drawn_below, after_event, stands_more, stands_after}
+use Rattle.sk_kernel.proofs.Whole.{last_after_event, earlier_long}
 use Rattle.sk_record.proofs.Merged as merged
+use Rattle.std.proofs.lemmas.Bool.Decides.{nat_tests}
 
 -- ---- what a redeemed token says
 
 undecided_there : (o : Option Status) (t : Token) (id : ℕ) → redeemed_at o t ≡ Ok (redeemed_as.Undecided id) → (o ≡ Some Undecided) × (id ≡ t.id)
-undecided_there None t id is = cc
-undecided_there (Some Undecided) t id is = (refl, cc)
-undecided_there (Some Committed) t id is = cc
-undecided_there (Some Failed) t id is = cc
-undecided_there (Some Struck) t id is = cc
+undecided_there o t id is = grind arith
 
 struck_there : (o : Option Status) (t : Token) (id : ℕ) → redeemed_at o t ≡ Ok (redeemed_as.Struck id) → o ≡ Some Struck
-struck_there None t id is = cc
-struck_there (Some Undecided) t id is = cc
-struck_there (Some Committed) t id is = cc
-struck_there (Some Failed) t id is = cc
-struck_there (Some Struck) t id is = refl
+struck_there o t id is = grind arith
 
 back_there : (o : Option Status) (t g : Token) → redeemed_at o t ≡ Err g → (g ≡ t) × (o ≡ Some Undecided → ⊥) × (o ≡ Some Struck → ⊥)
-back_there None t g is = (cc, (λ h. cc), λ h. cc)
-back_there (Some Undecided) t g is = cc
-back_there (Some Committed) t g is = (cc, (λ h. cc), λ h. cc)
-back_there (Some Failed) t g is = (cc, (λ h. cc), λ h. cc)
-back_there (Some Struck) t g is = cc
+back_there o t g is = grind arith
 
 undecided_told : (v : GuessesView) (t : Token) (id : ℕ) → redeemed v t ≡ Ok (redeemed_as.Undecided id) → (t.kernel ≡ v.kernel) × (status_of v t.id ≡ Some Undecided) × (id ≡ t.id)
-undecided_told v t id is =
-    elim (t.kernel == v.kernel) as (λ b. (t.kernel == v.kernel) ≡ b → cond b (redeemed_at (status_of v t.id) t) (Err t) ≡ Ok (redeemed_as.Undecided id) → (t.kernel ≡ v.kernel) × (status_of v t.id ≡ Some Undecided) × (id ≡ t.id)) [
-      | true ↦ λ same here. let there = undecided_there (status_of v t.id) t id here in (eqb-true t.kernel v.kernel same, there.0, there.1)
-      | false ↦ λ other here. cc
-    ] refl is
+undecided_told v t id is = grind (arith, nat_tests, undecided_there (status_of v t.id) t id)
 
 struck_told : (v : GuessesView) (t : Token) (id : ℕ) → redeemed v t ≡ Ok (redeemed_as.Struck id) → (t.kernel ≡ v.kernel) × (status_of v t.id ≡ Some Struck)
-struck_told v t id is =
-    elim (t.kernel == v.kernel) as (λ b. (t.kernel == v.kernel) ≡ b → cond b (redeemed_at (status_of v t.id) t) (Err t) ≡ Ok (redeemed_as.Struck id) → (t.kernel ≡ v.kernel) × (status_of v t.id ≡ Some Struck)) [
-      | true ↦ λ same here. (eqb-true t.kernel v.kernel same, struck_there (status_of v t.id) t id here)
-      | false ↦ λ other here. cc
-    ] refl is
+struck_told v t id is = grind (arith, nat_tests, struck_there (status_of v t.id) t id)
 
 back_told : (v : GuessesView) (t g : Token) → redeemed v t ≡ Err g → (g ≡ t) × (t.kernel ≡ v.kernel → (status_of v t.id ≡ Some Undecided → ⊥) × (status_of v t.id ≡ Some Struck → ⊥))
-back_told v t g is =
-    elim (t.kernel == v.kernel) as (λ b. (t.kernel == v.kernel) ≡ b → cond b (redeemed_at (status_of v t.id) t) (Err t) ≡ Err g → (g ≡ t) × (t.kernel ≡ v.kernel → (status_of v t.id ≡ Some Undecided → ⊥) × (status_of v t.id ≡ Some Struck → ⊥))) [
-      | true ↦ λ same here. let there = back_there (status_of v t.id) t g here in (there.0, λ _. (there.1, there.2))
-      | false ↦ λ other here. (cc, λ same. absurd (true≢false (sym (eq-eqb t.kernel v.kernel same) ∙ other)))
-    ] refl is
+back_told v t g is = grind (arith, nat_tests, back_there (status_of v t.id) t g)
 
 module _ (k : KernelView) (m : Parts) (place : ℕ) (whole : IsWhole k m place) (t : Token) where
   undecided_token : (id : ℕ) → redeemed m.guesses t ≡ Ok (redeemed_as.Undecided id) → (t.kernel ≡ k.number) × HasStatus k t.id Undecided × (id ≡ t.id)
@@ -91,16 +69,7 @@ module _ (k : KernelView) (m : Parts) (place : ℕ) (whole : IsWhole k m place) 
 
 fewer : (p : Open → Bool) (os : List Open) (g : ℕ) → has g (numbers os) ≡ true → has g (numbers (filter p os)) ≡ false → length (filter p os) + 1 ≤ length os
 fewer p [] g here gone = absurd (true≢false (sym here))
-fewer p (o ∷ os) g here gone =
-    let rest = shorter p os in
-    elim (p o) as (λ b. has g (numbers (cond b (o ∷ filter p os) (filter p os))) ≡ false → length (cond b (o ∷ filter p os) (filter p os)) + 1 ≤ suc (length os)) [
-      | true ↦ λ none. let parts = or_parts (o.0 == g) (has g (numbers (filter p os))) none in
-          elim (or_cases (o.0 == g) (has g (numbers os)) here) [
-            | inl is ↦ absurd (true≢false (sym is ∙ parts.0))
-            | inr later ↦ let less = fewer p os g later parts.1 in omega (arith, less)
-          ]
-      | false ↦ λ none. omega (arith, rest)
-    ] gone
+fewer p (o ∷ os) g here gone = let rest = shorter p os in grind (arith, fewer p os g)
 
 numbers_without : (g : ℕ) (os : List Open) → numbers (map (λ o. (o.0, without g o.1)) os) ≡ numbers os
 numbers_without g [] = refl

@@ -1,16 +1,14 @@
 -- What an accepted step writes has its values and its tags, what it does not write keeps its own; and a failed guess is no tag.
-use Rattle.sk_kernel.proofs.Names.{◌≡◌, ℕ, true, false, ◌||◌, ◌&&◌, List, [], ◌∷◌, ◌++◌, map, Option, Some, None, Ok}
-use Rattle.sk_kernel.proofs.Names.{inl, inr, refl, sym, ◌∙◌, ap, list_any, Contains, eq_by_cmp, IsTotalOrder, FinMap}
-use Rattle.sk_kernel.proofs.Names.{get, IsAntisymmetric, or_cases, or_left, or_right, true≢false, false_from_ne_true}
-use Rattle.sk_kernel.proofs.Names.{append-nil, Contains-push, list_any-append, Effect, MarkedEffect, is_in, is_marked}
-use Rattle.sk_kernel.proofs.Names.{touches, written_value, System, marked_effect, outcome, run, Note, has, noted}
-use Rattle.sk_kernel.proofs.Names.{last_tags, Undecided, Taken, Fail, StatusIs, IsTagOf, IsAllowed, IsSound, record_of}
-use Rattle.sk_kernel.proofs.Names.{all_recorded, no_record, deps, marks, UndoState, IsTidy, numbers, is_tag, step_tags}
-use Rattle.sk_kernel.proofs.Names.{Machine, RepresentsTrace, took_by, machine_after, in_from, has_filter, tidy_clean}
-use Rattle.sk_kernel.proofs.Names.{same_outcome, stands_taken, machine_stands, plain_run, sound_fail, tags_are, tidy_of}
-use Rattle.sk_kernel.proofs.Names.{written_other}
-use Rattle.sk_kernel.proofs.Names.{last_more}
-use Rattle.std.proofs.Common.{◌==◌}
+use Rattle.sk_kernel.proofs.Names.{◌≡◌, ℕ, true, false, ◌||◌, List, [], ◌∷◌, ◌++◌, map, Option, Ok, refl, sym, ◌∙◌, ap}
+use Rattle.sk_kernel.proofs.Names.{list_any, Contains, eq_by_cmp, IsTotalOrder, FinMap, get, IsAntisymmetric, or_right}
+use Rattle.sk_kernel.proofs.Names.{true≢false, false_from_ne_true, append-nil, Contains-push, list_any-append, Effect}
+use Rattle.sk_kernel.proofs.Names.{MarkedEffect, is_in, is_marked, touches, written_value, System, marked_effect}
+use Rattle.sk_kernel.proofs.Names.{outcome, run, Note, has, noted, last_tags, Undecided, Taken, Fail, StatusIs, IsTagOf}
+use Rattle.sk_kernel.proofs.Names.{IsAllowed, IsSound, record_of, all_recorded, no_record, deps, marks, UndoState}
+use Rattle.sk_kernel.proofs.Names.{IsTidy, numbers, is_tag, step_tags, Machine, RepresentsTrace, took_by, machine_after}
+use Rattle.sk_kernel.proofs.Names.{in_from, has_filter, tidy_clean, same_outcome, stands_taken, machine_stands}
+use Rattle.sk_kernel.proofs.Names.{plain_run, sound_fail, tags_are, tidy_of, written_other, last_more}
+use Rattle.std.proofs.Common.{◌==◌, arith}
 use Rattle.sk_record.specs.Trace.{Event}
 use Rattle.sk_record.specs.UndoState.{tags_at}
 
@@ -23,29 +21,18 @@ module _ {V : Type 0} where
 module _ {E V W : Type 0} (a : UndoState E V) (f : MarkedEffect E V W) (tidy : IsTidy a) (g : ℕ) where
   known_at : (es : List E) → list_any (λ e. has g (tags_at a e)) es ≡ true → has g (numbers a.opens) ≡ true
   known_at [] touched = absurd (true≢false (sym touched))
-  known_at (e ∷ es) touched =
-      elim (or_cases _ _ touched) [
-        | inl here ↦ tidy.known e g here
-        | inr later ↦ known_at es later
-      ]
+  known_at (e ∷ es) touched = grind (arith, tidy.known e g, known_at es)
 
   marked_here : (mark : Option ℕ) → is_marked mark g ≡ true → has g (marks mark) ≡ true
-  marked_here None is = absurd (true≢false (sym is))
-  marked_here (Some h) is = or_left _ _ is
+  marked_here mark is = grind arith
 
   is_known : is_tag a f g ≡ true → has g (numbers a.opens ++ marks f.mark) ≡ true
   is_known is =
-      list_any-append (λ t. t == g) (numbers a.opens) (marks f.mark)
-      ∙ elim (or_cases _ _ is) [
-        | inl own ↦ or_right _ _ (marked_here f.mark own)
-        | inr touched ↦ or_left _ _ (known_at (touches f) touched)
-      ]
+      grind (arith, list_any-append (λ t. t == g) (numbers a.opens) (marks f.mark), marked_here f.mark, known_at (touches f))
 
   -- a step rests on what something that it touches rests on, and on its own guess
   in_step_tags : has g (step_tags a f) ≡ is_tag a f g
-  in_step_tags =
-      has_filter (is_tag a f) g (numbers a.opens ++ marks f.mark)
-      ∙ elim (is_tag a f g) as (λ b. is_tag a f g ≡ b → (b && has g (numbers a.opens ++ marks f.mark)) ≡ b) [ true ↦ λ is. is_known is | false ↦ λ _. refl ] refl
+  in_step_tags = grind (arith, is_known, has_filter (is_tag a f) g (numbers a.opens ++ marks f.mark))
 
 module _ {E V W F N : Type 0} (K : System E V W F N) (total : IsTotalOrder K.order) (exact : IsAntisymmetric K.order) (start : FinMap K.order V) where
   -- the tags of an entity, computed on the trace

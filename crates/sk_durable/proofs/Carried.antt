@@ -19,11 +19,7 @@ alone asked = record asked { batch = None }
 -- its deed looks at no batch's key
 deed_alone : (asked : Asked) (kernel : Kernel) → asked.batch ≡ None
     → deed_now kernel (alone asked) ≡ deed (Runs asked) (has_now kernel)
-deed_alone asked kernel none = λ i. record {
-  looked = looks_at asked.known asked.work ++ batch_keys (sym none i);
-  written = (comes_to asked.known asked.work (has_now kernel)).written;
-  said = Some (asked.channel, (asked.ticket, (comes_to asked.known asked.work (has_now kernel)).reply));
-}
+deed_alone asked kernel none = ap (λ b. deed (Runs (record asked { batch = b })) (has_now kernel)) (sym none)
 
 -- and that of work of a batch looks at its key last
 deed_in : (asked : Asked) (kernel : Kernel) (n : ℕ) → asked.batch ≡ Some n
@@ -34,11 +30,7 @@ deed_in asked kernel n some =
       written = (comes_to asked.known asked.work (has_now kernel)).written;
       said = Some (asked.channel, (asked.ticket, (comes_to asked.known asked.work (has_now kernel)).reply));
     })
-    ∙ (λ i. record {
-      looked = looks_at asked.known asked.work ++ batch_keys (sym some i);
-      written = (comes_to asked.known asked.work (has_now kernel)).written;
-      said = Some (asked.channel, (asked.ticket, (comes_to asked.known asked.work (has_now kernel)).reply));
-    })
+    ∙ ap (λ b. deed (Runs (record asked { batch = b })) (has_now kernel)) (sym some)
 
 -- the keys that are there are known
 proper : (kernel : Kernel) (status : ℕ → Option Status) (asked : Asked) → names_reserved asked.work ≡ false

@@ -227,6 +227,14 @@ module _ (c : Cut) where
 
   -- ---- batches
 
+  none_below : (b : Batch) → c.frame ≤ b.frame → filter (is_below c.frame) (placed b) ≡ []
+  none_below b from =
+      elim (is_taken b.stage) as
+      (λ t. filter (is_below c.frame) (cond t (in_frame b.frame (marked b.number b.records)) []) ≡ []) [
+        | true ↦ frame_above b.frame c.frame (marked b.number b.records) from
+        | false ↦ refl
+      ]
+
   placed_into : (b a : Batch) → CutInto c b a → filter (is_below c.frame) (placed b) ≡ placed a
   placed_into b a (inl (less, x)) =
       elim (is_taken b.stage) as
@@ -235,18 +243,8 @@ module _ (c : Cut) where
         | true ↦ frame_below b.frame c.frame (marked b.number b.records) less
         | false ↦ refl
       ] ∙ sym (ap placed x)
-  placed_into b a (inr (inl (same, x))) =
-      elim (is_taken b.stage) as
-      (λ t. filter (is_below c.frame) (cond t (in_frame b.frame (marked b.number b.records)) []) ≡ []) [
-        | true ↦ frame_above b.frame c.frame (marked b.number b.records) (omega arith)
-        | false ↦ refl
-      ] ∙ sym (ap placed x)
-  placed_into b a (inr (inr (more, x))) =
-      elim (is_taken b.stage) as
-      (λ t. filter (is_below c.frame) (cond t (in_frame b.frame (marked b.number b.records)) []) ≡ []) [
-        | true ↦ frame_above b.frame c.frame (marked b.number b.records) (omega arith)
-        | false ↦ refl
-      ] ∙ sym (ap placed x)
+  placed_into b a (inr (inl (same, x))) = none_below b (omega arith) ∙ sym (ap placed x)
+  placed_into b a (inr (inr (more, x))) = none_below b (omega arith) ∙ sym (ap placed x)
 
   placed_cut : (bs : List Batch) → filter (is_below c.frame) (flat_map placed bs) ≡ flat_map placed (map (cut_off c) bs)
   placed_cut [] = refl

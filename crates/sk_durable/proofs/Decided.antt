@@ -1,5 +1,6 @@
 -- A batch is decided, or sent: what that is to the machine of records.
-use Rattle.sk_durable.proofs.Names.{◌≡◌, ℕ, true, false, [], ◌∷◌, ◌++◌, Option, Some, refl, sym, ◌∙◌, ap, subst}
+use Rattle.sk_durable.proofs.Names.{◌≡◌, ℕ, Bool, true, false, List, [], ◌∷◌, ◌++◌, Option, Some, refl, sym, ◌∙◌, ap}
+use Rattle.sk_durable.proofs.Names.{subst, filter, moves_of, Logs, StoreCalls}
 use Rattle.sk_durable.proofs.Names.{slice_index_or, remove, Commit, Fail, with_failure, with_status, Status, Token}
 use Rattle.sk_durable.proofs.Names.{open_is, Moves, bytes_cmp, Commits, FailsIn, after_take, left, Decision, open_if}
 use Rattle.sk_durable.proofs.Names.{tokens_of, IsInStep, batch_of, decided_first, oldest_committed, oldest_failed}
@@ -8,7 +9,7 @@ use Rattle.sk_record.specs.declared.status.Status.TheVariants as status_as
 use Rattle.sk_deeds.specs.Told.{Does}
 use Rattle.sk_batches.specs.Queue.{decided}
 use Rattle.sk_batches.specs.declared.queue.Decision.TheVariants as decision
-use Rattle.sk_durable.proofs.Machines.{Agree, machine, InStep, Led, Machine}
+use Rattle.sk_durable.proofs.Machines.{is_decision, Agree, machine, InStep, Led, Machine, Move}
 
 module _ (told : Out) (a : StoreView) (status : ℕ → Option Status)
     (are : Agree a.batched.kernel status) (known : InStep a.batched)
@@ -25,32 +26,39 @@ module _ (told : Out) (a : StoreView) (status : ℕ → Option Status)
       ∙ ap (λ ns. tokens_of a.batched.kernel.parts.guesses.kernel
       (ns ++ open_if a.batched.begun a.batched.queue.number)) (decided_first a.batched.queue.batches d decides)))
 
+  -- no command is carried out
+  led_to : (moves : List Move) (later : ℕ → Option Status) → Agree s.batched.kernel later
+      → StoreCalls told x moves told (machine s.batched.kernel later)
+      → Logs served told x moves [] told (machine s.batched.kernel later)
+      → (tokens : List Token) (begun : Bool) → IsInStep s.batched.kernel.parts s.batched.queue begun tokens
+      → s.batched.begun ≡ begun → Led told told x [] (filter is_decision (moves_of moves)) s
+  led_to moves later agrees calls logs tokens begun known is = record {
+    moves = moves;
+    log = [];
+    status = later;
+    agrees = agrees;
+    calls = calls;
+    logs = logs;
+    known = (tokens, subst (λ e. IsInStep s.batched.kernel.parts s.batched.queue e tokens) (sym is) known);
+    quiet = tt;
+    commands_are = refl;
+    decides_are = refl;
+  }
+
   pub logged : (n : ℕ) → decided a.batched.queue.batches ≡ Some (decision.Logged n)
       → Commits bytes_cmp a.batched.kernel.parts n s.batched.kernel.parts
       → s.batched.queue ≡ record a.batched.queue { batches = left a.batched.queue.batches }
       → s.batched.begun ≡ a.batched.begun → Led told told x [] (Commit n ∷ []) s
   logged n decides commits queue begun =
       let later = with_status n status_as.Committed status in
-      let goes : Moves served x (Commit n) (machine s.batched.kernel later) =
+      let next = machine s.batched.kernel later in
+      let goes : Moves served x (Commit n) next =
       (open_is (status n) (sym (are.undecided n) ∙ commits.undecided), commits.commits status are) in
-      record {
-        moves = Does (Commit n) ∷ [];
-        log = [];
-        status = later;
-        agrees = commits.agrees status are;
-        calls = (machine s.batched.kernel later, tt, goes, (refl, refl));
-        logs = (machine s.batched.kernel later, [], [], refl, goes, refl, (refl, refl, refl));
-        known = (
-          remove known.0 0,
-          subst (λ e. IsInStep s.batched.kernel.parts s.batched.queue e (remove known.0 0)) (sym begun)
-              (oldest_committed a.batched.kernel.parts a.batched.queue a.batched.begun known.0 (remove known.0 0)
-              (t_of n) known.1 (decision.Logged n) decides
-              (first_token (decision.Logged n) decides) refl s.batched.kernel.parts s.batched.queue queue commits),
-        );
-        quiet = tt;
-        commands_are = refl;
-        decides_are = refl;
-      }
+      led_to (Does (Commit n) ∷ []) later (commits.agrees status are) (next, tt, goes, (refl, refl))
+      (next, [], [], refl, goes, refl, (refl, refl, refl)) (remove known.0 0) a.batched.begun
+      (oldest_committed a.batched.kernel.parts a.batched.queue a.batched.begun known.0 (remove known.0 0)
+      (t_of n) known.1 (decision.Logged n) decides
+      (first_token (decision.Logged n) decides) refl s.batched.kernel.parts s.batched.queue queue commits) begun
 
   pub refused : (n : ℕ) → decided a.batched.queue.batches ≡ Some (decision.Refused n)
       → FailsIn bytes_cmp a.batched.kernel.parts n s.batched.kernel.parts
@@ -58,26 +66,14 @@ module _ (told : Out) (a : StoreView) (status : ℕ → Option Status)
       → s.batched.begun ≡ a.batched.begun → Led told told x [] (Fail n ∷ []) s
   refused n decides fails queue begun =
       let later = with_failure n a.batched.kernel.parts.opens status in
-      let goes : Moves served x (Fail n) (machine s.batched.kernel later) =
+      let next = machine s.batched.kernel later in
+      let goes : Moves served x (Fail n) next =
       (open_is (status n) (sym (are.undecided n) ∙ fails.undecided), fails.fails status are) in
-      record {
-        moves = Does (Fail n) ∷ [];
-        log = [];
-        status = later;
-        agrees = fails.agrees status are;
-        calls = (machine s.batched.kernel later, tt, goes, (refl, refl));
-        logs = (machine s.batched.kernel later, [], [], refl, goes, refl, (refl, refl, refl));
-        known = (
-          remove known.0 0,
-          subst (λ e. IsInStep s.batched.kernel.parts s.batched.queue e (remove known.0 0)) (sym begun)
-              (oldest_failed a.batched.kernel.parts a.batched.queue a.batched.begun known.0 (remove known.0 0)
-              (t_of n) known.1 (decision.Refused n) decides
-              (first_token (decision.Refused n) decides) refl s.batched.kernel.parts s.batched.queue queue fails),
-        );
-        quiet = tt;
-        commands_are = refl;
-        decides_are = refl;
-      }
+      led_to (Does (Fail n) ∷ []) later (fails.agrees status are) (next, tt, goes, (refl, refl))
+      (next, [], [], refl, goes, refl, (refl, refl, refl)) (remove known.0 0) a.batched.begun
+      (oldest_failed a.batched.kernel.parts a.batched.queue a.batched.begun known.0 (remove known.0 0)
+      (t_of n) known.1 (decision.Refused n) decides
+      (first_token (decision.Refused n) decides) refl s.batched.kernel.parts s.batched.queue queue fails) begun
 
   -- the open batch is sent, whose guess is drawn
   pub sent : a.batched.begun ≡ true → s.batched.kernel ≡ a.batched.kernel → s.batched.queue ≡ after_take a.batched.queue
@@ -86,20 +82,7 @@ module _ (told : Out) (a : StoreView) (status : ℕ → Option Status)
       let at : IsInStep a.batched.kernel.parts (after_take a.batched.queue) false known.0 =
       taken a.batched.kernel.parts a.batched.queue known.0
       (subst (λ e. IsInStep a.batched.kernel.parts a.batched.queue e known.0) opened known.1) in
-      record {
-        moves = [];
-        log = [];
-        status = status;
-        agrees = subst (λ (k : Kernel). Agree k status) (sym kernel) are;
-        calls = (refl, ap (λ (k : Kernel). machine k status) (sym kernel));
-        logs = (refl, refl, ap (λ (k : Kernel). machine k status) (sym kernel));
-        known = (
-          known.0,
-          subst (λ e. IsInStep s.batched.kernel.parts s.batched.queue e known.0) (sym begun)
-              (subst (λ q. IsInStep s.batched.kernel.parts q false known.0) (sym queue)
-              (subst (λ (k : Kernel). IsInStep k.parts (after_take a.batched.queue) false known.0) (sym kernel) at)),
-        );
-        quiet = tt;
-        commands_are = refl;
-        decides_are = refl;
-      }
+      let same : x ≡ machine s.batched.kernel status = ap (λ (k : Kernel). machine k status) (sym kernel) in
+      led_to [] status (subst (λ (k : Kernel). Agree k status) (sym kernel) are) (refl, same) (refl, refl, same) known.0 false
+      (subst (λ q. IsInStep s.batched.kernel.parts q false known.0) (sym queue)
+      (subst (λ (k : Kernel). IsInStep k.parts (after_take a.batched.queue) false known.0) (sym kernel) at)) begun

@@ -1,5 +1,5 @@
 -- What each call leaves of the frames and of the commands in them.
-use Rattle.sk_durable.proofs.Names.{sent_number, ◌≡◌, ℕ, ◌<◌, ◌≤◌, true, false, cond, not, List, [], ◌∷◌, ◌++◌}
+use Rattle.sk_durable.proofs.Names.{sent_number, ◌≡◌, ℕ, ◌<◌, ◌≤◌, Bool, true, false, cond, not, List, [], ◌∷◌, ◌++◌}
 use Rattle.sk_durable.proofs.Names.{flat_map, map, inl, inr, refl, sym, ◌∙◌, ap, subst, append_assoc, length-append}
 use Rattle.sk_durable.proofs.Names.{arith, ◌⊎◌, ◌==◌, filter, Contains, true≢false, false≢true, append-nil, map-append}
 use Rattle.sk_durable.proofs.Names.{flat_map-append, filter-append, All-contains, All-from_recursion}
@@ -122,6 +122,29 @@ module _ (first : ℕ) (cm : List Command) (ds : List (Event Entry)) (log : List
 
   -- ---- a frame is taken
 
+  -- what lies below the numbers, or the frames, of all batches does so then
+  above_sent : (n : ℕ) → n < q.number → ((b : Batch) → Contains q.batches b → n < b.number)
+      → (d : Batch) → Contains (after_take q).batches d → n < d.number
+  above_sent n newest under d there = elim (of_sent q d there) [
+    | inl old ↦ let less = under old.0 old.1 in
+        let same : old.0.number ≡ d.number = sym (sent_number q.frame old.0)
+        ∙ ap (λ (b : Batch). b.number) old.2 in omega (arith, less, same)
+    | inr last ↦ let same = ap (λ (b : Batch). b.number) last in omega (arith, newest, same)
+  ]
+
+  later_sent : (P : Stage → Bool) (n : ℕ) → n < q.frame
+      → ((b : Batch) → Contains q.batches b → P b.stage ≡ true → n < b.frame)
+      → (d : Batch) → Contains (after_take q).batches d → P d.stage ≡ true → n < d.frame
+  later_sent P n less before d there holds = elim (of_sent q d there) [
+    | inl old ↦ elim (is_kept old.0.stage) as
+        (λ t. cond t (record old.0 { frame = q.frame; stage = Sent }) old.0 ≡ d → n < d.frame) [
+          | true ↦ λ is. subst (λ m. n < m) (ap (λ (b : Batch). b.frame) is) less
+          | false ↦ λ is. subst (λ m. n < m) (ap (λ (b : Batch). b.frame) is)
+              (before old.0 old.1 (ap (λ (b : Batch). P b.stage) is ∙ holds))
+        ] old.2
+    | inr last ↦ subst (λ m. n < m) (ap (λ (b : Batch). b.frame) last) less
+  ]
+
   pub with_sent : AreDense first q.frame q.number q.batches
       → HasFrames first cm ds (log ++ next_records q ∷ []) told (after_take q)
   with_sent dense =
@@ -146,30 +169,9 @@ module _ (first : ℕ) (cm : List Command) (ds : List (Event Entry)) (log : List
             let lt = lower y at in
             record {
               newest = omega (arith, was.newest);
-              number = λ d there. elim (of_sent q d there) [
-                | inl old ↦ let under = was.number old.0 old.1 in
-                    let same : old.0.number ≡ d.number = sym (sent_number q.frame old.0)
-                    ∙ ap (λ (b : Batch). b.number) old.2 in omega (arith, under, same)
-                | inr last ↦ let same = ap (λ (b : Batch). b.number) last in omega (arith, was.newest, same)
-              ];
-              waits = λ d there sends. elim (of_sent q d there) [
-                | inl old ↦ elim (is_kept old.0.stage) as
-                    (λ t. cond t (record old.0 { frame = q.frame; stage = Sent }) old.0 ≡ d → y.0 < d.frame) [
-                      | true ↦ λ is. subst (λ n. y.0 < n) (ap (λ (b : Batch). b.frame) is) lt
-                      | false ↦ λ is. subst (λ n. y.0 < n) (ap (λ (b : Batch). b.frame) is)
-                          (was.waits old.0 old.1 (ap (λ (b : Batch). is_sent b.stage) is ∙ sends))
-                    ] old.2
-                | inr last ↦ subst (λ n. y.0 < n) (ap (λ (b : Batch). b.frame) last) lt
-              ];
-              failed = λ d there fails. elim (of_sent q d there) [
-                | inl old ↦ elim (is_kept old.0.stage) as
-                    (λ t. cond t (record old.0 { frame = q.frame; stage = Sent }) old.0 ≡ d → y.0 < d.frame) [
-                      | true ↦ λ is. subst (λ n. y.0 < n) (ap (λ (b : Batch). b.frame) is) lt
-                      | false ↦ λ is. subst (λ n. y.0 < n) (ap (λ (b : Batch). b.frame) is)
-                          (was.failed old.0 old.1 (ap (λ (b : Batch). is_failed b.stage) is ∙ fails))
-                    ] old.2
-                | inr last ↦ subst (λ n. y.0 < n) (ap (λ (b : Batch). b.frame) last) lt
-              ];
+              number = above_sent y.1.0 was.newest was.number;
+              waits = later_sent is_sent y.0 lt was.waits;
+              failed = later_sent is_failed y.0 lt was.failed;
             };
         on_disk = so.on_disk;
         same = subst (λ gs. AreOf (living cm (failed_in ds ++ gs))
@@ -179,16 +181,7 @@ module _ (first : ℕ) (cm : List Command) (ds : List (Event Entry)) (log : List
             ∙ sym (append-nil (flat_map (λ xs. xs) (so.sent ++ xs ∷ [])))
             ∙ ap (λ zs. flat_map (λ xs. xs) (so.sent ++ xs ∷ []) ++ zs) (sym (none_unsent q))) so.same);
         below = so.below;
-        settled = λ n at.
-            let was = so.settled n at in (
-              omega (arith, was.0),
-              λ d there. elim (of_sent q d there) [
-                | inl old ↦ let under = was.1 old.0 old.1 in
-                    let same : old.0.number ≡ d.number = sym (sent_number q.frame old.0)
-                    ∙ ap (λ (b : Batch). b.number) old.2 in omega (arith, under, same)
-                | inr last ↦ let same = ap (λ (b : Batch). b.number) last in omega (arith, was.0, same)
-              ],
-            );
+        settled = λ n at. let was = so.settled n at in (omega (arith, was.0), above_sent n was.0 was.1);
       }
 
   -- ---- a frame is told of
@@ -205,6 +198,13 @@ module _ (first : ℕ) (cm : List Command) (ds : List (Event Entry)) (log : List
           | false ↦ λ here was. same was
         ] refl is
 
+    told_above : (n : ℕ) → ((b : Batch) → Contains q.batches b → n < b.number)
+        → (d : Batch) → Contains (map (tell frame stage) q.batches) d → n < d.number
+    told_above n under d there =
+        let old = from_map (tell frame stage) q.batches d there in
+        subst (λ m. n < m) (sym (told_number frame stage taken unkept stands old.0)
+        ∙ ap (λ (b : Batch). b.number) old.2) (under old.0 old.1)
+
     pub with_told : HasFrames first cm ds log more (after_word frame stage q)
     with_told = record {
       sent = so.sent;
@@ -216,10 +216,7 @@ module _ (first : ℕ) (cm : List Command) (ds : List (Event Entry)) (log : List
           let was = so.before y at in
           record {
             newest = was.newest;
-            number = λ d there.
-                let old = from_map (tell frame stage) q.batches d there in
-                subst (λ n. y.1.0 < n) (sym (told_number frame stage taken unkept stands old.0)
-                ∙ ap (λ (b : Batch). b.number) old.2) (was.number old.0 old.1);
+            number = told_above y.1.0 was.number;
             waits = λ d there sends.
                 let old = from_map (tell frame stage) q.batches d there in
                 told_is old.0 d old.2
@@ -239,14 +236,7 @@ module _ (first : ℕ) (cm : List Command) (ds : List (Event Entry)) (log : List
           (subst (λ zs. AreOf (living cm gone) (flat ++ (zs ++ marked q.number q.records)))
           (sym (all_told_unsent frame stage taken unkept stands q.batches)) so.same);
       below = so.below;
-      settled = λ n at.
-          let was = so.settled n at in (
-            was.0,
-            λ d there.
-                let old = from_map (tell frame stage) q.batches d there in
-                subst (λ m. n < m) (sym (told_number frame stage taken unkept stands old.0)
-                ∙ ap (λ (b : Batch). b.number) old.2) (was.1 old.0 old.1),
-          );
+      settled = λ n at. let was = so.settled n at in (was.0, told_above n was.1);
     }
 
   -- nothing is decided any more

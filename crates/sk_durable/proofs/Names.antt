@@ -158,6 +158,7 @@ pub use Rattle.sk_plain_store.proofs.Kept.{bytes_same, stays_in_order, holds_wri
 pub use Rattle.sk_plain_store.specs.Plain.{keys_of, Entries, held}
 pub use Rattle.sk_record.proofs.Machine.{has_filter}
 pub use Rattle.sk_record.proofs.Merged.{none_left, same_last}
+pub use Rattle.sk_record.proofs.Sound.{eqb_turned}
 pub use Rattle.sk_record.specs.Effects.{writes, MarkedEffect, is_marked, written_value, is_in}
 pub use Rattle.sk_record.specs.Machine.{Tagged, released, with_failure, with_status, released_if, with_drawn}
 pub use Rattle.sk_record.specs.Merged.{Merges, MergedTakes}

@@ -5,19 +5,18 @@ use Rattle.sk_durable.proofs.Names.{[], ◌∷◌, ◌++◌, map, Some, inl, inr
 use Rattle.sk_durable.proofs.Names.{slice_get, filter, Contains, option_map, true≢false, or_cases, false_from_ne_true}
 use Rattle.sk_durable.proofs.Names.{not_from_false, Contains-append_cases, Contains-append_left, Contains-append_right}
 use Rattle.sk_durable.proofs.Names.{list_any-append, slice_get-map, has, Event, failed_in, is_struck, kept, Batch}
-use Rattle.sk_durable.proofs.Names.{Stage, Synced, Refused, AreDense, IsBehind, decision_of, is_kept, is_refused}
+use Rattle.sk_durable.proofs.Names.{Stage, Synced, AreDense, IsBehind, is_kept, is_refused}
 use Rattle.sk_durable.proofs.Names.{is_taken, QueueView, RecordView, dense_at, of_all, Logged, log_text, Asked, Entry}
 use Rattle.sk_durable.proofs.Names.{Runs, Decides, Serves, carried, told_decided, frames, is_logged, stands, Command}
-use Rattle.sk_durable.proofs.Names.{HasDone, LoggedIsOnDisk, none-some, not-true}
+use Rattle.sk_durable.proofs.Names.{HasDone, LoggedIsOnDisk, not-true}
 use Rattle.std.specs.Prelude.{flat_map}
 use Rattle.sk_batches.specs.declared.queue.Decision.TheVariants as decision
-use Rattle.sk_batches.specs.Queue.{decided}
 use Rattle.sk_durable.proofs.Contained.{at_first, first_or_later, from_filter, from_flat, from_map, nothing_there}
 use Rattle.sk_durable.proofs.Contained.{to_filter, to_map, any_has, has_any, has_at}
 use Rattle.sk_durable.proofs.Frames.{in_frame, living, marked, next_marked, numbered, off, placed, unsent, HasFrames}
 use Rattle.sk_durable.proofs.Frames.{IsOf, Marked, Placed}
 use Rattle.sk_durable.proofs.Queued.{stands_densely, synced_upto}
-use Rattle.sk_durable.proofs.Records.{in_frames}
+use Rattle.sk_durable.proofs.Records.{in_frames, oldest_of}
 use Rattle.sk_durable.proofs.Served.{between}
 
 -- ---- lists
@@ -93,16 +92,6 @@ logs_it r asked n runs batch = ap is_logged runs ∙ ap is_some batch
 
 synced_kept : (s : Stage) → s ≡ Synced → (is_kept s ≡ false) × (is_refused s ≡ false)
 synced_kept s is = (ap is_kept is, ap is_refused is)
-
-stage_of : (s : Stage) (m n : ℕ) → decision_of s m ≡ Some (decision.Logged n) → (s ≡ Synced) × (m ≡ n)
-stage_of Synced m n is = (refl, cc)
-stage_of Refused m n is = cc
-stage_of s m n is = absurd (none-some (decision.Logged n) is)
-
-pub oldest_logged : (bs : List Batch) (n : ℕ) → decided bs ≡ Some (decision.Logged n)
-    → (b : Batch) × (rest : List Batch) × (bs ≡ b ∷ rest) × (b.stage ≡ Synced) × (b.number ≡ n)
-oldest_logged [] n is = absurd (none-some (decision.Logged n) is)
-oldest_logged (b ∷ bs) n is = let s = stage_of b.stage b.number n is in (b, bs, refl, s.0, s.1)
 
 module _ (first : ℕ) (commands : List Command) (decides : List (Event Entry)) (log : List (List RecordView))
     (told : List ℕ) (q : QueueView)
@@ -251,12 +240,12 @@ logged_is_on_disk limits next start cs s done batch logged =
     let m = served.0 in
     let q = m.batched.queue in
     let did : HasDone limits next start before m = record { first = done.first; new = done.new; serves = served.1 } in
-    let decision = served.2.1.0.0 in
-    let oldest = oldest_logged m.batched.queue.batches batch decision in
-    let b = oldest.0 in
+    let decides = served.2.1.0.0 in
+    let oldest = oldest_of m.batched.queue.batches (decision.Logged batch) decides in
+    let b = oldest.oldest in
     let dense = (stands_densely limits next start before m did).1 in
-    let here = subst (λ (xs : List Batch). Contains xs b) (sym oldest.2) (at_first b oldest.1) in
-    let placed = (dense_at next.frame q.frame q.number q.batches b dense here).1 (synced_kept b.stage oldest.3).0 in
+    let here = subst (λ (xs : List Batch). Contains xs b) (sym oldest.are) (at_first b oldest.others) in
+    let placed = (dense_at next.frame q.frame q.number q.batches b dense here).1 (synced_kept b.stage oldest.staged).0 in
     record {
       before = before;
       later = later;
@@ -264,10 +253,10 @@ logged_is_on_disk limits next start cs s done batch logged =
       frame = b.frame;
       from = placed.from;
       synced_are = λ n from upto.
-          synced_upto limits next start before m did b oldest.1 n oldest.2 oldest.3 from upto;
+          synced_upto limits next start before m did b oldest.others n oldest.are oldest.staged from upto;
       has_all = λ asked at is.
           let found = made_of (λ (r : Command). r.entry) (stands before) (Runs asked) at in
           frame_has next.frame (carried before) (told_decided before) (frames next.frame before) _ m.batched.queue
-          (in_frames limits next start before m did) dense b oldest.1 oldest.2 oldest.3
-          found.0 asked found.1 (sym found.2) (is ∙ ap (λ n. Some n) (sym oldest.4));
+          (in_frames limits next start before m did) dense b oldest.others oldest.are oldest.staged
+          found.0 asked found.1 (sym found.2) (is ∙ ap (λ n. Some n) (sym oldest.number));
     }

@@ -1,15 +1,15 @@
 -- The frames of the log have the logged commands, along all that a store does.
 use Rattle.sk_durable.proofs.Names.{◌≡◌, ℕ, ◌≤◌, Bool, true, false, cond, not, ◌||◌, ◌&&◌, List, [], ◌∷◌, ◌++◌, map}
 use Rattle.sk_durable.proofs.Names.{Option, Some, None, inl, inr, refl, sym, ◌∙◌, ap, subst, append_assoc, ◌==◌, filter}
-use Rattle.sk_durable.proofs.Names.{list_any, true≢false, eq-eqb, eqb-true, false_from_ne_true, or_right, append-nil}
-use Rattle.sk_durable.proofs.Names.{is_marked, has, Commit, Fail, is_struck, Batch, Stage, after_cut, after_take}
-use Rattle.sk_durable.proofs.Names.{after_word, decided_batch, decision_of, is_decided, is_refused, left, next_records}
-use Rattle.sk_durable.proofs.Names.{QueueView, RecordView, Logged, is_touched, Answer, log_text, may_write_some}
-use Rattle.sk_durable.proofs.Names.{Entries, Asked, Runs, Limits, Next, deed_now, Batches, IsTold, TakenIn, StoreView}
-use Rattle.sk_durable.proofs.Names.{Call, Connects, HangsUp, Frees, Hears, Carries, Declines, Tells, Drops, Refuses}
-use Rattle.sk_durable.proofs.Names.{Hands, Draws, Sends, Turns, Learns, Cuts, Stops, Decides, Rests, Does, Serves}
-use Rattle.sk_durable.proofs.Names.{carried, carried_by, decided, decided_by, failed, frames, frames_by, frames_from}
-use Rattle.sk_durable.proofs.Names.{synced, synced_by, synced_from, Command, HasDone, none-some, same_Some}
+use Rattle.sk_durable.proofs.Names.{list_any, true≢false, or_right, append-nil, is_marked, has, Commit, Event, Fail}
+use Rattle.sk_durable.proofs.Names.{is_struck, Batch, Decision, Stage, after_cut, after_take, after_word, batch_of}
+use Rattle.sk_durable.proofs.Names.{decided_batch, decision_of, is_decided, is_refused, left, next_records, Entry}
+use Rattle.sk_durable.proofs.Names.{eqb_turned, QueueView, RecordView, Logged, is_touched, Answer, log_text}
+use Rattle.sk_durable.proofs.Names.{may_write_some, Entries, Asked, Runs, Limits, Next, deed_now, Batches, IsTold}
+use Rattle.sk_durable.proofs.Names.{TakenIn, StoreView, Call, Connects, HangsUp, Frees, Hears, Carries, Declines, Tells}
+use Rattle.sk_durable.proofs.Names.{Drops, Refuses, Hands, Draws, Sends, Turns, Learns, Cuts, Stops, Decides, Rests}
+use Rattle.sk_durable.proofs.Names.{Does, Serves, carried, carried_by, decided, decided_by, failed, frames, frames_by}
+use Rattle.sk_durable.proofs.Names.{frames_from, synced, synced_by, synced_from, Command, HasDone, none-some, same_Some}
 use Rattle.std.specs.Prelude.{is_some}
 use Rattle.sk_batches.specs.declared.batch.Stage.TheVariants as stage_as
 use Rattle.sk_batches.specs.declared.queue.Decision.TheVariants as decision
@@ -43,39 +43,32 @@ decided_push cs c = decided_behind cs (c ∷ []) ∙ ap (λ es. decided cs ++ es
 
 -- ---- the oldest batch
 
-logged_stage : (s : Stage) (number n : ℕ) → decision_of s number ≡ Some (decision.Logged n) → (s ≡ stage_as.Synced)
-    × (number ≡ n)
-logged_stage stage_as.Synced number n is = (refl, cc)
-logged_stage s number n is = cc
+-- what is so of a batch of which this is decided
+abbrev pub stage_of : Decision → Stage
+stage_of (decision.Logged n) = stage_as.Synced
+stage_of (decision.Refused n) = stage_as.Refused
 
-refused_stage : (s : Stage) (number n : ℕ) → decision_of s number ≡ Some (decision.Refused n)
-    → (s ≡ stage_as.Refused) × (number ≡ n)
-refused_stage stage_as.Refused number n is = (refl, cc)
-refused_stage s number n is = cc
+decided_stage : (s : Stage) (number : ℕ) (d : Decision) → decision_of s number ≡ Some d → (s ≡ stage_of d)
+    × (number ≡ batch_of d)
+decided_stage stage_as.Synced number (decision.Logged n) is = (refl, cc)
+decided_stage stage_as.Refused number (decision.Refused n) is = (refl, cc)
+decided_stage s number d is = cc
 
-pub record IsOldest (bs : List Batch) (stage : Stage) (n : ℕ) : Type 0 where
+pub record IsOldest (bs : List Batch) (d : Decision) : Type 0 where
   pub oldest : Batch
   pub others : List Batch
   pub are : bs ≡ oldest ∷ others
-  pub staged : oldest.stage ≡ stage
-  pub number : oldest.number ≡ n
+  pub staged : oldest.stage ≡ stage_of d
+  pub number : oldest.number ≡ batch_of d
 
-oldest_logged : (bs : List Batch) (n : ℕ) → decided_batch bs ≡ Some (decision.Logged n) → IsOldest bs stage_as.Synced n
-oldest_logged [] n is = cc
-oldest_logged (b ∷ bs) n is = let at = logged_stage b.stage b.number n is in
-    record { oldest = b; others = bs; are = refl; staged = at.0; number = at.1 }
-
-oldest_refused : (bs : List Batch) (n : ℕ) → decided_batch bs ≡ Some (decision.Refused n)
-    → IsOldest bs stage_as.Refused n
-oldest_refused [] n is = cc
-oldest_refused (b ∷ bs) n is = let at = refused_stage b.stage b.number n is in
+pub oldest_of : (bs : List Batch) (d : Decision) → decided_batch bs ≡ Some d → IsOldest bs d
+oldest_of [] d is = cc
+oldest_of (b ∷ bs) d is = let at = decided_stage b.stage b.number d is in
     record { oldest = b; others = bs; are = refl; staged = at.0; number = at.1 }
 
 without_oldest : (b : Batch) (bs : List Batch) (stage : Stage) → b.stage ≡ stage → is_decided stage ≡ true
     → left (b ∷ bs) ≡ bs
 without_oldest b bs stage is decides = ap (λ t. cond t bs (b ∷ bs)) (ap is_decided is ∙ decides)
-
--- ---- nothing is done
 
 -- ---- a command's record
 
@@ -90,30 +83,18 @@ none_off (b ∷ bs) none =
       | false ↦ λ is. none_off bs is
     ] none
 
-with_true : (a b : Bool) → (a || true) ≡ (b || true)
-with_true true true = refl
-with_true true false = refl
-with_true false true = refl
-with_true false false = refl
-
-without : (a : Bool) → (a || false) ≡ ((a && true) || false)
-without true = refl
-without false = refl
+beside : (a b : Bool) → (a || b) ≡ ((a && not b) || b)
+beside true true = refl
+beside true false = refl
+beside false b = refl
 
 -- what is kept of a command
-abbrev ran : ℕ → Asked → Answer → List ℕ → Command
+abbrev pub ran : ℕ → Asked → Answer → List ℕ → Command
 ran t asked answer rests = record { entry = Runs asked; said = Some (t, (asked.ticket, answer)); rests = rests }
 
 -- what rests on a batch beside others
 own_beside : (t : Bool) (n g : ℕ) → (t || (n == g)) ≡ ((t && not (g == n)) || (n == g))
-own_beside t n g =
-    elim (n == g) as (λ b. (n == g) ≡ b → (t || b) ≡ ((t && not (g == n)) || b)) [
-      | true ↦ λ is. with_true t (t && not (g == n))
-      | false ↦ λ other.
-          let apart : (g == n) ≡ false = false_from_ne_true (g == n)
-          (λ same. true≢false (sym (eq-eqb n g (sym (eqb-true g n same))) ∙ other)) in
-          ap (λ b. t || b) refl ∙ without t ∙ ap (λ b. (t && not b) || false) (sym apart)
-    ] refl
+own_beside t n g = beside t (n == g) ∙ ap (λ b. (t && not b) || (n == g)) (eqb_turned n g)
 
 pub same_runs : (a b : Asked) → Runs a ≡ Runs b → a ≡ b
 same_runs a b is = cc
@@ -128,15 +109,11 @@ module _ (limits : Limits) (origin : Next) (start : Entries) (cs : List Call) (m
   After s c = HasFrames origin.frame (carried cs ++ carried_by c) (decided cs ++ decided_by c)
       (frames_by origin.frame c (frames origin.frame cs)) (synced_by c (synced cs)) s.batched.queue
 
-  -- the queue is as it was, and nothing was carried out or decided
-  idle : (p : QueueView) → p ≡ q
-      → HasFrames origin.frame (carried cs ++ []) (decided cs ++ []) (frames origin.frame cs) (synced cs) p
-  idle p is =
-      subst (λ rs. HasFrames origin.frame rs (decided cs ++ []) (frames origin.frame cs) (synced cs) p)
-      (sym (append-nil (carried cs)))
-      (subst (λ es. HasFrames origin.frame (carried cs) es (frames origin.frame cs) (synced cs) p)
-      (sym (append-nil (decided cs)))
-      (subst (HasFrames origin.frame (carried cs) (decided cs) (frames origin.frame cs) (synced cs)) (sym is) so))
+  -- nothing is decided
+  undecided : {rs : List Command} {log : List (List RecordView)} {told : List ℕ} {p : QueueView}
+      → HasFrames origin.frame rs (decided cs) log told p → HasFrames origin.frame rs (decided cs ++ []) log told p
+  undecided {rs} {log} {told} {p} now =
+      subst (λ es. HasFrames origin.frame rs es log told p) (sym (append-nil (decided cs))) now
 
   -- nothing was carried out or decided, and the log and the queue are these
   changed : (log : List (List RecordView)) (told : List ℕ) (p r : QueueView) → r ≡ p
@@ -144,8 +121,12 @@ module _ (limits : Limits) (origin : Next) (start : Entries) (cs : List Call) (m
       → HasFrames origin.frame (carried cs ++ []) (decided cs ++ []) log told r
   changed log told p r is now =
       subst (λ rs. HasFrames origin.frame rs (decided cs ++ []) log told r) (sym (append-nil (carried cs)))
-      (subst (λ es. HasFrames origin.frame (carried cs) es log told r) (sym (append-nil (decided cs)))
-      (subst (HasFrames origin.frame (carried cs) (decided cs) log told) (sym is) now))
+      (undecided (subst (HasFrames origin.frame (carried cs) (decided cs) log told) (sym is) now))
+
+  -- the queue is as it was, and nothing was carried out or decided
+  idle : (p : QueueView) → p ≡ q
+      → HasFrames origin.frame (carried cs ++ []) (decided cs ++ []) (frames origin.frame cs) (synced cs) p
+  idle p is = changed (frames origin.frame cs) (synced cs) q p is so
 
   module _ (s : StoreView) (t : ℕ) (bytes : List ℕ) where
     -- a command is carried out: in the open batch where it may write
@@ -163,9 +144,7 @@ module _ (limits : Limits) (origin : Next) (start : Entries) (cs : List Call) (m
         let under : IsBelow r =
         λ other n g runs is here. absurd (none-some n (sym free ∙ ap (λ (a : Asked). a.batch) (same_runs asked other runs)
         ∙ is)) in
-        subst (λ es. HasFrames origin.frame (carried cs ++ r ∷ []) es (frames origin.frame cs)
-        (synced cs) s.batched.queue) (sym (append-nil (decided cs)))
-        (subst (HasFrames origin.frame (carried cs ++ r ∷ []) (decided cs) (frames origin.frame cs) (synced cs))
+        undecided (subst (HasFrames origin.frame (carried cs ++ r ∷ []) (decided cs) (frames origin.frame cs) (synced cs))
         (sym (queue ∙ still))
         (with_unlogged origin.frame (carried cs) (decided cs) (frames origin.frame cs) (synced cs) q so r
         (ap (λ (b : Option ℕ). is_some b) free) under))
@@ -197,9 +176,7 @@ module _ (limits : Limits) (origin : Next) (start : Entries) (cs : List Call) (m
         let under : IsBelow r =
         λ other n g runs at here.
         subst (λ k. g ≤ k) (same_Some q.number n (sym own ∙ ap (λ (a : Asked). a.batch) (same_runs asked other runs) ∙ at)) (upto g here) in
-        subst (λ es. HasFrames origin.frame (carried cs ++ r ∷ []) es (frames origin.frame cs)
-        (synced cs) s.batched.queue) (sym (append-nil (decided cs)))
-        (subst (HasFrames origin.frame (carried cs ++ r ∷ []) (decided cs) (frames origin.frame cs) (synced cs))
+        undecided (subst (HasFrames origin.frame (carried cs ++ r ∷ []) (decided cs) (frames origin.frame cs) (synced cs))
         (sym grown)
         (with_logged origin.frame (carried cs) (decided cs) (frames origin.frame cs) (synced cs) q so r x
         (ap (λ (b : Option ℕ). is_some b) own)
@@ -207,43 +184,24 @@ module _ (limits : Limits) (origin : Next) (start : Entries) (cs : List Call) (m
         ∙ stands) is under))
 
   -- the oldest batch is told as logged, or as refused
-  logs_batch : (s : StoreView) (n : ℕ) → decided_batch q.batches ≡ Some (decision.Logged n)
-      → s.batched.queue ≡ record q { batches = left q.batches }
-      → HasFrames origin.frame (carried cs ++ []) (decided cs ++ Commit n ∷ []) (frames origin.frame cs)
+  decides_batch : (s : StoreView) (d : Decision) (e : ℕ → Event Entry) → is_decided (stage_of d) ≡ true
+      → decided_batch q.batches ≡ Some d → s.batched.queue ≡ record q { batches = left q.batches }
+      → ((b : Batch) (bs : List Batch) → q.batches ≡ b ∷ bs → b.stage ≡ stage_of d
+      → HasFrames origin.frame (carried cs) (decided cs ++ e b.number ∷ []) (frames origin.frame cs) (synced cs)
+      (record q { batches = bs }))
+      → HasFrames origin.frame (carried cs ++ []) (decided cs ++ e (batch_of d) ∷ []) (frames origin.frame cs)
       (synced cs) s.batched.queue
-  logs_batch s n decides queue =
-      let at = oldest_logged q.batches n decides in
+  decides_batch s d e ends decides queue so_decided =
+      let at = oldest_of q.batches d decides in
       let rest : s.batched.queue ≡ record q { batches = at.others } =
       queue ∙ ap (λ bs. record q { batches = bs })
-      (ap left at.are ∙ without_oldest at.oldest at.others stage_as.Synced at.staged refl) in
-      subst (λ rs. HasFrames origin.frame rs (decided cs ++ Commit n ∷ []) (frames origin.frame cs)
+      (ap left at.are ∙ without_oldest at.oldest at.others (stage_of d) at.staged ends) in
+      subst (λ rs. HasFrames origin.frame rs (decided cs ++ e (batch_of d) ∷ []) (frames origin.frame cs)
       (synced cs) s.batched.queue) (sym (append-nil (carried cs)))
-      (subst (λ k. HasFrames origin.frame (carried cs) (decided cs ++ Commit k ∷ []) (frames origin.frame cs)
+      (subst (λ k. HasFrames origin.frame (carried cs) (decided cs ++ e k ∷ []) (frames origin.frame cs)
       (synced cs) s.batched.queue) at.number
-      (subst (HasFrames origin.frame (carried cs) (decided cs ++ Commit at.oldest.number ∷ [])
-      (frames origin.frame cs) (synced cs)) (sym rest)
-      (with_logged_batch origin.frame (carried cs) (decided cs) (frames origin.frame cs)
-      (synced cs) q so at.oldest at.others at.are at.staged
-      (stands_densely limits origin start cs m done).1
-      (λ k from upto. synced_upto limits origin start cs m done at.oldest at.others k at.are at.staged from upto))))
-
-  refuses_batch : (s : StoreView) (n : ℕ) → decided_batch q.batches ≡ Some (decision.Refused n)
-      → s.batched.queue ≡ record q { batches = left q.batches }
-      → HasFrames origin.frame (carried cs ++ []) (decided cs ++ Fail n ∷ []) (frames origin.frame cs)
-      (synced cs) s.batched.queue
-  refuses_batch s n decides queue =
-      let at = oldest_refused q.batches n decides in
-      let rest : s.batched.queue ≡ record q { batches = at.others } =
-      queue ∙ ap (λ bs. record q { batches = bs })
-      (ap left at.are ∙ without_oldest at.oldest at.others stage_as.Refused at.staged refl) in
-      subst (λ rs. HasFrames origin.frame rs (decided cs ++ Fail n ∷ []) (frames origin.frame cs)
-      (synced cs) s.batched.queue) (sym (append-nil (carried cs)))
-      (subst (λ k. HasFrames origin.frame (carried cs) (decided cs ++ Fail k ∷ []) (frames origin.frame cs)
-      (synced cs) s.batched.queue) at.number
-      (subst (HasFrames origin.frame (carried cs) (decided cs ++ Fail at.oldest.number ∷ [])
-      (frames origin.frame cs) (synced cs)) (sym rest)
-      (with_refused_batch origin.frame (carried cs) (decided cs) (frames origin.frame cs)
-      (synced cs) q so at.oldest at.others at.are at.staged)))
+      (subst (HasFrames origin.frame (carried cs) (decided cs ++ e at.oldest.number ∷ []) (frames origin.frame cs)
+      (synced cs)) (sym rest) (so_decided at.oldest at.others at.are at.staged)))
 
   pub after : (c : Call) (s : StoreView) → Does m c s → After s c
   after (Connects t) s (channel, past, most, connects, is) = idle s.batched.queue (ap (λ (b : Batches). b.queue) is.1)
@@ -296,9 +254,14 @@ module _ (limits : Limits) (origin : Next) (start : Entries) (cs : List Call) (m
       changed (frames origin.frame cs) (synced cs) (record q { stopped = true }) s.batched.queue
       (ap (λ (b : StoreView). b.batched.queue) is)
       (with_stop origin.frame (carried cs) (decided cs) (frames origin.frame cs) (synced cs) q so)
-  after (Decides (Logged n)) s ((decides, commits, queue, begun), is, places) = logs_batch s n decides queue
-  after (Decides (Refused n keys)) s
-      ((decides, fails, tells, queue, begun), is, places) = refuses_batch s n decides queue
+  after (Decides (Logged n)) s ((decides, commits, queue, begun), is, places) =
+      decides_batch s (decision.Logged n) (λ g. Commit g) refl decides queue
+      (λ b bs oldest staged. with_logged_batch origin.frame (carried cs) (decided cs) (frames origin.frame cs)
+      (synced cs) q so b bs oldest staged (stands_densely limits origin start cs m done).1
+      (λ k from upto. synced_upto limits origin start cs m done b bs k oldest staged from upto))
+  after (Decides (Refused n keys)) s ((decides, fails, tells, queue, begun), is, places) =
+      decides_batch s (decision.Refused n) (λ g. Fail g) refl decides queue
+      (with_refused_batch origin.frame (carried cs) (decided cs) (frames origin.frame cs) (synced cs) q so)
   after Rests s (still, keeps, is) = idle s.batched.queue still.queue
 
   pub one_more : (c : Call) (s : StoreView) → Does m c s → InFrames origin.frame (cs ++ c ∷ []) s

@@ -6,7 +6,7 @@ use Rattle.sk_led.proofs.Names.{SayAll, log_limits, after_works, Entries, Limits
 use Rattle.sk_led.proofs.Names.{synced, HasDone, IsRecovered, crashes_are_recovered, between, batch_of, owner_of, whole}
 use Rattle.sk_led.proofs.Names.{World, HasPut, IsSound, order, AreOf, IsGivenUp, IsLeading, NoneSynced, Move, Moves}
 use Rattle.sk_led.proofs.Names.{new_world, HasAll, StoreDoes, Decides, Logged, Contains, nothing_there, AllByRecursion}
-use Rattle.sk_led.proofs.Names.{Batch, Stage, Synced, is_kept, at_first, dense_at, oldest_logged, queue_decided}
+use Rattle.sk_led.proofs.Names.{Batch, Stage, Synced, is_kept, at_first, dense_at, oldest_of, queue_decided}
 use Rattle.sk_led.proofs.Names.{stands_densely, synced_upto, log_text}
 use Rattle.sk_batches.specs.declared.queue.Decision.TheVariants as decision
 use Rattle.sk_engine.specs.declared.answer.BatchAnswer.TheVariants as batch
@@ -158,14 +158,14 @@ ended_logged read moves w r gap limits next start leading cut xs later cs s numb
     (record { first = done.first; new = done.new; serves = two.1 }) two.2 tells in
     let wound = wound_at.wound in
     let bound = wound_at.from in
-    let oldest = oldest_logged mid.0.batched.queue.batches number (logged_parts mid.0 mid.2.0 number mid.2.1) in
-    let b = oldest.0 in
+    let oldest = oldest_of mid.0.batched.queue.batches (decision.Logged number) (logged_parts mid.0 mid.2.0 number mid.2.1) in
+    let b = oldest.oldest in
     let late : b.frame < cut.frame
-    = (subst (λ bs. AllByRecursion (IsLate cut.frame) bs) oldest.2 wound_at.late.each).0.1 oldest.3 in
+    = (subst (λ bs. AllByRecursion (IsLate cut.frame) bs) oldest.are wound_at.late.each).0.1 oldest.staged in
     let dense = (stands_densely limits next start before mid.0 did).1 in
-    let here = subst (λ (bs : List Batch). Contains bs b) (sym oldest.2) (at_first b oldest.1) in
+    let here = subst (λ (bs : List Batch). Contains bs b) (sym oldest.are) (at_first b oldest.others) in
     let low = ((dense_at first mid.0.batched.queue.frame mid.0.batched.queue.number mid.0.batched.queue.batches b dense here).1
-    (synced_unkept b.stage oldest.3)).from in
+    (synced_unkept b.stage oldest.staged)).from in
     elim (order cut.frame frame) as (λ _. IsPlaced read w r gap cs number) [
       | inr lt ↦ placed read moves w r gap next leading cs runs led number before later at frame from
           (decided_upto read w r gap next leading led frame (λ n ge le. wound.below n (omega arith) (told n ge le)))
@@ -178,7 +178,7 @@ ended_logged read moves w r gap limits next start leading cut xs later cs s numb
           ))
       | inl ge ↦ placed read moves w r gap next leading cs runs led number before later at b.frame low
           (decided_upto read w r gap next leading led b.frame (λ n from_n le. wound.below n (omega arith)
-          (synced_upto limits next start before mid.0 did b oldest.1 n oldest.2 oldest.3 from_n le)))
+          (synced_upto limits next start before mid.0 did b oldest.others n oldest.are oldest.staged from_n le)))
           (λ asked there is.
           let all = has_all asked there is in
           let none = wound.empty frame ge (told frame from (omega arith)) in

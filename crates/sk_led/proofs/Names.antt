@@ -36,9 +36,9 @@ pub use Rattle.sk_durable.proofs.Contained.{to_map, at_later}
 pub use Rattle.sk_durable.proofs.Crashes.{crashes_are_recovered}
 pub use Rattle.sk_durable.proofs.Cuts.{any_has, has_any}
 pub use Rattle.sk_durable.proofs.Names.{first_of, is_struck, kept, numbers, released, resting_among}
-pub use Rattle.sk_durable.proofs.OnDisk.{logged_is_on_disk, oldest_logged}
+pub use Rattle.sk_durable.proofs.OnDisk.{logged_is_on_disk}
 pub use Rattle.sk_durable.proofs.Queued.{cut_is_range, queued, stands_densely, synced_upto}
-pub use Rattle.sk_durable.proofs.Records.{in_frames}
+pub use Rattle.sk_durable.proofs.Records.{oldest_of, in_frames}
 pub use Rattle.sk_durable.proofs.Served.{between}
 pub use Rattle.sk_durable.proofs.Since.{said_since}
 pub use Rattle.sk_durable.proofs.Tickets.{Output}

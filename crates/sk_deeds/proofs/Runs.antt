@@ -1,12 +1,11 @@
 -- Each move of the machine is an event of the step function's trace.
-use Rattle.sk_deeds.proofs.Names.{◌≡◌, ℕ, ◌<◌, ◌≤◌, true, false, ltb, List, [], ◌∷◌, ◌++◌, map, Option, Some, None, Ok}
-use Rattle.sk_deeds.proofs.Names.{Err, refl, sym, ◌∙◌, ap, subst, append_assoc, arith, ◌==◌, Result, if◌then◌else◌}
-use Rattle.sk_deeds.proofs.Names.{cond, FinMap, get, IsAntisymmetric, IsTotalOrder, ltb-true, ltb-false, append-nil}
-use Rattle.sk_deeds.proofs.Names.{Step, Done, Effect, perform, with_read, is_in, writes, System, marked_effect, said_by}
-use Rattle.sk_deeds.proofs.Names.{Event, Taken, Commit, Fail, IsDrawn, IsAllowed, StatusIs, step_tags, Undecided}
-use Rattle.sk_deeds.proofs.Names.{Machine, Fails, IsPlainRun, machine_at_start, MergedTakes, MergedCommits}
-use Rattle.sk_deeds.proofs.Names.{MergedStands, Merges, one_status, Deed, Entry, asking, step_of, effect_of, again}
-use Rattle.sk_deeds.proofs.Names.{IsNext, Steps, Moves, Goes, Starts, RunsAsPlain}
+use Rattle.sk_deeds.proofs.Names.{◌≡◌, ℕ, ◌<◌, true, false, ltb, List, [], ◌∷◌, ◌++◌, map, Option, Some, None, Ok, Err}
+use Rattle.sk_deeds.proofs.Names.{refl, sym, ◌∙◌, ap, subst, append_assoc, ◌==◌, Result, if◌then◌else◌, FinMap}
+use Rattle.sk_deeds.proofs.Names.{IsAntisymmetric, IsTotalOrder, ltb-true, ltb-false, append-nil, Done, perform}
+use Rattle.sk_deeds.proofs.Names.{with_read, System, marked_effect, said_by, Event, Taken, Commit, Fail, IsAllowed}
+use Rattle.sk_deeds.proofs.Names.{step_tags, Undecided, Machine, machine_at_start, MergedTakes, MergedStands, Merges}
+use Rattle.sk_deeds.proofs.Names.{one_status, Deed, asking, step_of, effect_of, again, IsNext, Steps, Moves, Goes}
+use Rattle.sk_deeds.proofs.Names.{Starts, RunsAsPlain}
 use Rattle.sk_record.proofs.Merged as merged
 use Rattle.sk_record.proofs.MachineRuns as whole
 

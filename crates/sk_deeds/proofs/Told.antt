@@ -1,10 +1,10 @@
 -- What was taken out stands before what is there, whatever is done.
-use Rattle.sk_deeds.proofs.Names.{◌≡◌, ℕ, true, false, not, List, [], ◌∷◌, ◌++◌, map, Option, Some, None, Ok, refl, sym}
-use Rattle.sk_deeds.proofs.Names.{◌∙◌, ap, subst, append_assoc, ◌==◌, FinMap, IsAntisymmetric, IsTotalOrder, eqb-true}
-use Rattle.sk_deeds.proofs.Names.{append-nil, System, marked_effect, said_by, has, without, Event, Taken, Commit, Fail}
-use Rattle.sk_deeds.proofs.Names.{step_tags, Machine, Tagged, Fails, lightened, not_dropped, MergedTakes, MergedCommits}
-use Rattle.sk_deeds.proofs.Names.{MergedStands, Merges, Steps, Moves, Starts, Call, Does, Tells, Told, told_more}
-use Rattle.sk_deeds.proofs.Names.{untagged, with_told, TakenOut, moves_of, Calls, TellsAsPlain}
+use Rattle.sk_deeds.proofs.Names.{◌≡◌, ℕ, true, false, List, [], ◌∷◌, ◌++◌, Ok, refl, sym, ◌∙◌, ap, subst, append_assoc}
+use Rattle.sk_deeds.proofs.Names.{◌==◌, FinMap, IsAntisymmetric, IsTotalOrder, eqb-true, append-nil, System}
+use Rattle.sk_deeds.proofs.Names.{marked_effect, said_by, Event, Taken, Commit, Fail, step_tags, Machine, Tagged, Fails}
+use Rattle.sk_deeds.proofs.Names.{lightened, not_dropped, MergedTakes, MergedCommits, MergedStands, Merges, Moves, Call}
+use Rattle.sk_deeds.proofs.Names.{Does, Tells, Told, told_more, untagged, with_told, TakenOut, moves_of, Calls}
+use Rattle.sk_deeds.proofs.Names.{TellsAsPlain}
 use Rattle.std.proofs.Common.{cond}
 use Rattle.sk_record.proofs.Merged as merged
 use Rattle.sk_deeds.proofs.Runs.{one, first}

@@ -75,9 +75,6 @@ module _ (f : List ℕ) (n : ℕ) where
   pub cut_before : (i : ℕ) → i < n → get_or (cut f n) i 0 ≡ get_or f i 0
   cut_before i h = zeros_behind (take n f) (n - length f) i ∙ get_or-take n f i 0 h
 
-  pub cut_behind : (i : ℕ) → n ≤ i → get_or (cut f n) i 0 ≡ 0
-  cut_behind i h = get_or_past (cut f n) i 0 (omega (arith, length_cut))
-
 -- lists that agree at each place
 pub same_bytes : (f g : List ℕ) → length f ≡ length g → ((i : ℕ) → i < length f → get_or f i 0 ≡ get_or g i 0) → f ≡ g
 same_bytes f g same at = same_lists f g same (λ i d h. get_or_default f i d 0 h ∙ at i h ∙ get_or_default g i 0 d (omega arith))

@@ -2,10 +2,10 @@
 use Rattle.sk_objects.proofs.Names.{◌≡◌, ℕ, ◌+◌, ◌-◌, ◌<◌, ◌≤◌, inl, inr, Bool, true, false, List, [], ◌++◌, length}
 use Rattle.sk_objects.proofs.Names.{take, drop, arith, refl, sym, ap, ap₂, ◌∙◌, take-add, zero-add, nat_lt}
 use Rattle.sk_objects.proofs.Names.{if◌then◌else◌, ◌&&◌, Decides, take-append-add, drop-append-add, cases_lt, ltb-true}
-use Rattle.sk_objects.proofs.Names.{ltb-false, lt-ltb, le-ltb, false≢true, Decides-and, Decides-like, append_assoc}
-use Rattle.sk_objects.proofs.Names.{append-nil, length-append, length-take-le, length-drop, take-append-drop}
-use Rattle.sk_objects.proofs.Names.{take-append-le, take_at, drop_at, drop_all, drop-append-le, drop-drop, take-take}
-use Rattle.sk_objects.proofs.Names.{drop-take, overwritten, turned, ring_bytes, wrapped, same_bytes, exact_bytes}
+use Rattle.sk_objects.proofs.Names.{ltb-false, lt-ltb, le-ltb, Decides-and, Decides-like, append_assoc, append-nil}
+use Rattle.sk_objects.proofs.Names.{length-append, length-take-le, length-drop, take-append-drop, take-append-le}
+use Rattle.sk_objects.proofs.Names.{take_at, drop_at, drop_all, drop-append-le, drop-drop, take-take, drop-take}
+use Rattle.sk_objects.proofs.Names.{overwritten, turned, ring_bytes, wrapped, same_bytes, exact_bytes}
 
 module _ (r : List ℕ) (h : ℕ) (in_ring : h ≤ length r) where
   front_len : length (take h r) ≡ h
@@ -52,12 +52,6 @@ turned_on r h n long in_ring small = wrapped_cases r h n (nat_lt (h + n) 4096) l
 -- ---- writing
 
 module _ (r b : List ℕ) (at : ℕ) where
-  pub written_low : at + length b ≤ length r → turned at (overwritten r at b) ≡ b ++ drop (length b) (turned at r)
-  written_low fits =
-      let front : length (take at r) ≡ at = length-take-le at r (omega arith) in
-      rw (append_assoc (take at r) b (drop (at + length b) r), drop_at (take at r) (b ++ drop (at + length b) r) at front, take_at (take at r) (b ++ drop (at + length b) r) at front)
-      (rw (drop-append-le (length b) (drop at r) (take at r) (omega (arith, length-drop at r)), drop-drop (length b) at r, append_assoc) refl)
-
   pub written_high : (c : List ℕ) → at + length b ≡ length r → length c ≤ at → turned at (overwritten (overwritten r at b) 0 c) ≡ (b ++ c) ++ drop (length (b ++ c)) (turned at r)
   written_high c fits small =
       let front : length (take at r) ≡ at = length-take-le at r (omega arith) in
@@ -135,10 +129,6 @@ module _ (a b c d : List ℕ) (less : length a ≤ length c) where
 
   cut_back : a ++ b ≡ c ++ d → b ≡ drop (length a) c ++ d
   cut_back e = sym (drop_at a b (length a) refl) ∙ ap (drop (length a)) e ∙ drop-append-le (length a) c d less
-
-  -- less is left than stands in the other's first part
-  pub parts_apart : length b < length (drop (length a) c) → Decides false (a ++ b ≡ c ++ d)
-  parts_apart short = (λ h. absurd (false≢true h), λ e. absurd (omega (arith, ap length (cut_back e), length-append (drop (length a) c) d)))
 
   -- each part by itself
   pub parts_decided : length (drop (length a) c) ≤ length b

@@ -1,13 +1,11 @@
 -- A file's slots and the bytes that are seen of them.
-use Rattle.sk_objects.proofs.Names.{◌≡◌, ℕ, ◌+◌, ◌-◌, ◌*◌, ◌<◌, ◌≤◌, inl, inr, Bool, false, List}
-use Rattle.sk_objects.proofs.Names.{[], ◌++◌, length, get_or, take, drop, replicate, arith, refl, sym, ap, ap₂}
-use Rattle.sk_objects.proofs.Names.{subst, take-append-le, All-take, All-append}
-use Rattle.sk_objects.proofs.Names.{◌∙◌, take-add, Decides, cases_lt, false≢true}
-use Rattle.sk_objects.proofs.Names.{length-append, length-replicate, get_or_append_left, get_or-append_right}
-use Rattle.sk_objects.proofs.Names.{length-take-le, length-take, length-drop, drop-drop, drop-take}
-use Rattle.sk_objects.proofs.Names.{drop_all, same_lists, take-take, take_all, get_or-take, get_or-drop, get_or_past}
-use Rattle.sk_objects.proofs.Names.{All-get_or, overwritten, written, part, joined, AreBlocks}
-use Rattle.sk_objects.proofs.Names.{blank, AreSlots}
+use Rattle.sk_objects.proofs.Names.{◌≡◌, ℕ, ◌+◌, ◌-◌, ◌*◌, ◌<◌, ◌≤◌, inl, inr, Bool, false, List, ◌++◌, length, get_or}
+use Rattle.sk_objects.proofs.Names.{take, drop, replicate, arith, refl, sym, ap, ap₂, subst, take-append-le, All-take}
+use Rattle.sk_objects.proofs.Names.{All-append, ◌∙◌, take-add, Decides, cases_lt, false≢true, length-append}
+use Rattle.sk_objects.proofs.Names.{length-replicate, get_or_append_left, get_or-append_right, length-take-le}
+use Rattle.sk_objects.proofs.Names.{length-take, length-drop, drop-drop, drop-take, same_lists, take-take, take_all}
+use Rattle.sk_objects.proofs.Names.{get_or-take, get_or-drop, get_or_past, All-get_or, overwritten, written, part}
+use Rattle.sk_objects.proofs.Names.{joined, AreBlocks, blank, AreSlots}
 use Rattle.sk_objects.proofs.Bytes.{overwritten_before, overwritten_in, overwritten_behind, written_before, written_in, written_behind, same_bytes, zeros_behind}
 use Rattle.sk_objects.proofs.Joined.{length_joined, joined_append, take_joined, block_byte, blanks_are, joined_blanks}
 
@@ -63,11 +61,6 @@ module _ (x : List ℕ) (size from : ℕ) (within : from ≤ size) where
 
   pub seen_rest : (n : ℕ) → size - from < n → part x from (size - from) ≡ part (take size x) from n
   seen_rest n less = sym (ap (take n) seen_drop ∙ take_all n (take (size - from) (drop from x)) (omega (arith, length-take (size - from) (drop from x))))
-
-pub seen_none : (x : List ℕ) (size from n : ℕ) → size ≤ from → [] ≡ part (take size x) from n
-seen_none x size from n h =
-    let none : drop from (take size x) ≡ [] = drop_all from (take size x) (omega (arith, length-take size x)) in
-    sym (ap (take n) none ∙ take_all n [] (omega arith))
 
 -- the blocks from a cut on
 module _ (ss : List (List ℕ)) (all : AreBlocks ss) (slot within : ℕ) (there : slot < length ss) (low : within < 512) (block start : List ℕ) (is : block ≡ get_or ss slot block) (made : start ≡ take within block ++ replicate (512 - within) 0) where

@@ -6,7 +6,6 @@ pub use Rattle.std.proofs.Math.Bool.{and-true, and-false, or-false}
 pub use Rattle.std.proofs.lemmas.Bool.{eqb-false, or_right, or_from, or_parts, eqb-true, ltb-true, true_from_ne_false}
 pub use Rattle.std.proofs.lemmas.Bool.{ltb-false, and_from, true≢false, or_cases, false_from_ne_true, or_left}
 pub use Rattle.std.proofs.lemmas.Bool.{false≢true, eq-eqb, ne_eqb}
-pub use Rattle.std.proofs.lemmas.List.{length-map}
 pub use Rattle.std.proofs.lemmas.List.Elements.{Contains-append_left, Contains-push_cases, filter-append}
 pub use Rattle.std.proofs.lemmas.List.Folds.{list_any-append}
 pub use Rattle.std.proofs.lemmas.List.Kept.{IsStrictlySortedBy-filter, AllPairs-filter}

@@ -1,14 +1,10 @@
 -- What follows of a kernel that stands for its record.
-use Rattle.sk_record.proofs.Names.{◌≡◌, ℕ, suc, ◌<◌, length, Bool, true, false, cond, not, ◌&&◌, ◌||◌, List, []}
-use Rattle.sk_record.proofs.Names.{◌∷◌, ◌++◌, map, Option, inl, inr, refl, sym, ◌∙◌, ap, subst, arith, ◌==◌, list_any}
-use Rattle.sk_record.proofs.Names.{list_all, filter, IsTotalOrder, FinMap, get, IsAntisymmetric, Ordering, or_parts}
-use Rattle.sk_record.proofs.Names.{or_left, or_cases, or_from, true≢false, eq-eqb, eqb-true, MarkedEffect, is_in, hit}
-use Rattle.sk_record.proofs.Names.{hits, dirt, dirtied, keep, writes, written_value, System, effects, Note, has}
-use Rattle.sk_record.proofs.Names.{without, noted, last_tags, carried, rests, next_dirty, notes_of, Event, still_marked}
-use Rattle.sk_record.proofs.Names.{Record, recorded, all_recorded, deps, Open, UndoState, numbers, still_open}
-use Rattle.sk_record.proofs.Names.{not_struck, tags_at, IsTidy, IsGrowing, Owned, AllOwnTagsExact, Represents}
-use Rattle.sk_record.proofs.Names.{and-false, length-map}
-use Rattle.sk_record.proofs.Lemmas.{shorter}
+use Rattle.sk_record.proofs.Names.{◌≡◌, ℕ, Bool, true, false, cond, ◌&&◌, List, [], ◌∷◌, ◌++◌, Option, refl, sym, ◌∙◌}
+use Rattle.sk_record.proofs.Names.{ap, subst, list_any, list_all, IsTotalOrder, FinMap, get, IsAntisymmetric, Ordering}
+use Rattle.sk_record.proofs.Names.{or_parts, or_left, or_from, true≢false, eq-eqb, MarkedEffect, is_in, hit, dirt, keep}
+use Rattle.sk_record.proofs.Names.{writes, written_value, System, effects, Note, has, noted, last_tags, carried, rests}
+use Rattle.sk_record.proofs.Names.{next_dirty, notes_of, Event, Record, recorded, all_recorded, deps, UndoState}
+use Rattle.sk_record.proofs.Names.{tags_at, IsTidy, IsGrowing, Represents, and-false}
 use Rattle.sk_record.proofs.Tags.{suffix_is}
 use Rattle.sk_record.proofs.Machine.{inv_tags, has_filter}
 use Rattle.sk_record.proofs.UndoStates.{inv_of, and_both}
@@ -84,37 +80,3 @@ module _ {E V W F N : Type 0} (K : System E V W F N) (start : FinMap K.order V) 
   recorded_more r (x ∷ es) e = recorded_more (recorded K start r x) es e
 
 -- ---- a decision makes the open guesses fewer
-module _ {E V W : Type 0} (R : E → E → Ordering) where
-  own_flag : (h : ℕ) (b : Bool) (dirty : List E) (ts : List (MarkedEffect E V W)) → still_marked ts h ≡ true → Owned h b (hits R h dirty ts) ts → b ≡ true
-  own_flag h b dirty [] marked own = absurd (true≢false (sym marked))
-  own_flag h b dirty (t ∷ ts) marked own =
-      elim (or_cases _ _ marked) [
-        | inl here ↦ sym (own.0 here) ∙ or_left _ _ here
-        | inr later ↦ own_flag h b (dirtied (hit R h dirty t) t dirty) ts later own.1
-      ]
-
-pub fewer_struck : {E V W F N : Type 0} (K : System E V W F N) (ts : List (MarkedEffect E V W)) (gs : List ℕ) (g : ℕ) → has g gs ≡ true → (os : List Open) → AllOwnTagsExact K ts gs os → has g (numbers os) ≡ true → length (not_struck g os) < length os
-fewer_struck K ts gs g is_open [] own_tags here = absurd (true≢false (sym here))
-fewer_struck K ts gs g is_open (o ∷ os) own_tags here =
-    let short = shorter (λ o. not (has g o.1)) os in
-    elim (has g o.1) as (λ b. has g o.1 ≡ b → length (cond (not b) (o ∷ not_struck g os) (not_struck g os)) < suc (length os)) [
-      | true ↦ λ _. omega arith
-      | false ↦ λ spared. elim (or_cases _ _ here) [
-        | inl its ↦
-            let same : o.0 ≡ g = eqb-true o.0 g its in
-            let own = own_tags.0.own g is_open in
-            let flag = own_flag K.order g (has g o.1) [] ts (ap (still_marked ts) (sym same) ∙ own_tags.0.marked) (subst (λ h. Owned h (has g o.1) (hits K.order g [] ts) ts) same own) in
-            absurd (true≢false (sym flag ∙ spared))
-        | inr later ↦ let less = fewer_struck K ts gs g is_open os own_tags.1 later in omega arith
-      ]
-    ] refl
-
-pub fewer_open : (g : ℕ) (os : List Open) → has g (numbers os) ≡ true → length (still_open g os) < length os
-fewer_open g [] here = absurd (true≢false (sym here))
-fewer_open g (o ∷ os) here =
-    let short = shorter (λ o. not (o.0 == g)) os in
-    let long = length-map {B = Open} (filter (λ o. not (o.0 == g)) os) (λ (o : Open). (o.0, without g o.1)) in
-    elim (o.0 == g) as (λ b. (b || has g (numbers os)) ≡ true → length (map {B = Open} (λ (o : Open). (o.0, without g o.1)) (cond (not b) (o ∷ filter (λ o. not (o.0 == g)) os) (filter (λ o. not (o.0 == g)) os))) < suc (length os)) [
-      | true ↦ λ _. omega arith
-      | false ↦ λ later. let less = fewer_open g os later in omega arith
-    ] here

@@ -14,10 +14,6 @@ use Rattle.sk_record.proofs.Machine.{Inv, takes, commits, fails, union_is, has_f
 
 -- ---- flags of the positions that a guess marks
 module _ {E V W : Type 0} (R : E → E → Ordering) where
-  hits_more : (g : ℕ) (dirty : List E) (ts : List (MarkedEffect E V W)) (f : MarkedEffect E V W) → hits R g dirty (ts ++ f ∷ []) ≡ hits R g dirty ts ++ hit R g (dirt R g dirty ts) f ∷ []
-  hits_more g dirty [] f = refl
-  hits_more g dirty (t ∷ ts) f = ap (λ xs. hit R g dirty t ∷ xs) (hits_more g (dirtied (hit R g dirty t) t dirty) ts f)
-
   -- a guess that marks no position owns none
   owns_none : (h : ℕ) (b : Bool) (flags : List Bool) (ts : List (MarkedEffect E V W)) → still_marked ts h ≡ false → Owned h b flags ts
   owns_none h b flags [] none = tt

@@ -22,10 +22,8 @@ pub use Rattle.sk_scenario.specs.Scenario.{IsEdgeOf, ComesBefore, Trace, goes_on
 pub use Rattle.sk_scenario.specs.Scenario.{more, Begun, with_script, script_ends, Steps, ended}
 pub use Rattle.sk_scenario.specs.WorldEvents.{world_line}
 pub use Rattle.sk_scenario.specs.Glances.{EndsLine}
-pub use Rattle.sk_scenario.specs.declared.call.Call.{Call}
 pub use Rattle.sk_scenario.specs.declared.declarations.Heading.{Heading}
 pub use Rattle.sk_scenario.specs.declared.declarations.Said.{Said}
-pub use Rattle.sk_client.specs.declared.world.WorldEvent.{WorldEvent}
 pub use Rattle.sk_script.proofs.Told.{script_is_behind}
 pub use Rattle.sk_script.specs.Scripting.{TellsScript, script_from, ComesFirst}
 pub use Rattle.sk_script.specs.declared.instruction.Input.{Input}

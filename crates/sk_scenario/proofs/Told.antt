@@ -103,11 +103,6 @@ pub section_told : {A : Type 0} (d : Declared) (section : A → SectionView) (fi
 section_told d section first last f (Ok s) h = h
 section_told d section first last f (Err g) h = h
 
-pub without_edge : {S : Type 0} (Edge : ℕ → Type 0) (first last : ℕ) (f : Fault) (said : Result S Fault) → Tells first last f said → TellsUpTo Edge first last f said
-without_edge Edge first last f (Ok s) h = h
-without_edge Edge first last f (Err g) (inl same) = inl same
-without_edge Edge first last f (Err g) (inr m) = inr (m.0, m.1, inl m.2)
-
 -- ---- edges
 
 edge_on : (Edge Outer : ℕ → Type 0) (f g : Fault) → (Edge f.line → Outer f.line) → ComesBefore Edge f g → ComesBefore Outer f g

@@ -19,8 +19,8 @@ pub use Rattle.std.specs.FinMap.{get-empty, get-insert}
 pub use Rattle.std.specs.Int.{w64}
 pub use Rattle.std.specs.List.{list_all, list_any}
 pub use Rattle.std.specs.Ordering.{nat_cmp, eq_by_cmp}
-pub use Rattle.std.specs.Prelude.{ℤ, negsuc, neg_ℤ, FitsSigned, bytes_eq, ◌⊎◌, pos, SomeIff, if◌then◌else◌, ◌+ℤ◌}
-pub use Rattle.std.specs.Prelude.{◌*◌, ◌&&◌, nat_lt, nat_le, slice_index}
+pub use Rattle.std.specs.Prelude.{ℤ, negsuc, neg_ℤ, FitsSigned, bytes_eq, pos, SomeIff, if◌then◌else◌, ◌+ℤ◌, ◌*◌, ◌&&◌}
+pub use Rattle.std.specs.Prelude.{nat_lt, nat_le, slice_index}
 pub use Rattle.sk_ids.specs.Name.{name_order}
 pub use Rattle.sk_objects.specs.Content.{ContentView}
 pub use Rattle.sk_script.specs.Boot.{with_copy, BootView, has_object, with_object, AreFound, with_script, IsBoot}
@@ -36,8 +36,7 @@ pub use Rattle.sk_script.specs.Registers.{register}
 pub use Rattle.sk_script.specs.Same.{same_scripts, same_script}
 pub use Rattle.sk_script.specs.SameLemma.{exact_scripts, exact_script}
 pub use Rattle.sk_script.specs.Scripting.{line_of, Does, TellsScript, labels_of, instructions_in, labels_from, opening}
-pub use Rattle.sk_script.specs.Scripting.{script_line, Ignored, ScriptState, Line, script_from, ComesFirst, Declares}
-pub use Rattle.sk_script.specs.Scripting.{next_place}
+pub use Rattle.sk_script.specs.Scripting.{script_line, Ignored, ScriptState, Line, script_from, Declares, next_place}
 pub use Rattle.sk_script.specs.Scripts.{ScriptMap}
 pub use Rattle.sk_script.specs.StepInput.{input_rules, no_input}
 pub use Rattle.sk_script.specs.declared.boot.BootObject.{BootObject}
@@ -55,7 +54,7 @@ pub use Rattle.sk_words.specs.Literals.{literal, at_most_512, Plain, text_from}
 pub use Rattle.sk_words.specs.Operands.{next_word, is_name, index, is_label_byte, pid, digits, positive, path, integer}
 pub use Rattle.sk_words.specs.Operands.{between, label, three_of, numbered_child, wrong, below, natural, short, none_of}
 pub use Rattle.sk_words.specs.Operands.{two_of, name, child, one_of, path_below}
-pub use Rattle.sk_words.specs.Reading.{read_from, Tells}
+pub use Rattle.sk_words.specs.Reading.{read_from}
 pub use Rattle.sk_words.specs.Tables.{unknown, Rule}
 pub use Rattle.sk_words.specs.Words.{words}
 pub use Rattle.sk_words.specs.declared.fault.Fault.{Fault}

@@ -1,21 +1,8 @@
 -- What is told of a script's lines is told of the script: from the reader of lines.
-use Rattle.sk_script.proofs.Names.{◌≡◌, ◌<◌, ◌≤◌, inl, inr, ℕ, List, Result, Ok, Err, refl, arith, ◌⊎◌, Fault}
-use Rattle.sk_script.proofs.Names.{read_from, Tells, fault_is_behind, ScriptState, ComesFirst, TellsScript}
-use Rattle.sk_script.proofs.Names.{instructions_in, opening, script_from, script_line}
+use Rattle.sk_script.proofs.Names.{◌≡◌, ◌≤◌, inl, inr, ℕ, List, Result, Ok, Err, refl, arith, Fault, read_from}
+use Rattle.sk_script.proofs.Names.{fault_is_behind, ScriptState, TellsScript, instructions_in, opening, script_from}
+use Rattle.sk_script.proofs.Names.{script_line}
 use Rattle.sk_words.specs.declared.fault.FaultKind.TheVariants as kinds
-
-comes_first : (first last : ℕ) (f g : Fault) → ((f ≡ g) ⊎ ((f.kind ≡ kinds.Memory) × (first ≤ f.line) × (f.line < g.line)))
-    → (f ≡ g) ⊎ ((f.kind ≡ kinds.Memory) × ComesFirst first f g)
-comes_first first last f g (inl same) = inl same
-comes_first first last f g (inr m) = inr (m.0, inr (m.1, m.2))
-
-of_instructions : (first last : ℕ) (f : Fault) (said : Result ScriptState Fault) → Tells first last f said → TellsScript first last f (instructions_in said)
-of_instructions first last f (Ok s) h = h
-of_instructions first last f (Err g) h = comes_first first last f g h
-
--- the reader's clause is the stronger one
-pub of_lines : (first last : ℕ) (ls : List (List ℕ)) (f : Fault) → Tells first last f (read_from script_line (opening ls) first ls) → TellsScript first last f (script_from first ls)
-of_lines first last ls f h = of_instructions first last f (read_from script_line (opening ls) first ls) h
 
 err_of : (said : Result ScriptState Fault) (g : Fault) → instructions_in said ≡ Err g → said ≡ Err g
 err_of (Ok s) g e = absurd cc

@@ -1,9 +1,8 @@
 -- How the parts of a text come apart at its front, for the loop that looks for a separator: from the definition of
 -- parts, byte by byte.
-use Rattle.sk_words.proofs.Names.{◌≡◌, ℕ, zero, suc, ◌+◌, ◌-◌, ◌<◌, ◌≤◌, List, [], ◌∷◌, ◌++◌, true, false, eqb, length}
-use Rattle.sk_words.proofs.Names.{take, drop, get_or, refl, ap, ◌∙◌, arith, add-one, drop-cons, take_at_read, ne_eqb}
-use Rattle.sk_words.proofs.Names.{eq-eqb, or_parts, onto_first, list_any, lines, lines_of_parts, strip_carriage_return}
-use Rattle.sk_words.proofs.Names.{parts}
+use Rattle.sk_words.proofs.Names.{◌≡◌, ℕ, suc, ◌+◌, ◌-◌, ◌<◌, ◌≤◌, List, [], ◌∷◌, ◌++◌, true, false, eqb, length, take}
+use Rattle.sk_words.proofs.Names.{drop, get_or, refl, ap, ◌∙◌, arith, add-one, drop-cons, take_at_read, ne_eqb, eq-eqb}
+use Rattle.sk_words.proofs.Names.{or_parts, onto_first, list_any, lines, lines_of_parts, strip_carriage_return, parts}
 use Rattle.sk_words.proofs.Cut.{onto, onto_more, onto_whole}
 
 at_front : (text : List ℕ) (i : ℕ) → i < length text → drop i text ≡ get_or text i 0 ∷ drop (i + 1) text
@@ -43,16 +42,6 @@ pub next_line : (text line rest : List ℕ) → parts 10 text ≡ line ∷ parts
 next_line text line rest h =
     let p = has_part rest in
     rw (h, p.is) refl
-
--- the first lines come apart as all lines do
-pub take_next : (n : ℕ) (l : List ℕ) (ls : List (List ℕ)) → (n ≡ 0 → ⊥) → take n (l ∷ ls) ≡ l ∷ take (n - 1) ls
-take_next zero l ls h = absurd (h refl)
-take_next (suc n) l ls h = let one : n ≡ suc n - 1 = omega arith in ap (λ (m : ℕ). l ∷ take m ls) one
-
-pub take_none : (n : ℕ) (ls : List (List ℕ)) → ls ≡ [] → take n ls ≡ []
-take_none zero ls h = refl
-take_none (suc n) [] h = refl
-take_none (suc n) (l ∷ ls) h = absurd cc
 
 -- ---- a text has no more lines than bytes
 

@@ -1,5 +1,5 @@
 -- Where nothing is undecided, the parts with their statuses and texts put away stand for the empty trace at the state now.
-use Rattle.sk_kernel.proofs.Names.{◌≡◌, ℕ, ◌+◌, length, true, List, [], ◌++◌, Option, Some, None, refl, sym, ◌∙◌, ap}
+use Rattle.sk_kernel.proofs.Names.{◌≡◌, ℕ, ◌+◌, length, List, [], ◌++◌, Option, Some, None, refl, sym, ◌∙◌, ap}
 use Rattle.sk_kernel.proofs.Names.{arith, ◌↔◌, unwrap_or, nat_cmp, false≢true, length-append, has, Machine}
 use Rattle.sk_kernel.proofs.Names.{MergedStands, status_in, or_since, Status, Undecided, stands_anew, no_opens}
 use Rattle.sk_kernel.proofs.Names.{undecided_now, either_is, none_yet, Entity, entity_total, entity_exact, status_of}

@@ -78,5 +78,3 @@ module _ {E V W F N : Type 0} (K : System E V W F N) (start : FinMap K.order V) 
   pub recorded_more : (r : Record N) (es : List (Event N)) (e : Event N) → all_recorded K start r (es ++ e ∷ []) ≡ recorded K start (all_recorded K start r es) e
   recorded_more r [] e = refl
   recorded_more r (x ∷ es) e = recorded_more (recorded K start r x) es e
-
--- ---- a decision makes the open guesses fewer

@@ -30,9 +30,6 @@ its crate. Here are, crate by crate from the lowest on, those that the contracts
 - Files in `specs/` named `..Law.antt` or `..Lemma.antt` hold proofs that the models of types name. Skip them.
 """
 SAID = {
-    "sk_record": {
-        "IsExact": "a test of two values is true exactly where they are equal",
-    },
     "sk_renamed": {
         "CommitsRenamed": "a commit is the same where keys have other names",
         "FailsRenamed": "a failure is the same where keys have other names",

@@ -28,7 +28,7 @@ pub use Rattle.sk_words.specs.Lines
 pub use Rattle.sk_words.specs.Reading
 pub use Rattle.sk_words.specs.Words
 pub use Rattle.sk_words.specs.Tables
-pub use Rattle.sk_section.specs.Items
+pub use Rattle.sk_words.specs.Items
 pub use Rattle.sk_script.specs.Process
 pub use Rattle.sk_script.specs.Private
 pub use Rattle.sk_script.specs.Registers
@@ -78,7 +78,7 @@ pub use Rattle.sk_kernel.specs.Footprint
 pub use Rattle.sk_kernel.specs.Notes
 pub use Rattle.sk_kernel.specs.Laws
 pub use Rattle.sk_counts.specs.Counts
-pub use Rattle.sk_holder.specs.Holder
+pub use Rattle.sk_kernel.specs.Holder
 pub use Rattle.sk_server.specs.Server
 pub use Rattle.sk_server.specs.Lent
 pub use Rattle.sk_server.specs.Calls as ServerCalls

@@ -4,9 +4,8 @@ ghost use Rattle.sk_play.specs.Plays.{declared_kernel};
 
 use crate::sights::{Sight, shows};
 use sk_client::Desk;
-use sk_holder::Holder;
 use sk_ids::Pid;
-use sk_kernel::{HandIn, Kernel};
+use sk_kernel::{HandIn, Holder, Kernel};
 use sk_plain::Refusal;
 use sk_scenario::{Call, Declarations};
 use sk_script::{Boot, Lease};

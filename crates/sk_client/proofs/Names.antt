@@ -69,8 +69,8 @@ pub use Rattle.sk_client.specs.declared.world.WorldEvent.{WorldEvent}
 pub use Rattle.sk_client.specs.declared.world.WorldStop.{WorldStop}
 pub use Rattle.sk_guesses.proofs.Statuses.{nothing_in}
 pub use Rattle.sk_guesses.specs.Token.{Token}
-pub use Rattle.sk_holder.specs.Holder.{HolderView, DecidesPost}
-pub use Rattle.sk_holder.proofs.Opens.{open_taken, open_commit, open_fail, decided_shut, has_filtered, mark_has}
+pub use Rattle.sk_kernel.specs.Holder.{HolderView, DecidesPost}
+pub use Rattle.sk_kernel.proofs.Opens.{open_taken, open_commit, open_fail, decided_shut, has_filtered, mark_has}
 pub use Rattle.sk_ids.specs.EntityLemma.{entity_exact, entity_total}
 pub use Rattle.sk_ids.specs.Entity.{entity_cmp}
 pub use Rattle.sk_ids.specs.declared.entity.Entity.{Entity}

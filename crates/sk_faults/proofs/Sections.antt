@@ -9,7 +9,7 @@ use Rattle.sk_faults.proofs.Names.{new_script, line_rules, declared_next, line_s
 use Rattle.sk_faults.proofs.Names.{world_forms, heading_forms, other_forms, operand_fault, found_behind, found_of}
 use Rattle.sk_faults.proofs.Names.{Agrees, IsToldIn}
 use Rattle.sk_words.specs.declared.fault.FaultKind.TheVariants as kinds
-use Rattle.sk_client.specs.declared.world.WorldEvent.TheVariants as events
+use Rattle.sk_scenario.specs.KeptEvent.events
 use Rattle.sk_scenario.specs.declared.declarations.Heading.TheVariants as headings
 use Rattle.sk_scenario.specs.declared.declarations.Said.TheVariants as says
 use Rattle.sk_scenario.specs.Declarations.{declares, says_next}

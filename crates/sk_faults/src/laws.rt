@@ -1,6 +1,6 @@
 //! What is found in a line is what its reading tells. Each law is the contract of a function that does nothing.
 ghost use Rattle.std.specs.Prelude.{◌≡◌, ℕ, List, false};
-ghost use Rattle.sk_client.specs.declared.world.WorldEvent.{WorldEvent};
+ghost use Rattle.sk_scenario.specs.KeptEvent.{WorldEvent};
 ghost use Rattle.sk_words.specs.Words.{words, first_of};
 ghost use Rattle.sk_script.specs.Scripting.{ScriptState, script_line};
 ghost use Rattle.sk_trace.specs.declared.event.Event.{Event};

@@ -39,4 +39,4 @@ pub use Rattle.sk_ids.specs.declared.text.TheConstants.{TEXT_LIMIT}
 pub use Rattle.sk_record.proofs.Rising.{above}
 pub use Rattle.sk_record.proofs.UndoStates.{and_both}
 pub use Rattle.sk_record.specs.Notes.{without, has}
-pub use Rattle.sk_record.specs.Same.{same_pair, same_map}
+pub use Rattle.sk_ids.specs.Same.{same_pair, same_map}

@@ -8,4 +8,6 @@ pub mod NameLemma
 pub mod Entity
 pub mod Guess
 pub mod EntityLemma
+pub mod Same
+pub mod Exact
 pub mod SameLemma

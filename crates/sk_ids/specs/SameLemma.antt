@@ -4,8 +4,8 @@ use Rattle.std.proofs.Common.{ap}
 use Rattle.std.specs.Option.{option_eq}
 use Rattle.std.specs.Cmp.{unsigned_Decides, first_so, second_so}
 use Rattle.std.specs.Cmp.Lexicographic.{pointwise, pointwise_decides}
-use Rattle.sk_record.specs.Same.{IsExact}
-use Rattle.sk_record.specs.Exact.{exact_from, exact_option}
+use Rattle.sk_ids.specs.Same.{IsExact}
+use Rattle.sk_ids.specs.Exact.{exact_from, exact_option}
 use Rattle.sk_ids.specs.declared.pid.ObjId.{ObjId}
 use Rattle.sk_ids.specs.declared.entity.Entity.{Entity}
 use Rattle.sk_ids.specs.declared.entity.Entity.TheVariants.{Proc, Sig, Exit, Obj, Link, Copy}

@@ -19,3 +19,8 @@ pub mod Noted
 mod Epochs
 pub mod Further
 mod Rooms
+pub mod Opens
+pub mod Held
+pub mod Kept
+pub mod Decided
+pub mod LetGo

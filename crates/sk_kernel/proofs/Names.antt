@@ -57,6 +57,7 @@ pub use Rattle.sk_kernel.specs.declared.room.TheConstants.{DIRECTORY_LIMIT}
 pub use Rattle.sk_machine.proofs.Given.{if_ok, from_ok, from_err}
 pub use Rattle.sk_machine.specs.HandsIn.{HandsInProcess}
 pub use Rattle.sk_machine.specs.Noted.{IsAtStart}
+pub use Rattle.sk_machine.proofs.Names.{notes_in, AreUnnoted, note_count, is_empty, look_at, log_at, SlotMap, slot_in, SlotView}
 pub use Rattle.sk_machine.specs.Parts.{Parts, machine_of, said_at, undo_state_of}
 pub use Rattle.sk_plain.proofs.Adds.{adds_is}
 pub use Rattle.sk_plain.proofs.Alone.{GoesOn, alone_run, runs_same}
@@ -125,8 +126,23 @@ pub use Rattle.sk_terminal.specs.Terminals.{released_at, texts_at as texts_in, T
 pub use Rattle.sk_trace.specs.Entry.{EntryView}
 pub use Rattle.sk_trace.specs.Kept.{input_in}
 pub use Rattle.sk_trace.specs.declared.event.Event.{Event}
-pub use Rattle.sk_undo.specs.Count.{notes_in, AreUnnoted, note_count}
-pub use Rattle.sk_undo.specs.Log.{is_empty}
-pub use Rattle.sk_undo.specs.Logs.{look_at, log_at, SlotMap, slot_in}
-pub use Rattle.sk_undo.specs.Slot.{SlotView}
 pub use Rattle.sk_record.proofs.Lemmas.{any_no, filter_alike, shorter, last_more}
+pub use Rattle.sk_kernel.specs.Calls.{EpochPost, FailPost, GuessPost, CommitPost, StepPost}
+pub use Rattle.sk_kernel.specs.HandIn.{HandInPost}
+pub use Rattle.sk_kernel.specs.Holder.{HolderView, but, DecidesPost, ids, FailsSome, BeginsPost}
+pub use Rattle.sk_kernel.specs.Tokens.{AreUnspent, IsHeld, IsUnspent}
+pub use Rattle.sk_kernel.specs.declared.hand_in.HandIn.{HandIn}
+pub use Rattle.sk_kernel.specs.declared.hand_in.HandIn.TheVariants.{Stale, Memory}
+pub use Rattle.sk_kernel.specs.declared.kernel.EpochRefusal.{EpochRefusal}
+pub use Rattle.sk_kernel.specs.declared.kernel.FailRefusal.{FailRefusal}
+pub use Rattle.sk_kernel.specs.declared.kernel.Outcome.{Outcome}
+pub use Rattle.sk_kernel.specs.declared.kernel.Stranger.{Stranger}
+pub use Rattle.sk_record.proofs.Sound.{undecided_is as is_undecided}
+pub use Rattle.sk_record.proofs.UndoStates.{and_both}
+pub use Rattle.sk_trace.specs.Trace.{TraceView}
+pub use Rattle.std.proofs.Common.{drop}
+pub use Rattle.std.proofs.lemmas.Bool.{ne_eqb}
+pub use Rattle.std.proofs.lemmas.List.{nil_from_length}
+pub use Rattle.std.proofs.lemmas.List.Elements.{Contains-push_cases}
+pub use Rattle.std.specs.List.{remove}
+pub use Rattle.std.specs.Prelude.{IfErr, ◌⊎◌}

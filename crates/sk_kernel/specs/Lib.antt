@@ -8,3 +8,5 @@ pub mod OpeningLemma
 pub mod HandIn
 pub mod Notes
 pub mod Room
+pub mod Holder
+pub mod Tokens

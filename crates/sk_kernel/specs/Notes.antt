@@ -8,7 +8,7 @@ use Rattle.sk_record.specs.Notes.{Note}
 use Rattle.sk_record.specs.UndoState.{log_of}
 use Rattle.sk_store.specs.declared.entity_state.EntityState.{EntityState}
 use Rattle.sk_plain.specs.Act.{plain}
-use Rattle.sk_undo.specs.Log.{is_empty}
+use Rattle.sk_machine.specs.Parts.{is_empty}
 use Rattle.sk_kernel.specs.Kernel.{KernelView, record_at, undecided_at, tags_at}
 
 -- no entity depends on an undecided guess

@@ -3,7 +3,7 @@ use Rattle.std.specs.Prelude.{◌&&◌, nat_eq}
 use Rattle.std.specs.Cmp.{unsigned_Decides}
 use Rattle.std.proofs.Common.{ap}
 use Rattle.std.proofs.lemmas.Bool.Decides.{Decides-and, Decides-like}
-use Rattle.sk_record.specs.Same.{IsExact}
+use Rattle.sk_ids.specs.Same.{IsExact}
 use Rattle.sk_plain.specs.Same.{same_plain}
 use Rattle.sk_plain.specs.SameLemma.{exact_plain}
 use Rattle.sk_kernel.specs.Opening.{same_opening}

@@ -2,7 +2,7 @@
 use Rattle.std.specs.Prelude.{◌≡◌, ℕ, Bool, false, nat_le, Option, Some, None}
 use Rattle.sk_ids.specs.declared.pid.ObjId.{ObjId}
 use Rattle.sk_store.specs.Names.{IsCount, name_there}
-use Rattle.sk_undo.specs.Logs.{SlotMap, look_at}
+use Rattle.sk_machine.specs.Parts.{SlotMap, look_at}
 use Rattle.sk_kernel.specs.declared.room.TheConstants.{DIRECTORY_LIMIT}
 
 -- a step that adds a name to this directory finds as many names as may be, or more

@@ -22,7 +22,7 @@ ghost use Rattle.sk_kernel.specs.Opening.{opening_of};
 ghost use Rattle.sk_kernel.specs.Laws.{HasSoundTrace};
 ghost use Rattle.sk_kernel.specs.Calls.{StepPost, GuessPost, CommitPost, FailPost, EpochPost, ShowsTerminal, SaysNothing, LeavesTexts, PlansGuess};
 ghost use Rattle.sk_record.specs.declared.status.Status.{Status};
-ghost use Rattle.sk_undo.specs.Logs.{look_at};
+ghost use Rattle.sk_machine.specs.Parts.{look_at};
 ghost use Rattle.sk_terminal.specs.Terminals.{released_at};
 
 use crate::room::is_crowded;

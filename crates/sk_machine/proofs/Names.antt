@@ -69,7 +69,7 @@ pub use Rattle.sk_trace.specs.Kept.{input_in}
 pub use Rattle.sk_undo.proofs.Passes.{placed_at}
 pub use Rattle.sk_undo.proofs.SeenNotes.{newest_of, none_reverse}
 pub use Rattle.sk_undo.proofs.Stable.{on_many}
-pub use Rattle.sk_undo.specs.Count.{AreUnnoted}
+pub use Rattle.sk_undo.specs.Count.{notes_in, AreUnnoted, note_count}
 pub use Rattle.sk_undo.specs.Decisions.{Unwound, AllGrow, Lightened, AreListed, undo_state}
 pub use Rattle.sk_undo.specs.Log.{is_empty}
 pub use Rattle.sk_undo.specs.Logs.{log_at, wrote, LogsView, slots_wrote, SlotMap, slot_in, look_at}

@@ -15,7 +15,9 @@ use Rattle.sk_terminal.specs.Terminal.{TaggedText}
 use Rattle.sk_terminal.specs.Terminals.{TerminalMap, terminals_code, texts_at}
 use Rattle.sk_script.specs.declared.instruction.Input.{Input}
 use Rattle.sk_store.specs.declared.entity_state.EntityState.{EntityState}
-use Rattle.sk_undo.specs.Logs.{SlotMap, slot_map_code, look_at}
+pub use Rattle.sk_undo.specs.Log.{is_empty}
+pub use Rattle.sk_undo.specs.Logs.{SlotMap, look_at}
+use Rattle.sk_undo.specs.Logs.{slot_map_code}
 use Rattle.sk_undo.specs.Decisions.{undo_state}
 use Rattle.sk_trace.specs.Entry.{EntryView}
 use Rattle.sk_plain.specs.Act.{Saying, Scripts, act}

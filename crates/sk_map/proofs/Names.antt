@@ -15,5 +15,5 @@ pub use Rattle.std.specs.declared.cmp.Ordering.TheVariants.{Greater}
 pub use Rattle.sk_ids.proofs.Ordered.{same_entries, entries_view}
 pub use Rattle.sk_ids.proofs.Views.{one_given, one_removed, get_at}
 pub use Rattle.sk_map.specs.Seen.{seen}
-pub use Rattle.sk_record.specs.Exact.{exact_from}
-pub use Rattle.sk_record.specs.Same.{same_map, exact_map, IsExact}
+pub use Rattle.sk_ids.specs.Exact.{exact_from}
+pub use Rattle.sk_ids.specs.Same.{same_map, exact_map, IsExact}

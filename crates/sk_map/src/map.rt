@@ -5,7 +5,7 @@ ghost use Rattle.std.specs.Borrow.{LendsSo, sem};
 ghost use Rattle.std.specs.List.Sorted.{IsStrictlySortedBy};
 ghost use Rattle.std.specs.Map.Iter.{ShowsInOrder, deref, deref_pair};
 ghost use Rattle.std.specs.FinMap as map;
-ghost use Rattle.sk_record.specs.Same.{IsExact, same_map};
+ghost use Rattle.sk_ids.specs.Same.{IsExact, same_map};
 ghost use Rattle.sk_map.specs.Seen.{seen};
 ghost use Rattle.sk_map.specs.contracts.map.Map.{the_row};
 
@@ -38,7 +38,7 @@ impl<K: Key, V: PartialEq> PartialEq for Map<K, V> {
     ghost use Rattle.std.specs.FinMap as map;
     ghost use Rattle.std.specs.Cmp.{on_per, and_per};
     ghost use Rattle.std.specs.Cmp.Lexicographic.{lists_per};
-    ghost use Rattle.sk_record.specs.Same.{same_map};
+    ghost use Rattle.sk_ids.specs.Same.{same_map};
     ghost use Rattle.sk_map.specs.Seen.{seen};
 
     ghost eq = { λ m n. same_map K.eq V.eq (seen K.order m) (seen K.order n) };

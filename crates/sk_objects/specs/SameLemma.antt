@@ -3,7 +3,7 @@ use Rattle.std.specs.Bool.{beq}
 use Rattle.std.specs.Cmp.{booleans_Decides}
 use Rattle.std.proofs.Common.{ap}
 use Rattle.std.proofs.lemmas.Bool.Decides.{Decides-and, Decides-like}
-use Rattle.sk_record.specs.Same.{IsExact}
+use Rattle.sk_ids.specs.Same.{IsExact}
 use Rattle.sk_ids.specs.SameLemma.{exact_bytes as bytes_exact}
 use Rattle.sk_objects.specs.Same.{same_bytes, same_pipe}
 

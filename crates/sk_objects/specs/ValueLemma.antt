@@ -2,8 +2,8 @@
 use Rattle.std.specs.Prelude.{nat_eq}
 use Rattle.std.proofs.Common.{ap}
 use Rattle.std.specs.Cmp.{unsigned_Decides, first_so, second_so}
-use Rattle.sk_record.specs.Same.{IsExact}
-use Rattle.sk_record.specs.Exact.{exact_from, exact_option}
+use Rattle.sk_ids.specs.Same.{IsExact}
+use Rattle.sk_ids.specs.Exact.{exact_from, exact_option}
 use Rattle.sk_ids.specs.SameLemma.{exact_text, exact_object}
 use Rattle.sk_objects.specs.Content.{ContentView}
 use Rattle.sk_objects.specs.SameLemma.{exact_bytes, exact_pipe}

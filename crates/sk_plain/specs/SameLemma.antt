@@ -2,7 +2,7 @@
 use Rattle.std.specs.Prelude.{◌&&◌}
 use Rattle.std.proofs.Common.{ap}
 use Rattle.std.proofs.lemmas.Bool.Decides.{Decides-and, Decides-like}
-use Rattle.sk_record.specs.Same.{IsExact}
+use Rattle.sk_ids.specs.Same.{IsExact}
 use Rattle.sk_script.specs.Same.{same_scripts}
 use Rattle.sk_script.specs.SameLemma.{exact_scripts}
 use Rattle.sk_store.specs.Same.{same_state}

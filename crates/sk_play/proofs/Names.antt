@@ -16,7 +16,7 @@ pub use Rattle.sk_client.specs.declared.world.Cause.{Cause}
 pub use Rattle.sk_client.specs.declared.world.WorldAnswer.{WorldAnswer}
 pub use Rattle.sk_client.specs.declared.world.WorldEvent.{WorldEvent}
 pub use Rattle.sk_client.specs.declared.world.WorldNews.{WorldNews}
-pub use Rattle.sk_holder.specs.Holder.{DecidesPost, HolderView, but}
+pub use Rattle.sk_kernel.specs.Holder.{DecidesPost, HolderView, but}
 pub use Rattle.sk_kernel.proofs.Appended.{appended_foreseen, unchanged_foreseen}
 pub use Rattle.sk_kernel.specs.Footprint.{appended, IsForeseen}
 pub use Rattle.sk_kernel.specs.Kernel.{next_guess, with_event, KernelView}

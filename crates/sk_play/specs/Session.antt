@@ -12,7 +12,7 @@ use Rattle.sk_scenario.specs.declared.call.Call.TheVariants as calls
 use Rattle.sk_kernel.specs.Kernel.{KernelView, HasStatus, next_guess, with_event, step_refused, guess_refused}
 use Rattle.sk_kernel.specs.declared.kernel.Outcome.{Outcome}
 use Rattle.sk_kernel.specs.declared.kernel.Outcome.TheVariants as outcomes
-use Rattle.sk_holder.specs.Holder.{but}
+use Rattle.sk_kernel.specs.Holder.{but}
 use Rattle.sk_play.specs.declared.answer.CallAnswer.{CallAnswer}
 use Rattle.sk_play.specs.declared.answer.CallAnswer.TheVariants as answers
 

@@ -1,6 +1,6 @@
 //! A kernel at play, with the tokens of its guesses.
 ghost use Rattle.std.specs.Prelude.{MatchResult, IfOk, None, Some, ◌≡◌};
-ghost use Rattle.sk_holder.specs.Holder.{holding, BeginsPost};
+ghost use Rattle.sk_kernel.specs.Holder.{holding, BeginsPost};
 ghost use Rattle.sk_play.specs.Session.{decision_told, entry, with_guess, held_after, AnswerMatches, CanWantMemory, StepTold, GuessTold};
 ghost use Rattle.sk_play.specs.Plays.{declared_kernel};
 ghost use Rattle.sk_kernel.specs.Kernel.{step_refused, guess_refused, next_guess};
@@ -10,9 +10,8 @@ ghost use Rattle.sk_trace.specs.declared.event.Event.TheVariants as events;
 ghost use Rattle.sk_plain.specs.Refusal.{cause};
 
 use crate::answer::CallAnswer;
-use sk_holder::Holder;
 use sk_ids::Pid;
-use sk_kernel::{EpochRefusal, HandIn, Kernel, Outcome};
+use sk_kernel::{EpochRefusal, HandIn, Holder, Kernel, Outcome};
 use sk_plain::{InputRef, Refusal, Trace};
 use sk_scenario::{Call, Declarations};
 use sk_script::Lease;

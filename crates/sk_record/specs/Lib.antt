@@ -8,7 +8,5 @@ pub mod Release
 pub mod UndoState
 pub mod Machine
 pub mod Laws
-pub mod Same
 pub mod Merged
 pub mod Epoch
-pub mod Exact

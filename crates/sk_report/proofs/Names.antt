@@ -29,7 +29,7 @@ pub use Rattle.sk_ids.specs.declared.entity.Entity.TheVariants.{Link, Proc, Copy
 pub use Rattle.sk_ids.specs.declared.pid.ObjId.{ObjId}
 pub use Rattle.sk_kernel.specs.Calls.{ShowsTerminal}
 pub use Rattle.sk_kernel.specs.Kernel.{texts_at, KernelView, tags_at, undecided_at}
-pub use Rattle.sk_machine.specs.Parts.{said_at}
+pub use Rattle.sk_kernel.proofs.Names.{said_at}
 pub use Rattle.sk_objects.specs.File.{part}
 pub use Rattle.sk_objects.specs.declared.value.Value.{Value}
 pub use Rattle.sk_objects.specs.declared.value.Value.TheVariants.{Dir}

@@ -28,7 +28,7 @@ pub use Rattle.sk_script.proofs.Told.{script_is_behind}
 pub use Rattle.sk_script.specs.Scripting.{TellsScript, script_from, ComesFirst}
 pub use Rattle.sk_script.specs.declared.instruction.Input.{Input}
 pub use Rattle.sk_script.specs.declared.instruction.Instruction.{Instruction}
-pub use Rattle.sk_section.specs.Items.{BeginsWith}
+pub use Rattle.sk_words.specs.Items.{BeginsWith}
 pub use Rattle.sk_trace.specs.Lines.{event_line, trace_from}
 pub use Rattle.sk_words.proofs.FirstFault.{fault_at, fault_is_behind}
 pub use Rattle.sk_words.proofs.LinesAgain.{line_cut}

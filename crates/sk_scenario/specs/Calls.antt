@@ -4,7 +4,7 @@ use Rattle.sk_words.specs.declared.fault.FaultKind.{FaultKind}
 use Rattle.sk_words.specs.Faults.{◌>>=◌}
 use Rattle.sk_words.specs.Operands.{one_of, positive}
 use Rattle.sk_words.specs.Tables.{Rule, rule_in, unknown}
-use Rattle.sk_section.specs.Items.{with_item}
+use Rattle.sk_words.specs.Items.{with_item}
 use Rattle.sk_trace.specs.Lines.{step}
 use Rattle.sk_scenario.specs.declared.call.Call.{Call}
 use Rattle.sk_scenario.specs.declared.call.Call.TheVariants as calls

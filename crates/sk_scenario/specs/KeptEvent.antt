@@ -1,7 +1,7 @@
 -- What is seen of an event of a world that is kept.
 use Rattle.std.specs.Coded.{Coded}
-use Rattle.sk_client.specs.declared.world.WorldEvent.{WorldEvent}
-use Rattle.sk_client.specs.declared.world.WorldEvent.TheVariants as events
+pub use Rattle.sk_client.specs.declared.world.WorldEvent.{WorldEvent}
+pub use Rattle.sk_client.specs.declared.world.WorldEvent.TheVariants as events
 use Rattle.sk_client.specs.contracts.world.WorldEvent as event
 use Rattle.sk_scenario.specs.declared.kept.EventWords.{EventWords}
 use Rattle.sk_scenario.specs.declared.kept.EventWords.TheVariants.{Turn, Serve, Reply, Edit}

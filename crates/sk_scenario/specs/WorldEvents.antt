@@ -5,7 +5,7 @@ use Rattle.sk_words.specs.Faults.{◌>>=◌}
 use Rattle.sk_words.specs.Literals.{literal}
 use Rattle.sk_words.specs.Operands.{none_of, one_of, three_of, pid, name, natural}
 use Rattle.sk_words.specs.Tables.{Rule, rule_in, unknown}
-use Rattle.sk_section.specs.Items.{with_item}
+use Rattle.sk_words.specs.Items.{with_item}
 use Rattle.sk_client.specs.declared.world.WorldEvent.{WorldEvent}
 use Rattle.sk_client.specs.declared.world.WorldEvent.TheVariants as events
 

@@ -8,10 +8,9 @@ ghost use Rattle.sk_scenario.specs.Calls.{step_call, guess_call};
 use crate::glance;
 use crate::glance::{behind_commit, behind_fail, behind_good, behind_none, digit_pid, number_line};
 use sk_ids::{GuessId, Pid};
-use sk_section::{Items, Listed, Rules};
 use sk_trace::KeptInput;
 use sk_trace::line::kept_step;
-use sk_words::{FaultKind, Words, first_word, one};
+use sk_words::{FaultKind, Items, Listed, Rules, Words, first_word, one};
 use std::alloc::Global;
 
 /// One call of the kernel, in a few words.

@@ -5,8 +5,7 @@ ghost use Rattle.sk_scenario.specs.WorldEvents.{edit};
 
 use crate::glance::{behind_byte, behind_reply, behind_serve, behind_turn, digit_pid};
 use crate::kept::KeptEvent;
-use sk_section::{Items, Listed, Rules};
-use sk_words::{FaultKind, Natural, Words, none, one, three};
+use sk_words::{FaultKind, Items, Listed, Natural, Rules, Words, none, one, three};
 
 /// The lines of a section of a world.
 #[derive(Drop)]

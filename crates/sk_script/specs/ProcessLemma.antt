@@ -2,8 +2,8 @@
 use Rattle.std.proofs.Common.{ap}
 use Rattle.std.specs.Cmp.{unsigned_Decides, signed_Decides, booleans_Decides, first_so, second_so}
 use Rattle.std.specs.Cmp.Lexicographic.{pointwise_decides}
-use Rattle.sk_record.specs.Same.{IsExact}
-use Rattle.sk_record.specs.Exact.{exact_from, exact_option}
+use Rattle.sk_ids.specs.Same.{IsExact}
+use Rattle.sk_ids.specs.Exact.{exact_from, exact_option}
 use Rattle.sk_ids.specs.SameLemma.{exact_bytes, exact_text, exact_object}
 use Rattle.sk_script.specs.declared.register.Val.{Val}
 use Rattle.sk_script.specs.declared.register.Val.TheVariants.{Num, Obj, Who}

@@ -3,8 +3,8 @@ use Rattle.std.specs.Prelude.{◌≡◌, Bool, true, ◌&&◌, refl}
 use Rattle.std.proofs.Common.{ap}
 use Rattle.std.specs.Cmp.{unsigned_Decides, signed_Decides, first_so, second_so}
 use Rattle.std.specs.Cmp.Lexicographic.{pointwise_decides}
-use Rattle.sk_record.specs.Same.{IsExact, exact_map}
-use Rattle.sk_record.specs.Exact.{exact_from}
+use Rattle.sk_ids.specs.Same.{IsExact, exact_map}
+use Rattle.sk_ids.specs.Exact.{exact_from}
 use Rattle.sk_ids.specs.SameLemma.{exact_bytes, exact_text}
 use Rattle.sk_script.specs.Same.{same_script, same_scripts}
 use Rattle.sk_script.specs.declared.instruction.Instruction.{Instruction}

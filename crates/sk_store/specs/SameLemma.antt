@@ -1,8 +1,8 @@
 -- The tests of what entities have are exact.
 use Rattle.std.specs.Prelude.{◌≡◌, true}
 use Rattle.std.proofs.Common.{ap}
-use Rattle.sk_record.specs.Same.{IsExact, exact_map}
-use Rattle.sk_record.specs.Exact.{exact_from}
+use Rattle.sk_ids.specs.Same.{IsExact, exact_map}
+use Rattle.sk_ids.specs.Exact.{exact_from}
 use Rattle.sk_ids.specs.SameLemma.{exact_entity}
 use Rattle.sk_objects.specs.ValueLemma.{exact_value}
 use Rattle.sk_script.specs.ProcessLemma.{exact_process}

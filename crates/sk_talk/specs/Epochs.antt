@@ -4,7 +4,7 @@ use Rattle.sk_terminal.specs.Terminals.{TerminalMap}
 use Rattle.sk_trace.specs.Trace.{TraceView}
 use Rattle.sk_kernel.specs.declared.kernel.EpochRefusal.{EpochRefusal}
 use Rattle.sk_kernel.specs.declared.kernel.EpochRefusal.TheVariants as refusals
-use Rattle.sk_holder.specs.Holder.{BeginsPost}
+use Rattle.sk_kernel.specs.Holder.{BeginsPost}
 use Rattle.sk_client.specs.WorldView.{WorldEpochPost}
 use Rattle.sk_play.specs.declared.epoch.EpochTold.{EpochTold}
 use Rattle.sk_play.specs.declared.epoch.EpochTold.TheVariants as tells

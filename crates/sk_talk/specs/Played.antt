@@ -2,7 +2,7 @@
 use Rattle.std.specs.Prelude.{ℕ, List, [], ◌∷◌, Option, Some, None}
 use Rattle.sk_scenario.specs.Declarations.{Declared}
 use Rattle.sk_scenario.specs.Scenario.{SectionView, Steps, World, Trace}
-use Rattle.sk_holder.specs.Holder.{holding}
+use Rattle.sk_kernel.specs.Holder.{holding}
 use Rattle.sk_kernel.specs.Kernel.{KernelView}
 use Rattle.sk_play.specs.Plays.{declared_kernel}
 use Rattle.sk_play.specs.Worlds.{declared_world}

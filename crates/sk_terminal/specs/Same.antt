@@ -1,7 +1,7 @@
 -- When the texts said to terminals are the same.
 use Rattle.std.specs.Prelude.{Bool, List, nat_eq}
 use Rattle.std.specs.Cmp.Lexicographic.{pointwise}
-use Rattle.sk_record.specs.Same.{same_pair, same_map}
+use Rattle.sk_ids.specs.Same.{same_pair, same_map}
 use Rattle.sk_ids.specs.contracts.text.TextPartialEq.TheImpl as text
 use Rattle.sk_terminal.specs.Terminal.{TaggedText}
 use Rattle.sk_terminal.specs.Terminals.{TerminalMap}

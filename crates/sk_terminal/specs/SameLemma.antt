@@ -1,7 +1,7 @@
 -- The tests of what was said are exact.
 use Rattle.std.specs.Cmp.{unsigned_Decides}
 use Rattle.std.specs.Cmp.Lexicographic.{pointwise_decides}
-use Rattle.sk_record.specs.Same.{IsExact, exact_pair, exact_map}
+use Rattle.sk_ids.specs.Same.{IsExact, exact_pair, exact_map}
 use Rattle.sk_ids.specs.SameLemma.{exact_bytes, exact_text}
 use Rattle.sk_terminal.specs.Same.{same_said, same_texts, same_terminals}
 

@@ -7,7 +7,7 @@ use Rattle.sk_words.specs.Faults.{◌>>=◌}
 use Rattle.sk_words.specs.Operands.{closed, next_word, one_of, pid, positive}
 use Rattle.sk_words.specs.Reading.{read_from, Tells, TellsKind}
 use Rattle.sk_words.specs.Tables.{Rule, rule_in, unknown}
-use Rattle.sk_section.specs.Items.{with_item}
+use Rattle.sk_words.specs.Items.{with_item}
 use Rattle.sk_script.specs.declared.instruction.Input.{Input}
 use Rattle.sk_script.specs.StepInput.{input}
 use Rattle.sk_trace.specs.Kept.{HasContent}

@@ -10,8 +10,7 @@ use crate::{Event, InputRef, KeptInput};
 use sk_ids::{GuessId, Pid};
 use sk_script::Input;
 use sk_script::step_input::input;
-use sk_section::{Items, Listed, Rules};
-use sk_words::{FaultKind, Operand, Words, closed, is_open, next_word, one};
+use sk_words::{FaultKind, Items, Listed, Operand, Rules, Words, closed, is_open, next_word, one};
 use std::alloc::Global;
 
 /// A process and the input of its step.

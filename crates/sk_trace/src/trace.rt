@@ -9,8 +9,7 @@ ghost use Rattle.sk_trace.specs.Text.{trace_text};
 
 use crate::line::EventRules;
 use crate::{Event, InputRef, KeptInput};
-use sk_section::Items;
-use sk_words::{Cursor, Fault, read};
+use sk_words::{Cursor, Fault, Items, read};
 use std::alloc::{AllocError, Global};
 use std::fmt::Write;
 use std::marker::Model;

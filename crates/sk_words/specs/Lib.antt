@@ -8,3 +8,4 @@ pub mod Tables
 pub mod Spelling
 pub mod Parts
 pub mod Printed
+pub mod Items

@@ -4,6 +4,7 @@
 
 pub mod cursor;
 pub mod fault;
+pub mod items;
 pub mod laws;
 pub mod line;
 pub mod literal;
@@ -15,6 +16,7 @@ pub mod values;
 
 pub use cursor::Cursor;
 pub use fault::{Fault, FaultKind};
+pub use items::{Items, Listed, Rules};
 pub use line::{Words, first_word, is_open};
 pub use operands::{Operand, closed, next_word, no_more, none, one, three, two};
 pub use reader::{Reader, read};

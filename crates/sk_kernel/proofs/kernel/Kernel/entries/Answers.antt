@@ -7,7 +7,7 @@ use Rattle.std.specs.List.{All}
 use Rattle.sk_machine.specs.Parts.{undo_state_of}
 use Rattle.sk_record.specs.UndoState.{tags_at as tags_in}
 use Rattle.sk_store.specs.Present.{IsPresent, entities_of}
-use Rattle.sk_undo.specs.Logs.{look_at}
+use Rattle.sk_machine.specs.Parts.{look_at}
 use Rattle.sk_kernel.proofs.Whole.{entities_are, look_is, tags_computed}
 use Rattle.sk_kernel.proofs.kernel.Kernel.entries.Goals as goal
 

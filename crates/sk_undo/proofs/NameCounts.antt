@@ -1,5 +1,5 @@
 -- How many names each directory has, after one entity was written.
-use Rattle.sk_undo.proofs.Cites.{◌≡◌, ◌≤◌, ℕ, ◌+◌, ◌-◌, Bool, true, false, not, cond, ◌&&◌, ◌||◌, List, []}
+use Rattle.sk_undo.proofs.Cites.{◌≡◌, ◌≤◌, ◌<◌, ◌^◌, ℕ, ◌+◌, ◌-◌, Bool, true, false, not, cond, ◌&&◌, ◌||◌, List, []}
 use Rattle.sk_undo.proofs.Cites.{Option, Some, None, Result, Ok, Err, refl, sym, ◌∙◌, ap, subst, arith, is_some}
 use Rattle.sk_undo.proofs.Cites.{OnOk, OnErr, unwrap_or, Ordering, Less, Equal, Greater, eq_by_cmp, is_eq}
 use Rattle.sk_undo.proofs.Cites.{ordering_then, IsTotalOrder, Equal-is, eq_by_cmp_equiv, tied_itself}
@@ -17,7 +17,7 @@ use Rattle.std.proofs.lemmas.Map.Lookups.{exact_bytes}
 use Rattle.sk_undo.specs.Kinds.{HasAtMost}
 use Rattle.sk_undo.proofs.Maps.{placed_untouched}
 use Rattle.sk_undo.proofs.Cites.{is_empty}
-use Rattle.sk_undo.proofs.Passes.{placed_at, placed_get, same_elsewhere}
+use Rattle.sk_undo.proofs.Passes.{placed_at, same_elsewhere, wrote_get}
 
 -- ---- directories in their order
 object_itself : (d : ObjId) → object_cmp d d ≡ Equal
@@ -46,10 +46,10 @@ seen_there None h = h
 seen_there (Some s) h = refl
 
 -- a name that is there has a slot
-pub has_slot : (m : SlotMap) (e : Entity) → is_some (look_at m e) ≡ true → map.contains_key m e ≡ true
+has_slot : (m : SlotMap) (e : Entity) → is_some (look_at m e) ≡ true → map.contains_key m e ≡ true
 has_slot m e h = seen_there (map.get m e) h
 
-pub few_for : (m : SlotMap) (names : NameMap) (e : Entity) (most : ℕ) → IsCounted m names → HasAtMost m most → count_for names e ≤ most
+few_for : (m : SlotMap) (names : NameMap) (e : Entity) (most : ℕ) → IsCounted m names → HasAtMost m most → count_for names e ≤ most
 few_for m names (Proc p) most so is = omega arith
 few_for m names (Sig p) most so is = omega arith
 few_for m names (Exit p) most so is = omega arith
@@ -59,6 +59,11 @@ few_for m names (Link d n) most so few =
     let under : len a.names ≤ most = few d a.names (λ q inside. has_slot m (Link d q) (sym (a.all q) ∙ inside)) in
     omega (arith, a.count, under)
 few_for m names (Copy n) most so is = omega arith
+
+pub few_fit : (m : SlotMap) (names : NameMap) (e : Entity) (most : ℕ) → IsCounted m names → HasAtMost m most → most < 2 ^ 63 → count_for names e < 2 ^ 63
+few_fit m names e most so is small =
+    let few = few_for m names e most so is in
+    omega (arith, few, small)
 
 -- ---- numbers made and set
 given_there : (b : Bool) (n : ℕ) (o : Option ℕ) → is_some o ≡ true → is_some (cond b (Some n) o) ≡ true
@@ -171,7 +176,7 @@ more_and_less names d there =
     ∙ set_twice names d (k + 1) k
     ∙ set_same names d there
 
-pub counted_still : (names : NameMap) (e : Entity) → recounted names e true true ≡ names
+counted_still : (names : NameMap) (e : Entity) → recounted names e true true ≡ names
 counted_still names (Proc p) = refl
 counted_still names (Sig p) = refl
 counted_still names (Exit p) = refl
@@ -179,7 +184,7 @@ counted_still names (Obj o) = refl
 counted_still names (Link d n) = refl
 counted_still names (Copy n) = refl
 
-pub put_and_taken : (names : NameMap) (e : Entity) → recounted (recounted (made_for names e) e false true) e true false ≡ made_for names e
+put_and_taken : (names : NameMap) (e : Entity) → recounted (recounted (made_for names e) e false true) e true false ≡ made_for names e
 put_and_taken names (Proc p) = refl
 put_and_taken names (Sig p) = refl
 put_and_taken names (Exit p) = refl
@@ -220,7 +225,7 @@ HasNumber names (Obj o) = Unit {0}
 HasNumber names (Link d name) = is_some (map.get names d) ≡ true
 HasNumber names (Copy n) = Unit {0}
 
-pub number_made : (names : NameMap) (e : Entity) → HasNumber (made_for names e) e
+number_made : (names : NameMap) (e : Entity) → HasNumber (made_for names e) e
 number_made names (Proc p) = tt
 number_made names (Sig p) = tt
 number_made names (Exit p) = tt
@@ -228,7 +233,7 @@ number_made names (Obj o) = tt
 number_made names (Link d n) = made_place names d
 number_made names (Copy n) = tt
 
-pub number_there : (m : SlotMap) (names : NameMap) (e : Entity) → IsCounted m names → map.contains_key m e ≡ true → HasNumber names e
+number_there : (m : SlotMap) (names : NameMap) (e : Entity) → IsCounted m names → map.contains_key m e ≡ true → HasNumber names e
 number_there m names (Proc p) so there = tt
 number_there m names (Sig p) so there = tt
 number_there m names (Exit p) so there = tt
@@ -332,8 +337,7 @@ module _ (m n : SlotMap) (e : Entity) (names : NameMap) (so : IsCounted m names)
   set_counted tags v made after had is_made is_had is_new is_after =
       subst (IsCounted n) (sym (is_after ∙ (λ i. recounted (is_made i) e (is_had i) (link_there n e))))
       (counted_on m n (made_for names e) e
-      (λ q apart. ap (λ (x : SlotMap). map.get x q) is_new ∙ placed_get m e (slot_wrote tags (slot_in (map.get m e)) v) q apart)
-      (λ _. number_made names e) (counted_made m names e so))
+      (λ q. wrote_get tags m n e q v is_new) (λ _. number_made names e) (counted_made m names e so))
 
   -- what is told of the write is what the slots tell
   told : (made : NameMap) (q : Entity) (a b : Bool) → a ≡ is_some (look_at m q) → b ≡ is_some (look_at n q) → recounted made q a b ≡ recounted made q (link_there m q) (link_there n q)
@@ -344,39 +348,37 @@ module _ (m n : SlotMap) (e : Entity) (names : NameMap) (so : IsCounted m names)
   told made (Link d name) a b had has = (λ i. recounted_at made d (had i) (has i))
   told made (Copy c) a b had has = refl
 
+  wrote_now : (tags : List ℕ) (v : Option EntityState) → n ≡ slots_wrote tags m e v → look_at n e ≡ v
+  wrote_now tags v is_new =
+      let s = slot_wrote tags (slot_in (map.get m e)) v in
+      ap (λ (x : SlotMap). look_at x e) is_new ∙ ap (λ (t : SlotView). t.now) (placed_at m e s e)
+      ∙ ap (λ b. (cond b s (slot_in (map.get m e))).now) ((eq_by_cmp_equiv entity_total).refl e)
+
   -- a write that tells whether there was something
   pub wrote_counted : (tags : List ℕ) (v : Option EntityState) (made after : NameMap) (had : Bool) → made ≡ made_for names e → had ≡ is_some (look_at m e) → n ≡ slots_wrote tags m e v
       → after ≡ recounted made e had (is_some v) → IsCounted n after
   wrote_counted tags v made after had is_made is_had is_new is_after =
-      let s = slot_wrote tags (slot_in (map.get m e)) v in
-      let now : look_at n e ≡ v =
-      ap (λ (x : SlotMap). look_at x e) is_new ∙ ap (λ (t : SlotView). t.now) (placed_at m e s e)
-      ∙ ap (λ b. (cond b s (slot_in (map.get m e))).now) ((eq_by_cmp_equiv entity_total).refl e) in
-      set_counted tags v made after (link_there m e) is_made refl is_new (is_after ∙ told made e had (is_some v) is_had (sym (ap is_some now)))
+      set_counted tags v made after (link_there m e) is_made refl is_new (is_after ∙ told made e had (is_some v) is_had (sym (ap is_some (wrote_now tags v is_new))))
 
   -- what had a slot where it has one then
-  kept_counted : (after : NameMap) (had : Bool) → ((q : Entity) → eq_by_cmp entity_cmp q e ≡ false → map.get n q ≡ map.get m q) → (map.contains_key n e ≡ true → map.contains_key m e ≡ true) → had ≡ link_there m e
-      → after ≡ recounted names e had (link_there n e) → IsCounted n after
-  kept_counted after had others kept is_had is_after =
-      subst (IsCounted n) (sym (is_after ∙ (λ i. recounted names e (is_had i) (link_there n e))))
+  kept_counted : (after : NameMap) (had has : Bool) → ((q : Entity) → eq_by_cmp entity_cmp q e ≡ false → map.get n q ≡ map.get m q) → (map.contains_key n e ≡ true → map.contains_key m e ≡ true)
+      → had ≡ link_there m e → has ≡ link_there n e → after ≡ recounted names e had has → IsCounted n after
+  kept_counted after had has others kept is_had is_has is_after =
+      subst (IsCounted n) (sym (is_after ∙ (λ i. recounted names e (is_had i) (is_has i))))
       (counted_on m n names e others (λ there. number_there m names e so (kept there)) so)
 
   -- a write without tags that leaves nothing: what had no slot gets none
   pub gone_counted : (tags : List ℕ) (after : NameMap) (had : Bool) → tags ≡ [] → had ≡ is_some (look_at m e) → n ≡ slots_wrote tags m e None → after ≡ recounted names e had false → IsCounted n after
   gone_counted tags after had untagged is_had is_new is_after =
-      let s = slot_wrote tags (slot_in (map.get m e)) None in
-      let now : look_at n e ≡ None =
-      ap (λ (x : SlotMap). look_at x e) is_new ∙ ap (λ (t : SlotView). t.now) (placed_at m e s e)
-      ∙ ap (λ b. (cond b s (slot_in (map.get m e))).now) ((eq_by_cmp_equiv entity_total).refl e) in
-      kept_counted after (link_there m e) (λ q apart. ap (λ (x : SlotMap). map.get x q) is_new ∙ placed_get m e s q apart)
+      kept_counted after (link_there m e) (link_there n e) (λ q. wrote_get tags m n e q None is_new)
       (λ here. elim (map.get m e) as (λ o. map.get m e ≡ o → map.contains_key m e ≡ true) [
         | Some t ↦ λ is. ap is_some is
         | None ↦ λ none. subst (λ (x : SlotMap). map.contains_key x e ≡ true) (is_new ∙ sym (placed_untouched m e tags none (ap is_empty untagged))) here
       ] refl)
-      refl (is_after ∙ told names e had false is_had (sym (ap is_some now)))
+      refl refl (is_after ∙ told names e had false is_had (sym (ap is_some (wrote_now tags None is_new))))
 
-  pub unwound_counted : (g : ℕ) (after : NameMap) (had : Bool) → ChangedAt (SlotUnwound g) m e n → had ≡ link_there m e → after ≡ recounted names e had (link_there n e) → IsCounted n after
-  unwound_counted g after had h is_had is_after = kept_counted after had (λ q apart. same_elsewhere h q apart) h.kept is_had is_after
+  pub unwound_counted : (g : ℕ) (after : NameMap) (had has : Bool) → ChangedAt (SlotUnwound g) m e n → had ≡ link_there m e → has ≡ link_there n e → after ≡ recounted names e had has → IsCounted n after
+  unwound_counted g after had has h = kept_counted after had has (same_elsewhere h) h.kept
 
   back_others : (how : TakeBack) (q : Entity) → eq_by_cmp entity_cmp q e ≡ false → map.get (slots_back m e how) q ≡ map.get m q
   back_others DropSlot q apart = map.get-remove entity_total m e q ∙ ap (λ b. cond b None (map.get m q)) apart
@@ -392,20 +394,46 @@ module _ (m n : SlotMap) (e : Entity) (names : NameMap) (so : IsCounted m names)
   back_kept (UndoLast back) can there = undo_there (map.get m e) back can
 
   -- the newest write taken back
-  pub back_counted : (how : TakeBack) (after : NameMap) (had : Bool) → CanTakeBack m e how → n ≡ slots_back m e how → had ≡ link_there m e → after ≡ recounted names e had (link_there n e) → IsCounted n after
-  back_counted how after had can is_new is_had is_after =
-      kept_counted after had (λ q apart. ap (λ (x : SlotMap). map.get x q) is_new ∙ back_others how q apart)
-      (λ there. back_kept how can (subst (λ (x : SlotMap). map.contains_key x e ≡ true) is_new there)) is_had is_after
+  pub back_counted : (how : TakeBack) (after : NameMap) (had has : Bool) → CanTakeBack m e how → n ≡ slots_back m e how → had ≡ link_there m e → has ≡ link_there n e
+      → after ≡ recounted names e had has → IsCounted n after
+  back_counted how after had has can is_new =
+      kept_counted after had has (λ q apart. ap (λ (x : SlotMap). map.get x q) is_new ∙ back_others how q apart)
+      (λ there. back_kept how can (subst (λ (x : SlotMap). map.contains_key x e ≡ true) is_new there))
 
-  -- a process, which is no name
-  pub other_counted : (tags : List ℕ) (v : Option EntityState) (pid : ℕ) → e ≡ Proc pid → n ≡ slots_wrote tags m e v → IsCounted n names
-  other_counted tags v pid is is_new =
-      elsewhere m n names e (λ q apart. ap (λ (x : SlotMap). map.get x q) is_new ∙ placed_get m e (slot_wrote tags (slot_in (map.get m e)) v) q apart)
-      (λ d name. ap (eq_by_cmp entity_cmp (Link d name)) is) so
+  -- a name counted before it is set, which was not there
+  pub put_counted : (tags : List ℕ) (v : EntityState) (put : NameMap) → false ≡ is_some (look_at m e) → n ≡ slots_wrote tags m e (Some v)
+      → put ≡ recounted (made_for names e) e false true → IsCounted n put
+  put_counted tags v put had is_new is_put = wrote_counted tags (Some v) (made_for names e) put false refl had is_new is_put
 
-  fits_there : (o : Option EntityState) (change : Change) → FitsAt o change → is_some o ≡ true
-  fits_there None change fits = absurd fits
-  fits_there (Some v) change fits = refl
+  put_and_out : (put after : NameMap) → put ≡ recounted (made_for names e) e false true → after ≡ recounted put e true false → after ≡ made_for names e
+  put_and_out put after is_put is_after = is_after ∙ ap (λ (x : NameMap). recounted x e true false) is_put ∙ put_and_taken names e
+
+  -- taken out of the count again, since it was there
+  pub put_again_counted : (tags : List ℕ) (v : EntityState) (put after : NameMap) → true ≡ is_some (look_at m e) → n ≡ slots_wrote tags m e (Some v)
+      → put ≡ recounted (made_for names e) e false true → after ≡ recounted put e true false → IsCounted n after
+  put_again_counted tags v put after had is_new is_put is_after =
+      wrote_counted tags (Some v) (made_for names e) after true refl had is_new (put_and_out put after is_put is_after ∙ sym (counted_still (made_for names e) e))
+
+  -- or since it is not set
+  pub put_back_counted : (put after : NameMap) → n ≡ m → put ≡ recounted (made_for names e) e false true → after ≡ recounted put e true false → IsCounted n after
+  put_back_counted put after same is_put is_after =
+      subst (λ (x : SlotMap). IsCounted x after) (sym same) (subst (IsCounted m) (sym (put_and_out put after is_put is_after)) (counted_made m names e so))
+
+  -- a guess out of all notes
+  pub committed_counted : ((q : Entity) → look_at n q ≡ look_at m q) → IsWithin n m → IsCounted n names
+  committed_counted look kept = record {
+    count = λ d. as_many (name_there (look_at m)) (name_there (look_at n)) d (count_in names d) (λ name. ap is_some (look (Link d name))) (so.count d);
+    places = λ d name there. so.places d name (kept (Link d name) there);
+  }
+
+-- ---- after a slot was set where one was
+module _ {m : SlotMap} (n : SlotMap) {names : NameMap} (so : IsCounted m names) (e : Entity) (s : SlotView) (is_new : n ≡ map.insert m e s) where
+  others_stay : (q : Entity) → eq_by_cmp entity_cmp q e ≡ false → map.get n q ≡ map.get m q
+  others_stay q apart = ap (λ (x : SlotMap). map.get x q) is_new ∙ map.get-insert entity_total m e s q ∙ ap (λ b. cond b (Some s) (map.get m q)) apart
+
+  -- of a process, which is no name
+  pub process_counted : (pid : ℕ) → e ≡ Proc pid → IsCounted n names
+  process_counted pid is = elsewhere m n names e others_stay (λ d name. ap (eq_by_cmp entity_cmp (Link d name)) is) so
 
   still_there : (x : Entity) → is_some (look_at m x) ≡ true → is_some (look_at n x) ≡ true → recounted names x (link_there m x) (link_there n x) ≡ names
   still_there (Proc p) had has = refl
@@ -415,41 +443,43 @@ module _ (m n : SlotMap) (e : Entity) (names : NameMap) (so : IsCounted m names)
   still_there (Link d name) had has = (λ i. recounted_at names d (had i) (has i))
   still_there (Copy c) had has = refl
 
-  placed_now : (s : SlotView) → is_bare s ≡ false → n ≡ placed m e s → look_at n e ≡ s.now
-  placed_now s full is_new =
-      ap (λ (x : SlotMap). look_at x e) is_new ∙ ap (λ (t : SlotView). t.now) (placed_at m e s e) ∙ ap (λ b. (cond b s (slot_in (map.get m e))).now) ((eq_by_cmp_equiv entity_total).refl e)
+  -- of what was there and is there
+  pub still_counted : is_some (look_at m e) ≡ true → is_some s.now ≡ true → IsCounted n names
+  still_counted had has =
+      let slot : map.get n e ≡ Some s =
+      ap (λ (x : SlotMap). map.get x e) is_new ∙ map.get-insert entity_total m e s e ∙ ap (λ b. cond b (Some s) (map.get m e)) ((eq_by_cmp_equiv entity_total).refl e) in
+      subst (IsCounted n) (still_there e had (ap (λ o. is_some (slot_in o).now) slot ∙ has))
+      (counted_on m n names e others_stay (λ _. number_there m names e so (has_slot m e had)) so)
 
-  -- a value changed where it stands
-  pub changed_counted : (tags : List ℕ) (change : Change) → FitsAt (look_at m e) change → n ≡ slots_wrote tags m e (Some (changed (look_at m e) change)) → IsCounted n names
-  changed_counted tags change fits is_new =
-      let had = fits_there (look_at m e) change fits in
-      let now = placed_now (slot_wrote tags (slot_in (map.get m e)) (Some (changed (look_at m e) change))) refl is_new in
-      subst (IsCounted n) (still_there e had (ap is_some now))
-      (counted_on m n names e (λ q apart. ap (λ (x : SlotMap). map.get x q) is_new ∙ placed_get m e (slot_wrote tags (slot_in (map.get m e)) (Some (changed (look_at m e) change))) q apart)
-      (λ _. number_there m names e so (has_slot m e had)) so)
+-- what is changed is there
+pub had_value : (o : Option EntityState) (change : Change) → FitsAt o change → is_some o ≡ true
+had_value None change fits = absurd fits
+had_value (Some v) change fits = refl
 
-  -- a guess out of all notes
-  pub committed_counted : ((q : Entity) → look_at n q ≡ look_at m q) → IsWithin n m → IsCounted n names
-  committed_counted look kept = record {
-    count = λ d. as_many (name_there (look_at m)) (name_there (look_at n)) d (count_in names d) (λ name. ap is_some (look (Link d name))) (so.count d);
-    places = λ d name there. so.places d name (kept (Link d name) there);
-  }
+-- ---- after a call that sets slots or fails
+module _ {A F : Type 0} (r : Result A F) {m : SlotMap} (n : SlotMap) {names : NameMap} (so : IsCounted m names) where
+  either_way : (P : Type 0) → (P → IsCounted n names) → OnOk r P → OnErr r (n ≡ m) → IsCounted n names
+  either_way P = elim r as (λ r. (P → IsCounted n names) → OnOk r P → OnErr r (n ≡ m) → IsCounted n names) [
+    | Ok x ↦ λ f ok err. f ok
+    | Err why ↦ λ f ok err. subst (λ (x : SlotMap). IsCounted x names) (sym err) so
+  ]
 
--- what follows from each way that a call may end
-pub either_way : {A F P Q R : Type 0} (r : Result A F) → OnOk r P → OnErr r Q → (P → R) → (Q → R) → R
-either_way (Ok x) p q f g = f p
-either_way (Err why) p q f g = g q
+  pub process_either : (pid : ℕ) (s : SlotView) → OnOk r (n ≡ map.insert m (Proc pid) s) → OnErr r (n ≡ m) → IsCounted n names
+  process_either pid s = either_way (n ≡ map.insert m (Proc pid) s) (λ is. process_counted n so (Proc pid) s is pid refl)
 
-pub whether : {P Q R : Type 0} (b : Bool) → (b ≡ true → P) → (b ≡ false → Q) → (P → R) → (Q → R) → R
-whether true p q f g = f (p refl)
-whether false p q f g = g (q refl)
+  pub change_either : (e : Entity) (s : SlotView) → is_some (look_at m e) ≡ true → is_some s.now ≡ true → OnOk r (n ≡ map.insert m e s) → OnErr r (n ≡ m) → IsCounted n names
+  change_either e s had has = either_way (n ≡ map.insert m e s) (λ is. still_counted n so e s is had has)
 
--- a change of a value, and then of a process
-pub both_counted : (m n : SlotMap) (e : Entity) (names : NameMap) → IsCounted m names → (tags : List ℕ) (change : Change) → FitsAt (look_at m e) change → (pid : ℕ) (v : Option EntityState)
-    → n ≡ slots_wrote tags (slots_wrote tags m e (Some (changed (look_at m e) change))) (Proc pid) v → IsCounted n names
-both_counted m n e names so tags change fits pid v is =
-    let mid = slots_wrote tags m e (Some (changed (look_at m e) change)) in
-    other_counted mid n (Proc pid) names (changed_counted m mid e names so tags change fits refl) tags v pid refl is
+  -- a change of a value, and then of a process
+  pub both_either : (e : Entity) (s : SlotView) (pid : ℕ) (t : SlotView) → is_some (look_at m e) ≡ true → is_some s.now ≡ true
+      → OnOk r (n ≡ map.insert (map.insert m e s) (Proc pid) t) → OnErr r (n ≡ m) → IsCounted n names
+  both_either e s pid t had has = either_way (n ≡ map.insert (map.insert m e s) (Proc pid) t)
+      (λ is. process_counted n (still_counted (map.insert m e s) so e s refl had has) (Proc pid) t is pid refl)
+
+-- or says that it did nothing
+pub process_if : (b : Bool) {m : SlotMap} (n : SlotMap) {names : NameMap} → IsCounted m names → (pid : ℕ) (s : SlotView) → (b ≡ true → n ≡ map.insert m (Proc pid) s) → (b ≡ false → n ≡ m) → IsCounted n names
+process_if true n so pid s wrote same = process_counted n so (Proc pid) s (wrote refl) pid refl
+process_if false n {names} so pid s wrote same = subst (λ (x : SlotMap). IsCounted x names) (sym (same refl)) so
 
 -- no slots, and no numbers
 pub none_counted : IsCounted map.empty map.empty

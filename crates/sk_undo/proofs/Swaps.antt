@@ -2,7 +2,8 @@
 use Rattle.sk_undo.proofs.Cites.{◌≡◌, ℕ, Bool, true, false, cond, List, Option, Some, None, refl, sym, ◌∙◌, ap, subst}
 use Rattle.sk_undo.proofs.Cites.{eq_by_cmp, eq_by_cmp_equiv, Equal-is, same_map, true≢false, Entity, entity_cmp}
 use Rattle.sk_undo.proofs.Cites.{entity_total, entity_exact, EntityState, SlotView, is_bare, slot_wrote, SlotMap, slot_in}
-use Rattle.sk_undo.proofs.Cites.{placed, slots_wrote}
+use Rattle.sk_undo.proofs.Cites.{placed, slots_wrote, LogsView, Proc, goes_unnoted, look_at}
+use Rattle.sk_undo.specs.Logs.{is_unnoted, wrote}
 use Rattle.std.specs.FinMap as map
 use Rattle.sk_undo.proofs.Passes.{wrote_get}
 
@@ -46,3 +47,23 @@ wrote_swaps tags m p e v w apart =
     ap (λ o. placed (slots_wrote tags m e w) p (slot_wrote tags (slot_in o) v)) (wrote_get tags m (slots_wrote tags m e w) e p w refl apart)
     ∙ placed_swaps m p e (slot_wrote tags (slot_in (map.get m p)) v) (slot_wrote tags (slot_in (map.get m e)) w) apart
     ∙ sym (ap (λ o. placed (slots_wrote tags m p v) e (slot_wrote tags (slot_in o) w)) (wrote_get tags m (slots_wrote tags m p v) p e v refl (apart_back p e apart)))
+
+-- ---- a process beside an entity that was written
+module _ (l n : LogsView) (e : Entity) (v : Option EntityState) (pid : ℕ) (is : n ≡ wrote l e v) (apart : eq_by_cmp entity_cmp (Proc pid) e ≡ false) where
+  slot_stays : map.get n.slots (Proc pid) ≡ map.get l.slots (Proc pid)
+  slot_stays = wrote_get l.tags l.slots n.slots e (Proc pid) v (ap (λ (x : LogsView). x.slots) is) apart
+
+  pub still_unnoted : is_unnoted l.tags l.slots (Proc pid) ≡ true → is_unnoted n.tags n.slots (Proc pid) ≡ true
+  still_unnoted so =
+      ap (λ (x : LogsView). goes_unnoted x.tags (slot_in (map.get n.slots (Proc pid))).log) is ∙ ap (λ o. goes_unnoted l.tags (slot_in o).log) slot_stays ∙ so
+
+  pub value_stays : look_at n.slots (Proc pid) ≡ look_at l.slots (Proc pid)
+  value_stays = ap (λ o. (slot_in o).now) slot_stays
+
+  -- both writes from what stood at first
+  pub wrote_both : (to : Option EntityState → Option EntityState) (done : LogsView) → done ≡ wrote n (Proc pid) (to (look_at n.slots (Proc pid)))
+      → done ≡ wrote (wrote l e v) (Proc pid) (to (look_at l.slots (Proc pid)))
+  wrote_both to done so = so ∙ ap (λ o. wrote n (Proc pid) (to o)) value_stays ∙ ap (λ (x : LogsView). wrote x (Proc pid) (to (look_at l.slots (Proc pid)))) is
+
+  pub wrote_first : (w : Option EntityState) → wrote (wrote l e v) (Proc pid) w ≡ wrote (wrote l (Proc pid) w) e v
+  wrote_first w = λ i. record { slots = wrote_swaps l.tags l.slots (Proc pid) e w v apart i; tags = l.tags }

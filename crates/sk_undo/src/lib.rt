@@ -2,7 +2,6 @@
 //! rests on, and what puts it back.
 #![tactic(auto)]
 
-pub mod counted_slots;
 pub mod entity_logs;
 mod entity_map;
 mod entries;
@@ -14,7 +13,6 @@ pub mod names;
 pub mod slot;
 pub mod slots;
 
-pub use counted_slots::CountedSlots;
 pub use entity_logs::{ObjectLog, ProcessLog};
 pub use log::{Log, Logged, Note};
 pub use logs::{EntityUndo, Logs};

@@ -1,5 +1,5 @@
 //! What performs the writes of steps, and notes what takes them back with the guesses that they rest on.
-ghost use Rattle.std.specs.Prelude.{◌≡◌, ◌↔◌, [], min, ◌-◌, ◌^◌, true, false, not, Some, is_some, IfOk, OnOk, OnErr};
+ghost use Rattle.std.specs.Prelude.{◌≡◌, ◌↔◌, [], min, ◌-◌, ◌^◌, true, false, not, Some, None, is_some, IfOk, OnOk, OnErr};
 ghost use Rattle.std.specs.FinMap as map;
 ghost use Rattle.std.specs.List.{All};
 ghost use Rattle.std.specs.List.Sorted.{IsStrictlySortedBy};
@@ -8,17 +8,18 @@ ghost use Rattle.sk_ids.specs.declared.entity.Entity.{Entity};
 ghost use Rattle.sk_ids.specs.declared.entity.Entity.TheVariants.{Proc};
 ghost use Rattle.sk_store.specs.Present.{IsPresent, entities_of};
 ghost use Rattle.sk_store.specs.Processes.{CanBecome, became};
-ghost use Rattle.sk_undo.specs.Logs.{look_at, log_at, goes_on_at, slots_wrote};
+ghost use Rattle.sk_undo.specs.Logs.{look_at, log_at, goes_on_at, moved, slots_wrote, taken_back, wrote, CanTakeBack};
+ghost use Rattle.sk_undo.specs.Names.{link_there};
 ghost use Rattle.std.specs.Option.{option_copied, unwrap_or};
-ghost use Rattle.std.specs.Ordering.{nat_cmp};
+ghost use Rattle.std.specs.Ordering.{eq_by_cmp, nat_cmp};
 ghost use Rattle.sk_record.specs.Effects.{is_in};
 ghost use Rattle.sk_record.specs.Notes.{last_tags};
 ghost use Rattle.sk_undo.specs.Count.{AreUnnoted, notes_in};
 ghost use Rattle.sk_store.specs.Names.{IsCount, name_there};
 ghost use Rattle.sk_undo.specs.Log.{is_empty};
-ghost use Rattle.sk_undo.specs.Decisions.{Unwound, Lightened, AreListed, AllRest, AllGrow, NoneBare};
+ghost use Rattle.sk_undo.specs.Decisions.{ChangedAt, SlotUnwound, Unwound, Lightened, AreListed, AllRest, AllGrow, NoneBare};
 
-use crate::{CountedSlots, TakeBack};
+use crate::{Names, Slots, TakeBack, Written};
 use sk_changes::Change;
 use sk_ids::{Entity, GuessId, ObjId, Pid, TagSet};
 use sk_script::Process;
@@ -54,21 +55,53 @@ fn set_same(kept: &mut TagSet, tags: &TagSet) -> Result<(), AllocError>
     Ok(())
 }
 
-/// The slots, and the tags of the step that is performed.
+/// The slots, with how many names each directory has, and the tags of the step that is performed.
 #[derive(Drop)]
 pub struct Logs {
-    slots: CountedSlots,
+    slots: Slots,
+    names: Names,
     tags: TagSet,
 }
 
 impl Model for Logs {
     ghost use Rattle.sk_undo.specs.Logs.{LogsView, logs_code};
+    ghost use Rattle.sk_undo.specs.Names.{IsCounted};
 
     ghost Value = { LogsView };
 
     ghost coded = { logs_code };
 
     ghost view = { λ l. record { slots = l.slots; tags = l.tags } };
+
+    ghost invariant = { λ l. IsCounted l.slots l.names };
+}
+
+/// Whether an entity is a name that is there.
+fn link_there(slots: &Slots, entity: &Entity) -> bool
+    ensures { result ≡ link_there slots.now entity.now }
+{
+    match entity {
+        Entity::Link(..) => slots.value(*entity).is_some(),
+        Entity::Proc(_) | Entity::Sig(_) | Entity::Exit(_) | Entity::Obj(_) | Entity::Copy(_) => {
+            false
+        }
+    }
+}
+
+/// Moves what an entity has out of the store, into a slot of which nothing is noted.
+fn move_over(store: &mut Store, logs: &mut Logs, entity: &Entity) -> Result<(), AllocError>
+    requires { logs.old.tags ≡ [] }
+    ensures here { OnOk result
+        (logs.new.slots ≡ moved logs.old.slots entity.now (map.get store.old entity.now)) }
+    ensures tags { logs.new.tags ≡ [] }
+    ensures others { (e : Entity) → eq_by_cmp entity_cmp e entity.now ≡ false
+        → map.get store.new e ≡ map.get store.old e }
+{
+    let Some(state) = store.remove(*entity) else {
+        return Ok(());
+    };
+    logs.set(entity, state)?;
+    Ok(())
 }
 
 impl Logs {
@@ -77,25 +110,26 @@ impl Logs {
         ensures { result ≡ record { slots = map.empty; tags = [] } }
     {
         Logs {
-            slots: CountedSlots::new(alloc),
+            slots: Slots::new(alloc),
+            names: Names::new(alloc),
             tags: TagSet::new(alloc),
         }
     }
 
     /// What a store has, with nothing noted.
-    pub fn open(store: Store) -> Result<Logs, AllocError>
+    pub fn open(mut store: Store) -> Result<Logs, AllocError>
         ensures values { IfOk result
             (λ logs. (e : Entity) → look_at logs.slots e ≡ map.get store e) }
         ensures logs { IfOk result (λ logs. (e : Entity) → log_at logs.slots e ≡ []) }
         ensures bare { IfOk result (λ logs. NoneBare logs.slots) }
         ensures tags { IfOk result (λ logs. logs.tags ≡ []) }
     {
-        let alloc = store.alloc();
-        let slots = CountedSlots::open(store)?;
-        Ok(Logs {
-            slots,
-            tags: TagSet::new(alloc),
-        })
+        let mut logs = Logs::new(store.alloc());
+        let entities = store.entities()?;
+        for entity in &entities {
+            move_over(&mut store, &mut logs, entity)?;
+        }
+        Ok(logs)
     }
 
     /// The tags of an entity; `None` is as none.
@@ -134,7 +168,7 @@ impl Logs {
     pub fn names(&self, directory: &ObjId) -> usize
         ensures { IsCount (name_there (look_at self.now.slots)) directory.now result }
     {
-        self.slots.names(directory)
+        self.names.count(directory)
     }
 
     /// How many notes all entities have, or the largest number where there are more. This takes no memory.
@@ -199,6 +233,88 @@ impl Logs {
         &self.tags
     }
 
+    /// Sets what an entity has. Without memory nothing has changed.
+    fn set(&mut self, entity: &Entity, value: EntityState) -> Result<TakeBack, AllocError>
+        ensures ok { OnOk result (self.new ≡ wrote self.old entity.now (Some value)) }
+        ensures can { IfOk result (λ how. CanTakeBack self.new.slots entity.now how) }
+        ensures back { IfOk result
+            (λ how. taken_back self.new (record { entity = entity.now; how = how }) ≡ self.old) }
+        ensures err { OnErr result (self.new ≡ self.old) }
+    {
+        let _most = self.slots.most_names();
+        self.names.put(entity)?;
+        match self.slots.set(entity, &self.tags, value) {
+            Ok(Written { was: false, back }) => Ok(back),
+            Ok(Written { was: true, back }) => {
+                self.names.take(entity);
+                Ok(back)
+            }
+            Err(why) => {
+                self.names.take(entity);
+                Err(why)
+            }
+        }
+    }
+
+    /// The same, and answers nothing that takes it back.
+    fn set_alone(&mut self, entity: &Entity, value: EntityState) -> Result<(), AllocError>
+        ensures ok { OnOk result (self.new ≡ wrote self.old entity.now (Some value)) }
+        ensures err { OnErr result (self.new ≡ self.old) }
+    {
+        let _most = self.slots.most_names();
+        self.names.put(entity)?;
+        match self.slots.set_alone(entity, &self.tags, value) {
+            Ok(false) => Ok(()),
+            Ok(true) => {
+                self.names.take(entity);
+                Ok(())
+            }
+            Err(why) => {
+                self.names.take(entity);
+                Err(why)
+            }
+        }
+    }
+
+    /// Makes an entity absent. Without memory nothing has changed.
+    fn clear(&mut self, entity: &Entity) -> Result<(), AllocError>
+        ensures ok { OnOk result (self.new ≡ wrote self.old entity.now None) }
+        ensures err { OnErr result (self.new ≡ self.old) }
+    {
+        if self.tags.ids().is_empty() {
+            return self.clear_untagged(entity);
+        }
+        self.names.make_for(entity)?;
+        let _most = self.slots.most_names();
+        let was = self.slots.clear(entity, &self.tags)?;
+        self.names.recount(entity, was, false);
+        Ok(())
+    }
+
+    /// The same, of a step that rests on no guess: then what has no slot gets none, and needs no number.
+    fn clear_untagged(&mut self, entity: &Entity) -> Result<(), AllocError>
+        requires { self.old.tags ≡ [] }
+        ensures ok { OnOk result (self.new ≡ wrote self.old entity.now None) }
+        ensures err { OnErr result (self.new ≡ self.old) }
+    {
+        let _most = self.slots.most_names();
+        let was = self.slots.clear(entity, &self.tags)?;
+        self.names.recount(entity, was, false);
+        Ok(())
+    }
+
+    /// Takes back what rests on a guess at one entity, in place and without memory.
+    fn unwind_at(&mut self, entity: &Entity, guess: GuessId)
+        ensures slots { ChangedAt (SlotUnwound guess) self.old.slots entity.now self.new.slots }
+        ensures tags { self.new.tags ≡ self.old.tags }
+    {
+        let was = link_there(&self.slots, entity);
+        let _most = self.slots.most_names();
+        self.slots.unwind_at(entity, guess);
+        let is = link_there(&self.slots, entity);
+        self.names.recount(entity, was, is);
+    }
+
     /// Takes back what rests on a guess, at the entities of which a note does, in place and without
     /// memory.
     pub fn unwind(&mut self, guess: GuessId, entities: &[Entity])
@@ -208,7 +324,9 @@ impl Logs {
         ensures bare { NoneBare self.old.slots → NoneBare self.new.slots }
         ensures tags { self.new.tags ≡ self.old.tags }
     {
-        self.slots.unwind(guess, entities);
+        for entity in entities {
+            self.unwind_at(entity, guess);
+        }
     }
 
     /// Takes a guess out of all notes, at the entities of which a note rests on it, and leaves out those for
@@ -262,7 +380,7 @@ impl Keeper for Logs {
 
     #[inline(always)]
     fn write(&mut self, entity: Entity, stored: EntityState) -> Result<EntityUndo, AllocError> {
-        let how = self.slots.set(&entity, &self.tags, stored)?;
+        let how = self.set(&entity, stored)?;
         Ok(EntityUndo { entity, how })
     }
 
@@ -328,7 +446,9 @@ impl Keeper for Logs {
         pid: Pid,
         by: &C,
     ) -> Result<(), AllocError> {
-        self.slots.set_beside(entity, &self.tags, stored, pid, by)
+        self.set_alone(entity, stored)?;
+        self.become_unnoted::<C>(pid, by);
+        Ok(())
     }
 
     fn remove_beside<C: Becoming>(
@@ -337,16 +457,22 @@ impl Keeper for Logs {
         pid: Pid,
         by: &C,
     ) -> Result<(), AllocError> {
-        self.slots.clear_beside(entity, &self.tags, pid, by)
+        self.clear(entity)?;
+        self.become_unnoted(pid, by);
+        Ok(())
     }
 
     fn remove(&mut self, entity: Entity) -> Result<(), AllocError> {
-        self.slots.clear(&entity, &self.tags)
+        self.clear(&entity)
     }
 
     fn take_back(&mut self, back: EntityUndo) {
         let EntityUndo { entity, how } = back;
+        let was = link_there(&self.slots, &entity);
+        let _most = self.slots.most_names();
         self.slots.take_back(&entity, how);
+        let is = link_there(&self.slots, &entity);
+        self.names.recount(&entity, was, is);
     }
 
     ghost use Rattle.sk_undo.specs.OthersLaw.{wrote_others};

@@ -1,11 +1,10 @@
 -- The directory that a plan adds a name to is told by its writes.
 use Rattle.sk_plain.proofs.Cites.{◌≡◌, ℕ, Bool, true, false, cond, List, Option, Some, None, Result, Ok, Err, refl}
-use Rattle.sk_plain.proofs.Cites.{nat_lt, Effect, Ask, Refuse, Done, perform, with_read, Entity, Proc, Sig, Exit, Obj}
-use Rattle.sk_plain.proofs.Cites.{Link, Copy, ContentView, LAST_VERSION, Process, Instruction, Input, process_in}
-use Rattle.sk_plain.proofs.Cites.{EntityState, Scripts, StepTree, Saying, next_in, with_input, goes_on, act, adds_in}
-use Rattle.sk_plain.proofs.Cites.{adds_of, adds_beside, writes_of, IsReply, from_copy, over_copy, good, fresh, stale}
-use Rattle.sk_plain.proofs.Cites.{Refusal, seen_with, changed_by, looked, beside_of, Plan, Private, Speaks, Received}
-use Rattle.sk_plain.proofs.Cites.{ReadsFile, WritesFile, Forks, Acts, Beside, Writes, LooksView}
+use Rattle.sk_plain.proofs.Cites.{nat_lt, Effect, Ask, Refuse, Done, perform, with_read, Entity, Proc, Link}
+use Rattle.sk_plain.proofs.Cites.{ContentView, LAST_VERSION, Process, Instruction, Input, process_in, EntityState}
+use Rattle.sk_plain.proofs.Cites.{Scripts, StepTree, Saying, next_in, with_input, goes_on, act, adds_in, adds_of}
+use Rattle.sk_plain.proofs.Cites.{adds_beside, writes_of, IsReply, from_copy, over_copy, good, fresh, stale, Refusal}
+use Rattle.sk_plain.proofs.Cites.{seen_with, changed_by, looked, beside_of, Plan, Acts, Beside, Writes, LooksView}
 use Rattle.sk_objects.specs.declared.value.Value.TheVariants as values
 use Rattle.sk_script.specs.declared.instruction.Instruction.TheVariants as does_
 use Rattle.sk_script.specs.declared.instruction.Input.TheVariants as inputs
@@ -14,12 +13,8 @@ use Rattle.sk_plain.specs.declared.plan.Beside.TheVariants as beside
 
 one_added : (look : Entity → Option EntityState) (pid : ℕ) (q p : Process) (looks : LooksView) (e : Entity) (w : Writes)
     → adds_in (writes_of look pid (record { process = q; looks = looks; beside = beside_of p (beside.One e w) })) ≡ adds_beside (beside.One e w)
-one_added look pid q p looks (Proc n) w = refl
-one_added look pid q p looks (Sig n) w = refl
-one_added look pid q p looks (Exit n) w = refl
-one_added look pid q p looks (Obj o) w = refl
 one_added look pid q p looks (Link d name) w = refl
-one_added look pid q p looks (Copy n) w = refl
+one_added look pid q p looks e w = refl
 
 row_added : (look : Entity → Option EntityState) (pid : ℕ) (q p : Process) (looks : LooksView) (b : Beside) → adds_in (writes_of look pid (record { process = q; looks = looks; beside = beside_of p b })) ≡ adds_beside b
 row_added look pid q p looks beside.Nothing = refl
@@ -27,15 +22,10 @@ row_added look pid q p looks (beside.One e w) = one_added look pid q p looks e w
 row_added look pid q p looks (beside.Gone e) = refl
 
 pub adds_is : (look : Entity → Option EntityState) (scripts : Scripts) (pid : ℕ) (input : Input) (plan : Plan) → adds_in (writes_of look pid (seen_with look scripts pid input plan)) ≡ adds_of plan
-adds_is look scripts pid input Private = refl
-adds_is look scripts pid input Speaks = refl
-adds_is look scripts pid input (ReadsFile o at) = refl
-adds_is look scripts pid input (WritesFile o at) = refl
-adds_is look scripts pid input (Received name) = refl
-adds_is look scripts pid input (Forks r child place) = refl
 adds_is look scripts pid input (Acts r) =
     let p = process_in (look (Proc pid)) in
     row_added look pid (changed_by look r.looks p r.change) p (looked r.looks) r.beside
+adds_is look scripts pid input plan = refl
 
 -- ---- a step with a reply adds no name
 AddsNone : StepTree → Type 0

@@ -75,14 +75,7 @@ undisturbed_does : (pid : ℕ) (p : Process) (i : Option Instruction) (o : Optio
 undisturbed_does pid p i (Some (stored.Value (values.Signals queue))) h =
     let parts = or_parts _ _ h in
     ap (λ b. cond b (ended_with pid p KILLED) (handled pid p i queue p.handler p.saved)) parts.0 ∙ not_due pid p i queue p.handler p.saved parts.1
-undisturbed_does pid p i (Some (stored.Value (values.File bytes))) h = refl
-undisturbed_does pid p i (Some (stored.Value values.Dir)) h = refl
-undisturbed_does pid p i (Some (stored.Value (values.Link object))) h = refl
-undisturbed_does pid p i (Some (stored.Value (values.Pipe pipe))) h = refl
-undisturbed_does pid p i (Some (stored.Value (values.Exit status))) h = refl
-undisturbed_does pid p i (Some (stored.Value (values.Copy content))) h = refl
-undisturbed_does pid p i (Some (stored.Process q)) h = refl
-undisturbed_does pid p i None h = refl
+undisturbed_does pid p i o h = refl
 
 private_does : (pid : ℕ) (p q : Process) (i : Option Instruction) → option_and_then (private_step p) i ≡ Some q → does pid p i ≡ alone pid q
 private_does pid p q (Some i) is = ap (λ o. private_or pid o (row pid p i)) is
@@ -129,14 +122,7 @@ module _ (look : Entity → Option EntityState) (scripts : Scripts) (pid : ℕ) 
       } where
         as_before : (o : Option EntityState) → Keeps p q → is_due q o ≡ is_due p o
         as_before (Some (stored.Value (values.Signals queue))) keeps = λ i. list_any (λ n. n == KILL) queue || (not (length queue == 0) && (is_some (keeps.handler i) && not (is_some (keeps.saved i))))
-        as_before (Some (stored.Value (values.File bytes))) keeps = refl
-        as_before (Some (stored.Value values.Dir)) keeps = refl
-        as_before (Some (stored.Value (values.Link object))) keeps = refl
-        as_before (Some (stored.Value (values.Pipe pipe))) keeps = refl
-        as_before (Some (stored.Value (values.Exit status))) keeps = refl
-        as_before (Some (stored.Value (values.Copy content))) keeps = refl
-        as_before (Some (stored.Process r)) keeps = refl
-        as_before None keeps = refl
+        as_before o keeps = refl
 
 -- the instructions counted from the first or from the last
 same_option : (o : Option Process) → o ≡ option_and_then (λ q. Some q) o

@@ -117,14 +117,7 @@ due pid p i queue =
 -- what a process with these signals does next
 abbrev pub with_signals : ℕ → Process → Option Instruction → Option EntityState → StepTree
 with_signals pid p i (Some (stored.Value (values.Signals queue))) = due pid p i queue
-with_signals pid p i (Some (stored.Value (values.File bytes))) = does pid p i
-with_signals pid p i (Some (stored.Value values.Dir)) = does pid p i
-with_signals pid p i (Some (stored.Value (values.Link object))) = does pid p i
-with_signals pid p i (Some (stored.Value (values.Pipe held))) = does pid p i
-with_signals pid p i (Some (stored.Value (values.Exit status))) = does pid p i
-with_signals pid p i (Some (stored.Value (values.Copy content))) = does pid p i
-with_signals pid p i (Some (stored.Process q)) = does pid p i
-with_signals pid p i None = does pid p i
+with_signals pid p i _ = does pid p i
 
 -- a step without input looks at the process's signals first
 abbrev pub with_input : ℕ → Process → Option Instruction → Input → StepTree

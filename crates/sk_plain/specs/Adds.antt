@@ -2,21 +2,17 @@
 use Rattle.std.specs.Prelude.{List, [], ◌∷◌, Option, Some, None}
 use Rattle.sk_ids.specs.declared.pid.ObjId.{ObjId}
 use Rattle.sk_ids.specs.declared.entity.Entity.{Entity}
-use Rattle.sk_ids.specs.declared.entity.Entity.TheVariants.{Proc, Sig, Exit, Obj, Link, Copy}
+use Rattle.sk_ids.specs.declared.entity.Entity.TheVariants.{Link}
 use Rattle.sk_store.specs.declared.entity_state.EntityState.{EntityState}
 use Rattle.sk_plain.specs.declared.plan.Plan.{Plan}
-use Rattle.sk_plain.specs.declared.plan.Plan.TheVariants.{Private, Speaks, ReadsFile, WritesFile, Received, Forks, Acts}
+use Rattle.sk_plain.specs.declared.plan.Plan.TheVariants.{Acts}
 use Rattle.sk_plain.specs.declared.plan.Beside.{Beside}
 use Rattle.sk_plain.specs.declared.plan.Beside.TheVariants as beside
 
 -- the directory of a name
 abbrev pub directory_of : Entity → Option ObjId
-directory_of (Proc p) = None
-directory_of (Sig p) = None
-directory_of (Exit p) = None
-directory_of (Obj o) = None
 directory_of (Link d name) = Some d
-directory_of (Copy n) = None
+directory_of _ = None
 
 -- one that is written to be there; a name is written so only where it is absent
 abbrev pub added_by : Entity → Option EntityState → Option ObjId
@@ -40,10 +36,5 @@ adds_beside (beside.Gone e) = None
 
 -- the directory of the name that a plan writes, if it writes one
 abbrev pub adds_of : Plan → Option ObjId
-adds_of Private = None
-adds_of Speaks = None
-adds_of (ReadsFile o at) = None
-adds_of (WritesFile o at) = None
-adds_of (Received name) = None
-adds_of (Forks r child place) = None
 adds_of (Acts r) = adds_beside r.beside
+adds_of _ = None

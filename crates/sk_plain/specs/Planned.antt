@@ -2,7 +2,7 @@
 use Rattle.std.specs.Prelude.{◌≢◌, ◌<◌, ℕ, List, [], ◌∷◌, ◌++◌, map, false, Option, Some, None, Result, Ok, Err}
 use Rattle.sk_record.specs.Step.{Effect}
 use Rattle.sk_ids.specs.declared.entity.Entity.{Entity}
-use Rattle.sk_ids.specs.declared.entity.Entity.TheVariants.{Proc, Sig, Exit, Obj, Link, Copy}
+use Rattle.sk_ids.specs.declared.entity.Entity.TheVariants.{Proc, Sig, Exit}
 use Rattle.sk_objects.specs.Value.{empty_of}
 use Rattle.sk_objects.specs.declared.value.Kind.TheVariants as kinds
 use Rattle.sk_objects.specs.declared.value.Value.TheVariants as values
@@ -47,19 +47,13 @@ written_beside look p (Birth c) =
 
 -- what is made absent, after the process is written
 abbrev pub gone_in : BesideView → List Entity
-gone_in Nothing = []
-gone_in Says = []
-gone_in (One e becomes) = []
-gone_in (Birth c) = []
 gone_in (Gone e) = e ∷ []
+gone_in _ = []
 
 -- the text that is said: the process's buffer, to its terminal
 abbrev pub said_in : Process → BesideView → Option Saying
-said_in p Nothing = None
 said_in p Says = Some (record { to = p.terminal; text = p.buffer })
-said_in p (One e becomes) = None
-said_in p (Birth c) = None
-said_in p (Gone e) = None
+said_in p _ = None
 
 -- the text that a plan says, and for which terminal, if it says one
 abbrev pub said_by : PlanView → Option Saying
@@ -115,11 +109,7 @@ CanDo look (Gone e) = Unit {0}
 
 abbrev pub IsNoProcess : Entity → Type 0
 IsNoProcess (Proc p) = ⊥
-IsNoProcess (Sig p) = Unit {0}
-IsNoProcess (Exit p) = Unit {0}
-IsNoProcess (Obj o) = Unit {0}
-IsNoProcess (Link o n) = Unit {0}
-IsNoProcess (Copy n) = Unit {0}
+IsNoProcess _ = Unit {0}
 
 -- what is written beside a process is not the process
 abbrev pub IsBeside : ℕ → BesideView → Type 0

@@ -244,7 +244,6 @@ SAID = {
         "last_line": "the report's last line",
         "line_of": "the line of an entity",
         "terminal_said": "the line of a terminal",
-        "world_report_text": "the report of a world's desk and server",
     },
     "sk_talk": {
         "handed_at": "how many texts of a terminal were handed out",

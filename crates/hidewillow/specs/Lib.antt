@@ -94,6 +94,6 @@ pub use Rattle.sk_client.specs.AcceptedStores
 pub use Rattle.sk_client.specs.AskedSteps
 pub use Rattle.sk_client.specs.Replied
 pub use Rattle.sk_client.specs.Writes
-pub use Rattle.sk_client.specs.LentEvent
+pub use Rattle.sk_trace.specs.LentEvent
 pub use Rattle.sk_scenario.specs.Declarations
 pub use Rattle.sk_scenario.specs.Scenario

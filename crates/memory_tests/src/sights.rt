@@ -1,7 +1,8 @@
 //! What is seen of a kernel and of a world, as text.
 use sk_client::World;
 use sk_kernel::Kernel;
-use sk_report::{Stop, write_report, write_world_report};
+use sk_play::write_world_report;
+use sk_report::{Stop, write_report};
 use sk_trace::Trace;
 use std::alloc::{AllocError, Global};
 use std::io::Write;

@@ -15,7 +15,7 @@ use Rattle.sk_client.proofs.RequestFacts.{RequestFacts, facts_serve}
 use Rattle.sk_client.proofs.SeenWorld.{World, answered_there, answered_here, law_served, unanswered}
 use Rattle.sk_client.proofs.Table.{is_table}
 use Rattle.sk_client.proofs.Worlds.{AreFor, refused_there, drops_not, yes_fits, Reached, reached_by}
-use Rattle.sk_client.specs.declared.world.WorldEvent.TheVariants as events
+use Rattle.sk_trace.specs.declared.world_event.WorldEvent.TheVariants as events
 use Rattle.sk_client.specs.declared.world.WorldAnswer.TheVariants as answers
 use Rattle.sk_client.specs.declared.world.Cause.TheVariants as causes
 use Rattle.sk_client.proofs.SeenReply.{reply_keeps}

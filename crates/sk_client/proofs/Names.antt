@@ -65,7 +65,7 @@ pub use Rattle.sk_client.specs.declared.requests.Queued.{Queued}
 pub use Rattle.sk_client.specs.Rule.{Rule}
 pub use Rattle.sk_client.specs.declared.world.Cause.{Cause}
 pub use Rattle.sk_client.specs.declared.world.WorldAnswer.{WorldAnswer}
-pub use Rattle.sk_client.specs.declared.world.WorldEvent.{WorldEvent}
+pub use Rattle.sk_trace.specs.declared.world_event.WorldEvent.{WorldEvent}
 pub use Rattle.sk_client.specs.declared.world.WorldStop.{WorldStop}
 pub use Rattle.sk_guesses.proofs.Statuses.{nothing_in}
 pub use Rattle.sk_guesses.specs.Token.{Token}

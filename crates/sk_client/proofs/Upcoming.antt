@@ -9,7 +9,7 @@ use Rattle.sk_client.proofs.Names.{turn_step, reply_step, first_reply_step, opti
 use Rattle.sk_script.specs.declared.instruction.Input.TheVariants as inputs
 use Rattle.sk_trace.specs.declared.event.Event.TheVariants as trace
 use Rattle.sk_client.specs.Rule as rules
-use Rattle.sk_client.specs.declared.world.WorldEvent.TheVariants as events
+use Rattle.sk_trace.specs.declared.world_event.WorldEvent.TheVariants as events
 use Rattle.sk_client.specs.declared.world.WorldAnswer.TheVariants as answers
 use Rattle.sk_client.specs.declared.world.Cause.TheVariants as causes
 use Rattle.sk_client.proofs.WorldFacts.{taken_same, edit_rest}

@@ -8,7 +8,7 @@ use Rattle.sk_client.proofs.Names.{Replies, EditsFile, EventPost, WorldEvent, Wo
 use Rattle.sk_client.proofs.Names.{map-append, append-nil, Contains-append_cases, Contains, cons_cases, no_member}
 use Rattle.sk_server.specs.declared.request.Ask.TheVariants as asks
 use Rattle.sk_server.specs.declared.reply.Answer.TheVariants as answers
-use Rattle.sk_client.specs.declared.world.WorldEvent.TheVariants as events
+use Rattle.sk_trace.specs.declared.world_event.WorldEvent.TheVariants as events
 use Rattle.sk_client.specs.declared.world.WorldAnswer.TheVariants as told
 use Rattle.sk_client.specs.declared.world.Cause.TheVariants as causes
 use Rattle.sk_client.proofs.WorldFacts.{Fitting, answer_suits, taken_same, turn_rest, edit_rest}

@@ -9,7 +9,7 @@ use Rattle.sk_client.specs.Desk.{entry, input_of}
 use Rattle.sk_client.specs.WorldView.{WorldView, EventPost}
 use Rattle.sk_client.specs.Pending.{PendingRequest}
 use Rattle.sk_client.specs.declared.desk.Given.TheVariants as gives
-use Rattle.sk_client.specs.declared.world.WorldEvent.TheVariants as events
+use Rattle.sk_trace.specs.declared.world_event.WorldEvent.TheVariants as events
 use Rattle.sk_client.specs.declared.world.WorldAnswer.TheVariants as told
 
 -- the oldest reply is to an asked request of this number: the kernel accepts its step with what the reply gives, and takes it

@@ -16,4 +16,3 @@ pub mod AskedSteps
 pub mod Writes
 pub mod Upcoming
 pub mod Leasing
-pub mod LentEvent

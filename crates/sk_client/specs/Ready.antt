@@ -6,7 +6,7 @@ use Rattle.sk_server.specs.declared.server.TheConstants.{LAST_REQUEST}
 use Rattle.sk_client.specs.Desk.{opened_at}
 use Rattle.sk_client.specs.WorldView.{WorldView, joined}
 use Rattle.sk_client.specs.Exchanges.{Exchanges, Leads}
-use Rattle.sk_client.specs.declared.world.WorldEvent.{WorldEvent}
+use Rattle.sk_trace.specs.declared.world_event.WorldEvent.{WorldEvent}
 pub use Rattle.sk_plain.specs.TidyState.{IsCounted, IsPlaced, IsCopy, IsTidyState}
 
 -- a kernel was booted, whatever it did since: its start is tidy, and its trace sound, with a place for the decision of each

@@ -7,8 +7,8 @@ use Rattle.sk_server.specs.declared.reply.Reply.{Reply}
 use Rattle.sk_client.specs.Pending.{PendingRequest}
 use Rattle.sk_client.specs.Rule.{Rule}
 use Rattle.sk_client.specs.Rule as rules
-use Rattle.sk_client.specs.declared.world.WorldEvent.{WorldEvent}
-use Rattle.sk_client.specs.declared.world.WorldEvent.TheVariants as events
+use Rattle.sk_trace.specs.declared.world_event.WorldEvent.{WorldEvent}
+use Rattle.sk_trace.specs.declared.world_event.WorldEvent.TheVariants as events
 use Rattle.sk_client.specs.Desk.{rule, input_of}
 use Rattle.sk_client.specs.WorldView.{WorldView}
 

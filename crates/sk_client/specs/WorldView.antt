@@ -13,8 +13,8 @@ use Rattle.sk_server.specs.Server.{ServerView, server_code, answer_to, answered}
 use Rattle.sk_server.specs.Calls.{Edits}
 use Rattle.sk_client.specs.Pending.{PendingRequest}
 use Rattle.sk_client.specs.declared.desk.ReplyRefusal.TheVariants as refusals
-use Rattle.sk_client.specs.declared.world.WorldEvent.{WorldEvent}
-use Rattle.sk_client.specs.declared.world.WorldEvent.TheVariants as events
+use Rattle.sk_trace.specs.declared.world_event.WorldEvent.{WorldEvent}
+use Rattle.sk_trace.specs.declared.world_event.WorldEvent.TheVariants as events
 use Rattle.sk_client.specs.declared.world.WorldAnswer.{WorldAnswer}
 use Rattle.sk_client.specs.declared.world.WorldAnswer.TheVariants as answers
 use Rattle.sk_client.specs.declared.world.WorldNews.{WorldNews}

@@ -10,8 +10,8 @@ use Rattle.sk_server.specs.declared.reply.Answer.TheVariants as answers
 use Rattle.sk_client.specs.Table.{Bytes}
 use Rattle.sk_client.specs.Exchanges.{Exchanges, exchanged, Leads}
 use Rattle.sk_client.specs.WorldView.{WorldView}
-use Rattle.sk_client.specs.declared.world.WorldEvent.{WorldEvent}
-use Rattle.sk_client.specs.declared.world.WorldEvent.TheVariants as events
+use Rattle.sk_trace.specs.declared.world_event.WorldEvent.{WorldEvent}
+use Rattle.sk_trace.specs.declared.world_event.WorldEvent.TheVariants as events
 use Rattle.sk_client.specs.declared.world.WorldAnswer.{WorldAnswer}
 use Rattle.sk_client.specs.declared.world.Cause.{Cause}
 

@@ -28,7 +28,7 @@ ghost use Rattle.sk_client.specs.AskedSteps.{StepsAreTaken, ForgottenAreDropped}
 ghost use Rattle.sk_client.specs.Replied.{StepsAreReplied, AreRepliedOnce, PlacesAreKept};
 ghost use Rattle.sk_client.specs.Writes.{writes_of, AreWritten};
 ghost use Rattle.sk_client.specs.WorldView.{WorldView, joined};
-ghost use Rattle.sk_client.specs.declared.world.WorldEvent.{WorldEvent};
+ghost use Rattle.sk_trace.specs.declared.world_event.WorldEvent.{WorldEvent};
 
 use sk_script::{Boot, BootProcess};
 

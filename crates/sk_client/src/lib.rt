@@ -11,4 +11,5 @@ pub mod world;
 
 pub use desk::{Desk, Given, Pending, ReplyRefusal, Turn};
 pub use pending::KeptAnswer;
-pub use world::{Cause, EventRef, World, WorldAnswer, WorldEvent, WorldNews, WorldStop};
+pub use sk_trace::{EventRef, WorldEvent};
+pub use world::{Cause, World, WorldAnswer, WorldNews, WorldStop};

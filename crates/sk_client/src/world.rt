@@ -7,7 +7,7 @@ ghost use Rattle.sk_server.specs.declared.server.TheConstants.{LAST_REQUEST};
 ghost use Rattle.sk_client.specs.Leasing.{WorldHandInPost};
 ghost use Rattle.sk_client.specs.Desk.{first_sent, first_taken};
 ghost use Rattle.sk_client.specs.Upcoming.{upcoming};
-ghost use Rattle.sk_client.specs.LentEvent.{event_in};
+ghost use Rattle.sk_trace.specs.LentEvent.{event_in};
 ghost use Rattle.sk_server.specs.Server.{is_in_turn};
 
 use crate::desk::{Desk, Given, ReplyRefusal, Turn};
@@ -17,46 +17,11 @@ use sk_plain::{Refusal, Trace};
 use sk_script::{Input, Lease};
 use sk_server::{EditRefusal, Reply, Request, RequestRef, Server, ServerRefusal};
 use sk_terminal::Texts;
+use sk_trace::{EventRef, WorldEvent};
 use std::alloc::Global;
 use std::collections::VecDeque;
 use std::marker::Model;
 use thiserror::Error;
-
-/// What happens in a world.
-#[derive(Clone, Copy, Debug)]
-pub enum WorldEvent {
-    /// A turn of a process.
-    Turn(Pid),
-    /// The next request is answered.
-    Serve,
-    /// The next reply is given.
-    Reply,
-    /// Another client writes a file that has this version.
-    Edit(Name, u64, Text),
-}
-
-/// An event where it stands: what is long of it is lent.
-#[derive(Clone, Copy, Debug)]
-pub enum EventRef<'a> {
-    Turn(&'a Pid),
-    Serve,
-    Reply,
-    Edit(&'a Name, u64, &'a Text),
-}
-
-impl WorldEvent {
-    /// Lends it.
-    pub fn lent(&self) -> EventRef<'_>
-        ensures { event_in result ≡ self.now }
-    {
-        match self {
-            WorldEvent::Turn(pid) => EventRef::Turn(pid),
-            WorldEvent::Serve => EventRef::Serve,
-            WorldEvent::Reply => EventRef::Reply,
-            WorldEvent::Edit(name, expected, bytes) => EventRef::Edit(name, *expected, bytes),
-        }
-    }
-}
 
 /// What came of an event.
 #[derive(Clone, Copy, Debug)]

@@ -4,3 +4,4 @@ pub mod Turns
 pub mod Replayed
 pub mod Happened
 pub mod Foreseen
+pub mod Counted

@@ -9,12 +9,12 @@ pub use Rattle.std.specs.Io.KnownBytes.{Appends}
 pub use Rattle.std.specs.Prelude.{OnOk, codes}
 pub use Rattle.sk_client.proofs.Upcoming.{event_foreseen}
 pub use Rattle.sk_client.proofs.WorldFacts.{newest_is}
-pub use Rattle.sk_client.specs.LentEvent.{event_in}
+pub use Rattle.sk_trace.specs.LentEvent.{event_in}
 pub use Rattle.sk_client.specs.Upcoming.{upcoming as upcoming_in}
 pub use Rattle.sk_client.specs.WorldView.{NewsPost, WorldView, EventPost}
 pub use Rattle.sk_client.specs.declared.world.Cause.{Cause}
 pub use Rattle.sk_client.specs.declared.world.WorldAnswer.{WorldAnswer}
-pub use Rattle.sk_client.specs.declared.world.WorldEvent.{WorldEvent}
+pub use Rattle.sk_trace.specs.declared.world_event.WorldEvent.{WorldEvent}
 pub use Rattle.sk_client.specs.declared.world.WorldNews.{WorldNews}
 pub use Rattle.sk_kernel.specs.Holder.{DecidesPost, HolderView, but}
 pub use Rattle.sk_kernel.proofs.Appended.{appended_foreseen, unchanged_foreseen}
@@ -39,3 +39,7 @@ pub use Rattle.sk_script.specs.declared.instruction.Input.{Input}
 pub use Rattle.sk_server.specs.Server.{new_server}
 pub use Rattle.sk_server.specs.declared.reply.Reply.{Reply}
 pub use Rattle.sk_trace.specs.declared.event.Event.{Event}
+pub use Rattle.std.specs.Prelude.{flat_map}
+pub use Rattle.std.proofs.Common.{ap₂}
+pub use Rattle.sk_client.specs.Desk.{DeskView, pending}
+pub use Rattle.sk_play.specs.WorldReport.{remote_line, desk_line, counts_of, desk_report_text}

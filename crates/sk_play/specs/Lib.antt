@@ -7,3 +7,4 @@ pub mod Worlds
 pub mod Upcoming
 pub mod Epochs
 pub mod Leases
+pub mod WorldReport

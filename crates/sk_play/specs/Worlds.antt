@@ -8,7 +8,7 @@ use Rattle.sk_server.specs.declared.server.EditRefusal.{EditRefusal}
 use Rattle.sk_server.specs.declared.server.EditRefusal.TheVariants as edits
 use Rattle.sk_client.specs.Desk.{opened}
 use Rattle.sk_client.specs.WorldView.{WorldView, joined, EventPost}
-use Rattle.sk_client.specs.declared.world.WorldEvent.{WorldEvent}
+use Rattle.sk_trace.specs.declared.world_event.WorldEvent.{WorldEvent}
 use Rattle.sk_client.specs.declared.world.WorldAnswer.{WorldAnswer}
 use Rattle.sk_client.specs.declared.world.Cause.{Cause}
 use Rattle.sk_client.specs.declared.world.Cause.TheVariants as causes

@@ -1,5 +1,5 @@
 //! A scenario at play: the kernel that it declares, with the tokens of its guesses, and what its steps are answered; and
-//! the world that it declares, joined or as its desk and its server, and what is told of its events.
+//! the world that it declares, joined or as its desk and its server, what is told of its events, and its report.
 #![tactic(auto)]
 
 pub mod ahead;
@@ -10,6 +10,7 @@ mod line;
 pub mod replaying;
 pub mod session;
 pub mod told;
+pub mod world_report;
 pub mod worlds;
 
 pub use ahead::upcoming;
@@ -20,4 +21,5 @@ pub use line::Line;
 pub use replaying::{Unreplayed, replay};
 pub use session::Session;
 pub use told::{WorldTold, write_told};
+pub use world_report::{write_desk_report, write_workers, write_world_report};
 pub use worlds::{desk_of, happen, happen_line, world_of};

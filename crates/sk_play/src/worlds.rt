@@ -2,7 +2,7 @@
 ghost use Rattle.std.specs.Prelude.{◌≡◌, IfOk, MatchResult, Some, None};
 ghost use Rattle.sk_server.specs.Server.{new_server};
 ghost use Rattle.sk_client.specs.Desk.{opened};
-ghost use Rattle.sk_client.specs.LentEvent.{event_in};
+ghost use Rattle.sk_trace.specs.LentEvent.{event_in};
 ghost use Rattle.sk_client.specs.declared.world.WorldAnswer.TheVariants as answers;
 ghost use Rattle.sk_play.specs.Plays.{declared_kernel};
 ghost use Rattle.sk_play.specs.Told.{told_line};

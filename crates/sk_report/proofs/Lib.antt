@@ -1,6 +1,5 @@
 pub mod Names
 pub mod Shown
-pub mod Counted
 pub mod Spelled
 mod Sideways
 mod Regrouped

@@ -20,7 +20,6 @@ pub use Rattle.std.specs.Ordering.{ordering_then, is_eq, ordering_reverse, is_lt
 pub use Rattle.std.specs.Prelude.{codes, decimal, flat_map, slice_index_or, OnOk}
 pub use Rattle.std.specs.declared.cmp.Ordering.{Ordering}
 pub use Rattle.std.specs.declared.cmp.Ordering.TheVariants.{Equal, Greater, Less}
-pub use Rattle.sk_client.specs.Desk.{DeskView, pending}
 pub use Rattle.sk_ids.specs.Entity.{object_cmp, entity_cmp}
 pub use Rattle.sk_ids.specs.Name.{name_order}
 pub use Rattle.sk_ids.specs.contracts.pid.ObjIdOrd.TheImpl.Laws.{total-law}
@@ -35,7 +34,7 @@ pub use Rattle.sk_objects.specs.declared.value.Value.{Value}
 pub use Rattle.sk_objects.specs.declared.value.Value.TheVariants.{Dir}
 pub use Rattle.sk_report.specs.Directories.{is_name_of, is_before, link_text, names_under}
 pub use Rattle.sk_report.specs.Printed.{entity_text}
-pub use Rattle.sk_report.specs.Report.{remote_line, line_of, desk_line, counts_of, desk_report_text, texts_lines}
+pub use Rattle.sk_report.specs.Report.{line_of, texts_lines}
 pub use Rattle.sk_report.specs.Report.{counts_line, said_there, with_terminals}
 pub use Rattle.sk_store.specs.declared.entity_state.EntityState.{EntityState}
 pub use Rattle.sk_store.specs.declared.entity_state.EntityState.TheVariants.{Process as StoredProcess}

@@ -1,5 +1,4 @@
-//! The report of a kernel: its terminals, its entities and the last line; that of a world, or of a desk and a server; the
-//! line of workers; and how entities and what they have are printed.
+//! The report of a kernel: its terminals, its entities and the last line; and how entities and what they have are printed.
 #![tactic(auto)]
 
 pub mod directories;
@@ -11,14 +10,12 @@ pub mod report;
 pub mod stop;
 pub mod subject;
 mod tags;
-pub mod world_report;
 
 pub use directories::write_names;
 pub use footprints::{PrintedEntities, write_footprint};
 pub use printed::{
     PrintedEntity, PrintedProcess, PrintedTags, PrintedValue, PrintedVersion, PrintedView,
 };
-pub use report::{write_plain_report, write_report};
+pub use report::{write_kernel, write_plain_report, write_report};
 pub use stop::Stop;
 pub use subject::Subject;
-pub use world_report::{write_desk_report, write_workers, write_world_report};

@@ -34,11 +34,7 @@ pub fn write_report<W: Write>(alloc: Global, kernel: &Kernel, out: &mut W) -> Re
 }
 
 /// Writes the terminals and the entities.
-pub(crate) fn write_kernel<W: Write>(
-    alloc: Global,
-    kernel: &Kernel,
-    out: &mut W,
-) -> Result<(), Stop>
+pub fn write_kernel<W: Write>(alloc: Global, kernel: &Kernel, out: &mut W) -> Result<(), Stop>
     ensures { OnOk result
         (Appends (W.contents out.old) (W.contents out.new) (kernel_text kernel.now)) }
 {

@@ -17,7 +17,7 @@ pub use Rattle.std.specs.Result.{result_ok}
 pub use Rattle.std.specs.Str.Lines.{lines}
 pub use Rattle.std.specs.declared.io.buffered.BufReader.{BufReader}
 pub use Rattle.sk_client.specs.Desk.{DeskView}
-pub use Rattle.sk_client.specs.declared.world.WorldEvent.{WorldEvent}
+pub use Rattle.sk_trace.specs.declared.world_event.WorldEvent.{WorldEvent}
 pub use Rattle.sk_command.specs.Ends.{IsWritten, IsFlushed}
 pub use Rattle.sk_command.specs.declared.end.End.{End}
 pub use Rattle.sk_command.specs.declared.job.Shows.{Shows}

@@ -1,6 +1,6 @@
 //! What is played: a kernel, by calls, or a world, by events.
 ghost use Rattle.sk_play.specs.Worlds.{declared_world};
-ghost use Rattle.sk_report.specs.Report.{world_report_text};
+ghost use Rattle.sk_play.specs.WorldReport.{world_report_text};
 ghost use Rattle.sk_run.specs.Run.{declared_session, kernel_of_session, session_report, kernel_of_world, CallTakes, EventTakes};
 
 use crate::listing::{foresee, write_foreseen};
@@ -8,8 +8,9 @@ use sk_client::World;
 use sk_kernel::Kernel;
 use sk_play::{
     Line, Session, happen, happen_line, put_answer, upcoming, world_of, write_answer, write_told,
+    write_world_report,
 };
-use sk_report::{Stop, write_report, write_world_report};
+use sk_report::{Stop, write_report};
 use sk_scenario::{Call, Declarations, KeptEvent};
 use std::alloc::{AllocError, Global};
 use std::io::Write;

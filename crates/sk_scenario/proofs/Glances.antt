@@ -10,7 +10,7 @@ use Rattle.sk_trace.specs.Lines.{step}
 use Rattle.sk_scenario.specs.Calls.{call}
 use Rattle.sk_scenario.specs.WorldEvents.{world_event}
 use Rattle.sk_scenario.specs.declared.call.Call.TheVariants as calls
-use Rattle.sk_client.specs.declared.world.WorldEvent.TheVariants as events
+use Rattle.sk_trace.specs.declared.world_event.WorldEvent.TheVariants as events
 
 -- ---- a text that begins with a line of these words
 

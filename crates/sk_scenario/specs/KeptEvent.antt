@@ -1,8 +1,8 @@
 -- What is seen of an event of a world that is kept.
 use Rattle.std.specs.Coded.{Coded}
-pub use Rattle.sk_client.specs.declared.world.WorldEvent.{WorldEvent}
-pub use Rattle.sk_client.specs.declared.world.WorldEvent.TheVariants as events
-use Rattle.sk_client.specs.contracts.world.WorldEvent as event
+pub use Rattle.sk_trace.specs.declared.world_event.WorldEvent.{WorldEvent}
+pub use Rattle.sk_trace.specs.declared.world_event.WorldEvent.TheVariants as events
+use Rattle.sk_trace.specs.contracts.world_event.WorldEvent as event
 use Rattle.sk_scenario.specs.declared.kept.EventWords.{EventWords}
 use Rattle.sk_scenario.specs.declared.kept.EventWords.TheVariants.{Turn, Serve, Reply, Edit}
 

@@ -22,7 +22,7 @@ use Rattle.sk_scenario.specs.declared.call.Call.{Call}
 use Rattle.sk_scenario.specs.Declarations.{Declared, nothing_declared, script, line_said}
 use Rattle.sk_scenario.specs.Calls.{step_line}
 use Rattle.sk_scenario.specs.WorldEvents.{world_line}
-use Rattle.sk_client.specs.declared.world.WorldEvent.{WorldEvent}
+use Rattle.sk_trace.specs.declared.world_event.WorldEvent.{WorldEvent}
 use Rattle.sk_trace.specs.declared.event.Event.{Event}
 use Rattle.sk_trace.specs.Lines.{trace_from}
 

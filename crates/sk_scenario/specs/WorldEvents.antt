@@ -6,8 +6,8 @@ use Rattle.sk_words.specs.Literals.{literal}
 use Rattle.sk_words.specs.Operands.{none_of, one_of, three_of, pid, name, natural}
 use Rattle.sk_words.specs.Tables.{Rule, rule_in, unknown}
 use Rattle.sk_words.specs.Items.{with_item}
-use Rattle.sk_client.specs.declared.world.WorldEvent.{WorldEvent}
-use Rattle.sk_client.specs.declared.world.WorldEvent.TheVariants as events
+use Rattle.sk_trace.specs.declared.world_event.WorldEvent.{WorldEvent}
+use Rattle.sk_trace.specs.declared.world_event.WorldEvent.TheVariants as events
 
 -- what the words of an edit say: a name, a version and a literal
 abbrev pub edit : Rule WorldEvent

@@ -1,10 +1,10 @@
 //! Events of a world as they are kept: a few words, with what is long in a box.
 ghost use Rattle.std.specs.Prelude.{◌≡◌, IfOk};
-ghost use Rattle.sk_client.specs.LentEvent.{event_in};
-ghost use Rattle.sk_client.specs.declared.world.WorldEvent.TheVariants as events;
+ghost use Rattle.sk_trace.specs.LentEvent.{event_in};
+ghost use Rattle.sk_trace.specs.declared.world_event.WorldEvent.TheVariants as events;
 
-use sk_client::EventRef;
 use sk_ids::{Name, Pid, Text};
+use sk_trace::EventRef;
 use std::alloc::{AllocError, Global};
 use std::marker::Model;
 
@@ -32,7 +32,7 @@ pub struct KeptEvent {
 }
 
 impl Model for KeptEvent {
-    ghost use Rattle.sk_client.specs.declared.world.WorldEvent.{WorldEvent};
+    ghost use Rattle.sk_trace.specs.declared.world_event.WorldEvent.{WorldEvent};
     ghost use Rattle.sk_scenario.specs.KeptEvent.{event_of, event_code};
 
     ghost Value = { WorldEvent };

@@ -5,7 +5,7 @@ use Rattle.sk_words.specs.Reading.{TellsKind}
 use Rattle.sk_scenario.specs.declared.call.Call.{Call}
 use Rattle.sk_scenario.specs.Calls.{step_line}
 use Rattle.sk_scenario.specs.WorldEvents.{world_line}
-use Rattle.sk_client.specs.declared.world.WorldEvent.{WorldEvent}
+use Rattle.sk_trace.specs.declared.world_event.WorldEvent.{WorldEvent}
 use Rattle.sk_client.specs.WorldView.{WorldView}
 use Rattle.sk_play.specs.declared.session.Session.{Session}
 use Rattle.sk_play.specs.Session.{AnswerMatches, held_after}

@@ -6,7 +6,8 @@ use Rattle.sk_kernel.specs.Holder.{holding}
 use Rattle.sk_kernel.specs.Kernel.{KernelView}
 use Rattle.sk_play.specs.Plays.{declared_kernel}
 use Rattle.sk_play.specs.Worlds.{declared_world}
-use Rattle.sk_report.specs.Report.{report_text, world_report_text}
+use Rattle.sk_report.specs.Report.{report_text}
+use Rattle.sk_play.specs.WorldReport.{world_report_text}
 use Rattle.sk_talk.specs.declared.play.Play.{Play}
 use Rattle.sk_talk.specs.declared.play.Play.TheVariants as plays
 

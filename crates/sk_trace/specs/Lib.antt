@@ -4,3 +4,4 @@ pub mod Event
 pub mod Trace
 pub mod Lines
 pub mod Text
+pub mod LentEvent

@@ -11,7 +11,7 @@ pub use Rattle.sk_command.specs.ReadAll.{INPUT_LIMIT}
 pub use Rattle.sk_command.specs.declared.end.End.{End}
 pub use Rattle.sk_command.specs.declared.job.Task.{Task}
 pub use Rattle.sk_crew.specs.Crewed.{IsCrewed}
-pub use Rattle.sk_report.specs.Report.{desk_report_text, workers_line}
+pub use Rattle.sk_play.specs.WorldReport.{desk_report_text, workers_line}
 pub use Rattle.sk_run.specs.Talk.{EndsOpened}
 pub use Rattle.sk_scenario.specs.Declarations.{Declared}
 pub use Rattle.sk_scenario.specs.Scenario.{Trace, section_view, SectionView, World, Steps}

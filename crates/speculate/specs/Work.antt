@@ -8,7 +8,7 @@ use Rattle.sk_workers.specs.History.{Runs}
 use Rattle.sk_crew.specs.Crewed.{IsCrewed}
 use Rattle.sk_scenario.specs.Declarations.{Declared}
 use Rattle.sk_play.specs.Plays.{declared_kernel}
-use Rattle.sk_report.specs.Report.{desk_report_text, workers_line}
+use Rattle.sk_play.specs.WorldReport.{desk_report_text, workers_line}
 use Rattle.sk_command.specs.declared.end.End.{End}
 use Rattle.sk_command.specs.declared.end.End.TheVariants as ends
 

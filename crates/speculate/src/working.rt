@@ -4,14 +4,14 @@ ghost use Rattle.std.specs.Int.{IsInRange};
 ghost use Rattle.std.specs.Io.KnownBytes.{Appends};
 ghost use Rattle.std.specs.Io.Buffered.{writer_buffer, writer_contents};
 ghost use Rattle.sk_command.specs.Ends.{IsFlushed};
-ghost use Rattle.sk_report.specs.Report.{desk_report_text, workers_line};
+ghost use Rattle.sk_play.specs.WorldReport.{desk_report_text, workers_line};
 ghost use Rattle.speculate.specs.Work.{AppendsFront, CanLeave, EndsWork, IsTold};
 
 use sk_client::Desk;
 use sk_command::end::{End, flushed};
 use sk_crew::{CrewPlan, run_crew};
-use sk_play::desk_of;
-use sk_report::{Stop, write_desk_report, write_workers};
+use sk_play::{desk_of, write_desk_report, write_workers};
+use sk_report::Stop;
 use sk_scenario::Declarations;
 use sk_server::Server;
 use sk_workers::{Gate, History};

@@ -1,7 +1,7 @@
 -- The counts are those of the kernel and of the requests that the desk has.
-use Rattle.sk_report.proofs.Names.{subst, OnOk, Appends}
-use Rattle.sk_report.proofs.Counted.{counted}
-use Rattle.sk_report.proofs.world_report.write_desk_line.Goals as goal
+use Rattle.sk_play.proofs.Names.{subst, OnOk, Appends}
+use Rattle.sk_play.proofs.Counted.{counted}
+use Rattle.sk_play.proofs.world_report.write_desk_line.Goals as goal
 
 pub returns : goal.returns
 returns g c =

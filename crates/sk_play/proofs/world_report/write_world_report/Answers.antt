@@ -1,6 +1,6 @@
 -- The desk and the server are those of the world.
-use Rattle.sk_report.proofs.Names.{ap₂, subst, OnOk, Appends, desk_report_text}
-use Rattle.sk_report.proofs.world_report.write_world_report.Goals as goal
+use Rattle.sk_play.proofs.Names.{ap₂, subst, OnOk, Appends, desk_report_text}
+use Rattle.sk_play.proofs.world_report.write_world_report.Goals as goal
 
 pub returns : goal.returns
 returns g c =

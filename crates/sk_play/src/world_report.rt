@@ -2,14 +2,13 @@
 ghost use Rattle.std.specs.Prelude.{OnOk, flat_map};
 ghost use Rattle.std.specs.FinMap as map;
 ghost use Rattle.std.specs.Io.KnownBytes.{Appends};
-ghost use Rattle.sk_report.specs.Report.{remote_line, remotes_text, counts_of, desk_line, desk_report_text, world_report_text, workers_line};
+ghost use Rattle.sk_play.specs.WorldReport.{remote_line, remotes_text, counts_of, desk_line, desk_report_text, world_report_text, workers_line};
 
-use crate::report::write_kernel;
-use crate::{PrintedVersion, Stop};
 use sk_client::{Desk, World};
 use sk_ids::Name;
 use sk_kernel::Kernel;
 use sk_objects::Content;
+use sk_report::{PrintedVersion, Stop, write_kernel};
 use sk_script::words::Printed;
 use sk_server::Server;
 use std::alloc::Global;

@@ -1,48 +1,33 @@
 -- What is kept of guesses after a draw and a decision, and the statuses that agree with it.
-use Rattle.sk_guesses.proofs.Names.{◌≡◌, ◌≢◌, ℕ, suc, ◌<◌, ◌≤◌, ◌+◌, length, length-append, Bool, true, false, cond}
-use Rattle.sk_guesses.proofs.Names.{not, ◌||◌, ◌&&◌, List, [], ◌∷◌, ◌++◌, map, Option, Some, None, inl, inr, refl, sym}
-use Rattle.sk_guesses.proofs.Names.{◌∙◌, ap, subst, append_assoc, arith, ◌==◌, Ok, Err, AllByRecursion, filter, nat_cmp}
-use Rattle.sk_guesses.proofs.Names.{true≢false, eqb-true, or_left, or_right, or_cases, length-map, map-append}
-use Rattle.sk_guesses.proofs.Names.{list_any-append, IsStrictlySortedBy-filter, LAST_GUESS, has, without, rests_on}
+use Rattle.sk_guesses.proofs.Names.{◌≡◌, ◌≢◌, ℕ, ◌<◌, ◌≤◌, ◌+◌, length, length-append, Bool, true, false, cond, not}
+use Rattle.sk_guesses.proofs.Names.{◌&&◌, List, [], ◌∷◌, ◌++◌, map, Option, Some, refl, sym, ◌∙◌, ap, subst}
+use Rattle.sk_guesses.proofs.Names.{append_assoc, arith, ◌==◌, Ok, Err, AllByRecursion, nat_cmp, true≢false, length-map}
+use Rattle.sk_guesses.proofs.Names.{map-append, list_any-append, IsStrictlySortedBy-filter, LAST_GUESS, has, rests_on}
 use Rattle.sk_guesses.proofs.Names.{with_drawn, with_failure, with_status, Open, numbers, not_struck, still_open}
-use Rattle.sk_guesses.proofs.Names.{Status, Undecided, Committed, Failed, Struck, has_filter, and_both, KeptView}
-use Rattle.sk_guesses.proofs.Names.{AreKept, AreStatuses, forgotten, known, one_drawn, struck_with, with_struck}
-use Rattle.sk_guesses.proofs.Names.{OpenGuess, after_commit, but, not_resting, open_in, opens_of, without_tag, Listing}
-use Rattle.sk_guesses.proofs.Names.{Token, Redeemed, AreBelow}
+use Rattle.sk_guesses.proofs.Names.{Status, Undecided, Committed, Struck, has_filter, and_both, KeptView, AreKept}
+use Rattle.sk_guesses.proofs.Names.{AreStatuses, forgotten, known, one_drawn, struck_with, with_struck, OpenGuess}
+use Rattle.sk_guesses.proofs.Names.{after_commit, but, not_resting, opens_of, Listing, Token, Redeemed, AreBelow}
 use Rattle.std.specs.Prelude.{Result}
 use Rattle.std.specs.List.Sorted.{IsStrictlySortedBy}
 use Rattle.sk_guesses.specs.declared.guess.Redeemed.TheVariants as redeemed_as
-use Rattle.sk_guesses.proofs.Opens.{guess_of, named, but_named, same_named, named_more, turned, all_kept, own_left}
-use Rattle.sk_guesses.proofs.Opens.{own_more, own_same, still_rises, none_named, unless, more_rises, or_one, open_is}
-use Rattle.sk_guesses.proofs.Opens.{resting_named, as_long, same_opens}
+use Rattle.sk_guesses.proofs.Opens.{guess_of, named, but_named, same_named, named_more, all_kept, own_left, own_more}
+use Rattle.sk_guesses.proofs.Opens.{own_same, still_rises, none_named, more_rises, open_is, resting_named, as_long}
+use Rattle.sk_guesses.proofs.Opens.{same_opens}
 use Rattle.sk_guesses.proofs.Passes.{below_committed, below_left}
-use Rattle.std.proofs.Math.Bool.{and-false}
-use Rattle.std.proofs.lemmas.Bool.{not-true}
+use Rattle.std.proofs.lemmas.Bool.Decides.{nat_tests}
 
 -- nothing is known to be open that is not
 pub not_known : (v : KeptView) (os : List Open) (g : ℕ) → known v os g ≢ Some Undecided → has g (numbers os) ≡ false
-not_known v os g other =
-    elim (has g (numbers os)) as (λ b. cond b (Some Undecided) (cond (has g v.struck) (Some Struck) None) ≢ Some Undecided → b ≡ false) [
-      | true ↦ λ no. absurd (no refl)
-      | false ↦ λ _. refl
-    ] other
+not_known v os g other = grind (arith, nat_tests)
 
 -- ---- as the machine has them
 pub commit_opens : {E : Type 0} (g : ℕ) (os : List (OpenGuess E)) → opens_of (after_commit g os) ≡ still_open g (opens_of os)
 commit_opens g [] = refl
-commit_opens g (o ∷ os) =
-    elim (o.id == g) as (λ b. opens_of (map (without_tag g) (cond (not b) (o ∷ but g os) (but g os))) ≡ map (λ (p : Open). (p.0, without g p.1)) (cond (not b) ((o.id, o.tags) ∷ filter (λ (p : Open). not (p.0 == g)) (opens_of os)) (filter (λ (p : Open). not (p.0 == g)) (opens_of os)))) [
-      | true ↦ commit_opens g os
-      | false ↦ ap (λ xs. (o.id, without g o.tags) ∷ xs) (commit_opens g os)
-    ]
+commit_opens g (o ∷ os) = grind (arith, nat_tests, commit_opens g os)
 
 pub fail_opens : {E : Type 0} (g : ℕ) (os : List (OpenGuess E)) → opens_of (not_resting g os) ≡ not_struck g (opens_of os)
 fail_opens g [] = refl
-fail_opens g (o ∷ os) =
-    elim (has g o.tags) as (λ b. opens_of (cond (not b) (o ∷ not_resting g os) (not_resting g os)) ≡ cond (not b) ((o.id, o.tags) ∷ not_struck g (opens_of os)) (not_struck g (opens_of os))) [
-      | true ↦ fail_opens g os
-      | false ↦ ap (λ xs. (o.id, o.tags) ∷ xs) (fail_opens g os)
-    ]
+fail_opens g (o ∷ os) = grind (arith, nat_tests, fail_opens g os)
 
 -- ---- one more
 module _ {E : Type 0} (v : KeptView) (os : List (OpenGuess E)) (o : OpenGuess E) (number : o.id ≡ v.drawn + 1) where
@@ -52,34 +37,11 @@ module _ {E : Type 0} (v : KeptView) (os : List (OpenGuess E)) (o : OpenGuess E)
 
   pub below_drawn : ((g : ℕ) → has g (named os) ≡ true → g ≤ v.drawn) → (g : ℕ) → has g (named (os ++ o ∷ [])) ≡ true → g ≤ v.drawn + 1
   below_drawn below g here =
-      elim (or_cases _ _ (sym (list_any-append (λ t. t == g) (named os) (o.id ∷ [])) ∙ ap (has g) (sym (named_more os o)) ∙ here)) [
-        | inl old ↦ (let le = below g old in omega (arith, le))
-        | inr new ↦ elim (or_cases _ _ new) [
-          | inl is ↦ (let same = eqb-true o.id g is in omega (arith, number, same))
-          | inr none ↦ absurd (true≢false (sym none))
-        ]
-      ]
+      grind (arith, nat_tests, named_more os o, list_any-append (λ t. t == g) (named os) (o.id ∷ []), below g)
 
   pub statuses_drawn : (status : ℕ → Option Status) → AreStatuses v (opens_of os) status → AreStatuses (one_drawn v) (opens_of (os ++ o ∷ [])) (with_drawn (Some o.id) status)
-  statuses_drawn status are = record {
-    undecided = λ g.
-        ap (has g) (named_more os o) ∙ list_any-append (λ t. t == g) (named os) (o.id ∷ [])
-        ∙ or_one (has g (named os)) (o.id == g) (status g) (are.undecided g)
-        ∙ ap (λ b. open_in (cond b (Some Undecided) (status g))) (turned o.id g);
-    struck = λ g here.
-        elim (g == o.id) as (λ b. (g == o.id) ≡ b → cond b (Some Undecided) (status g) ≡ Some Struck) [
-          | true ↦ λ is.
-              let same = eqb-true g o.id is in
-              let fresh : v.drawn < g = omega (arith, number, same) in
-              let no : None ≡ Some Struck = sym (are.fresh g fresh) ∙ are.struck g here in cc
-          | false ↦ λ _. are.struck g here
-        ] refl;
-    fresh = λ g above.
-        elim (g == o.id) as (λ b. (g == o.id) ≡ b → cond b (Some Undecided) (status g) ≡ None) [
-          | true ↦ λ is. let same = eqb-true g o.id is in absurd (omega (arith, number, same, above))
-          | false ↦ λ _. are.fresh g (omega (arith, above))
-        ] refl;
-  }
+  statuses_drawn status are =
+      grind (arith, nat_tests, named_more os o, λ (g : ℕ). list_any-append (λ t. t == g) (named os) (o.id ∷ []))
 
 -- ---- one less
 pub rising_committed : {E : Type 0} (g : ℕ) (os : List (OpenGuess E)) → IsStrictlySortedBy nat_cmp (named os) → IsStrictlySortedBy nat_cmp (named (after_commit g os))
@@ -93,82 +55,33 @@ module _ (v : KeptView) (os : List Open) (status : ℕ → Option Status) (are :
   is_undecided : status g ≡ Some Undecided
   is_undecided = open_is (status g) (sym (are.undecided g) ∙ here)
 
-  not_kept : {A : Type 0} (h : ℕ) → (h == g) ≡ true → status h ≡ Some Struck → A
-  not_kept h is struck = let no : Some Undecided ≡ Some Struck = sym is_undecided ∙ ap status (sym (eqb-true h g is)) ∙ struck in cc
-
-  not_fresh : {A : Type 0} (h : ℕ) → (h == g) ≡ true → status h ≡ None → A
-  not_fresh h is none = let no : Some Undecided ≡ None = sym is_undecided ∙ ap status (sym (eqb-true h g is)) ∙ none in cc
-
 pub statuses_committed : {E : Type 0} (v : KeptView) (os : List (OpenGuess E)) (status : ℕ → Option Status) (g : ℕ) → AreStatuses v (opens_of os) status → has g (named os) ≡ true
     → AreStatuses v (opens_of (after_commit g os)) (with_status g Committed status)
-statuses_committed v os status g are here = record {
-  undecided = λ h.
-      committed_named g h os
-      ∙ elim (h == g) as (λ b. (not b && has h (named os)) ≡ open_in (cond b (Some Committed) (status h))) [ true ↦ refl | false ↦ are.undecided h ];
-  struck = λ h kept.
-      elim (h == g) as (λ b. (h == g) ≡ b → cond b (Some Committed) (status h) ≡ Some Struck) [
-        | true ↦ λ is. not_kept v (opens_of os) status are g here h is (are.struck h kept)
-        | false ↦ λ _. are.struck h kept
-      ] refl;
-  fresh = λ h above.
-      elim (h == g) as (λ b. (h == g) ≡ b → cond b (Some Committed) (status h) ≡ None) [
-        | true ↦ λ is. not_fresh v (opens_of os) status are g here h is (are.fresh h above)
-        | false ↦ λ _. are.fresh h above
-      ] refl;
-}
+statuses_committed v os status g are here =
+    grind (arith, nat_tests, λ (h : ℕ). committed_named g h os, is_undecided v (opens_of os) status are g here)
 
 rests_itself : {E : Type 0} (g : ℕ) (os : List (OpenGuess E)) → AllByRecursion (λ (o : OpenGuess E). has o.id o.tags ≡ true) os → has g (named os) ≡ true → rests_on g (opens_of os) g ≡ true
 rests_itself g [] own here = absurd (true≢false (sym here))
-rests_itself g (o ∷ os) own here =
-    elim (o.id == g) as (λ b. (o.id == g) ≡ b → (b || has g (named os)) ≡ true → ((b && has g o.tags) || rests_on g (opens_of os) g) ≡ true) [
-      | true ↦ λ is _. or_left _ _ (ap (λ n. has n o.tags) (sym (eqb-true o.id g is)) ∙ own.0)
-      | false ↦ λ _ later. rests_itself g os own.1 later
-    ] refl here
+rests_itself g (o ∷ os) own here = grind (arith, nat_tests, rests_itself g os own.1)
 
 -- a struck one rests on the failed one, and is another
 struck_rests : (g h : ℕ) (os : List Open) → has h (struck_with g os) ≡ true → (rests_on g os h ≡ true) × ((h == g) ≡ false)
 struck_rests g h [] here = absurd (true≢false (sym here))
-struck_rests g h (o ∷ os) here =
-    elim (has g o.1 && not (o.0 == g)) as (λ b. (has g o.1 && not (o.0 == g)) ≡ b → has h (numbers (cond b (o ∷ filter (λ (p : Open). has g p.1 && not (p.0 == g)) os) (filter (λ (p : Open). has g p.1 && not (p.0 == g)) os))) ≡ true → (rests_on g (o ∷ os) h ≡ true) × ((h == g) ≡ false)) [
-      | true ↦ λ is there. elim (or_cases _ _ there) [
-        | inl same ↦
-            (let both = and_both _ _ is in
-            let number = eqb-true o.0 h same in
-            (or_left _ _ (λ i. same i && both.0 i), ap (λ n. n == g) (sym number) ∙ not-true (o.0 == g) both.1))
-        | inr later ↦ (let rest = struck_rests g h os later in (or_right _ _ rest.0, rest.1))
-      ]
-      | false ↦ λ _ later. let rest = struck_rests g h os later in (or_right _ _ rest.0, rest.1)
-    ] refl here
+struck_rests g h (o ∷ os) here = grind (arith, nat_tests, struck_rests g h os)
 
 pub statuses_failed : {E : Type 0} (v : KeptView) (os : List (OpenGuess E)) (status : ℕ → Option Status) (g : ℕ) → IsStrictlySortedBy nat_cmp (named os) → AllByRecursion (λ (o : OpenGuess E). has o.id o.tags ≡ true) os
     → AreStatuses v (opens_of os) status → has g (named os) ≡ true → AreStatuses (with_struck g (opens_of os) v) (opens_of (not_resting g os)) (with_failure g (opens_of os) status)
-statuses_failed v os status g rising own are here = record {
-  undecided = λ h.
-      resting_named g h os rising
-      ∙ elim (h == g) as (λ b. (h == g) ≡ b → (has h (named os) && not (rests_on g (opens_of os) h)) ≡ open_in (cond b (Some Failed) (cond (rests_on g (opens_of os) h) (Some Struck) (status h)))) [
-        | true ↦ λ is.
-            let rests : rests_on g (opens_of os) h ≡ true = ap (rests_on g (opens_of os)) (eqb-true h g is) ∙ rests_itself g os own here in
-            ap (λ b. has h (named os) && not b) rests ∙ and-false (has h (named os))
-        | false ↦ λ _. ap (λ b. b && not (rests_on g (opens_of os) h)) (are.undecided h) ∙ unless (status h) (rests_on g (opens_of os) h)
-      ] refl;
-  struck = λ h kept.
-      elim (or_cases _ _ (sym (list_any-append (λ t. t == h) v.struck (struck_with g (opens_of os))) ∙ kept)) [
-        | inl old ↦ elim (h == g) as (λ b. (h == g) ≡ b → cond b (Some Failed) (cond (rests_on g (opens_of os) h) (Some Struck) (status h)) ≡ Some Struck) [
-          | true ↦ λ is. not_kept v (opens_of os) status are g here h is (are.struck h old)
-          | false ↦ λ _. elim (rests_on g (opens_of os) h) as (λ b. cond b (Some Struck) (status h) ≡ Some Struck) [ true ↦ refl | false ↦ are.struck h old ]
-        ] refl
-        | inr new ↦
-            (let is = struck_rests g h (opens_of os) new in
-            (λ i. cond (is.1 i) (Some Failed) (cond (is.0 i) (Some Struck) (status h))))
-      ];
-  fresh = λ h above.
-      elim (h == g) as (λ b. (h == g) ≡ b → cond b (Some Failed) (cond (rests_on g (opens_of os) h) (Some Struck) (status h)) ≡ None) [
-        | true ↦ λ is. not_fresh v (opens_of os) status are g here h is (are.fresh h above)
-        | false ↦ λ _.
-            let none : status h ≡ None = are.fresh h above in
-            ap (λ b. cond b (Some Struck) (status h)) (none_named g h os (are.undecided h ∙ ap open_in none)) ∙ none
-      ] refl;
-}
+statuses_failed v os status g rising own are here =
+    grind (
+      arith,
+      nat_tests,
+      λ (h : ℕ). resting_named g h os rising,
+      rests_itself g os own here,
+      λ (h : ℕ). struck_rests g h (opens_of os),
+      λ (h : ℕ). none_named g h os,
+      is_undecided v (opens_of os) status are g here,
+      λ (h : ℕ). list_any-append (λ t. t == h) v.struck (struck_with g (opens_of os)),
+    )
 
 -- ---- a token
 pub statuses_redeemed : (v : KeptView) (os : List Open) (r : Result Redeemed Token) (status : ℕ → Option Status) → AreStatuses v os status → AreStatuses (forgotten v r) os status
@@ -183,30 +96,14 @@ statuses_redeemed v os (Err token) status are = are
 -- ---- how many
 pub as_few : {E : Type 0} (g : ℕ) (os : List (OpenGuess E)) → length (struck_with g (opens_of os)) + length (not_resting g os) ≤ length os
 as_few g [] = omega arith
-as_few g (o ∷ os) =
-    let rest = as_few g os in
-    elim (has g o.tags) as (λ t. length (numbers (cond (t && not (o.id == g)) ((o.id, o.tags) ∷ filter (λ (p : Open). has g p.1 && not (p.0 == g)) (opens_of os)) (filter (λ (p : Open). has g p.1 && not (p.0 == g)) (opens_of os)))) + length (cond (not t) (o ∷ not_resting g os) (not_resting g os)) ≤ suc (length os)) [
-      | true ↦ elim (o.id == g) as (λ b. length (numbers (cond (not b) ((o.id, o.tags) ∷ filter (λ (p : Open). has g p.1 && not (p.0 == g)) (opens_of os)) (filter (λ (p : Open). has g p.1 && not (p.0 == g)) (opens_of os)))) + length (not_resting g os) ≤ suc (length os)) [
-        | true ↦ omega (arith, rest)
-        | false ↦ omega (arith, rest)
-      ]
-      | false ↦ omega (arith, rest)
-    ]
+as_few g (o ∷ os) = grind (arith, nat_tests, as_few g os)
 
 -- ---- between calls
 module _ {E : Type 0} {v : KeptView} {ls : List (Listing E)} {next : List E} {strikes : ℕ} {low : Bool} (kept : AreKept v ls next strikes × (low ≡ true → AreBelow (opens_of (map guess_of ls)))) where
   -- some of them are left
   kept_left : (ms : List (Listing E)) (struck : List ℕ) (room : ℕ) → IsStrictlySortedBy nat_cmp (named (map guess_of ms)) → AllByRecursion (λ (o : OpenGuess E). has o.id o.tags ≡ true) (map guess_of ms)
       → ((g : ℕ) → has g (named (map guess_of ms)) ≡ true → has g (named (map guess_of ls)) ≡ true) → length ms ≤ length ls → length struck + length ms ≤ room → AreKept (record v { struck = struck }) ms next room
-  kept_left ms struck room rising own among fewer places = record {
-    rising = rising;
-    own = own;
-    below = λ g here. kept.0.below g (among g here);
-    few = let few = kept.0.few in omega (arith, few, fewer);
-    numbered = kept.0.numbered;
-    places = places;
-    empty = kept.0.empty;
-  }
+  kept_left ms struck room rising own among fewer places = grind arith
 
   -- a struck one is forgotten
   pub kept_forgotten : (struck : List ℕ) (room : ℕ) → length struck ≤ length v.struck → room ≡ strikes → AreKept (record v { struck = struck }) ls next room
@@ -274,22 +171,10 @@ no_numbers = tt
 
 -- where none is drawn
 pub kept_none : {E : Type 0} (v : KeptView) (ls : List (Listing E)) (next : List E) (strikes : ℕ) → v.drawn ≡ 0 → v.struck ≡ [] → ls ≡ [] → next ≡ [] → AreKept v ls next strikes
-kept_none v ls next strikes drawn struck none empty =
-    subst (λ ls. AreKept v ls next strikes) (sym none) (record {
-      rising = no_numbers;
-      own = tt;
-      below = λ g here. absurd (true≢false (sym here));
-      few = omega arith;
-      numbered = omega (arith, drawn);
-      places = let few : length v.struck ≡ 0 = ap length struck in omega (arith, few);
-      empty = empty;
-    })
+kept_none v [] next strikes drawn struck none empty = grind (arith, no_numbers)
+kept_none v (l ∷ ls) next strikes drawn struck none empty = cc
 
 -- one more is noted, or is not struck
 pub strike_next : {E : Type 0} (g : ℕ) (xs : List ℕ) (o : OpenGuess E) (os : List (OpenGuess E))
     → cond (has g o.tags && not (o.id == g)) (xs ++ o.id ∷ []) xs ++ struck_with g (opens_of os) ≡ xs ++ struck_with g (opens_of (o ∷ os))
-strike_next g xs o os =
-    elim (has g o.tags && not (o.id == g)) as (λ b. cond b (xs ++ o.id ∷ []) xs ++ struck_with g (opens_of os) ≡ xs ++ numbers (cond b ((o.id, o.tags) ∷ filter (λ (p : Open). has g p.1 && not (p.0 == g)) (opens_of os)) (filter (λ (p : Open). has g p.1 && not (p.0 == g)) (opens_of os)))) [
-      | true ↦ append_assoc xs (o.id ∷ []) (struck_with g (opens_of os))
-      | false ↦ refl
-    ]
+strike_next g xs o os = grind (arith, nat_tests, append_assoc)

@@ -1,36 +1,20 @@
 -- What the lists of dependents have, after writes and decisions.
-use Rattle.std.proofs.Math.Bool.{and-false, and-true}
 use Rattle.sk_guesses.proofs.Names.{◌≡◌, ℕ, Bool, true, false, cond, not, ◌||◌, ◌&&◌, List, [], ◌∷◌, ◌++◌, map, Option}
 use Rattle.sk_guesses.proofs.Names.{refl, sym, ◌∙◌, ap, subst, ◌==◌, AllByRecursion, list_all, list_any, eq_by_cmp}
 use Rattle.sk_guesses.proofs.Names.{Ordering, IsTotalOrder, IsAntisymmetric, true≢false, false≢true, or_left, or_right}
-use Rattle.sk_guesses.proofs.Names.{eqb-true, append-nil, list_any-append, is_in, Merges, Note, has, without, cut}
-use Rattle.sk_guesses.proofs.Names.{carried, committed, noted, last_tags, IsGrowing, numbers, has_filter, same_last}
-use Rattle.sk_guesses.proofs.Names.{and_both, tags_by, with_tags, AllExact, IsAlmostExact, AllAlmostExact, Covers}
-use Rattle.sk_guesses.proofs.Names.{Depends, with_entity, with_entities, without_entity, OpenGuess, opens_of}
-use Rattle.sk_guesses.proofs.Names.{dependents_of, depending, left_to, but, not_resting, after_commit, without_tag}
-use Rattle.sk_guesses.proofs.Names.{without_list, both_ways}
+use Rattle.sk_guesses.proofs.Names.{append-nil, list_any-append, is_in, Merges, Note, has, without, cut, carried}
+use Rattle.sk_guesses.proofs.Names.{committed, noted, last_tags, IsGrowing, numbers, has_filter, same_last, and_both}
+use Rattle.sk_guesses.proofs.Names.{tags_by, with_tags, AllExact, IsAlmostExact, AllAlmostExact, Covers, Depends}
+use Rattle.sk_guesses.proofs.Names.{with_entities, without_entity, OpenGuess, opens_of, dependents_of, depending}
+use Rattle.sk_guesses.proofs.Names.{left_to, not_resting, after_commit, without_list}
 use Rattle.sk_guesses.proofs.Opens.{all_kept, depending_keeps, same_opens}
 use Rattle.sk_guesses.proofs.Places.{with_in, with_all_in, without_in, tied_is}
+use Rattle.std.proofs.lemmas.Bool.Decides.{nat_tests}
+use Rattle.std.proofs.Common.{arith}
 
 picked : (h : ℕ) (c : Bool) (xs ys : List ℕ) → has h (cond c xs ys) ≡ cond c (has h xs) (has h ys)
 picked h true xs ys = refl
 picked h false xs ys = refl
-
-with_all : (i q b : Bool) → (cond i true b || q) ≡ cond (i || (q || false)) true b
-with_all true q b = refl
-with_all false true true = refl
-with_all false true false = refl
-with_all false false true = refl
-with_all false false false = refl
-
-with_same : (i q t b : Bool) → (q ≡ true → b ≡ t) → cond i t b ≡ cond (i || (q || false)) t b
-with_same true q t b h = refl
-with_same false true t b h = h refl
-with_same false false t b h = refl
-
-not_in : (a b : Bool) → (a ≡ true → b ≡ true) → b ≡ false → a ≡ false
-not_in true b f none = sym (f refl) ∙ none
-not_in false b f none = refl
 
 module _ {K : Type 0} {R : K → K → Ordering} (total : IsTotalOrder R) (exact : IsAntisymmetric R) where
   -- ---- lists that are exact
@@ -40,11 +24,7 @@ module _ {K : Type 0} {R : K → K → Ordering} (total : IsTotalOrder R) (exact
 
   pub exact_at : (tags : K → List ℕ) (g : ℕ) (os : List (OpenGuess K)) → AllExact R tags os → has g (numbers (opens_of os)) ≡ true → (k : K) → is_in R (dependents_of g os) k ≡ has g (tags k)
   exact_at tags g [] all here k = absurd (true≢false (sym here))
-  exact_at tags g (o ∷ os) all here k =
-      elim (o.id == g) as (λ b. (o.id == g) ≡ b → (b || has g (numbers (opens_of os))) ≡ true → is_in R (cond b o.dependents (dependents_of g os)) k ≡ has g (tags k)) [
-        | true ↦ λ is _. all.0 k ∙ ap (λ h. has h (tags k)) (eqb-true o.id g is)
-        | false ↦ λ _ later. exact_at tags g os all.1 later k
-      ] refl here
+  exact_at tags g (o ∷ os) all here k = grind (arith, nat_tests, all.0 k, exact_at tags g os all.1)
 
   -- ---- one key more rests on the tags of a step
   module _ (tags : List ℕ) (ks : List K) (x : K) (base : K → List ℕ) where
@@ -61,30 +41,19 @@ module _ {K : Type 0} {R : K → K → Ordering} (total : IsTotalOrder R) (exact
         → (os : List (OpenGuess K)) → AllExact R (with_tags R tags ks base) os → AllExact R (with_tags R tags (ks ++ x ∷ []) base) (map (depending R added x) os)
     depend_part added covers covered within [] all = tt
     depend_part added covers covered within (o ∷ os) all =
-        let rest = depend_part added covers covered within os all.1 in
-        elim (has o.id added) as (λ b. has o.id added ≡ b → AllExact R (with_tags R tags (ks ++ x ∷ []) base) (cond b (record o { dependents = with_entity R o.dependents x }) o ∷ map (depending R added x) os)) [
-          | true ↦ λ here. (
-            (λ k.
-                let is = within o.id here in
-                with_in total exact o.dependents x k ∙ ap (λ b. b || eq_by_cmp R k x) (all.0 k ∙ before o.id k ∙ ap (λ t. cond (is_in R ks k) t (has o.id (base k))) is)
-                ∙ with_all (is_in R ks k) (eq_by_cmp R k x) (has o.id (base k))
-                ∙ ap (λ t. cond (is_in R ks k || (eq_by_cmp R k x || false)) t (has o.id (base k))) (sym is) ∙ sym (after o.id k)),
-            rest,
-          )
-          | false ↦ λ out. (
-            (λ k.
-                all.0 k ∙ before o.id k
-                ∙ with_same (is_in R ks k) (eq_by_cmp R k x) (has o.id tags) (has o.id (base k)) (λ same.
-                ap (λ y. has o.id (base y)) (tied_is total exact k x same) ∙ both_ways (has o.id (base x)) (has o.id tags) (covers o.id) (in_own o.id out))
-                ∙ sym (after o.id k)),
-            rest,
-          )
-        ] refl where
-          in_own : (g : ℕ) → has g added ≡ false → has g tags ≡ true → has g (base x) ≡ true
-          in_own g out there = or_else (has g (base x)) (has g added) out (covered g there) where
-            or_else : (a b : Bool) → b ≡ false → (a || b) ≡ true → a ≡ true
-            or_else true b none is = refl
-            or_else false b none is = absurd (true≢false (sym is ∙ none))
+        grind (
+          arith,
+          nat_tests,
+          within o.id,
+          covers o.id,
+          covered o.id,
+          all.0,
+          with_in total exact o.dependents x,
+          λ (k : K). tied_is total exact k x,
+          before o.id,
+          after o.id,
+          depend_part added covers covered within os all.1,
+        )
 
   -- where it is in all of them already
   pub depends_none : (own tags : List ℕ) (x : K) (os : List (OpenGuess K)) → ((g : ℕ) → has g tags ≡ true → has g own ≡ true) → Depends R own tags x os os
@@ -115,53 +84,20 @@ module _ {K : Type 0} {R : K → K → Ordering} (total : IsTotalOrder R) (exact
   pub almost_of : (tags : List ℕ) (ks all : List K) (base : K → List ℕ) → Covers R tags all base → ((k : K) → is_in R ks k ≡ true → is_in R all k ≡ true)
       → (os : List (OpenGuess K)) → AllExact R (with_tags R tags ks base) os → AllAlmostExact R base all os
   almost_of tags ks all base covers within [] exactly = tt
-  almost_of tags ks all base covers within (o ∷ os) exactly = (
-    record {
-      kept = λ k here.
-          exactly.0 k
-          ∙ elim (is_in R ks k) as (λ b. is_in R ks k ≡ b → has o.id (cond b tags (base k)) ≡ true) [
-            | true ↦ λ is. covers k o.id (within k is) here
-            | false ↦ λ _. here
-          ] refl;
-      others = λ k none. exactly.0 k ∙ ap (λ b. has o.id (cond b tags (base k))) (not_in (is_in R ks k) (is_in R all k) (within k) none);
-    },
-    almost_of tags ks all base covers within os exactly.1,
-  )
+  almost_of tags ks all base covers within (o ∷ os) exactly =
+      grind (arith, nat_tests, covers, within, exactly.0, almost_of tags ks all base covers within os exactly.1)
 
   module _ (base : K → List ℕ) (x : K) (ks : List K) where
     stays_one : (o : OpenGuess K) → has o.id (base x) ≡ true → IsAlmostExact R base (x ∷ ks) o → IsAlmostExact R base ks o
-    stays_one o is almost = record {
-      kept = almost.kept;
-      others = λ k none.
-          elim (eq_by_cmp R k x) as (λ b. eq_by_cmp R k x ≡ b → is_in R o.dependents k ≡ has o.id (base k)) [
-            | true ↦ λ same. let here = ap (λ y. has o.id (base y)) (tied_is total exact k x same) ∙ is in almost.kept k here ∙ sym here
-            | false ↦ λ apart. almost.others k (λ i. apart i || none i)
-          ] refl;
-    }
+    stays_one o is almost = grind (arith, nat_tests, λ (k : K). tied_is total exact k x)
 
     goes_one : (o : OpenGuess K) → has o.id (base x) ≡ false → IsAlmostExact R base (x ∷ ks) o → IsAlmostExact R base ks (record o { dependents = without_entity R o.dependents x })
-    goes_one o is almost = record {
-      kept = λ k here.
-          without_in total exact o.dependents x k
-          ∙ elim (eq_by_cmp R k x) as (λ b. eq_by_cmp R k x ≡ b → (is_in R o.dependents k && not b) ≡ true) [
-            | true ↦ λ same. absurd (true≢false (sym here ∙ ap (λ y. has o.id (base y)) (tied_is total exact k x same) ∙ is))
-            | false ↦ λ _. and-true (is_in R o.dependents k) ∙ almost.kept k here
-          ] refl;
-      others = λ k none.
-          without_in total exact o.dependents x k
-          ∙ elim (eq_by_cmp R k x) as (λ b. eq_by_cmp R k x ≡ b → (is_in R o.dependents k && not b) ≡ has o.id (base k)) [
-            | true ↦ λ same. and-false (is_in R o.dependents k) ∙ sym (ap (λ y. has o.id (base y)) (tied_is total exact k x same) ∙ is)
-            | false ↦ λ apart. and-true (is_in R o.dependents k) ∙ almost.others k (λ i. apart i || none i)
-          ] refl;
-    }
+    goes_one o is almost =
+        grind (arith, nat_tests, without_in total exact o.dependents x, λ (k : K). tied_is total exact k x)
 
     pub left_more : (tags : List ℕ) → tags ≡ base x → (os : List (OpenGuess K)) → AllAlmostExact R base (x ∷ ks) os → AllAlmostExact R base ks (map (left_to R tags x) os)
     left_more tags same [] all = tt
-    left_more tags same (o ∷ os) all =
-        elim (has o.id tags) as (λ b. has o.id tags ≡ b → AllAlmostExact R base ks (cond b o (record o { dependents = without_entity R o.dependents x }) ∷ map (left_to R tags x) os)) [
-          | true ↦ λ is. (stays_one o (ap (has o.id) (sym same) ∙ is) all.0, left_more tags same os all.1)
-          | false ↦ λ is. (goes_one o (ap (has o.id) (sym same) ∙ is) all.0, left_more tags same os all.1)
-        ] refl
+    left_more tags same (o ∷ os) all = grind (arith, nat_tests, stays_one o, goes_one o, left_more tags same os all.1)
 
   pub none_left : (base : K → List ℕ) (os : List (OpenGuess K)) → AllAlmostExact R base [] os → AllExact R base os
   none_left base [] all = tt
@@ -213,11 +149,7 @@ module _ {V : Type 0} where
       subst (λ b. AllSeen g (cond b (n ∷ ns) (carried g ns))) (sym here) all
 
   grow_tail : (n : Note V) (ns : List (Note V)) → IsGrowing (n ∷ ns) → IsGrowing ns
-  grow_tail n ns grows g =
-      elim (has g n.tags) as (λ b. AllSeen g (cond b (n ∷ ns) (carried g ns)) → AllSeen g (carried g ns)) [
-        | true ↦ λ all. carry_tail g ns (and_both _ _ all).1
-        | false ↦ λ all. all
-      ] (grows g)
+  grow_tail n ns grows g = grind (arith, nat_tests, carry_tail g ns, and_both, grows g)
 
   grow_head : (n : Note V) (ns : List (Note V)) → IsGrowing (n ∷ ns) → (g : ℕ) → has g n.tags ≡ true → AllSeen g ns
   grow_head n ns grows g here = (and_both _ _ (subst (λ b. AllSeen g (cond b (n ∷ ns) (carried g ns))) here (grows g))).1
@@ -229,21 +161,13 @@ module _ {V : Type 0} where
   -- where some note rests on a guess, the last does
   pub rests_last : (g : ℕ) (tags : List ℕ) (ns : List (Note V)) → AllSeen g (carried g ns) → carries g ns ≡ true → has g (last_tags tags ns) ≡ true
   rests_last g tags [] all here = absurd (false≢true here)
-  rests_last g tags (n ∷ ns) all here =
-      elim (has g n.tags) as (λ b. has g n.tags ≡ b → AllSeen g (cond b (n ∷ ns) (carried g ns)) → (b || carries g ns) ≡ true → has g (last_tags n.tags ns) ≡ true) [
-        | true ↦ λ is all _. all_last g n.tags ns (and_both _ _ all).1 is
-        | false ↦ λ _ all later. rests_last g n.tags ns all later
-      ] refl all here
+  rests_last g tags (n ∷ ns) all here = grind (arith, nat_tests, rests_last g n.tags ns, all_last g n.tags ns)
 
   -- ---- a commit
   committed_more : (h g : ℕ) (t u w : List ℕ) (n : Note V) (rest ns : List (Note V)) → has h w ≡ has h n.tags → (has h t ≡ true → has h n.tags ≡ true) → has h u ≡ has h t
       → ((v : List ℕ) → has h v ≡ has h n.tags → has h (last_tags v rest) ≡ has h (last_tags n.tags ns))
       → has h (last_tags u (noted true w n.before rest)) ≡ has h (last_tags n.tags ns)
-  committed_more h g t u [] n rest ns is grow same next =
-      next u (elim (has h t) as (λ b. has h t ≡ b → has h u ≡ has h n.tags) [
-        | true ↦ λ here. absurd (false≢true (is ∙ grow here))
-        | false ↦ λ none. same ∙ none ∙ is
-      ] refl)
+  committed_more h g t u [] n rest ns is grow same next = grind (arith, nat_tests, next u)
   committed_more h g t u (x ∷ w) n rest ns is grow same next = next (x ∷ w) is
 
   committed_last : (h g : ℕ) → (h == g) ≡ false → (t u : List ℕ) (ns : List (Note V)) → (has h t ≡ true → AllSeen h ns) → IsGrowing ns → has h u ≡ has h t → has h (last_tags u (committed g ns)) ≡ has h (last_tags t ns)
@@ -267,35 +191,24 @@ module _ {V : Type 0} where
 
   pub uncut : (g : ℕ) (log : List (Note V)) → carries g log ≡ false → cut g log ≡ log
   uncut g [] none = refl
-  uncut g (n ∷ ns) none =
-      elim (has g n.tags) as (λ b. (b || carries g ns) ≡ false → cond b [] (n ∷ cut g ns) ≡ n ∷ ns) [
-        | true ↦ λ some. absurd (true≢false some)
-        | false ↦ λ none. ap (λ xs. n ∷ xs) (uncut g ns none)
-      ] none
+  uncut g (n ∷ ns) none = grind (arith, nat_tests, uncut g ns)
 
   -- where the last note does not rest on a guess, none does
   pub none_carried : (g : ℕ) (log : List (Note V)) → IsGrowing log → has g (last_tags [] log) ≡ false → carries g log ≡ false
-  none_carried g log grows none =
-      elim (carries g log) as (λ b. carries g log ≡ b → b ≡ false) [
-        | true ↦ λ here. sym (rests_last g [] log (grows g) here) ∙ none
-        | false ↦ λ _. refl
-      ] refl
+  none_carried g log grows none = grind (arith, nat_tests, rests_last g [] log (grows g))
 
 module _ {K V : Type 0} {R : K → K → Ordering} (total : IsTotalOrder R) (exact : IsAntisymmetric R) (g : ℕ) (old new : K → List (Note V)) (grows : (k : K) → IsGrowing (old k)) where
   pub committed_exact : ((k : K) → Merges [] (committed g (old k)) (new k)) → (os : List (OpenGuess K)) → AllExact R (tags_by old) os → AllExact R (tags_by new) (after_commit g os)
   committed_exact did [] all = tt
   committed_exact did (o ∷ os) all =
-      let rest = committed_exact did os all.1 in
-      elim (o.id == g) as (λ b. (o.id == g) ≡ b → AllExact R (tags_by new) (map (without_tag g) (cond (not b) (o ∷ but g os) (but g os)))) [
-        | true ↦ λ _. rest
-        | false ↦ λ apart. (
-          (λ k.
-              all.0 k
-              ∙ sym (committed_last o.id g apart [] [] (old k) (λ none. absurd (false≢true none)) (grows k) refl)
-              ∙ ap (has o.id) (same_last [] (committed g (old k)) (new k) (did k))),
-          rest,
-        )
-      ] refl
+      grind (
+        arith,
+        nat_tests,
+        all.0,
+        λ (apart : (o.id == g) ≡ false) (k : K). committed_last o.id g apart [] [] (old k) (λ none. absurd (false≢true none)) (grows k) refl,
+        λ (k : K). same_last [] (committed g (old k)) (new k) (did k),
+        committed_exact did os all.1,
+      )
 
   module _ (did : (k : K) → new k ≡ cut g (old k)) where
     still_among : (h : ℕ) (k : K) → has h (tags_by new k) ≡ true → has h (tags_by old k) ≡ true
@@ -321,10 +234,4 @@ module _ {K V : Type 0} {R : K → K → Ordering} (total : IsTotalOrder R) (exa
 -- the list of a failed guess may be moved out before
 pub taken_first : {K : Type 0} (g : ℕ) (os : List (OpenGuess K)) → AllByRecursion (λ (o : OpenGuess K). has o.id o.tags ≡ true) os → not_resting g (without_list g os) ≡ not_resting g os
 taken_first g [] own = refl
-taken_first g (o ∷ os) own =
-    elim (o.id == g) as (λ b. (o.id == g) ≡ b → not_resting g (cond b (record o { dependents = [] } ∷ os) (o ∷ without_list g os)) ≡ cond (not (has g o.tags)) (o ∷ not_resting g os) (not_resting g os)) [
-      | true ↦ λ is.
-          let rests : has g o.tags ≡ true = ap (λ n. has n o.tags) (sym (eqb-true o.id g is)) ∙ own.0 in
-          ap (λ b. cond (not b) (record o { dependents = [] } ∷ not_resting g os) (not_resting g os)) rests ∙ sym (ap (λ b. cond (not b) (o ∷ not_resting g os) (not_resting g os)) rests)
-      | false ↦ λ _. ap (λ xs. cond (not (has g o.tags)) (o ∷ xs) xs) (taken_first g os own.1)
-    ] refl
+taken_first g (o ∷ os) own = grind (arith, nat_tests, taken_first g os own.1)

@@ -3,13 +3,12 @@ pub use Rattle.std.proofs.Common.{Some, count_by, Bool, cond, subst, ◌≢◌, 
 pub use Rattle.std.proofs.Common.{◌-◌, ◌+◌, Option, arith, List, ap, ◌*◌, ◌++◌, length, append_assoc, ◌||◌, ℕ, true}
 pub use Rattle.std.proofs.Common.{ltb, drop, sym, length-append, None, suc, ◌≤◌, take, false, ◌<◌, refl, Result, []}
 pub use Rattle.std.proofs.Common.{length-set, ◌∙◌, not, map}
-pub use Rattle.std.proofs.Math.Bool.{or_assoc}
 pub use Rattle.std.proofs.Math.Numerals.{suc-eq-add-one}
 pub use Rattle.std.proofs.Math.Seq.{drop-cons}
-pub use Rattle.std.proofs.lemmas.Bool.{ltb-false, true≢false, or_right, or_cases, cases_eq, or_left, leb-false}
-pub use Rattle.std.proofs.lemmas.Bool.{leb-true, false≢true, eqb-true, ltb-true, eq-eqb}
+pub use Rattle.std.proofs.lemmas.Bool.{ltb-false, true≢false, or_right, or_cases, or_left, leb-false, leb-true}
+pub use Rattle.std.proofs.lemmas.Bool.{cases_eq, false≢true, eqb-true, ltb-true, eq-eqb}
 pub use Rattle.std.proofs.lemmas.Fn.{filter_same}
-pub use Rattle.std.proofs.lemmas.List.{get_or-set_same, drop_all, take_all, length-map, map-append, append-nil}
+pub use Rattle.std.proofs.lemmas.List.{get_or-set_same, length-map, map-append, append-nil}
 pub use Rattle.std.proofs.lemmas.List.Folds.{list_any-append}
 pub use Rattle.std.proofs.lemmas.List.Kept.{IsStrictlySortedBy-filter}
 pub use Rattle.std.proofs.lemmas.List.Recursion.{is_count_by}

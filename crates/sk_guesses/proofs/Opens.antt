@@ -1,5 +1,4 @@
 -- The undecided guesses after a draw, a decision and a strike.
-use Rattle.std.proofs.Math.Bool.{and-false, and-true}
 use Rattle.sk_guesses.proofs.Names.{◌≡◌, ◌≢◌, ℕ, zero, suc, ◌<◌, ◌≤◌, ◌+◌, ◌-◌, length, length-set, Bool, true, false}
 use Rattle.sk_guesses.proofs.Names.{cond, not, ◌||◌, ◌&&◌, List, [], ◌∷◌, ◌++◌, map, Option, Some, None, refl, sym, ◌∙◌}
 use Rattle.sk_guesses.proofs.Names.{ap, subst, arith, ◌==◌, slice_set, slice_index_or, is_some, nat_cmp, Less}
@@ -15,6 +14,7 @@ use Rattle.sk_guesses.proofs.Names.{Listing, length-map, ltb-true}
 use Rattle.std.specs.List.Sorted.{IsStrictlySortedBy}
 use Rattle.sk_guesses.proofs.Count.{count_of}
 use Rattle.sk_guesses.proofs.Statuses.{at-place, some_number, nothing_in, drawn-since, status-drawn, status-decided}
+use Rattle.std.proofs.lemmas.Bool.Decides.{nat_tests}
 
 abbrev pub guess_of : {E : Type 0} → (Listing E) → (OpenGuess E)
 guess_of l = l.guess
@@ -25,20 +25,12 @@ named os = numbers (opens_of os)
 -- a filter of what they are seen as
 pub seen_filter : {X Y : Type 0} (view : X → Y) (p : Y → Bool) (xs : List X) → map view (filter (λ x. p (view x)) xs) ≡ filter p (map view xs)
 seen_filter view p [] = refl
-seen_filter view p (x ∷ xs) =
-    elim (p (view x)) as (λ b. map view (cond b (x ∷ filter (λ x. p (view x)) xs) (filter (λ x. p (view x)) xs)) ≡ cond b (view x ∷ filter p (map view xs)) (filter p (map view xs))) [
-      | true ↦ ap (λ ys. view x ∷ ys) (seen_filter view p xs)
-      | false ↦ seen_filter view p xs
-    ]
+seen_filter view p (x ∷ xs) = grind (arith, nat_tests, seen_filter view p xs)
 
 -- ---- their numbers
 pub but_named : {E : Type 0} → (g : ℕ) (os : List (OpenGuess E)) → named (but g os) ≡ without g (named os)
 but_named g [] = refl
-but_named g (o ∷ os) =
-    elim (not (o.id == g)) as (λ b. named (cond b (o ∷ but g os) (but g os)) ≡ cond b (o.id ∷ without g (named os)) (without g (named os))) [
-      | true ↦ ap (λ ns. o.id ∷ ns) (but_named g os)
-      | false ↦ but_named g os
-    ]
+but_named g (o ∷ os) = grind (arith, nat_tests, but_named g os)
 
 pub same_named : {E : Type 0} → (g : ℕ) (os : List (OpenGuess E)) → named (map (without_tag g) os) ≡ named os
 same_named g [] = refl
@@ -54,16 +46,12 @@ as_many (o ∷ os) = ap suc (as_many os)
 
 -- what is not true is false
 pub isnt : (b : Bool) → b ≢ true → b ≡ false
-isnt true other = absurd (other refl)
-isnt false other = refl
+isnt b other = grind (arith, nat_tests)
 
 -- ---- statuses
 pub open_is : (o : Option Status) → open_in o ≡ true → o ≡ Some Undecided
-open_is None is = absurd (true≢false (sym is))
 open_is (Some Undecided) is = refl
-open_is (Some Committed) is = absurd (true≢false (sym is))
-open_is (Some Failed) is = absurd (true≢false (sym is))
-open_is (Some Struck) is = absurd (true≢false (sym is))
+open_is _ is = absurd (true≢false (sym is))
 
 pub counted : {E : Type 0} → (v : GuessesView) (os : List (OpenGuess E)) → AreOpen v os → undecided_of v.statuses ≡ length os
 counted v os are =
@@ -77,11 +65,7 @@ within v g s is =
 
 -- ---- one goes
 pub turned : (a b : ℕ) → (a == b) ≡ (b == a)
-turned a b =
-    elim (a == b) as (λ t. (a == b) ≡ t → t ≡ (b == a)) [
-      | true ↦ λ is. sym (eq-eqb b a (sym (eqb-true a b is)))
-      | false ↦ λ apart. elim (b == a) as (λ t. (b == a) ≡ t → false ≡ t) [ true ↦ λ is. sym apart ∙ eq-eqb a b (sym (eqb-true b a is)) | false ↦ λ _. refl ] refl
-    ] refl
+turned a b = grind (arith, nat_tests)
 
 pub all_kept : {X : Type 0} (P : X → Type 0) (p : X → Bool) (xs : List X) → AllByRecursion P xs → AllByRecursion P (filter p xs)
 all_kept P p [] all = tt
@@ -104,11 +88,7 @@ open_but v os id s are was becomes = record {
 
 pub own_left : {E : Type 0} → (g : ℕ) (os : List (OpenGuess E)) → AllByRecursion (λ (o : (OpenGuess E)). has o.id o.tags ≡ true) os → AllByRecursion (λ (o : (OpenGuess E)). has o.id o.tags ≡ true) (after_commit g os)
 own_left g [] all = tt
-own_left g (o ∷ os) all =
-    elim (not (o.id == g)) as (λ b. not (o.id == g) ≡ b → AllByRecursion (λ (o : (OpenGuess _)). has o.id o.tags ≡ true) (map (without_tag g) (cond b (o ∷ but g os) (but g os)))) [
-      | true ↦ λ is. (has_filter (λ t. not (t == g)) o.id o.tags ∙ (λ i. is i && all.0 i), own_left g os all.1)
-      | false ↦ λ _. own_left g os all.1
-    ] refl
+own_left g (o ∷ os) all = grind (arith, nat_tests, has_filter (λ t. not (t == g)) o.id o.tags, own_left g os all.1)
 
 pub open_committed : {E : Type 0} → (v : GuessesView) (os : List (OpenGuess E)) (id : ℕ) → AreOpen v os → status_since v id ≡ Some Undecided → AreOpen (decided v id Committed) (after_commit id os)
 open_committed v os id are was =
@@ -122,11 +102,7 @@ open_committed v os id are was =
 -- ---- all go whose own steps rest on one
 pub none_named : {E : Type 0} → (g h : ℕ) (os : List (OpenGuess E)) → has h (named os) ≡ false → rests_on g (opens_of os) h ≡ false
 none_named g h [] none = refl
-none_named g h (o ∷ os) none =
-    elim (o.id == h) as (λ b. (b || has h (named os)) ≡ false → ((b && has g o.tags) || rests_on g (opens_of os) h) ≡ false) [
-      | true ↦ λ e. absurd (true≢false e)
-      | false ↦ λ e. none_named g h os e
-    ] none
+none_named g h (o ∷ os) none = grind (arith, nat_tests, none_named g h os)
 
 pub not_above : (x g : ℕ) (xs : List ℕ) → (x == g) ≡ true → AllByRecursion (λ y. nat_cmp x y ≡ Less) xs → has g xs ≡ false
 not_above x g xs is all = isnt (has g xs) (λ here. let more = above x xs g all here in let same = eqb-true x g is in absurd (omega arith))
@@ -135,22 +111,7 @@ pub resting_named : {E : Type 0} → (g h : ℕ) (os : List (OpenGuess E)) → I
 unfolding IsStrictlySortedBy
 resting_named g h [] rises = refl
 resting_named g h (o ∷ os) rises =
-    let rest = resting_named g h os rises.1 in
-    elim (o.id == h) as (λ b. (o.id == h) ≡ b → has h (named (cond (not (has g o.tags)) (o ∷ not_resting g os) (not_resting g os))) ≡ ((b || has h (named os)) && not ((b && has g o.tags) || rests_on g (opens_of os) h))) [
-      | true ↦ λ is.
-          let no_more : has h (named os) ≡ false = not_above o.id h (named os) is rises.0 in
-          let none : rests_on g (opens_of os) h ≡ false = none_named g h os no_more in
-          let gone : has h (named (not_resting g os)) ≡ false = rest ∙ ap (λ b. b && not (rests_on g (opens_of os) h)) no_more in
-          elim (has g o.tags) as (λ t. has h (named (cond (not t) (o ∷ not_resting g os) (not_resting g os))) ≡ not (t || rests_on g (opens_of os) h)) [
-            | true ↦ gone
-            | false ↦ ap (λ b. b || has h (named (not_resting g os))) is ∙ sym (ap not none)
-          ]
-      | false ↦ λ apart.
-          elim (has g o.tags) as (λ t. has h (named (cond (not t) (o ∷ not_resting g os) (not_resting g os))) ≡ (has h (named os) && not (rests_on g (opens_of os) h))) [
-            | true ↦ rest
-            | false ↦ ap (λ b. b || has h (named (not_resting g os))) apart ∙ rest
-          ]
-    ] refl
+    grind (arith, nat_tests, not_above o.id h (named os), none_named g h os, resting_named g h os rises.1)
 
 below_all : {E : Type 0} → (x g : ℕ) (os : List (OpenGuess E)) → AllByRecursion (λ y. nat_cmp x y ≡ Less) (named os) → AllByRecursion (λ y. nat_cmp x y ≡ Less) (named (not_resting g os))
 below_all x g [] all = tt
@@ -164,7 +125,7 @@ still_rises g (o ∷ os) rises =
     elim (not (has g o.tags)) as (λ b. IsStrictlySortedBy nat_cmp (named (cond b (o ∷ not_resting g os) (not_resting g os)))) [ true ↦ (below_all o.id g os rises.0, still_rises g os rises.1) | false ↦ still_rises g os rises.1 ]
 
 pub unless : (o : Option Status) (b : Bool) → (open_in o && not b) ≡ open_in (cond b (Some Struck) o)
-unless o b = elim b as (λ t. (open_in o && not t) ≡ open_in (cond t (Some Struck) o)) [ true ↦ and-false (open_in o) | false ↦ and-true (open_in o) ]
+unless o b = grind (arith, nat_tests)
 
 pub open_struck : {E : Type 0} → (v w : GuessesView) (os : List (OpenGuess E)) (id : ℕ) → AreOpen v os → ((g : ℕ) → status_since w g ≡ cond (rests_on id (opens_of os) g) (Some Struck) (status_since v g)) → AreOpen w (not_resting id os)
 open_struck v w os id are struck = record {
@@ -203,28 +164,19 @@ still_drawn v id was is [] all = tt
 still_drawn v id was is (o ∷ os) all =
     (ap is_some (status-decided v id was Struck is o.id) ∙ still_some (o.id == id) (status_since v o.id) Struck all.0, still_drawn v id was is os all.1)
 
-twice : (a r : Bool) (x y : Option Status) → cond r x (cond a x y) ≡ cond ((a && true) || r) x y
-twice true true x y = refl
-twice true false x y = refl
-twice false true x y = refl
-twice false false x y = refl
-
-once : (a r : Bool) (x y : Option Status) → cond r x y ≡ cond ((a && false) || r) x y
-once true r x y = refl
-once false r x y = refl
-
 pub struck_are : {E : Type 0} → (v : GuessesView) (id : ℕ) (os : List (OpenGuess E)) → AllDrawn v os
     → (g : ℕ) → status_since (record v { statuses = struck_by (length v.earlier) id os v.statuses }) g ≡ cond (rests_on id (opens_of os) g) (Some Struck) (status_since v g)
 struck_are v id [] all g = refl
 struck_are v id (o ∷ os) all g =
     let was = some_of (status_since v o.id) all.0 in
-    elim (has id o.tags) as (λ b. status_since (record v { statuses = struck_by (length v.earlier) id os (cond b (slice_set v.statuses (o.id - length v.earlier - 1) Struck) v.statuses) }) g ≡ cond (((o.id == g) && b) || rests_on id (opens_of os) g) (Some Struck) (status_since v g)) [
-      | true ↦
-          struck_are (decided v o.id Struck) id os (still_drawn v o.id was.0 was.1 os all.1) g
-          ∙ ap (cond (rests_on id (opens_of os) g) (Some Struck)) (status-decided v o.id was.0 Struck was.1 g ∙ ap (λ b. cond b (Some Struck) (status_since v g)) (turned g o.id))
-          ∙ twice (o.id == g) (rests_on id (opens_of os) g) (Some Struck) (status_since v g)
-      | false ↦ struck_are v id os all.1 g ∙ once (o.id == g) (rests_on id (opens_of os) g) (Some Struck) (status_since v g)
-    ]
+    let left = still_drawn v o.id was.0 was.1 os all.1 in
+    grind (
+      arith,
+      nat_tests,
+      struck_are v id os all.1 g,
+      struck_are (decided v o.id Struck) id os left g,
+      status-decided v o.id was.0 Struck was.1 g,
+    )
 
 pub in_range : {E : Type 0} → (v : GuessesView) (ls : List (Listing E)) → AllDrawn v (map guess_of ls) → (k : ℕ) (d : (Listing E)) → k < length ls → (slice_index_or ls k d).guess.id - length v.earlier - 1 < length v.statuses
 in_range v [] all k d lt = absurd (omega arith)
@@ -251,10 +203,7 @@ own_more [] o all own = (own, tt)
 own_more (x ∷ os) o all own = (all.0, own_more os o all.1 own)
 
 pub or_one : (a b : Bool) (o : Option Status) → a ≡ open_in o → (a || (b || false)) ≡ open_in (cond b (Some Undecided) o)
-or_one true true o is = refl
-or_one true false o is = is
-or_one false true o is = refl
-or_one false false o is = is
+or_one a b o is = grind (arith, nat_tests)
 
 pub open_more : {E : Type 0} → (v : GuessesView) (os : List (OpenGuess E)) (o : (OpenGuess E)) → AreOpen v os → o.id ≡ next_of v → has o.id o.tags ≡ true → AreOpen (drawn v) (os ++ o ∷ [])
 open_more v os o are number own = record {
@@ -271,11 +220,7 @@ open_more v os o are number own = record {
 -- ---- lists of what is decided
 pub none_there : {E : Type 0} → (g : ℕ) (os : List (OpenGuess E)) → has g (named os) ≡ false → dependents_of g os ≡ []
 none_there g [] none = refl
-none_there g (o ∷ os) none =
-    elim (o.id == g) as (λ b. (b || has g (named os)) ≡ false → cond b o.dependents (dependents_of g os) ≡ []) [
-      | true ↦ λ e. absurd (true≢false e)
-      | false ↦ λ e. none_there g os e
-    ] none
+none_there g (o ∷ os) none = grind (arith, nat_tests, none_there g os)
 
 pub emptied : {E : Type 0} → (v : GuessesView) (os : List (OpenGuess E)) (g : ℕ) → AreOpen v os → open_in (status_since v g) ≡ false → dependents_of g os ≡ []
 emptied v os g are closed = none_there g os (are.tied g ∙ closed)
@@ -292,29 +237,12 @@ is_other g l = not (l.guess.id == g)
 
 pub found : {E : Type 0} → (g k : ℕ) (ls : List (Listing E)) (l : (Listing E)) → k ≡ prefix_len (is_other g) ls → k < length ls → l ≡ slice_index_or ls k l → l.guess.dependents ≡ dependents_of g (map guess_of ls)
 found g k [] l is lt at = absurd (omega arith)
-found g k (x ∷ ls) l is lt at =
-    elim (x.guess.id == g) as (λ b. k ≡ cond (not b) (1 + prefix_len (is_other g) ls) 0 → l.guess.dependents ≡ cond b x.guess.dependents (dependents_of g (map guess_of ls))) [
-      | true ↦ λ none. ap (λ (y : (Listing _)). y.guess.dependents) (at ∙ ap (λ j. slice_index_or (x ∷ ls) j l) none)
-      | false ↦ λ more.
-          let next : k ≡ suc (prefix_len (is_other g) ls) = omega arith in
-          found g (prefix_len (is_other g) ls) ls l refl (omega arith) (at ∙ ap (λ j. slice_index_or (x ∷ ls) j l) next)
-    ] is
+found g k (x ∷ ls) l is lt at = grind (arith, nat_tests, found g (prefix_len (is_other g) ls) ls l refl)
 
 -- whether a guess is among them
 pub is_there : {E : Type 0} (g k : ℕ) (ls : List (Listing E)) → k ≡ prefix_len (is_other g) ls → nat_lt k (length ls) ≡ has g (named (map guess_of ls))
-is_there g k [] is = ltb_none k where
-  ltb_none : (k : ℕ) → nat_lt k 0 ≡ false
-  ltb_none k = grind arith
-is_there g k (x ∷ ls) is =
-    elim (x.guess.id == g) as (λ b. k ≡ cond (not b) (1 + prefix_len (is_other g) ls) 0 → nat_lt k (suc (length ls)) ≡ (b || has g (named (map guess_of ls)))) [
-      | true ↦ λ first. ap (λ j. nat_lt j (suc (length ls))) first ∙ some (length ls)
-      | false ↦ λ later. ap (λ j. nat_lt j (suc (length ls))) later ∙ next (prefix_len (is_other g) ls) (length ls) ∙ is_there g (prefix_len (is_other g) ls) ls refl
-    ] is where
-      some : (n : ℕ) → nat_lt 0 (suc n) ≡ true
-      some n = grind arith
-
-      next : (a b : ℕ) → nat_lt (1 + a) (suc b) ≡ nat_lt a b
-      next a b = grind arith
+is_there g k [] is = grind arith
+is_there g k (x ∷ ls) is = grind (arith, nat_tests, is_there g (prefix_len (is_other g) ls) ls refl)
 
 pub not_there : {E : Type 0} → (g k : ℕ) (ls : List (Listing E)) → k ≡ prefix_len (is_other g) ls → length ls ≤ k → has g (named (map guess_of ls)) ≡ false
 not_there g k ls is le = sym (is_there g k ls is) ∙ isnt (nat_lt k (length ls)) (λ lt. let less = ltb-true k (length ls) lt in omega (arith, le, less))
@@ -324,25 +252,13 @@ missing g k ls is le = sym (none_there g (map guess_of ls) (not_there g k ls is 
 
 pub none_taken : {E : Type 0} → (g k : ℕ) (ls : List (Listing E)) → k ≡ prefix_len (is_other g) ls → length ls ≤ k → map guess_of ls ≡ without_list g (map guess_of ls)
 none_taken g k [] is le = refl
-none_taken g k (x ∷ ls) is le =
-    elim (x.guess.id == g) as (λ b. k ≡ cond (not b) (1 + prefix_len (is_other g) ls) 0 → x.guess ∷ map guess_of ls ≡ cond b (record x.guess { dependents = [] } ∷ map guess_of ls) (x.guess ∷ without_list g (map guess_of ls))) [
-      | true ↦ λ none. absurd (omega arith)
-      | false ↦ λ more. ap (λ os. x.guess ∷ os) (none_taken g (prefix_len (is_other g) ls) ls refl (omega arith))
-    ] is
+none_taken g k (x ∷ ls) is le = grind (arith, nat_tests, none_taken g (prefix_len (is_other g) ls) ls refl)
 
 pub taken : {E : Type 0} → (g k : ℕ) (ls : List (Listing E)) (l new : (Listing E)) → k ≡ prefix_len (is_other g) ls → k < length ls → l ≡ slice_index_or ls k l → new.guess ≡ record l.guess { dependents = [] }
     → map guess_of (slice_set ls k new) ≡ without_list g (map guess_of ls)
 taken g k [] l new is lt at left = absurd (omega arith)
-taken g zero (x ∷ ls) l new is lt at left =
-    elim (x.guess.id == g) as (λ b. zero ≡ cond (not b) (1 + prefix_len (is_other g) ls) 0 → new.guess ∷ map guess_of ls ≡ cond b (record x.guess { dependents = [] } ∷ map guess_of ls) (x.guess ∷ without_list g (map guess_of ls))) [
-      | true ↦ λ _. ap (λ o. o ∷ map guess_of ls) (left ∙ ap (λ (y : (Listing _)). record y.guess { dependents = [] }) at)
-      | false ↦ λ more. absurd (omega arith)
-    ] is
-taken g (suc k) (x ∷ ls) l new is lt at left =
-    elim (x.guess.id == g) as (λ b. suc k ≡ cond (not b) (1 + prefix_len (is_other g) ls) 0 → x.guess ∷ map guess_of (slice_set ls k new) ≡ cond b (record x.guess { dependents = [] } ∷ map guess_of ls) (x.guess ∷ without_list g (map guess_of ls))) [
-      | true ↦ λ none. absurd (omega arith)
-      | false ↦ λ next. ap (λ os. x.guess ∷ os) (taken g k ls l new (omega arith) (omega arith) at left)
-    ] is
+taken g zero (x ∷ ls) l new is lt at left = grind (arith, nat_tests)
+taken g (suc k) (x ∷ ls) l new is lt at left = grind (arith, nat_tests, taken g k ls l new)
 
 -- what is changed of each but its number and the tags of its own step
 pub same_opens : {E : Type 0} → (f : (OpenGuess E) → (OpenGuess E)) → ((o : (OpenGuess E)) → (f o).id ≡ o.id × (f o).tags ≡ o.tags) → (os : List (OpenGuess E)) → opens_of (map f os) ≡ opens_of os
@@ -355,24 +271,12 @@ as_long f ms ls is = sym (length-map ms guess_of) ∙ ap length is ∙ length-ma
 
 pub taken_opens : {E : Type 0} → (g : ℕ) (os : List (OpenGuess E)) → opens_of (without_list g os) ≡ opens_of os
 taken_opens g [] = refl
-taken_opens g (o ∷ os) =
-    elim (o.id == g) as (λ b. opens_of (cond b (record o { dependents = [] } ∷ os) (o ∷ without_list g os)) ≡ (o.id, o.tags) ∷ opens_of os) [
-      | true ↦ refl
-      | false ↦ ap (λ xs. (o.id, o.tags) ∷ xs) (taken_opens g os)
-    ]
+taken_opens g (o ∷ os) = grind (arith, nat_tests, taken_opens g os)
 
 pub own_same : {E : Type 0} → (xs os : List (OpenGuess E)) → opens_of xs ≡ opens_of os → AllByRecursion (λ (o : (OpenGuess E)). has o.id o.tags ≡ true) os → AllByRecursion (λ (o : (OpenGuess E)). has o.id o.tags ≡ true) xs
 own_same [] os is all = tt
 own_same (x ∷ xs) [] is all = cc
-own_same (x ∷ xs) (o ∷ os) is all =
-    (subst (λ (p : ℕ × List ℕ). has p.0 p.1 ≡ true) (sym (ap (head_or (o.id, o.tags)) is)) all.0, own_same xs os (ap rest_of is) all.1) where
-      head_or : ℕ × List ℕ → List (ℕ × List ℕ) → ℕ × List ℕ
-      head_or p [] = p
-      head_or p (q ∷ qs) = q
-
-      rest_of : List (ℕ × List ℕ) → List (ℕ × List ℕ)
-      rest_of [] = []
-      rest_of (q ∷ qs) = qs
+own_same (x ∷ xs) (o ∷ os) is all = grind (arith, own_same xs os)
 
 -- what keeps numbers and tags keeps how they stand
 pub open_same : {E : Type 0} → (v : GuessesView) (xs os : List (OpenGuess E)) → opens_of xs ≡ opens_of os → AreOpen v os → AreOpen v xs
@@ -382,42 +286,18 @@ open_same v xs os is are = record {
   own = own_same xs os is are.own;
 }
 
-pub open_taken : {E : Type 0} → (v : GuessesView) (os : List (OpenGuess E)) (g : ℕ) → AreOpen v os → AreOpen v (without_list g os)
-open_taken v os g are = open_same v (without_list g os) os (taken_opens g os) are
-
 -- ---- a failure, and the strikes after it
 pub struck_opens : {E : Type 0} → (g : ℕ) (os : List (OpenGuess E)) → AllByRecursion (λ (o : (OpenGuess E)). has o.id o.tags ≡ true) os → opens_of (not_resting g (but g os)) ≡ not_struck g (opens_of os)
 struck_opens g [] all = refl
-struck_opens g (o ∷ os) all =
-    let rest = struck_opens g os all.1 in
-    elim (o.id == g) as (λ b. (o.id == g) ≡ b → opens_of (not_resting g (cond (not b) (o ∷ but g os) (but g os))) ≡ cond (not (has g o.tags)) ((o.id, o.tags) ∷ not_struck g (opens_of os)) (not_struck g (opens_of os))) [
-      | true ↦ λ is.
-          rest ∙ sym (ap (λ b. cond (not b) ((o.id, o.tags) ∷ not_struck g (opens_of os)) (not_struck g (opens_of os))) (ap (λ h. has h o.tags) (sym (eqb-true o.id g is)) ∙ all.0))
-      | false ↦ λ _.
-          elim (has g o.tags) as (λ b. opens_of (cond (not b) (o ∷ not_resting g (but g os)) (not_resting g (but g os))) ≡ cond (not b) ((o.id, o.tags) ∷ not_struck g (opens_of os)) (not_struck g (opens_of os))) [
-            | true ↦ rest
-            | false ↦ ap (λ xs. (o.id, o.tags) ∷ xs) rest
-          ]
-    ] refl
+struck_opens g (o ∷ os) all = grind (arith, nat_tests, struck_opens g os all.1)
 
 pub but_taken : {E : Type 0} → (g : ℕ) (os : List (OpenGuess E)) → but g (without_list g os) ≡ but g os
 but_taken g [] = refl
-but_taken g (o ∷ os) =
-    elim (o.id == g) as (λ b. (o.id == g) ≡ b → but g (cond b (record o { dependents = [] } ∷ os) (o ∷ without_list g os)) ≡ cond (not b) (o ∷ but g os) (but g os)) [
-      | true ↦ λ is. ap (λ b. cond (not b) (record o { dependents = [] } ∷ but g os) (but g os)) is
-      | false ↦ λ apart. ap (λ b. cond (not b) (o ∷ but g (without_list g os)) (but g (without_list g os))) apart ∙ ap (λ xs. o ∷ xs) (but_taken g os)
-    ] refl
+but_taken g (o ∷ os) = grind (arith, nat_tests, but_taken g os)
 
 rests_but : {E : Type 0} → (g h : ℕ) → (h == g) ≡ false → (os : List (OpenGuess E)) → rests_on g (opens_of (but g os)) h ≡ rests_on g (opens_of os) h
 rests_but g h apart [] = refl
-rests_but g h apart (o ∷ os) =
-    let rest = rests_but g h apart os in
-    elim (o.id == g) as (λ b. (o.id == g) ≡ b → rests_on g (opens_of (cond (not b) (o ∷ but g os) (but g os))) h ≡ (((o.id == h) && has g o.tags) || rests_on g (opens_of os) h)) [
-      | true ↦ λ is.
-          let other : (o.id == h) ≡ false = ap (λ n. n == h) (eqb-true o.id g is) ∙ turned g h ∙ apart in
-          rest ∙ sym (ap (λ b. (b && has g o.tags) || rests_on g (opens_of os) h) other)
-      | false ↦ λ _. ap (λ b. ((o.id == h) && has g o.tags) || b) rest
-    ] refl
+rests_but g h apart (o ∷ os) = grind (arith, nat_tests, rests_but g h apart os)
 
 rests_itself : {E : Type 0} → (g : ℕ) (os : List (OpenGuess E)) → rests_on g (opens_of (but g os)) g ≡ false
 rests_itself g os =
@@ -472,9 +352,7 @@ committed_list g os =
 
 pub struck_length : {E : Type 0} → (before g : ℕ) (os : List (OpenGuess E)) (ss : List Status) → length (struck_by before g os ss) ≡ length ss
 struck_length before g [] ss = refl
-struck_length before g (o ∷ os) ss =
-    struck_length before g os (cond (has g o.tags) (slice_set ss (o.id - before - 1) Struck) ss)
-    ∙ elim (has g o.tags) as (λ b. length (cond b (slice_set ss (o.id - before - 1) Struck) ss) ≡ length ss) [ true ↦ rw length-set refl | false ↦ refl ]
+struck_length before g (o ∷ os) ss = grind (arith, nat_tests, struck_length before g os, length-set {A = Status})
 
 -- one that is not undecided is not among them
 not_named : {E : Type 0} → (v : GuessesView) (os : List (OpenGuess E)) (g : ℕ) → AreOpen v os → open_in (status_since v g) ≡ false → has g (named os) ≡ false
@@ -482,20 +360,14 @@ not_named v os g are closed = are.tied g ∙ closed
 
 pub none_closed : {E : Type 0} → (g : ℕ) (os : List (OpenGuess E)) → has g (named os) ≡ false → but g os ≡ os
 none_closed g [] none = refl
-none_closed g (o ∷ os) none =
-    elim (o.id == g) as (λ b. (b || has g (named os)) ≡ false → cond (not b) (o ∷ but g os) (but g os) ≡ o ∷ os) [
-      | true ↦ λ e. absurd (true≢false e)
-      | false ↦ λ e. ap (λ xs. o ∷ xs) (none_closed g os e)
-    ] none
+none_closed g (o ∷ os) none = grind (arith, nat_tests, none_closed g os)
 
 pub closed_resting : {E : Type 0} → (v : GuessesView) (os : List (OpenGuess E)) (g : ℕ) → AreOpen v os → open_in (status_since v g) ≡ false → opens_of (not_resting g os) ≡ not_struck g (opens_of os)
 closed_resting v os g are closed = ap (λ xs. opens_of (not_resting g xs)) (sym (none_closed g os (not_named v os g are closed))) ∙ struck_opens g os are.own
 
 -- ---- where they aren't full, there is a place and a number
 or_no : (a b : Bool) → true ≡ not (a || b) → (a ≡ false) × (b ≡ false) × ((a || b) ≡ false)
-or_no true b is = absurd (true≢false is)
-or_no false true is = absurd (true≢false is)
-or_no false false is = (refl, refl, refl)
+or_no a b is = grind (arith, nat_tests)
 
 pub not_full : (v : GuessesView) → true ≡ not (is_full v) → (undecided_of v.statuses < GUESS_LIMIT) × (next_of v ≤ LAST_GUESS) × (is_full v ≡ false)
 not_full v is =

@@ -1,26 +1,14 @@
 -- Values in the order of their keys: what a write, one more and one less make of them.
-use Rattle.sk_guesses.proofs.Names.{◌≡◌, ◌≢◌, ℕ, zero, suc, ◌+◌, ◌<◌, ◌||◌, length, Bool, true, false, cond, List, ◌∷◌}
-use Rattle.sk_guesses.proofs.Names.{◌++◌, Option, Some, Result, inl, inr, sym, ◌∙◌, subst, arith, count_by, ◌==◌}
-use Rattle.sk_guesses.proofs.Names.{slice_set, slice_index_or, is_some, OnOk, remove, eqb-true, eq-eqb, or_left}
-use Rattle.sk_guesses.proofs.Names.{or_right, cases_eq, get_or-set_same, list_any-append, sum_by-cons, Slab, slab_len}
-use Rattle.sk_guesses.proofs.Names.{with_value, Updates, before, in_order, ArePresent, AreApart, AreKeys}
+use Rattle.sk_guesses.proofs.Names.{◌≡◌, ◌≢◌, ℕ, zero, suc, ◌+◌, ◌<◌, length, true, false, cond, List, ◌∷◌, ◌++◌}
+use Rattle.sk_guesses.proofs.Names.{Option, Some, Result, sym, ◌∙◌, subst, arith, count_by, ◌==◌, slice_set}
+use Rattle.sk_guesses.proofs.Names.{slice_index_or, is_some, OnOk, remove, eq-eqb, or_left, or_right, get_or-set_same}
+use Rattle.sk_guesses.proofs.Names.{list_any-append, sum_by-cons, Slab, slab_len, with_value, Updates, before, in_order}
+use Rattle.sk_guesses.proofs.Names.{ArePresent, AreApart, AreKeys, inl, inr, cases_eq}
 use Rattle.std.proofs.Common.{[], None, Ok, Err, refl, ap}
 use Rattle.std.proofs.lemmas.Bool.{true≢false}
 use Rattle.std.proofs.lemmas.List.{get_or-set_other}
 use Rattle.sk_record.specs.Notes.{has}
-use Rattle.sk_guesses.proofs.Opens.{turned}
-
-none_left : (a b : Bool) → (a || b) ≡ false → a ≡ false
-none_left true b is = absurd (true≢false is)
-none_left false b is = refl
-
-none_right : (a b : Bool) → (a || b) ≡ false → b ≡ false
-none_right true b is = absurd (true≢false is)
-none_right false b is = is
-
-neither : (a b : Bool) → a ≡ false → b ≡ false → (a || b) ≡ false
-neither true b left right = left
-neither false b left right = right
+use Rattle.std.proofs.lemmas.Bool.Decides.{nat_tests}
 
 pub on_ok : {A B : Type 0} (r : Result A B) (P Q : Type 0) → (P → Q) → OnOk r P → OnOk r Q
 on_ok (Ok x) P Q f p = f p
@@ -38,8 +26,8 @@ later ks i j k none lt at = λ same. true≢false (sym (among ks i k lt at) ∙ 
 
 not_left : (j : ℕ) (ks : List ℕ) (i : ℕ) → i < length ks → has j ks ≡ false → has j (remove ks i) ≡ false
 not_left j [] i lt none = absurd (omega arith)
-not_left j (m ∷ ks) zero lt none = none_right (m == j) (has j ks) none
-not_left j (m ∷ ks) (suc i) lt none = neither (m == j) (has j (remove ks i)) (none_left (m == j) (has j ks) none) (not_left j ks i (omega arith) (none_right (m == j) (has j ks) none))
+not_left j (m ∷ ks) zero lt none = grind (arith, nat_tests)
+not_left j (m ∷ ks) (suc i) lt none = grind (arith, nat_tests, not_left j ks i)
 
 pub apart_left : (ks : List ℕ) (i : ℕ) → i < length ks → AreApart ks → AreApart (remove ks i)
 apart_left [] i lt apart = absurd (omega arith)
@@ -48,11 +36,7 @@ apart_left (j ∷ ks) (suc i) lt apart = (not_left j ks i (omega arith) apart.0,
 
 pub apart_more : (ks : List ℕ) (k : ℕ) → has k ks ≡ false → AreApart ks → AreApart (ks ++ k ∷ [])
 apart_more [] k none apart = (refl, tt)
-apart_more (j ∷ ks) k none apart = (
-  list_any-append (λ t. t == j) ks (k ∷ [])
-      ∙ neither (has j ks) ((k == j) || false) apart.0 (neither (k == j) false (sym (turned j k) ∙ none_left (j == k) (has k ks) none) refl),
-  apart_more ks k (none_right (j == k) (has k ks) none) apart.1,
-)
+apart_more (j ∷ ks) k none apart = grind (arith, nat_tests, list_any-append (λ t. t == j) ks (k ∷ []), apart_more ks k)
 
 pub length_more : (ks : List ℕ) (k : ℕ) → length (ks ++ k ∷ []) ≡ suc (length ks)
 length_more [] k = refl
@@ -161,11 +145,7 @@ module _ {T : Type 0} where
   -- ---- one more
   pub fresh : (slots : List (Option T)) (ks : List ℕ) (k : ℕ) → ArePresent slots ks → slice_index_or slots k None ≡ None → has k ks ≡ false
   fresh slots [] k all gone = refl
-  fresh slots (j ∷ ks) k all gone =
-      elim (j == k) as (λ b. (j == k) ≡ b → (b || has k ks) ≡ false) [
-        | true ↦ λ is. absurd (true≢false (sym all.0 ∙ ap (λ m. is_some (slice_index_or slots m None)) (eqb-true j k is) ∙ ap is_some gone))
-        | false ↦ λ _. fresh slots ks k all.1 gone
-      ] refl
+  fresh slots (j ∷ ks) k all gone = grind (arith, nat_tests, fresh slots ks k all.1 gone)
 
   behind : (slots : List (Option T)) (ks : List ℕ) (k : ℕ) (x : T) → slice_index_or slots k None ≡ Some x → in_order slots (ks ++ k ∷ []) ≡ in_order slots ks ++ x ∷ []
   behind slots [] k x is = ap (λ o. before o []) is

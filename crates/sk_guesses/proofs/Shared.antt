@@ -2,9 +2,7 @@
 use Rattle.sk_guesses.proofs.Names.{◌≡◌, ℕ, suc, ◌<◌, ◌≤◌, ◌+◌, length, length-set, Bool, true, false, cond, not, List}
 use Rattle.sk_guesses.proofs.Names.{[], ◌∷◌, ◌++◌, map, inl, inr, refl, sym, ◌∙◌, ap, subst, arith, slice_set, has}
 use Rattle.sk_guesses.proofs.Names.{slice_index_or, AllByRecursion, true≢false, remove, OpenGuess, Listing, left_to}
-use Rattle.sk_guesses.proofs.Names.{zero, Ordering, without_entity, with_entity, by_order, eq_by_cmp, without_tag, Less}
-use Rattle.sk_guesses.proofs.Names.{Equal, Greater, get_or-set_same}
-use Rattle.std.proofs.Common.{◌⊎◌}
+use Rattle.sk_guesses.proofs.Names.{zero, Ordering, without_entity, with_entity, without_tag, get_or-set_same}
 use Rattle.std.proofs.lemmas.Bool.{cases_lt}
 use Rattle.std.proofs.lemmas.List.{get_or_default, get_or-map, get_or-set_other, map-set}
 use Rattle.std.proofs.Math.Seq.{map-set_same}
@@ -12,6 +10,7 @@ use Rattle.std.specs.Prelude.{Result, Ok, Err, OnErr}
 use Rattle.sk_guesses.specs.Shared.{Sharing, seen, IsReady, AreReady, Pairs, is_named, changing, HasPlace, IsRoomier}
 use Rattle.sk_guesses.specs.Shared.{IsPlaced, IsParted, Agrees, IsChanged, WillChange}
 use Rattle.sk_guesses.proofs.Opens.{guess_of}
+use Rattle.std.proofs.lemmas.Bool.Decides.{nat_tests}
 
 -- ---- a pass
 module _ {A : Type 0} (P : A → A → Type 0) where
@@ -37,10 +36,6 @@ all_at P [] k d all lt = absurd (omega arith)
 all_at P (x ∷ xs) zero d all lt = all.0
 all_at P (x ∷ xs) (suc k) d all lt = all_at P xs k d all.1 (omega arith)
 
--- one place more
-cases_at : (k i : ℕ) → k < suc i → (k < i) ⊎ (k ≡ i)
-cases_at k i lt = elim (cases_lt k i) as (λ _. (k < i) ⊎ (k ≡ i)) [ inl less ↦ inl less | inr le ↦ inr (omega (arith, lt, le)) ]
-
 module _ {A : Type 0} {P : A → A → Type 0} {os ls : List A} {i : ℕ} (so : IsPassed P os ls i) where
   -- what held of each holds of the next
   pub at_next : (S : A → Type 0) (l : A) → AllByRecursion S os → i < length os → l ≡ slice_index_or ls i l → S l
@@ -48,24 +43,14 @@ module _ {A : Type 0} {P : A → A → Type 0} {os ls : List A} {i : ℕ} (so : 
 
   pub one_passed : (l new : A) → i < length os → l ≡ slice_index_or ls i l → P l new → IsPassed P os (slice_set ls i new) (i + 1)
   one_passed l new lt at is =
-      let many = so.as_many in
-      record {
-        as_many = rw length-set many;
-        done = λ k d less within.
-            elim (cases_at k i (omega (arith, less))) [
-              | inl before ↦
-                  subst (P (slice_index_or os k d)) (sym (get_or-set_other ls i k new d (λ e. omega (arith, e, before))))
-                  (so.done k d before within)
-              | inr here ↦
-                  let old : slice_index_or os k d ≡ l =
-                  sym (so.left k d (omega (arith, here))) ∙ get_or_default ls k d l (omega (arith, many, within))
-                  ∙ ap (λ n. slice_index_or ls n l) here ∙ sym at in
-                  let now : slice_index_or (slice_set ls i new) k d ≡ new =
-                  ap (λ n. slice_index_or (slice_set ls i new) n d) here ∙ get_or-set_same ls i new d (omega (arith, many, lt)) in
-                  subst (λ x. P x (slice_index_or (slice_set ls i new) k d)) (sym old) (subst (P l) (sym now) is)
-            ];
-        left = λ k d le. get_or-set_other ls i k new d (λ e. omega (arith, e, le)) ∙ so.left k d (omega (arith, le));
-      }
+      grind (
+        arith,
+        nat_tests,
+        length-set {A = A},
+        λ (k : ℕ) (d : A). get_or-set_other ls i k new d,
+        λ (d : A). get_or-set_same ls i new d,
+        λ (k : ℕ) (d : A). get_or_default ls k d l,
+      )
 
   pub all_passed : length os ≤ i → Pairs P os ls
   all_passed le = all_pairs P os ls so.as_many (λ k d lt. so.done k d (omega (arith, lt, le)) lt)
@@ -83,10 +68,7 @@ stopped {os = os} {ls = ls} {i = i} so Q l new weaker same lt at is =
 
 pub more_at : {A : Type 0} (P : A → Type 0) (xs : List A) (i : ℕ) (x : A) → ((k : ℕ) (d : A) → k < i → P (slice_index_or xs k d)) → i < length xs → x ≡ slice_index_or xs i x → P x
     → (k : ℕ) (d : A) → k < i + 1 → P (slice_index_or xs k d)
-more_at P xs i x so lt at is = λ k d less. elim (cases_at k i (omega (arith, less))) [
-  | inl before ↦ so k d before
-  | inr here ↦ subst P (at ∙ get_or_default xs i x d lt ∙ ap (λ n. slice_index_or xs n d) (sym here)) is
-]
+more_at P xs i x so lt at is = λ k d less. grind (arith, so k d, get_or_default xs i x d lt)
 
 pub all_from : {A : Type 0} (P : A → Type 0) (xs : List A) → ((k : ℕ) (d : A) → k < length xs → P (slice_index_or xs k d)) → AllByRecursion P xs
 all_from P [] is = tt
@@ -99,21 +81,18 @@ on_err (Err e) P p = p
 -- ---- what pairs tell
 pub pairs_map : {A B : Type 0} (P : A → A → Type 0) (f g : A → B) (xs ys : List A) → ((x y : A) → P x y → f y ≡ g x) → Pairs P xs ys → map f ys ≡ map g xs
 pairs_map P f g [] [] each ps = refl
-pairs_map P f g [] (y ∷ ys) each ps = absurd ps
-pairs_map P f g (x ∷ xs) [] each ps = absurd ps
 pairs_map P f g (x ∷ xs) (y ∷ ys) each ps = let first = each x y ps.0 in let rest = pairs_map P f g xs ys each ps.1 in λ j. first j ∷ rest j
+pairs_map P f g _ _ each ps = absurd ps
 
 pub pairs_all : {A : Type 0} (P : A → A → Type 0) (Q S : A → Type 0) (xs ys : List A) → ((x y : A) → Q x → P x y → S y) → AllByRecursion Q xs → Pairs P xs ys → AllByRecursion S ys
 pairs_all P Q S [] [] each all ps = tt
-pairs_all P Q S [] (y ∷ ys) each all ps = absurd ps
-pairs_all P Q S (x ∷ xs) [] each all ps = absurd ps
 pairs_all P Q S (x ∷ xs) (y ∷ ys) each all ps = (each x y all.0 ps.0, pairs_all P Q S xs ys each all.1 ps.1)
+pairs_all P Q S _ _ each all ps = absurd ps
 
 pub weaker_pairs : {A : Type 0} (P Q : A → A → Type 0) (xs ys : List A) → ((x y : A) → P x y → Q x y) → Pairs P xs ys → Pairs Q xs ys
 weaker_pairs P Q [] [] weaker ps = tt
-weaker_pairs P Q [] (y ∷ ys) weaker ps = absurd ps
-weaker_pairs P Q (x ∷ xs) [] weaker ps = absurd ps
 weaker_pairs P Q (x ∷ xs) (y ∷ ys) weaker ps = (weaker x y ps.0, weaker_pairs P Q xs ys weaker ps.1)
+weaker_pairs P Q _ _ weaker ps = absurd ps
 
 pub pairs_self : {A : Type 0} (Q : A → Type 0) (P : A → A → Type 0) (xs : List A) → ((x : A) → Q x → P x x) → AllByRecursion Q xs → Pairs P xs xs
 pairs_self Q P [] each all = tt
@@ -206,9 +185,7 @@ module _ {E : Type 0} where
 
   -- ---- those that share agree
   parted_seen : (es : List E) (o new : Sharing E) → IsParted es o new → seen es new ≡ seen es o
-  parted_seen es o new is =
-      ap (λ b. record { guess = cond b (record new.guess { dependents = es }) new.guess }) is.shares ∙ ap (λ g. record { guess = g }) is.guess
-      ∙ sym (ap (λ b. record { guess = cond b (record o.guess { dependents = es }) o.guess }) is.shared)
+  parted_seen es o new is = grind (arith, nat_tests, is.shares, is.guess, is.shared)
 
   agrees_seen : (es : List E) (c : ℕ → Bool) (b : Bool) (o new : Sharing E) → Agrees es c b o new → seen es new ≡ seen es o
   agrees_seen es c b o new (inl is) = ap (seen es) is.0
@@ -243,15 +220,7 @@ module _ {E : Type 0} where
 
   changed_one : (f : List E → List E) (c : ℕ → Bool) (b : Bool) (es : List E) (o new : Sharing E) → (o.shares ≡ true → c o.guess.id ≡ b) → IsChanged f c o new
       → (seen (shared_after f b es) new).guess ≡ changing f c (seen es o).guess
-  changed_one f c b es o new agrees is =
-      elim (o.shares) as (λ s. o.shares ≡ s → (seen (shared_after f b es) new).guess ≡ changing f c (cond s (record o.guess { dependents = es }) o.guess)) [
-        | true ↦ λ shares.
-            ap (λ (x : Sharing E). (seen (shared_after f b es) x).guess) (is.sharing shares)
-            ∙ ap (λ s. cond s (record o.guess { dependents = shared_after f b es }) o.guess) shares
-            ∙ sym (ap (λ t. cond t (record o.guess { dependents = f es }) (record o.guess { dependents = es })) (agrees shares)
-            ∙ elim b as (λ t. cond t (record o.guess { dependents = f es }) (record o.guess { dependents = es }) ≡ record o.guess { dependents = shared_after f t es }) [ true ↦ refl | false ↦ refl ])
-        | false ↦ λ own. ap (λ s. cond s (record new.guess { dependents = shared_after f b es }) new.guess) (is.shares ∙ own) ∙ is.alone own
-      ] refl
+  changed_one f c b es o new agrees is = grind (arith, nat_tests, is.sharing, is.alone, is.shares)
 
   changed_all : (f : List E → List E) (c : ℕ → Bool) (b : Bool) (n : ℕ) (es : List E) (os ls : List (Sharing E)) → AllByRecursion (IsAgreed c b n) os → Pairs (IsChanged f c) os ls
       → map guess_of (map (seen (shared_after f b es)) ls) ≡ map (changing f c) (map guess_of (map (seen es) os))
@@ -259,9 +228,7 @@ module _ {E : Type 0} where
   changed_all f c b n es [] (l ∷ ls) all ps = absurd ps
   changed_all f c b n es (o ∷ os) [] all ps = absurd ps
   changed_all f c b n es (o ∷ os) (l ∷ ls) all ps =
-      let first = changed_one f c b es o l all.0.agrees ps.0 in
-      let rest = changed_all f c b n es os ls all.1 ps.1 in
-      λ j. first j ∷ rest j
+      grind (arith, nat_tests, changed_one f c b es o l all.0.agrees ps.0, changed_all f c b n es os ls all.1 ps.1)
 
   still_ready : (f : List E → List E) (c : ℕ → Bool) (m : ℕ) (o new : Sharing E) → IsReady m o → IsChanged f c o new → IsReady m new
   still_ready f c m o new ready is = λ shares. let shared = sym is.shares ∙ shares in subst (IsReady m) (sym (is.sharing shared)) ready shares
@@ -288,13 +255,10 @@ module _ {E : Type 0} where
 
   one_longer : (R : E → E → Ordering) (e : E) (xs : List E) → length (with_entity R xs e) ≤ suc (length xs)
   one_longer R e [] = omega arith
-  one_longer R e (x ∷ xs) =
-      let rest = one_longer R e xs in
-      elim (R x e) as (λ o. length (by_order o (x ∷ with_entity R xs e) (x ∷ xs) (e ∷ x ∷ xs)) ≤ suc (suc (length xs))) [ Less ↦ omega (arith, rest) | Equal ↦ omega arith | Greater ↦ omega arith ]
+  one_longer R e (x ∷ xs) = grind (arith, nat_tests, one_longer R e xs)
 
   more_fits : (R : E → E → Ordering) (e : E) (es : List E) (b : Bool) (room : ℕ) → length es ≤ room → (b ≡ true → length es < room) → length (shared_after (λ xs. with_entity R xs e) b es) ≤ room
-  more_fits R e es true room le place = let longer = one_longer R e es in let more = place refl in omega (arith, longer, more)
-  more_fits R e es false room le place = le
+  more_fits R e es b room le place = grind (arith, nat_tests, one_longer R e es)
 
   -- one more fits where there is a place
   pub more_ready : (R : E → E → Ordering) (e : E) {c : ℕ → Bool} {b : Bool} {es : List E} {os ms ns : List (Sharing E)} → IsTurned (λ xs. with_entity R xs e) c b es os ms ns
@@ -305,13 +269,10 @@ module _ {E : Type 0} where
 
   no_longer : (R : E → E → Ordering) (e : E) (xs : List E) → length (without_entity R xs e) ≤ length xs
   no_longer R e [] = omega arith
-  no_longer R e (x ∷ xs) =
-      let rest = no_longer R e xs in
-      elim (not (eq_by_cmp R e x)) as (λ b. length (cond b (x ∷ without_entity R xs e) (without_entity R xs e)) ≤ suc (length xs)) [ true ↦ omega (arith, rest) | false ↦ omega (arith, rest) ]
+  no_longer R e (x ∷ xs) = grind (arith, nat_tests, no_longer R e xs)
 
   less_fits : (R : E → E → Ordering) (e : E) (es : List E) (b : Bool) (room : ℕ) → length es ≤ room → length (shared_after (λ xs. without_entity R xs e) b es) ≤ room
-  less_fits R e es true room le = let less = no_longer R e es in omega (arith, less, le)
-  less_fits R e es false room le = le
+  less_fits R e es b room le = grind (arith, nat_tests, no_longer R e es)
 
   -- no more fit anyway
   pub less_ready : (R : E → E → Ordering) (e : E) {c : ℕ → Bool} {b : Bool} {es : List E} {os ms ns : List (Sharing E)} → IsTurned (λ xs. without_entity R xs e) c b es os ms ns
@@ -336,11 +297,7 @@ module _ {E : Type 0} where
   -- ---- those that are among some, or are not
   pub left_all : (R : E → E → Ordering) (tags : List ℕ) (e : E) (os : List (OpenGuess E)) → map (changing (λ es. without_entity R es e) (is_named false tags)) os ≡ map (left_to R tags e) os
   left_all R tags e [] = refl
-  left_all R tags e (o ∷ os) =
-      let first : changing (λ es. without_entity R es e) (is_named false tags) o ≡ left_to R tags e o =
-      elim (has o.id tags) as (λ b. cond (not b) (record o { dependents = without_entity R o.dependents e }) o ≡ cond b o (record o { dependents = without_entity R o.dependents e })) [ true ↦ refl | false ↦ refl ] in
-      let rest = left_all R tags e os in
-      λ j. first j ∷ rest j
+  left_all R tags e (o ∷ os) = grind (arith, nat_tests, left_all R tags e os)
 
   pub nothing : Listing E
   nothing = record { guess = record { id = 0; tags = []; dependents = [] } }

@@ -72,16 +72,12 @@ struck_rests g h (o ∷ os) here = grind (arith, nat_tests, struck_rests g h os)
 pub statuses_failed : {E : Type 0} (v : KeptView) (os : List (OpenGuess E)) (status : ℕ → Option Status) (g : ℕ) → IsStrictlySortedBy nat_cmp (named os) → AllByRecursion (λ (o : OpenGuess E). has o.id o.tags ≡ true) os
     → AreStatuses v (opens_of os) status → has g (named os) ≡ true → AreStatuses (with_struck g (opens_of os) v) (opens_of (not_resting g os)) (with_failure g (opens_of os) status)
 statuses_failed v os status g rising own are here =
-    grind (
-      arith,
-      nat_tests,
-      λ (h : ℕ). resting_named g h os rising,
-      rests_itself g os own here,
-      λ (h : ℕ). struck_rests g h (opens_of os),
-      λ (h : ℕ). none_named g h os,
-      is_undecided v (opens_of os) status are g here,
-      λ (h : ℕ). list_any-append (λ t. t == h) v.struck (struck_with g (opens_of os)),
-    )
+    let left = λ (h : ℕ). resting_named g h os rising in
+    let rests = λ (h : ℕ). struck_rests g h (opens_of os) in
+    let none = λ (h : ℕ). none_named g h os in
+    let more = λ (h : ℕ). list_any-append (λ t. t == h) v.struck (struck_with g (opens_of os)) in
+    let was = is_undecided v (opens_of os) status are g here in
+    grind (arith, nat_tests, left, rests, none, more, was, rests_itself g os own here)
 
 -- ---- a token
 pub statuses_redeemed : (v : KeptView) (os : List Open) (r : Result Redeemed Token) (status : ℕ → Option Status) → AreStatuses v os status → AreStatuses (forgotten v r) os status

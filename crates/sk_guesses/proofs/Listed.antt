@@ -41,19 +41,10 @@ module _ {K : Type 0} {R : K → K → Ordering} (total : IsTotalOrder R) (exact
         → (os : List (OpenGuess K)) → AllExact R (with_tags R tags ks base) os → AllExact R (with_tags R tags (ks ++ x ∷ []) base) (map (depending R added x) os)
     depend_part added covers covered within [] all = tt
     depend_part added covers covered within (o ∷ os) all =
-        grind (
-          arith,
-          nat_tests,
-          within o.id,
-          covers o.id,
-          covered o.id,
-          all.0,
-          with_in total exact o.dependents x,
-          λ (k : K). tied_is total exact k x,
-          before o.id,
-          after o.id,
-          depend_part added covers covered within os all.1,
-        )
+        let into = with_in total exact o.dependents x in
+        let same = λ (k : K). tied_is total exact k x in
+        let rest = depend_part added covers covered within os all.1 in
+        grind (arith, nat_tests, into, same, before o.id, after o.id, rest)
 
   -- where it is in all of them already
   pub depends_none : (own tags : List ℕ) (x : K) (os : List (OpenGuess K)) → ((g : ℕ) → has g tags ≡ true → has g own ≡ true) → Depends R own tags x os os
@@ -111,9 +102,7 @@ module _ {K : Type 0} {R : K → K → Ordering} (total : IsTotalOrder R) (exact
   -- the list of a guess that was not there has what its step wrote
   pub begun : (g : ℕ) (tags : List ℕ) (ks : List K) (base : K → List ℕ) → has g tags ≡ true → ((k : K) → has g (base k) ≡ false)
       → (k : K) → is_in R (with_entities R [] ks) k ≡ has g (with_tags R tags ks base k)
-  begun g tags ks base own fresh k =
-      with_all_in total exact ks [] k
-      ∙ elim (is_in R ks k) as (λ b. b ≡ has g (cond b tags (base k))) [ true ↦ sym own | false ↦ sym (fresh k) ]
+  begun g tags ks base own fresh k = grind (arith, nat_tests, with_all_in total exact ks [] k, fresh k)
 
   -- ---- what is written
   last_more : {V : Type 0} (t : List ℕ) (ns : List (Note V)) (n : Note V) → last_tags t (ns ++ n ∷ []) ≡ n.tags
@@ -184,10 +173,8 @@ module _ {V : Type 0} where
   left_from : (g h : ℕ) (t : List ℕ) (ns : List (Note V)) → (has h t ≡ true → AllSeen h ns) → IsGrowing ns → has h (last_tags t (cut g ns)) ≡ true → has h (last_tags t ns) ≡ true
   left_from g h t [] all grows here = here
   left_from g h t (n ∷ ns) all grows here =
-      elim (has g n.tags) as (λ b. has h (last_tags t (cond b [] (n ∷ cut g ns))) ≡ true → has h (last_tags t (n ∷ ns)) ≡ true) [
-        | true ↦ λ here. last_seen h t (n ∷ ns) here (all here)
-        | false ↦ λ here. left_from g h n.tags ns (grow_head n ns grows h) (grow_tail n ns grows) here
-      ] here
+      let rest = left_from g h n.tags ns (grow_head n ns grows h) (grow_tail n ns grows) in
+      grind (arith, nat_tests, last_seen h t (n ∷ ns), rest)
 
   pub uncut : (g : ℕ) (log : List (Note V)) → carries g log ≡ false → cut g log ≡ log
   uncut g [] none = refl
@@ -201,14 +188,10 @@ module _ {K V : Type 0} {R : K → K → Ordering} (total : IsTotalOrder R) (exa
   pub committed_exact : ((k : K) → Merges [] (committed g (old k)) (new k)) → (os : List (OpenGuess K)) → AllExact R (tags_by old) os → AllExact R (tags_by new) (after_commit g os)
   committed_exact did [] all = tt
   committed_exact did (o ∷ os) all =
-      grind (
-        arith,
-        nat_tests,
-        all.0,
-        λ (apart : (o.id == g) ≡ false) (k : K). committed_last o.id g apart [] [] (old k) (λ none. absurd (false≢true none)) (grows k) refl,
-        λ (k : K). same_last [] (committed g (old k)) (new k) (did k),
-        committed_exact did os all.1,
-      )
+      let last = λ (apart : (o.id == g) ≡ false) (k : K).
+      committed_last o.id g apart [] [] (old k) (λ none. absurd (false≢true none)) (grows k) refl in
+      let merged = λ (k : K). same_last [] (committed g (old k)) (new k) (did k) in
+      grind (arith, nat_tests, last, merged, committed_exact did os all.1)
 
   module _ (did : (k : K) → new k ≡ cut g (old k)) where
     still_among : (h : ℕ) (k : K) → has h (tags_by new k) ≡ true → has h (tags_by old k) ≡ true
@@ -219,13 +202,8 @@ module _ {K V : Type 0} {R : K → K → Ordering} (total : IsTotalOrder R) (exa
 
     almost_all : (ks : List K) → ((k : K) → is_in R ks k ≡ has g (tags_by old k)) → (os : List (OpenGuess K)) → AllExact R (tags_by old) os → AllAlmostExact R (tags_by new) ks os
     almost_all ks just [] all = tt
-    almost_all ks just (o ∷ os) all = (
-      record {
-        kept = λ k here. all.0 k ∙ still_among o.id k here;
-        others = λ k none. all.0 k ∙ ap (has o.id) (untouched k (sym (just k) ∙ none));
-      },
-      almost_all ks just os all.1,
-    )
+    almost_all ks just (o ∷ os) all =
+        grind (arith, nat_tests, all.0, just, still_among o.id, untouched, almost_all ks just os all.1)
 
     -- what the failed guess's list has is taken out of the lists of those that stay undecided
     pub failed_almost : (ks : List K) → ((k : K) → is_in R ks k ≡ has g (tags_by old k)) → (os : List (OpenGuess K)) → AllExact R (tags_by old) os → AllAlmostExact R (tags_by new) ks (not_resting g os)

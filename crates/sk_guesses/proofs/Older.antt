@@ -1,6 +1,7 @@
 -- Where all were drawn before a guess, and no tag is above its own guess, no step rests on it.
 use Rattle.sk_guesses.proofs.Names.{◌≡◌, ℕ, suc, ◌-◌, ◌<◌, false, List, [], ◌∷◌, length, map, refl, arith}
-use Rattle.sk_guesses.proofs.Names.{slice_index_or, list_any, IsStrictlySortedBy, nat_cmp, has, AreBelow, opens_of, Listing}
+use Rattle.sk_guesses.proofs.Names.{slice_index_or, list_any, IsStrictlySortedBy, nat_cmp, has, AreBelow, opens_of}
+use Rattle.sk_guesses.proofs.Names.{Listing}
 use Rattle.std.proofs.lemmas.List.{get_or_default}
 use Rattle.sk_guesses.proofs.Opens.{guess_of, named}
 use Rattle.sk_guesses.proofs.Passes.{earlier}
@@ -16,7 +17,8 @@ none_later : {E : Type 0} → (g : ℕ) (ls : List (Listing E)) → AreBelow (op
     → list_any (λ (x : Listing E). has g x.guess.tags) ls ≡ false
 none_later g [] below older = refl
 none_later g (x ∷ ls) below older =
-    grind (arith, nat_tests, below.0 g, older 0 x, none_later g ls below.1 (λ k d lt. older (suc k) d (omega (arith, lt))))
+    let rest = none_later g ls below.1 (λ k d lt. older (suc k) d (omega (arith, lt))) in
+    grind (arith, nat_tests, below.0 g, older 0 x, rest)
 
 pub rests_none : {E : Type 0} → (g : ℕ) (ls : List (Listing E)) (newest : Listing E) → IsStrictlySortedBy nat_cmp (named (map guess_of ls)) → AreBelow (opens_of (map guess_of ls)) → 0 < length ls
     → newest ≡ slice_index_or ls (length ls - 1) newest → newest.guess.id < g → list_any (λ (x : Listing E). has g x.guess.tags) ls ≡ false

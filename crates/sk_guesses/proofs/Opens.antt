@@ -75,9 +75,8 @@ all_kept P p (x ∷ xs) all =
 tied_but : {E : Type 0} → (v : GuessesView) (os : List (OpenGuess E)) (id : ℕ) (s : Status) → AreOpen v os → status_since v id ≡ Some Undecided → is_undecided s ≡ false
     → (g : ℕ) → has g (named (but id os)) ≡ open_in (status_since (decided v id s) g)
 tied_but v os id s are was becomes g =
-    ap (has g) (but_named id os) ∙ has_filter (λ t. not (t == id)) g (named os) ∙ ap (λ b. not (g == id) && b) (are.tied g)
-    ∙ elim (g == id) as (λ b. (not b && open_in (status_since v g)) ≡ open_in (cond b (Some s) (status_since v g))) [ true ↦ sym becomes | false ↦ refl ]
-    ∙ ap open_in (sym (status-decided v id Undecided s was g))
+    let left = has_filter (λ t. not (t == id)) g (named os) in
+    grind (arith, nat_tests, left, are.tied g, but_named id os, status-decided v id Undecided s was g)
 
 pub open_but : {E : Type 0} → (v : GuessesView) (os : List (OpenGuess E)) (id : ℕ) (s : Status) → AreOpen v os → status_since v id ≡ Some Undecided → is_undecided s ≡ false → AreOpen (decided v id s) (but id os)
 open_but v os id s are was becomes = record {
@@ -93,11 +92,7 @@ own_left g (o ∷ os) all = grind (arith, nat_tests, has_filter (λ t. not (t ==
 pub open_committed : {E : Type 0} → (v : GuessesView) (os : List (OpenGuess E)) (id : ℕ) → AreOpen v os → status_since v id ≡ Some Undecided → AreOpen (decided v id Committed) (after_commit id os)
 open_committed v os id are was =
     let left = open_but v os id Committed are was refl in
-    record {
-      rising = subst (IsStrictlySortedBy nat_cmp) (sym (same_named id (but id os))) left.rising;
-      tied = λ g. ap (has g) (same_named id (but id os)) ∙ left.tied g;
-      own = own_left id os are.own;
-    }
+    grind (arith, nat_tests, left, same_named id (but id os), own_left id os are.own)
 
 -- ---- all go whose own steps rest on one
 pub none_named : {E : Type 0} → (g h : ℕ) (os : List (OpenGuess E)) → has h (named os) ≡ false → rests_on g (opens_of os) h ≡ false
@@ -169,14 +164,8 @@ pub struck_are : {E : Type 0} → (v : GuessesView) (id : ℕ) (os : List (OpenG
 struck_are v id [] all g = refl
 struck_are v id (o ∷ os) all g =
     let was = some_of (status_since v o.id) all.0 in
-    let left = still_drawn v o.id was.0 was.1 os all.1 in
-    grind (
-      arith,
-      nat_tests,
-      struck_are v id os all.1 g,
-      struck_are (decided v o.id Struck) id os left g,
-      status-decided v o.id was.0 Struck was.1 g,
-    )
+    let more = struck_are (decided v o.id Struck) id os (still_drawn v o.id was.0 was.1 os all.1) g in
+    grind (arith, nat_tests, more, struck_are v id os all.1 g, status-decided v o.id was.0 Struck was.1 g)
 
 pub in_range : {E : Type 0} → (v : GuessesView) (ls : List (Listing E)) → AllDrawn v (map guess_of ls) → (k : ℕ) (d : (Listing E)) → k < length ls → (slice_index_or ls k d).guess.id - length v.earlier - 1 < length v.statuses
 in_range v [] all k d lt = absurd (omega arith)
@@ -280,11 +269,7 @@ own_same (x ∷ xs) (o ∷ os) is all = grind (arith, own_same xs os)
 
 -- what keeps numbers and tags keeps how they stand
 pub open_same : {E : Type 0} → (v : GuessesView) (xs os : List (OpenGuess E)) → opens_of xs ≡ opens_of os → AreOpen v os → AreOpen v xs
-open_same v xs os is are = record {
-  rising = subst (λ ps. IsStrictlySortedBy nat_cmp (numbers ps)) (sym is) are.rising;
-  tied = λ g. ap (λ ps. has g (numbers ps)) is ∙ are.tied g;
-  own = own_same xs os is are.own;
-}
+open_same v xs os is are = grind (arith, nat_tests, is, own_same xs os is are.own)
 
 -- ---- a failure, and the strikes after it
 pub struck_opens : {E : Type 0} → (g : ℕ) (os : List (OpenGuess E)) → AllByRecursion (λ (o : (OpenGuess E)). has o.id o.tags ≡ true) os → opens_of (not_resting g (but g os)) ≡ not_struck g (opens_of os)
@@ -306,11 +291,8 @@ rests_itself g os =
 pub failed_status : {E : Type 0} → (v : GuessesView) (g : ℕ) (os : List (OpenGuess E)) → status_since v g ≡ Some Undecided
     → (h : ℕ) → cond (rests_on g (opens_of (but g os)) h) (Some Struck) (status_since (decided v g Failed) h) ≡ with_failure g (opens_of os) (status_since v) h
 failed_status v g os was h =
-    ap (cond (rests_on g (opens_of (but g os)) h) (Some Struck)) (status-decided v g Undecided Failed was h)
-    ∙ elim (h == g) as (λ b. (h == g) ≡ b → cond (rests_on g (opens_of (but g os)) h) (Some Struck) (cond b (Some Failed) (status_since v h)) ≡ cond b (Some Failed) (cond (rests_on g (opens_of os) h) (Some Struck) (status_since v h))) [
-      | true ↦ λ is. ap (λ b. cond b (Some Struck) (Some Failed)) (ap (rests_on g (opens_of (but g os))) (eqb-true h g is) ∙ rests_itself g os)
-      | false ↦ λ apart. ap (λ b. cond b (Some Struck) (status_since v h)) (rests_but g h apart os)
-    ] refl
+    let rest = λ (apart : (h == g) ≡ false). rests_but g h apart os in
+    grind (arith, nat_tests, rest, rests_itself g os, status-decided v g Undecided Failed was h)
 
 -- ---- what changes only the list
 pub depending_keeps : {E : Type 0} → (R : E → E → Ordering) → (tags : List ℕ) (e : E) (o : (OpenGuess E)) → (depending R tags e o).id ≡ o.id × (depending R tags e o).tags ≡ o.tags

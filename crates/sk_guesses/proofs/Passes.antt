@@ -50,13 +50,9 @@ module _ {E : Type 0} where
   pub at_place : (g k : ℕ) (ls : List (Listing E)) (l : Listing E) → IsStrictlySortedBy nat_cmp (named (map guess_of ls)) → k < length ls → l ≡ slice_index_or ls k l → l.guess.id ≡ g
       → k ≡ prefix_len (is_other g) ls
   at_place g k ls l rises lt at is =
-      grind (
-        arith,
-        nat_tests,
-        prefix_len_passes (is_other g) ls k l,
-        prefix_len_stops (is_other g) ls l,
-        earlier ls (prefix_len (is_other g) ls) k l l rises,
-      )
+      let passes = prefix_len_passes (is_other g) ls k l in
+      let stops = prefix_len_stops (is_other g) ls l in
+      grind (arith, nat_tests, passes, stops, earlier ls (prefix_len (is_other g) ls) k l l rises)
 
   pub no_place : (g : ℕ) (ls : List (Listing E)) → ((k : ℕ) (d : Listing E) → k < length ls → (slice_index_or ls k d).guess.id ≢ g) → length ls ≡ prefix_len (is_other g) ls
   no_place g [] none = refl

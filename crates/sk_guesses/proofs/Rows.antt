@@ -1,9 +1,9 @@
 -- Values in the order of their keys: what a write, one more and one less make of them.
 use Rattle.sk_guesses.proofs.Names.{◌≡◌, ◌≢◌, ℕ, zero, suc, ◌+◌, ◌<◌, length, true, false, cond, List, ◌∷◌, ◌++◌}
-use Rattle.sk_guesses.proofs.Names.{Option, Some, Result, sym, ◌∙◌, subst, arith, count_by, ◌==◌, slice_set}
+use Rattle.sk_guesses.proofs.Names.{Option, Some, Result, sym, ◌∙◌, arith, count_by, ◌==◌, slice_set}
 use Rattle.sk_guesses.proofs.Names.{slice_index_or, is_some, OnOk, remove, eq-eqb, or_left, or_right, get_or-set_same}
 use Rattle.sk_guesses.proofs.Names.{list_any-append, sum_by-cons, Slab, slab_len, with_value, Updates, before, in_order}
-use Rattle.sk_guesses.proofs.Names.{ArePresent, AreApart, AreKeys, inl, inr, cases_eq}
+use Rattle.sk_guesses.proofs.Names.{ArePresent, AreApart, AreKeys}
 use Rattle.std.proofs.Common.{[], None, Ok, Err, refl, ap}
 use Rattle.std.proofs.lemmas.Bool.{true≢false}
 use Rattle.std.proofs.lemmas.List.{get_or-set_other}
@@ -106,27 +106,20 @@ module _ {T : Type 0} where
       → in_order (slice_set slots k (Some x)) ks ≡ slice_set (in_order slots ks) i x
   written slots [] i k x all apart lt at = absurd (omega arith)
   written slots (j ∷ ks) zero k x all apart lt at =
-      let here : slice_index_or (slice_set slots k (Some x)) j None ≡ Some x =
-      ap (λ m. slice_index_or (slice_set slots m (Some x)) j None) at ∙ get_or-set_same slots j (Some x) None (within slots j all.0) in
-      ap (λ o. before o (in_order (slice_set slots k (Some x)) ks)) here
-      ∙ ap (λ xs. x ∷ xs) (same_in slots (slice_set slots k (Some x)) ks (aside slots k (Some x) ks (ap (λ m. has m ks) at ∙ apart.0)))
-      ∙ sym (ap (λ o. slice_set (before o (in_order slots ks)) 0 x) (some_of (slice_index_or slots j None) all.0).1)
+      let same = same_in slots (slice_set slots k (Some x)) ks (aside slots k (Some x) ks (ap (λ m. has m ks) at ∙ apart.0)) in
+      let new = get_or-set_same slots j (Some x) None (within slots j all.0) in
+      grind (arith, nat_tests, same, new, (some_of (slice_index_or slots j None) all.0).1)
   written slots (j ∷ ks) (suc i) k x all apart lt at =
       let is = (some_of (slice_index_or slots j None) all.0).1 in
-      ap (λ o. before o (in_order (slice_set slots k (Some x)) ks)) (get_or-set_other slots k j (Some x) None (later ks i j k apart.0 (omega arith) at))
-      ∙ ap (λ xs. before (slice_index_or slots j None) xs) (written slots ks i k x all.1 apart.1 (omega arith) at)
-      ∙ ap (λ o. before o (slice_set (in_order slots ks) i x)) is
-      ∙ sym (ap (λ o. slice_set (before o (in_order slots ks)) (suc i) x) is)
+      let other = get_or-set_other slots k j (Some x) None (later ks i j k apart.0 (omega arith) at) in
+      grind (arith, nat_tests, is, other, written slots ks i k x all.1 apart.1 (omega arith) at)
 
   still_present : (slots : List (Option T)) (ks : List ℕ) (k : ℕ) (x : T) → ArePresent slots ks → ArePresent (slice_set slots k (Some x)) ks
   still_present slots [] k x all = tt
-  still_present slots (j ∷ ks) k x all = (
-    elim (cases_eq j k) [
-      | inl same ↦ ap (λ m. is_some (slice_index_or (slice_set slots m (Some x)) j None)) (sym same) ∙ ap is_some (get_or-set_same slots j (Some x) None (within slots j all.0))
-      | inr differs ↦ ap is_some (get_or-set_other slots k j (Some x) None differs) ∙ all.0
-    ],
-    still_present slots ks k x all.1,
-  )
+  still_present slots (j ∷ ks) k x all =
+      let same = get_or-set_same slots j (Some x) None (within slots j all.0) in
+      let other = get_or-set_other slots k j (Some x) None in
+      grind (arith, nat_tests, same, other, still_present slots ks k x all.1)
 
   count_same : (slots : List (Option T)) (k : ℕ) (x : T) → is_some (slice_index_or slots k None) ≡ true → count_by is_some (slice_set slots k (Some x)) ≡ count_by is_some slots
   count_same [] k x is = refl
@@ -136,11 +129,9 @@ module _ {T : Type 0} where
       omega (arith, count_same slots k x is, sum_by-cons (λ o. cond (is_some o) 1 0) o slots, sum_by-cons (λ o. cond (is_some o) 1 0) o (slice_set slots k (Some x)))
 
   pub keys_written : (s : Slab T) (ks : List ℕ) (i k : ℕ) (x : T) → AreKeys s ks → i < length ks → k ≡ slice_index_or ks i k → AreKeys (with_value s k x) ks
-  keys_written s ks i k x are lt at = record {
-    present = still_present s.slots ks k x are.present;
-    apart = are.apart;
-    all = count_same s.slots k x (present_at s.slots ks i k are.present lt at) ∙ are.all;
-  }
+  keys_written s ks i k x are lt at =
+      let many = count_same s.slots k x (present_at s.slots ks i k are.present lt at) in
+      grind (arith, nat_tests, many, still_present s.slots ks k x are.present)
 
   -- ---- one more
   pub fresh : (slots : List (Option T)) (ks : List ℕ) (k : ℕ) → ArePresent slots ks → slice_index_or slots k None ≡ None → has k ks ≡ false
@@ -185,10 +176,8 @@ module _ {T : Type 0} where
       ∙ sym (ap (λ o. remove (before o (in_order slots ks)) 0) (some_of (slice_index_or slots j None) all.0).1)
   removed slots (j ∷ ks) (suc i) k all apart lt at =
       let is = (some_of (slice_index_or slots j None) all.0).1 in
-      ap (λ o. before o (in_order (slice_set slots k None) (remove ks i))) (get_or-set_other slots k j None None (later ks i j k apart.0 (omega arith) at))
-      ∙ ap (λ xs. before (slice_index_or slots j None) xs) (removed slots ks i k all.1 apart.1 (omega arith) at)
-      ∙ ap (λ o. before o (remove (in_order slots ks) i)) is
-      ∙ sym (ap (λ o. remove (before o (in_order slots ks)) (suc i)) is)
+      let other = get_or-set_other slots k j None None (later ks i j k apart.0 (omega arith) at) in
+      grind (arith, nat_tests, is, other, removed slots ks i k all.1 apart.1 (omega arith) at)
 
   present_left : (slots : List (Option T)) (ks : List ℕ) (i k : ℕ) → ArePresent slots ks → AreApart ks → i < length ks → k ≡ slice_index_or ks i k
       → ArePresent (slice_set slots k None) (remove ks i)
@@ -201,11 +190,9 @@ module _ {T : Type 0} where
 
   pub keys_left : (old new : Slab T) (ks : List ℕ) (i k : ℕ) → AreKeys old ks → i < length ks → k ≡ slice_index_or ks i k → new.slots ≡ slice_set old.slots k None
       → slab_len new + 1 ≡ slab_len old → length (remove ks i) + 1 ≡ length ks → AreKeys new (remove ks i)
-  keys_left old new ks i k are lt at slots len fewer = record {
-    present = subst (λ ss. ArePresent ss (remove ks i)) (sym slots) (present_left old.slots ks i k are.present are.apart lt at);
-    apart = apart_left ks i lt are.apart;
-    all = omega (arith, len, are.all, fewer);
-  }
+  keys_left old new ks i k are lt at slots len fewer =
+      let left = present_left old.slots ks i k are.present are.apart lt at in
+      grind (arith, nat_tests, left, apart_left ks i lt are.apart)
 
   -- ---- what is seen of it, as it is kept
   pub near : (slots : List (Option T)) (ks : List ℕ) (seen : List T) (i : ℕ) → in_order slots ks ≡ seen → ArePresent slots ks → i < length seen → i < length ks

@@ -43,14 +43,10 @@ module _ {A : Type 0} {P : A → A → Type 0} {os ls : List A} {i : ℕ} (so : 
 
   pub one_passed : (l new : A) → i < length os → l ≡ slice_index_or ls i l → P l new → IsPassed P os (slice_set ls i new) (i + 1)
   one_passed l new lt at is =
-      grind (
-        arith,
-        nat_tests,
-        length-set {A = A},
-        λ (k : ℕ) (d : A). get_or-set_other ls i k new d,
-        λ (d : A). get_or-set_same ls i new d,
-        λ (k : ℕ) (d : A). get_or_default ls k d l,
-      )
+      let other = λ (k : ℕ) (d : A). get_or-set_other ls i k new d in
+      let now = λ (d : A). get_or-set_same ls i new d in
+      let old = λ (k : ℕ) (d : A). get_or_default ls k d l in
+      grind (arith, nat_tests, length-set {A = A}, other, now, old)
 
   pub all_passed : length os ≤ i → Pairs P os ls
   all_passed le = all_pairs P os ls so.as_many (λ k d lt. so.done k d (omega (arith, lt, le)) lt)

@@ -12,12 +12,11 @@ ghost use Rattle.sk_store.specs.declared.entity_state.EntityState.TheVariants as
 ghost use Rattle.sk_store.specs.Changed.{FitsAt, changed as changed_there};
 ghost use Rattle.sk_store.specs.Processes.{CanBecome as CanBecomeThere, became, process_in, IsProcess};
 ghost use Rattle.sk_plain.specs.Files.{after_read, file_in};
-ghost use Rattle.sk_plain.specs.Plan.{Nowhere, Birth};
 ghost use Rattle.sk_plain.specs.Rows.{answered};
-ghost use Rattle.sk_plain.specs.Planned.{CanBecome, child_of, value_of, said_by, texts_after, writes_of, wrote_all};
-ghost use Rattle.sk_plain.specs.Seen.{CanPerform, HasContent, IsWritable, content_in, process_given, written, text_in, seen_with};
+ghost use Rattle.sk_plain.specs.Planned.{child_of, said_by, texts_after, writes_of, wrote_all};
+ghost use Rattle.sk_plain.specs.Seen.{CanPerform, HasContent, content_in, process_given, text_in, seen_with};
 ghost use Rattle.sk_plain.specs.Forked.{CanFork, forked};
-ghost use Rattle.sk_plain.specs.Writing.{CanAct, CanWriteBeside, HasBecome, HasWritten, acted, wrote_both};
+ghost use Rattle.sk_plain.specs.Writing.{CanAct, CanMove, CanWrite, CanWriteOne, HasBecome, HasDone, HasSpoken, HasWritten, acted, wrote_birth, wrote_both, wrote_one};
 
 use crate::becomes::{Doing, FileReading, Filling, Forking, Measuring, Reading, read_there};
 use crate::{Becomes, Beside, Errno, InputRef, Looks, Plan, ProcessChange, Row, Writes};
@@ -108,14 +107,9 @@ fn write_any<K: Keeper>(
     entity: Entity,
     writes: &Writes,
 ) -> Result<K::Back, AllocError>
-    requires there { IsProcess (K.look keeper.old (Proc pid)) }
-    requires can { CanBecome (K.look keeper.old entity)
-        (written (process_in (K.look keeper.old (Proc pid))) writes.now) }
-    requires version { IsWritable (Beside.One entity writes.now) }
+    requires { CanWriteOne (K.look keeper.old) pid entity writes.now }
     ensures { HasWritten K.can_take_back K.taken_back result keeper.old keeper.new
-        (K.wrote keeper.old entity
-        (Some (value_of (K.look keeper.old entity)
-        (written (process_in (K.look keeper.old (Proc pid))) writes.now)))) }
+        (wrote_one K.wrote K.look pid entity writes.now keeper.old) }
 {
     let change = match writes {
         Writes::Empty(kind) => return write_empty(keeper, entity, *kind),
@@ -143,14 +137,9 @@ fn write_one<K: Keeper>(
     entity: Entity,
     writes: &Writes,
 ) -> Result<K::Back, AllocError>
-    requires there { IsProcess (K.look keeper.old (Proc pid)) }
-    requires can { CanBecome (K.look keeper.old entity)
-        (written (process_in (K.look keeper.old (Proc pid))) writes.now) }
-    requires version { IsWritable (Beside.One entity writes.now) }
+    requires { CanWriteOne (K.look keeper.old) pid entity writes.now }
     ensures { HasWritten K.can_take_back K.taken_back result keeper.old keeper.new
-        (K.wrote keeper.old entity
-        (Some (value_of (K.look keeper.old entity)
-        (written (process_in (K.look keeper.old (Proc pid))) writes.now)))) }
+        (wrote_one K.wrote K.look pid entity writes.now keeper.old) }
 {
     match writes {
         Writes::Empty(kind) => write_empty(keeper, entity, *kind),
@@ -169,9 +158,7 @@ fn write_last<K: Keeper, C: Becoming>(
 ) -> Result<(), AllocError>
     requires can { CanBecomeThere (C.can by.now) (K.look keeper.old (Proc pid)) }
     requires back { K.can_take_back keeper.old back }
-    ensures ok { OnOk result
-        (keeper.new
-        ≡ K.wrote keeper.old (Proc pid)
+    ensures ok { OnOk result (keeper.new ≡ K.wrote keeper.old (Proc pid)
         (Some (became (C.after by.now) (K.look keeper.old (Proc pid))))) }
     ensures err { OnErr result (keeper.new ≡ K.taken_back keeper.old back) }
 {
@@ -202,9 +189,8 @@ fn write_noted_gone<K: Keeper, C: Becoming>(
     by: &C,
 ) -> Result<(), AllocError>
     requires { CanBecomeThere (C.can by.now) (K.look keeper.old (Proc pid)) }
-    ensures { HasBecome result keeper.old keeper.new
-        (wrote_both K.wrote (K.look keeper.old) pid (C.after by.now)
-        (Beside.Gone entity) keeper.old) }
+    ensures { HasDone result keeper.old keeper.new (wrote_both K.wrote K.look pid (C.after by.now)
+        (Beside.Gone entity)) }
 {
     let process = changed(process_at(keeper, pid), by);
     let process = EntityState::process(keeper.memory(), process)?;
@@ -224,11 +210,9 @@ fn write_gone<K: Keeper, C: Becoming>(
     entity: &Entity,
     by: &C,
 ) -> Result<(), AllocError>
-    requires { CanWriteBeside (K.look keeper.old) pid (C.can by.now)
-        (Beside.Gone entity.now) }
-    ensures { HasBecome result keeper.old keeper.new
-        (wrote_both K.wrote (K.look keeper.old) pid (C.after by.now)
-        (Beside.Gone entity.now) keeper.old) }
+    requires { CanWrite (K.look keeper.old) pid (C.can by.now) (Beside.Gone entity.now) }
+    ensures { HasDone result keeper.old keeper.new (wrote_both K.wrote K.look pid (C.after by.now)
+        (Beside.Gone entity.now)) }
 {
     if keeper.goes_unnoted(pid) {
         return keeper.remove_beside(entity, pid, by);
@@ -245,11 +229,9 @@ fn write_apart<K: Keeper, C: Becoming>(
     writes: &Writes,
     by: &C,
 ) -> Result<(), AllocError>
-    requires { CanWriteBeside (K.look keeper.old) pid (C.can by.now)
-        (Beside.One entity.now writes.now) }
-    ensures { HasBecome result keeper.old keeper.new
-        (wrote_both K.wrote (K.look keeper.old) pid (C.after by.now)
-        (Beside.One entity.now writes.now) keeper.old) }
+    requires { CanWrite (K.look keeper.old) pid (C.can by.now) (Beside.One entity.now writes.now) }
+    ensures { HasDone result keeper.old keeper.new (wrote_both K.wrote K.look pid (C.after by.now)
+        (Beside.One entity.now writes.now)) }
 {
     let back = write_one(keeper, pid, *entity, writes)?;
     write_last(keeper, back, pid, by)
@@ -264,11 +246,10 @@ fn link_apart<K: Keeper, C: Becoming>(
     object: &ObjId,
     by: &C,
 ) -> Result<(), AllocError>
-    requires { CanWriteBeside (K.look keeper.old) pid (C.can by.now)
+    requires { CanWrite (K.look keeper.old) pid (C.can by.now)
         (Beside.One entity.now (Writes.Linked object.now)) }
-    ensures { HasBecome result keeper.old keeper.new
-        (wrote_both K.wrote (K.look keeper.old) pid (C.after by.now)
-        (Beside.One entity.now (Writes.Linked object.now)) keeper.old) }
+    ensures { HasDone result keeper.old keeper.new (wrote_both K.wrote K.look pid (C.after by.now)
+        (Beside.One entity.now (Writes.Linked object.now))) }
 {
     let name = EntityState::Value(Value::link(*object));
     let back = keeper.write(*entity, name)?;
@@ -284,11 +265,10 @@ fn make_apart<K: Keeper, C: Becoming>(
     kind: Kind,
     by: &C,
 ) -> Result<(), AllocError>
-    requires { CanWriteBeside (K.look keeper.old) pid (C.can by.now)
+    requires { CanWrite (K.look keeper.old) pid (C.can by.now)
         (Beside.One entity.now (Writes.Empty kind)) }
-    ensures { HasBecome result keeper.old keeper.new
-        (wrote_both K.wrote (K.look keeper.old) pid (C.after by.now)
-        (Beside.One entity.now (Writes.Empty kind)) keeper.old) }
+    ensures { HasDone result keeper.old keeper.new (wrote_both K.wrote K.look pid (C.after by.now)
+        (Beside.One entity.now (Writes.Empty kind))) }
 {
     let value = Value::empty(keeper.memory(), kind)?;
     let back = keeper.write(*entity, EntityState::Value(value))?;
@@ -306,11 +286,10 @@ fn link_beside<K: Keeper, C: Becoming>(
     object: &ObjId,
     by: &C,
 ) -> Result<(), AllocError>
-    requires { CanWriteBeside (K.look keeper.old) pid (C.can by.now)
+    requires { CanWrite (K.look keeper.old) pid (C.can by.now)
         (Beside.One entity.now (Writes.Linked object.now)) }
-    ensures { HasBecome result keeper.old keeper.new
-        (wrote_both K.wrote (K.look keeper.old) pid (C.after by.now)
-        (Beside.One entity.now (Writes.Linked object.now)) keeper.old) }
+    ensures { HasDone result keeper.old keeper.new (wrote_both K.wrote K.look pid (C.after by.now)
+        (Beside.One entity.now (Writes.Linked object.now))) }
 {
     if keeper.goes_unnoted(pid) {
         let name = EntityState::Value(Value::link(*object));
@@ -329,11 +308,10 @@ fn make_beside<K: Keeper, C: Becoming>(
     kind: Kind,
     by: &C,
 ) -> Result<(), AllocError>
-    requires { CanWriteBeside (K.look keeper.old) pid (C.can by.now)
+    requires { CanWrite (K.look keeper.old) pid (C.can by.now)
         (Beside.One entity.now (Writes.Empty kind)) }
-    ensures { HasBecome result keeper.old keeper.new
-        (wrote_both K.wrote (K.look keeper.old) pid (C.after by.now)
-        (Beside.One entity.now (Writes.Empty kind)) keeper.old) }
+    ensures { HasDone result keeper.old keeper.new (wrote_both K.wrote K.look pid (C.after by.now)
+        (Beside.One entity.now (Writes.Empty kind))) }
 {
     if keeper.goes_unnoted(pid) {
         let value = EntityState::Value(Value::empty(keeper.memory(), kind)?);
@@ -359,11 +337,9 @@ fn write_behind<K: Keeper, C: Becoming>(
     entity: &Entity,
     by: &C,
 ) -> Result<(), AllocError>
-    requires { CanWriteBeside (K.look keeper.old) pid (C.can by.now)
-        (Beside.One entity.now Writes.Put) }
-    ensures { HasBecome result keeper.old keeper.new
-        (wrote_both K.wrote (K.look keeper.old) pid (C.after by.now)
-        (Beside.One entity.now Writes.Put) keeper.old) }
+    requires { CanWrite (K.look keeper.old) pid (C.can by.now) (Beside.One entity.now Writes.Put) }
+    ensures { HasDone result keeper.old keeper.new (wrote_both K.wrote K.look pid (C.after by.now)
+        (Beside.One entity.now Writes.Put)) }
 {
     let Some(process) = keeper.unnoted(pid) else {
         return write_apart(keeper, pid, entity, &Writes::Put, by);
@@ -381,11 +357,10 @@ fn take_off<K: Keeper, C: Becoming>(
     count: u32,
     by: &C,
 ) -> Result<(), AllocError>
-    requires { CanWriteBeside (K.look keeper.old) pid (C.can by.now)
+    requires { CanWrite (K.look keeper.old) pid (C.can by.now)
         (Beside.One entity.now (Writes.Take count)) }
-    ensures { HasBecome result keeper.old keeper.new
-        (wrote_both K.wrote (K.look keeper.old) pid (C.after by.now)
-        (Beside.One entity.now (Writes.Take count)) keeper.old) }
+    ensures { HasDone result keeper.old keeper.new (wrote_both K.wrote K.look pid (C.after by.now)
+        (Beside.One entity.now (Writes.Take count))) }
 {
     if !keeper.goes_unnoted(pid) {
         return write_apart(keeper, pid, entity, &Writes::Take(count), by);
@@ -402,11 +377,9 @@ fn write_both<K: Keeper, C: Becoming>(
     writes: &Writes,
     by: &C,
 ) -> Result<(), AllocError>
-    requires { CanWriteBeside (K.look keeper.old) pid (C.can by.now)
-        (Beside.One entity.now writes.now) }
-    ensures { HasBecome result keeper.old keeper.new
-        (wrote_both K.wrote (K.look keeper.old) pid (C.after by.now)
-        (Beside.One entity.now writes.now) keeper.old) }
+    requires { CanWrite (K.look keeper.old) pid (C.can by.now) (Beside.One entity.now writes.now) }
+    ensures { HasDone result keeper.old keeper.new (wrote_both K.wrote K.look pid (C.after by.now)
+        (Beside.One entity.now writes.now)) }
 {
     match writes {
         Writes::Put => write_behind(keeper, pid, entity, by),
@@ -424,11 +397,9 @@ fn write_beside<K: Keeper, C: Becoming>(
     beside: &Beside,
     by: &C,
 ) -> Result<(), AllocError>
-    requires { CanWriteBeside (K.look keeper.old) pid (C.can by.now)
-        beside.now }
-    ensures { HasBecome result keeper.old keeper.new
-        (wrote_both K.wrote (K.look keeper.old) pid (C.after by.now) beside.now
-        keeper.old) }
+    requires { CanWrite (K.look keeper.old) pid (C.can by.now) beside.now }
+    ensures { HasDone result keeper.old keeper.new (wrote_both K.wrote K.look pid (C.after by.now)
+        beside.now) }
 {
     match beside {
         Beside::Nothing => keeper.change_process(pid, by),
@@ -450,8 +421,7 @@ fn fill_any<K: Keeper>(
 ) -> Result<(), AllocError>
     requires fills { row.now.change ≡ ProcessChange.Fills from count number }
     requires can { CanAct (K.look keeper.old) pid row.now }
-    ensures { HasBecome result keeper.old keeper.new
-        (acted K.wrote (K.look keeper.old) pid row.now keeper.old) }
+    ensures { HasDone result keeper.old keeper.new (acted K.wrote K.look pid row.now) }
 {
     let mut text = Text::empty();
     read(keeper, &row.looks, from, count, &mut text);
@@ -474,8 +444,7 @@ fn fill<K: Keeper>(
 ) -> Result<(), AllocError>
     requires fills { row.now.change ≡ ProcessChange.Fills from count number }
     requires can { CanAct (K.look keeper.old) pid row.now }
-    ensures { HasBecome result keeper.old keeper.new
-        (acted K.wrote (K.look keeper.old) pid row.now keeper.old) }
+    ensures { HasDone result keeper.old keeper.new (acted K.wrote K.look pid row.now) }
 {
     match (&row.looks, &row.beside) {
         (Looks::At(entity @ (Entity::Obj(_) | Entity::Copy(_))), Beside::Nothing) => {
@@ -494,8 +463,7 @@ fn fill<K: Keeper>(
 #[inline(never)]
 fn act<K: Keeper>(keeper: &mut K, pid: Pid, row: &Row) -> Result<(), AllocError>
     requires { CanAct (K.look keeper.old) pid row.now }
-    ensures { HasBecome result keeper.old keeper.new
-        (acted K.wrote (K.look keeper.old) pid row.now keeper.old) }
+    ensures { HasDone result keeper.old keeper.new (acted K.wrote K.look pid row.now) }
 {
     match &row.change {
         ProcessChange::Does(becomes) => write_beside(keeper, pid, &row.beside, becomes),
@@ -515,13 +483,10 @@ fn read_file<K: Keeper>(
     object: &ObjId,
     from: Option<u64>,
 ) -> Result<(), AllocError>
-    requires there { IsProcess (K.look keeper.old (Proc pid)) }
-    requires place { (process_in (K.look keeper.old (Proc pid))).place + 1 < 2 ^ 32 }
-    ensures { HasBecome result keeper.old keeper.new
-        (K.wrote keeper.old (Proc pid)
-        (Some (stored.Process
-        (after_read (process_in (K.look keeper.old (Proc pid)))
-        (file_in (K.look keeper.old (Obj object.now))) from)))) }
+    requires { CanMove (K.look keeper.old) pid }
+    ensures { HasBecome result keeper.old keeper.new (K.wrote keeper.old (Proc pid) (Some
+        (stored.Process (after_read (process_in (K.look keeper.old (Proc pid))) (file_in
+        (K.look keeper.old (Obj object.now))) from)))) }
 {
     keeper.change_by(pid, &Entity::Obj(*object), &FileReading { from })
 }
@@ -534,17 +499,14 @@ fn write_file<K: Keeper>(
     object: &ObjId,
     at: u32,
 ) -> Result<(), AllocError>
-    requires there { IsProcess (K.look keeper.old (Proc pid)) }
-    requires place { (process_in (K.look keeper.old (Proc pid))).place + 1 < 2 ^ 32 }
+    requires can { CanMove (K.look keeper.old) pid }
     requires fits { FitsAt (K.look keeper.old (Obj object.now))
         (changes.WriteAt at (process_in (K.look keeper.old (Proc pid))).buffer) }
-    ensures { HasBecome result keeper.old keeper.new
-        (K.wrote (K.wrote keeper.old (Obj object.now)
-        (Some (changed_there (K.look keeper.old (Obj object.now))
-        (changes.WriteAt at (process_in (K.look keeper.old (Proc pid))).buffer)))) (Proc pid)
-        (Some (stored.Process
-        (answered (process_in (K.look keeper.old (Proc pid)))
-        (length (process_in (K.look keeper.old (Proc pid))).buffer))))) }
+    ensures { HasBecome result keeper.old keeper.new (K.wrote (K.wrote keeper.old (Obj object.now)
+        (Some (changed_there (K.look keeper.old (Obj object.now)) (changes.WriteAt at (process_in
+        (K.look keeper.old (Proc pid))).buffer)))) (Proc pid) (Some (stored.Process (answered
+        (process_in (K.look keeper.old (Proc pid))) (length (process_in (K.look keeper.old
+        (Proc pid))).buffer))))) }
 {
     keeper.write_buffer(object, at, pid, &Measuring)
 }
@@ -558,9 +520,7 @@ fn write_copy<K: Keeper, C: Becoming>(
     by: &C,
 ) -> Result<(), AllocError>
     requires { CanBecomeThere (C.can by.now) (K.look keeper.old (Proc pid)) }
-    ensures ok { OnOk result
-        (keeper.new
-        ≡ K.wrote (K.wrote keeper.old (Copy name.now)
+    ensures ok { OnOk result (keeper.new ≡ K.wrote (K.wrote keeper.old (Copy name.now)
         (Some (stored.Value (values.Copy content.now)))) (Proc pid)
         (Some (became (C.after by.now) (K.look keeper.old (Proc pid))))) }
     ensures err { OnErr result (keeper.new ≡ keeper.old) }
@@ -578,14 +538,12 @@ fn receive<K: Keeper>(
     name: &Name,
     input: InputRef<'_>,
 ) -> Result<(), AllocError>
-    requires there { IsProcess (K.look keeper.old (Proc pid)) }
-    requires place { (process_in (K.look keeper.old (Proc pid))).place + 1 < 2 ^ 32 }
+    requires can { CanMove (K.look keeper.old) pid }
     requires content { HasContent (input_in input) }
-    ensures { HasBecome result keeper.old keeper.new
-        (K.wrote (K.wrote keeper.old (Copy name.now)
-        (Some (stored.Value (values.Copy (content_in (input_in input.entry)))))) (Proc pid)
-        (Some (stored.Process
-        (process_given (process_in (K.look keeper.old (Proc pid))) (input_in input.entry))))) }
+    ensures { HasBecome result keeper.old keeper.new (K.wrote (K.wrote keeper.old (Copy name.now)
+        (Some (stored.Value (values.Copy (content_in (input_in input.entry)))))) (Proc pid) (Some
+        (stored.Process (process_given (process_in (K.look keeper.old (Proc pid)))
+        (input_in input.entry))))) }
 {
     match input {
         InputRef::Fresh(content) => {
@@ -624,9 +582,7 @@ fn child_of(process: &Process, child: Pid, place: u32) -> Process
 /// A child's exit slot, and then its parent.
 fn write_child_slot<K: Keeper>(keeper: &mut K, pid: Pid, by: &Forking) -> Result<(), AllocError>
     requires { CanBecomeThere (CanFork by.now) (K.look keeper.old (Proc pid)) }
-    ensures ok { OnOk result
-        (keeper.new
-        ≡ K.wrote (K.wrote keeper.old (Exit by.now.child)
+    ensures ok { OnOk result (keeper.new ≡ K.wrote (K.wrote keeper.old (Exit by.now.child)
         (Some (stored.Value (values.Exit None)))) (Proc pid)
         (Some (became (forked by.now) (K.look keeper.old (Proc pid))))) }
     ensures err { OnErr result (keeper.new ≡ keeper.old) }
@@ -641,9 +597,7 @@ fn write_child_slot<K: Keeper>(keeper: &mut K, pid: Pid, by: &Forking) -> Result
 /// A child's queue of signals, and then the rest.
 fn write_child_queue<K: Keeper>(keeper: &mut K, pid: Pid, by: &Forking) -> Result<(), AllocError>
     requires { CanBecomeThere (CanFork by.now) (K.look keeper.old (Proc pid)) }
-    ensures ok { OnOk result
-        (keeper.new
-        ≡ K.wrote (K.wrote
+    ensures ok { OnOk result (keeper.new ≡ K.wrote (K.wrote
         (K.wrote keeper.old (Sig by.now.child) (Some (stored.Value (values.Signals []))))
         (Exit by.now.child) (Some (stored.Value (values.Exit None)))) (Proc pid)
         (Some (became (forked by.now) (K.look keeper.old (Proc pid))))) }
@@ -663,20 +617,7 @@ fn write_child_queue<K: Keeper>(keeper: &mut K, pid: Pid, by: &Forking) -> Resul
 fn bear<K: Keeper>(keeper: &mut K, pid: Pid, by: &Forking, place: u32) -> Result<(), AllocError>
     requires can { CanBecomeThere (CanFork by.now) (K.look keeper.old (Proc pid)) }
     requires apart { pid < by.now.child }
-    ensures ok { OnOk result
-        (keeper.new
-        ≡ wrote_all K.wrote
-        (writes_of (K.look keeper.old) pid
-        (record {
-          process = forked by.now (process_in (K.look keeper.old (Proc pid)));
-          looks = Nowhere;
-          beside = Birth
-              (record {
-                pid = by.now.child;
-                place = place;
-                registers = (process_in (K.look keeper.old (Proc pid))).registers;
-              });
-        })) keeper.old) }
+    ensures ok { OnOk result (keeper.new ≡ wrote_birth K.wrote K.look pid by.now place keeper.old) }
     ensures err { OnErr result (keeper.new ≡ keeper.old) }
 {
     let first = child_of(process_at(keeper, pid), by.child, place);
@@ -767,14 +708,9 @@ fn say_unnoted<K: Keeper>(
     pid: Pid,
 ) -> Result<(), AllocError>
     requires unnoted { K.goes_unnoted keeper.old pid ≡ true }
-    requires there { IsProcess (K.look keeper.old (Proc pid)) }
-    requires place { (process_in (K.look keeper.old (Proc pid))).place + 1 < 2 ^ 32 }
-    ensures writes { HasBecome result keeper.old keeper.new
-        (K.wrote keeper.old (Proc pid)
-        (Some (stored.Process (moved (process_in (K.look keeper.old (Proc pid))))))) }
-    ensures says { HasBecome result terminals.old terminals.new
-        (said_to terminals.old (process_in (K.look keeper.old (Proc pid))).terminal
-        ((process_in (K.look keeper.old (Proc pid))).buffer, K.step_tags keeper.old)) }
+    requires can { CanMove (K.look keeper.old) pid }
+    ensures { HasSpoken K.wrote K.look pid (K.step_tags keeper.old) result keeper.old keeper.new
+        terminals.old terminals.new }
 {
     let tags = keeper.step_tags()?;
     let process = process_at(keeper, pid);
@@ -790,14 +726,9 @@ fn say_buffer<K: Keeper>(
     terminals: &mut Terminals,
     pid: Pid,
 ) -> Result<(), AllocError>
-    requires there { IsProcess (K.look keeper.old (Proc pid)) }
-    requires place { (process_in (K.look keeper.old (Proc pid))).place + 1 < 2 ^ 32 }
-    ensures writes { HasBecome result keeper.old keeper.new
-        (K.wrote keeper.old (Proc pid)
-        (Some (stored.Process (moved (process_in (K.look keeper.old (Proc pid))))))) }
-    ensures says { HasBecome result terminals.old terminals.new
-        (said_to terminals.old (process_in (K.look keeper.old (Proc pid))).terminal
-        ((process_in (K.look keeper.old (Proc pid))).buffer, K.step_tags keeper.old)) }
+    requires { CanMove (K.look keeper.old) pid }
+    ensures { HasSpoken K.wrote K.look pid (K.step_tags keeper.old) result keeper.old keeper.new
+        terminals.old terminals.new }
 {
     if keeper.goes_unnoted(pid) {
         return say_unnoted(keeper, terminals, pid);
@@ -817,11 +748,9 @@ fn perform_any<K: Keeper>(
     plan: &Plan,
 ) -> Result<(), AllocError>
     requires { CanPerform (K.look keeper.old) scripts.now pid (input_in input) plan.now }
-    ensures writes { HasBecome result keeper.old keeper.new
-        (wrote_all K.wrote
-        (writes_of (K.look keeper.old) pid
-        (seen_with (K.look keeper.old) scripts.now pid (input_in input.entry) plan.now))
-        keeper.old) }
+    ensures writes { HasBecome result keeper.old keeper.new (wrote_all K.wrote (writes_of
+        (K.look keeper.old) pid (seen_with (K.look keeper.old) scripts.now pid
+        (input_in input.entry) plan.now)) keeper.old) }
     ensures says { HasBecome result terminals.old terminals.new
         (texts_after terminals.old (K.step_tags keeper.old)
         (said_by (seen_with (K.look keeper.old) scripts.now pid (input_in input.entry) plan.now))) }

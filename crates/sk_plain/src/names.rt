@@ -14,32 +14,6 @@ use sk_ids::{Entity, Name, ObjId, Pid};
 use sk_script::{Process, Register, Val};
 use sk_store::Look;
 
-/// `look rA rD NAME`
-pub(crate) fn look<S: Look>(
-    store: &S,
-    pid: Pid,
-    process: &Process,
-    register: Register,
-    directory: Register,
-    name: &Name,
-) -> Row
-    requires { process.now.place + 1 < 2 ^ 32 }
-    ensures { PlansRow (S.look store.now) process.now pid
-        (row pid process.now (Instruction.Look register directory name.now)) (Ok result) }
-{
-    let held = object_at(process, directory);
-    let Some(at) = &held else {
-        return alone(failed(Errno::BadObject));
-    };
-    if let Some(error) = no_directory(store, at) {
-        return looked(failed(error), Entity::Obj(*at));
-    }
-    match target_at(store, at, name) {
-        Some(object) => looked_up(given(register, Val::Obj(object)), at, name),
-        None => looked_up(failed(Errno::NotLinked), at, name),
-    }
-}
-
 /// The row of a name that is there, which is the frequent one.
 #[inline(always)]
 fn look_found<S: Look>(
@@ -51,8 +25,7 @@ fn look_found<S: Look>(
     name: &Name,
 ) -> Option<Row>
     requires { process.now.place + 1 < 2 ^ 32 }
-    ensures { IfSome result
-        (λ found. PlansRow (S.look store.now) process.now pid
+    ensures { IfSome result (λ found. PlansRow (S.look store.now) process.now pid
         (row pid process.now (Instruction.Look register directory name.now)) (Ok found)) }
 {
     let at = object_at(process, directory)?;
@@ -63,7 +36,7 @@ fn look_found<S: Look>(
     Some(looked_up(given(register, Val::Obj(object)), &at, name))
 }
 
-/// Any row of `look`, put into a plan.
+/// `look rA rD NAME`
 #[inline(never)]
 #[tactic(auto, using(crate::proofs::Plans::rows))]
 fn put_any_look<S: Look>(
@@ -79,7 +52,17 @@ fn put_any_look<S: Look>(
     ensures { PlansAny (S.look store.now) process.now pid
         (row pid process.now (Instruction.Look register directory name.now)) plan.new }
 {
-    *plan = Plan::Acts(look(store, pid, process, register, directory, name));
+    let held = object_at(process, directory);
+    *plan = Plan::Acts(match &held {
+        Some(at) => match no_directory(store, at) {
+            Some(error) => looked(failed(error), Entity::Obj(*at)),
+            None => match target_at(store, at, name) {
+                Some(object) => looked_up(given(register, Val::Obj(object)), at, name),
+                None => looked_up(failed(Errno::NotLinked), at, name),
+            },
+        },
+        None => alone(failed(Errno::BadObject)),
+    });
 }
 
 /// The same. A frequent row stands by itself, so that no other one has a place in its frame.
@@ -114,40 +97,13 @@ fn link_to<S: Look>(
     object: &ObjId,
 ) -> Row
     requires { process.now.place + 1 < 2 ^ 32 }
-    ensures { PlansRow (S.look store.now) process.now pid
-        (Ask (Obj at.now)
-        (λ v. Ask (Link at.now name.now) (link_to pid process.now at.now name.now object.now)))
-        (Ok result) }
+    ensures { PlansRow (S.look store.now) process.now pid (Ask (Obj at.now) (λ v. Ask
+        (Link at.now name.now) (link_to pid process.now at.now name.now object.now))) (Ok result) }
 {
     if store.value(Entity::Link(*at, *name)).is_some() {
         return looked_up(failed(Errno::Exists), at, name);
     }
     linked(answered(0), at, name, object)
-}
-
-/// `link rD NAME rA`
-pub(crate) fn link<S: Look>(
-    store: &S,
-    pid: Pid,
-    process: &Process,
-    directory: Register,
-    name: &Name,
-    object: Register,
-) -> Row
-    requires { process.now.place + 1 < 2 ^ 32 }
-    ensures { PlansRow (S.look store.now) process.now pid
-        (row pid process.now (Instruction.Link directory name.now object)) (Ok result) }
-{
-    let Some(at) = object_at(process, directory) else {
-        return alone(failed(Errno::BadObject));
-    };
-    let Some(object) = object_at(process, object) else {
-        return looked(failed(Errno::BadObject), Entity::Obj(at));
-    };
-    if let Some(error) = no_directory(store, &at) {
-        return looked(failed(error), Entity::Obj(at));
-    }
-    link_to(store, pid, process, &at, name, &object)
 }
 
 /// The row of a name that is free, which is the frequent one.
@@ -161,8 +117,7 @@ fn link_free<S: Look>(
     object: Register,
 ) -> Option<Row>
     requires { process.now.place + 1 < 2 ^ 32 }
-    ensures { IfSome result
-        (λ found. PlansRow (S.look store.now) process.now pid
+    ensures { IfSome result (λ found. PlansRow (S.look store.now) process.now pid
         (row pid process.now (Instruction.Link directory name.now object)) (Ok found)) }
 {
     let at = object_at(process, directory)?;
@@ -173,7 +128,7 @@ fn link_free<S: Look>(
     Some(linked(answered(0), &at, name, &object))
 }
 
-/// Any row of `link`, put into a plan.
+/// `link rD NAME rA`
 #[inline(never)]
 #[tactic(auto, using(crate::proofs::Plans::rows))]
 fn put_any_link<S: Look>(
@@ -189,7 +144,15 @@ fn put_any_link<S: Look>(
     ensures { PlansAny (S.look store.now) process.now pid
         (row pid process.now (Instruction.Link directory name.now object)) plan.new }
 {
-    *plan = Plan::Acts(link(store, pid, process, directory, name, object));
+    let held = object_at(process, directory);
+    *plan = Plan::Acts(match (&held, object_at(process, object)) {
+        (Some(at), Some(object)) => match no_directory(store, at) {
+            Some(error) => looked(failed(error), Entity::Obj(*at)),
+            None => link_to(store, pid, process, at, name, &object),
+        },
+        (Some(at), None) => looked(failed(Errno::BadObject), Entity::Obj(*at)),
+        (None, _) => alone(failed(Errno::BadObject)),
+    });
 }
 
 /// The same. A frequent row stands by itself, so that no other one has a place in its frame.
@@ -214,31 +177,6 @@ pub(crate) fn put_link<S: Look>(
     }
 }
 
-/// `unlink rD NAME`
-pub(crate) fn unlink<S: Look>(
-    store: &S,
-    pid: Pid,
-    process: &Process,
-    directory: Register,
-    name: &Name,
-) -> Row
-    requires { process.now.place + 1 < 2 ^ 32 }
-    ensures { PlansRow (S.look store.now) process.now pid
-        (row pid process.now (Instruction.Unlink directory name.now)) (Ok result) }
-{
-    let held = object_at(process, directory);
-    let Some(at) = &held else {
-        return alone(failed(Errno::BadObject));
-    };
-    if let Some(error) = no_directory(store, at) {
-        return looked(failed(error), Entity::Obj(*at));
-    }
-    if store.value(Entity::Link(*at, *name)).is_none() {
-        return looked_up(failed(Errno::NotLinked), at, name);
-    }
-    unlinked(answered(0), at, name)
-}
-
 /// The row of a name that is there, which is the frequent one.
 #[inline(always)]
 fn unlink_found<S: Look>(
@@ -249,8 +187,7 @@ fn unlink_found<S: Look>(
     name: &Name,
 ) -> Option<Row>
     requires { process.now.place + 1 < 2 ^ 32 }
-    ensures { IfSome result
-        (λ found. PlansRow (S.look store.now) process.now pid
+    ensures { IfSome result (λ found. PlansRow (S.look store.now) process.now pid
         (row pid process.now (Instruction.Unlink directory name.now)) (Ok found)) }
 {
     let at = object_at(process, directory)?;
@@ -260,7 +197,7 @@ fn unlink_found<S: Look>(
     Some(unlinked(answered(0), &at, name))
 }
 
-/// Any row of `unlink`, put into a plan.
+/// `unlink rD NAME`
 #[inline(never)]
 #[tactic(auto, using(crate::proofs::Plans::rows))]
 fn put_any_unlink<S: Look>(
@@ -275,7 +212,17 @@ fn put_any_unlink<S: Look>(
     ensures { PlansAny (S.look store.now) process.now pid
         (row pid process.now (Instruction.Unlink directory name.now)) plan.new }
 {
-    *plan = Plan::Acts(unlink(store, pid, process, directory, name));
+    let held = object_at(process, directory);
+    *plan = Plan::Acts(match &held {
+        Some(at) => match no_directory(store, at) {
+            Some(error) => looked(failed(error), Entity::Obj(*at)),
+            None if store.value(Entity::Link(*at, *name)).is_none() => {
+                looked_up(failed(Errno::NotLinked), at, name)
+            }
+            None => unlinked(answered(0), at, name),
+        },
+        None => alone(failed(Errno::BadObject)),
+    });
 }
 
 /// The same. A frequent row stands by itself, so that no other one has a place in its frame.

@@ -2,14 +2,10 @@
 use Rattle.sk_plain.proofs.Cites.{◌≡◌, ℕ, Bool, true, false, ◌||◌, List, [], ◌∷◌, refl, ◌∙◌, ap, list_any, eq_by_cmp}
 use Rattle.sk_plain.proofs.Cites.{MarkedEffect, is_in, is_marked, hit, hits, dirtied, keep, touches, effects}
 use Rattle.sk_plain.proofs.Cites.{dirtied_same, is_in_tied, Entity, entity_cmp, entity_total, State, EntityState}
-use Rattle.sk_plain.proofs.Cites.{EntryView, Scripts, Saying, plain, remaining}
+use Rattle.sk_plain.proofs.Cites.{EntryView, Scripts, Saying, plain, AreAlike, remaining}
 
 abbrev Left : Type 0
 Left = MarkedEffect Entity EntityState Saying
-
--- the same entities are in both
-abbrev pub AreAlike : List Entity → List Entity → Type 0
-AreAlike one other = (e : Entity) → is_in entity_cmp one e ≡ is_in entity_cmp other e
 
 any_alike : (one other : List Entity) → AreAlike one other → (es : List Entity) → list_any (is_in entity_cmp one) es ≡ list_any (is_in entity_cmp other) es
 any_alike one other same [] = refl

@@ -53,7 +53,7 @@ pub use Rattle.sk_plain.specs.Planned.{child_of, effect_of, gone_in, IsNoProcess
 pub use Rattle.sk_plain.specs.Planned.{planned}
 pub use Rattle.sk_plain.specs.Processes.{ended_with, KILLED, KILL, LEVEL_FOUR, LAST_CHILD, next_child, parent_of, born}
 pub use Rattle.sk_plain.specs.Processes.{fork, signalled, kill, waited, wait, returned}
-pub use Rattle.sk_plain.specs.Remaining.{EndsBy, remaining, depends, refusal_in, first_refusal, BeginsWell}
+pub use Rattle.sk_plain.specs.Remaining.{AreAlike, EndsBy, remaining, depends, refusal_in, first_refusal, BeginsWell}
 pub use Rattle.sk_plain.specs.Replay.{HasTaken, StopsIn, IsFirstFault, HasCommitted, IsGreatest, StepFault, IsRefused}
 pub use Rattle.sk_plain.specs.Replay.{is_above, DecisionFault, IsTaken, newest, FaultIn, IsUnknown, Goes, HasFailed}
 pub use Rattle.sk_plain.specs.Replay.{IsReplay}

@@ -16,6 +16,10 @@ use Rattle.sk_store.specs.declared.entity_state.EntityState.{EntityState}
 use Rattle.sk_plain.specs.declared.refusal.Refusal.{Refusal}
 use Rattle.sk_plain.specs.declared.refusal.Refusal.TheVariants.{NoProcess, Ended, Mismatch, NeedsReply, Blocked, NoRoom, TooMany, TraceFull, Memory}
 
+-- the same entities are in both
+abbrev pub AreAlike : List Entity → List Entity → Type 0
+AreAlike one other = (e : Entity) → is_in entity_cmp one e ≡ is_in entity_cmp other e
+
 -- whether the planned step of an entry is the guess, or reads or writes what is dirty
 abbrev pub depends : ℕ → List Entity → EntryView → Plan → Bool
 depends g dirty n plan =

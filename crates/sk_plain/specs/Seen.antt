@@ -109,6 +109,10 @@ beside_of p beside.Nothing = Nothing
 beside_of p (beside.One e w) = One e (written p w)
 beside_of p (beside.Gone e) = Gone e
 
+-- a row
+abbrev pub row_of : ProcessChange → Looks → Beside → Row
+row_of change at beside = record { change = change; looks = at; beside = beside }
+
 -- a version that a content can have
 abbrev pub IsWritable : Beside → Type 0
 IsWritable (beside.One e (writes.Over version)) = version ≤ LAST_VERSION

@@ -11,7 +11,7 @@ ghost use Rattle.sk_plain.specs.Rows.{object_in, number_in};
 ghost use Rattle.sk_plain.specs.Files.{made as made_row, size as size_row, read as read_row, written_at, write as write_row, cut_to, cut as cut_row};
 ghost use Rattle.sk_plain.specs.declared.plan.Beside.TheVariants as Beside;
 ghost use Rattle.sk_plain.specs.declared.plan.Looks.TheVariants as Looks;
-ghost use Rattle.sk_plain.specs.Seen.{PlansAny, PlansRow};
+ghost use Rattle.sk_plain.specs.Seen.{PlansAny, PlansRow, row_of};
 
 use crate::shapes::{alone, answered, changed, failed, given, looked, wrote};
 use crate::values::{file_at, number_at, object_at};
@@ -90,11 +90,8 @@ pub(crate) fn size<S: Look>(store: &S, pid: Pid, process: &Process, file: Regist
 /// in its frame.
 #[inline(never)]
 fn put_answer(plan: &mut Plan, answer: i64, object: ObjId)
-    ensures { plan.new ≡ Plan.Acts (record {
-      change = ProcessChange.Does (Becomes.Gives 0 (vals.Num answer));
-      looks = Looks.At (Obj object);
-      beside = Beside.Nothing;
-    }) }
+    ensures { plan.new ≡ Plan.Acts (row_of (ProcessChange.Does (Becomes.Gives 0 (vals.Num answer)))
+        (Looks.At (Obj object)) Beside.Nothing) }
 {
     let change = given(Register::ANSWER, Val::Num(answer));
     *plan = Plan::Acts(looked(change, Entity::Obj(object)));
@@ -103,12 +100,8 @@ fn put_answer(plan: &mut Plan, answer: i64, object: ObjId)
 /// No object was there to look at.
 #[inline(never)]
 fn put_missing(plan: &mut Plan)
-    ensures { plan.new ≡ Plan.Acts (record {
-      change = ProcessChange.Does
-          (Becomes.Gives 0 (vals.Num (neg_ℤ (pos (error_number Errno.BadObject)))));
-      looks = Looks.Nowhere;
-      beside = Beside.Nothing;
-    }) }
+    ensures { plan.new ≡ Plan.Acts (row_of (ProcessChange.Does (Becomes.Gives 0 (vals.Num (neg_ℤ
+        (pos (error_number Errno.BadObject)))))) Looks.Nowhere Beside.Nothing) }
 {
     *plan = Plan::Acts(alone(failed(Errno::BadObject)));
 }
@@ -124,9 +117,8 @@ pub(crate) fn put_read<S: Look>(
     plan: &mut Plan,
 )
     requires { process.now.place + 1 < 2 ^ 32 }
-    ensures { PlansAny (S.look _store.now) process.now pid
-        (read_row pid process.now (object_in (held process.now.registers file))
-        (number_in (held process.now.registers at))) plan.new }
+    ensures { PlansAny (S.look _store.now) process.now pid (read_row pid process.now (object_in
+        (held process.now.registers file)) (number_in (held process.now.registers at))) plan.new }
 {
     match object_at(process, file) {
         Some(object) => *plan = Plan::ReadsFile(object, number_at(process, at)),
@@ -171,9 +163,8 @@ pub(crate) fn put_write<S: Look>(
     plan: &mut Plan,
 )
     requires { process.now.place + 1 < 2 ^ 32 }
-    ensures { PlansAny (S.look store.now) process.now pid
-        (write_row pid process.now (object_in (held process.now.registers file))
-        (number_in (held process.now.registers at))) plan.new }
+    ensures { PlansAny (S.look store.now) process.now pid (write_row pid process.now (object_in
+        (held process.now.registers file)) (number_in (held process.now.registers at))) plan.new }
 {
     let Some(object) = object_at(process, file) else {
         return put_missing(plan);

@@ -83,9 +83,8 @@ fn text_of(
     plan: &Plan,
 ) -> Option<Text>
     requires { IsProcess (map.get store.now (Proc pid)) }
-    ensures { result ≡ option_map (λ s. s.text)
-        (said_by (seen_with (map.get store.now) _scripts.now pid (input_in _input.entry)
-        plan.now)) }
+    ensures { result ≡ option_map (λ s. s.text) (said_by (seen_with
+        (map.get store.now) _scripts.now pid (input_in _input.entry) plan.now)) }
 {
     let Plan::Speaks = plan else {
         return None;

@@ -7,7 +7,7 @@ ghost use Rattle.sk_objects.specs.declared.signals.TheConstants.{LAST_SIGNAL};
 ghost use Rattle.sk_plain.specs.Processes.{KILL, status_of, kill as kill_row, fork as fork_row, wait as wait_row};
 ghost use Rattle.sk_plain.specs.declared.plan.Beside.TheVariants as Beside;
 ghost use Rattle.sk_plain.specs.declared.plan.Looks.TheVariants as Looks;
-ghost use Rattle.sk_plain.specs.Seen.{PlansAfter, PlansRow};
+ghost use Rattle.sk_plain.specs.Seen.{PlansAfter, PlansRow, row_of};
 ghost use Rattle.sk_script.specs.declared.instruction.Input.TheVariants as Input;
 
 use crate::shapes::{alone, answered, changed, failed, given, looked, wrote};
@@ -45,12 +45,8 @@ pub(crate) fn status_of(val: &Val) -> u8
 
 /// The process ends where it stands.
 pub(crate) fn ends(pid: Pid, status: u8) -> Row
-    ensures { result ≡ record {
-      change = ProcessChange.Does Becomes.Ends;
-      looks = Looks.Nowhere;
-      beside = Beside.One
-          (Entity.Exit pid) (Writes.Exited status);
-    } }
+    ensures { result ≡ row_of (ProcessChange.Does Becomes.Ends) Looks.Nowhere
+        (Beside.One (Entity.Exit pid) (Writes.Exited status)) }
 {
     let change = ProcessChange::Does(Becomes::Ends);
     wrote(change, Entity::Exit(pid), Writes::Exited(status))

@@ -5,14 +5,13 @@ ghost use Rattle.std.specs.FinMap as map;
 ghost use Rattle.sk_record.specs.Effects.{is_in, is_marked};
 ghost use Rattle.sk_record.specs.Run.{IsLegal, outcome, run, put_all};
 ghost use Rattle.sk_record.specs.Strike.{strike};
-ghost use Rattle.sk_ids.specs.declared.entity.Entity.{Entity};
 ghost use Rattle.sk_ids.specs.Entity.{entity_cmp};
 ghost use Rattle.sk_trace.specs.Entry.{EntryView};
 ghost use Rattle.sk_plain.specs.Act.{plain};
 ghost use Rattle.sk_plain.specs.Planned.{writes_of};
 ghost use Rattle.sk_plain.specs.Seen.{CanPerform, seen_with, written_in};
 ghost use Rattle.sk_plain.specs.declared.refusal.Refusal.TheVariants.{Memory};
-ghost use Rattle.sk_plain.specs.Remaining.{depends, remaining, refusal_in, EndsBy, BeginsWell};
+ghost use Rattle.sk_plain.specs.Remaining.{AreAlike, depends, remaining, refusal_in, EndsBy, BeginsWell};
 
 use crate::{Entry, InputRef, Plan, Refusal, apply_plan, plan_step};
 use sk_ids::{Entity, GuessId, Pid};
@@ -39,8 +38,7 @@ fn touches(dirty: &[Entity], entities: &[Entity]) -> bool
 
 /// Adds an entity to what is dirty, where it is not there.
 fn mark_one(dirty: &mut Vec<Entity>, entity: &Entity) -> Result<(), AllocError>
-    ensures { OnOk result ((e : Entity) → is_in entity_cmp dirty.new.items e
-        ≡ is_in entity_cmp (entity.now ∷ dirty.old.items) e) }
+    ensures { OnOk result (AreAlike dirty.new.items (entity.now ∷ dirty.old.items)) }
 {
     if is_dirty(dirty, *entity) {
         return Ok(());
@@ -51,8 +49,7 @@ fn mark_one(dirty: &mut Vec<Entity>, entity: &Entity) -> Result<(), AllocError>
 
 /// Adds entities to what is dirty, each of which may be there.
 fn mark(dirty: &mut Vec<Entity>, entities: &[Entity]) -> Result<(), AllocError>
-    ensures { OnOk result ((e : Entity) → is_in entity_cmp dirty.new.items e
-        ≡ is_in entity_cmp (entities.now ++ dirty.old.items) e) }
+    ensures { OnOk result (AreAlike dirty.new.items (entities.now ++ dirty.old.items)) }
 {
     let Some((entity, more)) = entities.split_first() else {
         return Ok(());
@@ -94,20 +91,16 @@ fn take(
     plan: &Plan,
 ) -> Result<(), Refusal>
     requires { CanPerform (map.get store.old) scripts.now entry.now.pid entry.now.input plan.now }
-    ensures store { OnOk result
-        (store.new ≡ put_all
-        (writes_of (map.get store.old) entry.now.pid
-        (seen_with (map.get store.old) scripts.now entry.now.pid entry.now.input plan.now))
-        store.old) }
-    ensures dirty { OnOk result ((e : Entity) → is_in entity_cmp dirty.new.items e
-        ≡ is_in entity_cmp
-        (if depends guess dirty.old.items entry.now plan.now then written_in entry.now.pid
-        plan.now ++ dirty.old.items else dirty.old.items) e) }
+    ensures store { OnOk result (store.new ≡ put_all (writes_of (map.get store.old) entry.now.pid
+        (seen_with
+        (map.get store.old) scripts.now entry.now.pid entry.now.input plan.now)) store.old) }
+    ensures dirty { OnOk result (AreAlike dirty.new.items
+        (if depends guess dirty.old.items entry.now plan.now
+        then written_in entry.now.pid plan.now ++ dirty.old.items else dirty.old.items)) }
     ensures memory { IfErr result (λ why. why ≡ Memory) }
-    ensures kept { OnOk result
-        (kept.new.items
-        ≡ (if depends guess dirty.old.items entry.now plan.now then kept.old.items else
-        kept.old.items ++ entry.now ∷ [])) }
+    ensures kept { OnOk result (kept.new.items ≡
+        (if depends guess dirty.old.items entry.now plan.now then kept.old.items else kept.old.items
+        ++ entry.now ∷ [])) }
 {
     apply_plan(store, scripts, entry.pid, InputRef::of(&entry.input), plan)?;
     if depends(dirty, guess, entry, plan) {
@@ -128,25 +121,18 @@ fn one_entry(
     kept: &mut Vec<Entry>,
     entry: &Entry,
 ) -> Result<(), Refusal>
-    ensures kept { OnOk result
-        ((rest : List EntryView)
-        → kept.new.items ++ remaining scripts.now guess dirty.new.items store.new rest
-        ≡ kept.old.items
+    ensures kept { OnOk result ((rest : List EntryView) → kept.new.items
+        ++ remaining scripts.now guess dirty.new.items store.new rest ≡ kept.old.items
         ++ remaining scripts.now guess dirty.old.items store.old (entry.now ∷ rest)) }
     ensures legal { OnOk result
         ((rest : List EntryView) → IsLegal (plain scripts.now) store.new rest
         → IsLegal (plain scripts.now) store.old (entry.now ∷ rest)) }
-    ensures run { OnOk result
-        ((rest : List EntryView)
-        → run (plain scripts.now) store.new rest
+    ensures run { OnOk result ((rest : List EntryView) → run (plain scripts.now) store.new rest
         ≡ run (plain scripts.now) store.old (entry.now ∷ rest)) }
-    ensures passed { OnOk result
-        ((rest : List EntryView)
-        → refusal_in scripts.now store.new rest
+    ensures passed { OnOk result ((rest : List EntryView) → refusal_in scripts.now store.new rest
         ≡ refusal_in scripts.now store.old (entry.now ∷ rest)) }
-    ensures refused { IfErr result
-        (λ why. (rest : List EntryView)
-        → EndsBy (refusal_in scripts.now store.old (entry.now ∷ rest)) why) }
+    ensures refused { IfErr result (λ why. (rest : List EntryView) → EndsBy
+        (refusal_in scripts.now store.old (entry.now ∷ rest)) why) }
     ensures memory { IfErr result
         (λ why. why ≡ Memory → IsOk (outcome (plain scripts.now) store.old entry.now)) }
 {

@@ -91,13 +91,11 @@ fn good<S: Look>(
 #[inline(always)]
 fn puts_fetch<S: Look>(store: &S, pid: Pid, process: &Process, name: &Name, plan: &mut Plan) -> bool
     requires { process.now.place + 1 < 2 ^ 32 }
-    ensures row { result ≡ true
-        → (i : Option Instruction)
-        → PlansAfter (S.look store.now) i Input.Good process.now [] pid
-        (Ask (Copy name.now) (from_copy pid process.now)) (Ok plan.new) }
-    ensures quiet { result ≡ true
-        → (i : Option Instruction)
-        → IsQuiet (S.look store.now) i Input.Good process.now plan.new }
+    ensures row { result ≡ true → (i : Option Instruction) → PlansAfter
+        (S.look store.now) i Input.Good process.now [] pid (Ask (Copy name.now)
+        (from_copy pid process.now)) (Ok plan.new) }
+    ensures quiet { result ≡ true → (i : Option Instruction) → IsQuiet
+        (S.look store.now) i Input.Good process.now plan.new }
 {
     match store.value(Entity::Copy(*name)) {
         Some(EntityState::Value(Value::Copy(held))) => {
@@ -126,13 +124,8 @@ fn put_any_good<S: Look>(
     ensures quiet { IfOk (told result plan.new)
         (IsQuiet (S.look store.now) (option_copied instruction.entry) Input.Good process.now) }
 {
-    match good(store, pid, process, instruction) {
-        Ok(row) => {
-            *plan = Plan::Acts(row);
-            Ok(())
-        }
-        Err(why) => Err(why),
-    }
+    *plan = Plan::Acts(good(store, pid, process, instruction)?);
+    Ok(())
 }
 
 /// The same. The frequent row stands by itself, so that no other one has a place in its frame.
@@ -170,9 +163,8 @@ pub(crate) fn fresh<S: Look>(
     requires { IsSome instruction → process.now.place + 1 < 2 ^ 32 }
     ensures row { PlansReply (S.look _store.now) (option_copied instruction.entry)
         (Input.Fresh content.now) process.now pid result }
-    ensures quiet { IfOk result
-        (IsQuiet (S.look _store.now) (option_copied instruction.entry) (Input.Fresh content.now)
-        process.now) }
+    ensures quiet { IfOk result (IsQuiet (S.look _store.now) (option_copied instruction.entry)
+        (Input.Fresh content.now) process.now) }
 {
     match instruction {
         Some(Instruction::Fetch(name)) => Ok(Plan::Received(*name)),
@@ -191,9 +183,8 @@ pub(crate) fn stale<S: Look>(
     requires { IsSome instruction → process.now.place + 1 < 2 ^ 32 }
     ensures row { PlansReply (S.look _store.now) (option_copied instruction.entry)
         (Input.Stale content.now) process.now pid result }
-    ensures quiet { IfOk result
-        (IsQuiet (S.look _store.now) (option_copied instruction.entry) (Input.Stale content.now)
-        process.now) }
+    ensures quiet { IfOk result (IsQuiet (S.look _store.now) (option_copied instruction.entry)
+        (Input.Stale content.now) process.now) }
 {
     match instruction {
         Some(Instruction::Store(name)) => Ok(Plan::Received(*name)),

@@ -3,6 +3,7 @@ ghost use Rattle.std.specs.Prelude.{◌≡◌, ◌<◌, ◌^◌, pos, neg_ℤ};
 ghost use Rattle.sk_script.specs.declared.register.Val.TheVariants as vals;
 ghost use Rattle.sk_ids.specs.declared.entity.Entity.TheVariants.{Link};
 ghost use Rattle.sk_plain.specs.Refusal.{error_number};
+ghost use Rattle.sk_plain.specs.Seen.{row_of};
 
 use crate::{Becomes, Beside, Errno, Looks, ProcessChange, Row, Writes};
 use sk_ids::{Entity, Name, ObjId};
@@ -33,7 +34,7 @@ pub(crate) fn failed(error: Errno) -> ProcessChange
 
 /// Nothing but the process is written.
 pub(crate) fn alone(change: ProcessChange) -> Row
-    ensures { result ≡ record { change = change; looks = Looks.Nowhere; beside = Beside.Nothing } }
+    ensures { result ≡ row_of change Looks.Nowhere Beside.Nothing }
 {
     Row {
         change,
@@ -44,8 +45,7 @@ pub(crate) fn alone(change: ProcessChange) -> Row
 
 /// The same after an entity was looked at.
 pub(crate) fn looked(change: ProcessChange, entity: Entity) -> Row
-    ensures { result
-        ≡ record { change = change; looks = Looks.At entity; beside = Beside.Nothing } }
+    ensures { result ≡ row_of change (Looks.At entity) Beside.Nothing }
 {
     Row {
         change,
@@ -56,8 +56,7 @@ pub(crate) fn looked(change: ProcessChange, entity: Entity) -> Row
 
 /// The same after a name of a directory was looked at.
 pub(crate) fn looked_up(change: ProcessChange, directory: &ObjId, name: &Name) -> Row
-    ensures { result ≡ record
-        { change = change; looks = Looks.AtName directory.now name.now; beside = Beside.Nothing } }
+    ensures { result ≡ row_of change (Looks.AtName directory.now name.now) Beside.Nothing }
 {
     Row {
         change,
@@ -68,12 +67,8 @@ pub(crate) fn looked_up(change: ProcessChange, directory: &ObjId, name: &Name) -
 
 /// A name that was looked at is linked.
 pub(crate) fn linked(change: ProcessChange, directory: &ObjId, name: &Name, object: &ObjId) -> Row
-    ensures { result ≡ record {
-      change = change;
-      looks = Looks.AtName directory.now name.now;
-      beside = Beside.One
-          (Link directory.now name.now) (Writes.Linked object.now);
-    } }
+    ensures { result ≡ row_of change (Looks.AtName directory.now name.now)
+        (Beside.One (Link directory.now name.now) (Writes.Linked object.now)) }
 {
     Row {
         change,
@@ -84,12 +79,8 @@ pub(crate) fn linked(change: ProcessChange, directory: &ObjId, name: &Name, obje
 
 /// A name that was looked at is taken out.
 pub(crate) fn unlinked(change: ProcessChange, directory: &ObjId, name: &Name) -> Row
-    ensures { result ≡ record {
-      change = change;
-      looks = Looks.AtName directory.now name.now;
-      beside = Beside.Gone
-          (Link directory.now name.now);
-    } }
+    ensures { result ≡ row_of change (Looks.AtName directory.now name.now)
+        (Beside.Gone (Link directory.now name.now)) }
 {
     Row {
         change,
@@ -100,8 +91,7 @@ pub(crate) fn unlinked(change: ProcessChange, directory: &ObjId, name: &Name) ->
 
 /// An entity that was looked at is written too.
 pub(crate) fn changed(change: ProcessChange, entity: &Entity, writes: Writes) -> Row
-    ensures { result ≡ record
-        { change = change; looks = Looks.At entity.now; beside = Beside.One entity.now writes } }
+    ensures { result ≡ row_of change (Looks.At entity.now) (Beside.One entity.now writes) }
 {
     Row {
         change,
@@ -112,8 +102,7 @@ pub(crate) fn changed(change: ProcessChange, entity: &Entity, writes: Writes) ->
 
 /// An entity is written that was not looked at.
 pub(crate) fn wrote(change: ProcessChange, entity: Entity, writes: Writes) -> Row
-    ensures { result ≡ record
-        { change = change; looks = Looks.Nowhere; beside = Beside.One entity writes } }
+    ensures { result ≡ row_of change Looks.Nowhere (Beside.One entity writes) }
 {
     Row {
         change,

@@ -65,16 +65,11 @@ fn settled_in(entries: &[Entry], undecided: &[GuessId]) -> usize
 
 /// Takes the step of an entry.
 fn take_step(store: &mut Store, scripts: &Scripts, entry: &Entry) -> Result<(), Refusal>
-    ensures { OnOk result
-        ((rest : List EntryView)
-        → run (plain scripts.now) store.new rest
-        ≡ run (plain scripts.now) store.old (entry.now ∷ rest)) }
+    ensures { OnOk result ((rest : List EntryView) → run (plain scripts.now) store.new rest ≡ run
+        (plain scripts.now) store.old (entry.now ∷ rest)) }
 {
     let input = InputRef::of(&entry.input);
-    let plan = match plan_step(store, scripts, entry.pid, input) {
-        Ok(plan) => plan,
-        Err(why) => return Err(why),
-    };
+    let plan = plan_step(store, scripts, entry.pid, input)?;
     apply_plan(store, scripts, entry.pid, input, &plan)?;
     Ok(())
 }
@@ -140,9 +135,8 @@ fn left_behind(
     standing: &Standing,
     guess: GuessId,
 ) -> Result<Vec<Entry>, AllocError>
-    ensures { IfOk result
-        (λ left. left.items
-        ≡ strike (plain scripts.now) standing.now.after standing.now.behind.items guess) }
+    ensures { IfOk result (λ left. left.items ≡ strike
+        (plain scripts.now) standing.now.after standing.now.behind.items guess) }
 {
     let mut store = standing.after.copy()?;
     // The steps were taken before: only memory can be wanting.

@@ -13,7 +13,7 @@ ghost use Rattle.sk_plain.specs.Act.{row, does, next_in, is_frequent, due, handl
 ghost use Rattle.sk_plain.specs.Planned.{signals_read, IsReply, said_by};
 ghost use Rattle.sk_plain.specs.declared.plan.Beside.TheVariants as Beside;
 ghost use Rattle.sk_plain.specs.declared.plan.Looks.TheVariants as Looks;
-ghost use Rattle.sk_plain.specs.Seen.{DoesNext, IsNext, IsQuiet, PlansAfter, PlansReply, PlansStep, plan_of, seen_with, told};
+ghost use Rattle.sk_plain.specs.Seen.{DoesNext, IsNext, IsQuiet, PlansAfter, PlansReply, PlansStep, plan_of, row_of, seen_with, told};
 
 use crate::processes::{ends, fork, is_killed, kill, status_of, wait};
 use crate::shapes::{alone, wrote};
@@ -30,12 +30,8 @@ const KILLED: u8 = 137;
 
 /// The process alone becomes this.
 fn alone_does(becomes: Becomes) -> Plan
-    ensures { result ≡ Plan.Acts
-        (record {
-          change = ProcessChange.Does becomes;
-          looks = Looks.Nowhere;
-          beside = Beside.Nothing;
-        }) }
+    ensures { result
+        ≡ Plan.Acts (row_of (ProcessChange.Does becomes) Looks.Nowhere Beside.Nothing) }
 {
     Plan::Acts(alone(ProcessChange::Does(becomes)))
 }
@@ -44,10 +40,7 @@ fn alone_does(becomes: Becomes) -> Plan
 fn plan_of(row: Result<Row, Refusal>) -> Result<Plan, Refusal>
     ensures { result ≡ plan_of row }
 {
-    match row {
-        Ok(row) => Ok(Plan::Acts(row)),
-        Err(why) => Err(why),
-    }
+    Ok(Plan::Acts(row?))
 }
 
 /// Whether an instruction is private.
@@ -157,13 +150,8 @@ fn tabled<S: Look>(
 fn keep(plan: &mut Plan, planned: Result<Plan, Refusal>) -> Result<(), Refusal>
     ensures { told result plan.new ≡ planned }
 {
-    match planned {
-        Ok(next) => {
-            *plan = next;
-            Ok(())
-        }
-        Err(why) => Err(why),
-    }
+    *plan = planned?;
+    Ok(())
 }
 
 /// The same as `tabled`, put into a plan. It stands by itself, since each plan of the table has a place of its own
@@ -346,9 +334,8 @@ fn replied<S: Look>(
     requires small { IsSome instruction → process.now.place + 1 < 2 ^ 32 }
     ensures row { PlansReply (S.look store.now) (option_copied instruction.entry)
         (input_in input.entry) process.now pid (told result plan.new) }
-    ensures quiet { IfOk (told result plan.new)
-        (IsQuiet (S.look store.now) (option_copied instruction.entry) (input_in input.entry)
-        process.now) }
+    ensures quiet { IfOk (told result plan.new) (IsQuiet (S.look store.now)
+        (option_copied instruction.entry) (input_in input.entry) process.now) }
 {
     match input {
         InputRef::Good => replies::put_good(store, pid, process, instruction, plan),
@@ -379,10 +366,8 @@ fn with_input<'a, S: Look>(
         (input_in input.entry) process.now (signals_read pid (input_in input.entry)) pid
         (with_input pid process.now (option_copied instruction.entry) (input_in input.entry))
         (told result plan.new) }
-    ensures quiet { IsReply (input_in input.entry)
-        → IfOk (told result plan.new)
-        (IsQuiet (S.look store.now) (option_copied instruction.entry) (input_in input.entry)
-        process.now) }
+    ensures quiet { IsReply (input_in input.entry) → IfOk (told result plan.new) (IsQuiet
+        (S.look store.now) (option_copied instruction.entry) (input_in input.entry) process.now) }
     ensures next { IfOk result (λ found. IfSome found
         (λ i. IsNext plan.new (option_copied instruction.entry) i.now)) }
 {
@@ -446,9 +431,7 @@ fn plan_apart<S: Look>(
 ) -> Result<(), Refusal>
     ensures step { PlansStep (S.look store.now) scripts.now pid (input_in input.entry)
         (told result plan.new) }
-    ensures quiet { IsReply (input_in input.entry)
-        → IfOk (told result plan.new)
-        (λ plan. said_by
+    ensures quiet { IsReply (input_in input.entry) → IfOk (told result plan.new) (λ plan. said_by
         (seen_with (S.look store.now) scripts.now pid (input_in input.entry) plan) ≡ None) }
 {
     plan_into(store, scripts, pid, input, plan)?;
@@ -470,8 +453,6 @@ pub fn plan_step<S: Look>(
         (seen_with (S.look store.now) scripts.now pid (input_in input.entry) plan) ≡ None) }
 {
     let mut plan = Plan::Private;
-    match plan_apart(store, scripts, pid, input, &mut plan) {
-        Ok(()) => Ok(plan),
-        Err(why) => Err(why),
-    }
+    plan_apart(store, scripts, pid, input, &mut plan)?;
+    Ok(plan)
 }

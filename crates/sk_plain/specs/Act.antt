@@ -105,9 +105,7 @@ next_in scripts p = instruction_of (get scripts p.script) p.place
 abbrev pub handled : ℕ → Process → Option Instruction → List ℕ → Option ℕ → Option ℕ → StepTree
 handled pid p i (n ∷ ns) (Some handler) None =
     with_write pid (Sig pid) (value_after (values.Signals (n ∷ ns)) TakeSignal) (handling p n handler)
-handled pid p i (n ∷ ns) (Some handler) (Some place) = does pid p i
-handled pid p i (n ∷ ns) None saved = does pid p i
-handled pid p i [] handler saved = does pid p i
+handled pid p i queue handler saved = does pid p i
 
 -- signal 9 ends a process, and stays in its queue
 abbrev pub due : ℕ → Process → Option Instruction → List ℕ → StepTree
@@ -129,8 +127,7 @@ with_input pid p i (inputs.Stale content) = stale pid p content i
 abbrev pub goes_on : Scripts → ℕ → Input → Option EntityState → StepTree
 goes_on scripts pid input (Some (stored.Process p)) =
     if p.ended then Refuse Ended else with_input pid p (next_in scripts p) input
-goes_on scripts pid input (Some (stored.Value v)) = Refuse NoProcess
-goes_on scripts pid input None = Refuse NoProcess
+goes_on scripts pid input _ = Refuse NoProcess
 
 -- one step of a process with an input
 abbrev pub act : Scripts → ℕ → Input → StepTree

@@ -15,8 +15,8 @@ use Rattle.sk_store.specs.Changed.{changed, FitsAt}
 use Rattle.sk_store.specs.declared.entity_state.EntityState.{EntityState}
 use Rattle.sk_store.specs.declared.entity_state.EntityState.TheVariants as stored
 use Rattle.sk_plain.specs.declared.refusal.Refusal.{Refusal}
-use Rattle.sk_plain.specs.declared.refusal.Refusal.TheVariants.{NoProcess, Ended, Mismatch, NeedsReply, Blocked, NoRoom, TooMany, TraceFull, Memory}
-use Rattle.sk_plain.specs.Plan.{PlanView, LooksView, Nowhere, At, AtBoth, BecomesView, Empty, Exited, Linked, Cached, Changed, BesideView, Nothing, Says, One, Birth, Gone, Child}
+use Rattle.sk_plain.specs.declared.refusal.Refusal.TheVariants.{NoRoom, TooMany, TraceFull, Memory}
+use Rattle.sk_plain.specs.Plan.{PlanView, LooksView, Nowhere, At, AtBoth, BecomesView, Empty, Exited, Linked, Cached, Changed, BesideView, Says, One, Birth, Gone, Child}
 
 -- the entities that are looked at, in their order
 abbrev pub looked_at : LooksView → List Entity
@@ -38,12 +38,10 @@ child_of p c = record p { pid = c.pid; place = c.place; registers = c.registers;
 
 -- what is written beside the process
 abbrev pub written_beside : (Entity → Option EntityState) → Process → BesideView → List (Entity × Option EntityState)
-written_beside look p Nothing = []
-written_beside look p Says = []
 written_beside look p (One e becomes) = (e, Some (value_of (look e) becomes)) ∷ []
-written_beside look p (Gone e) = []
 written_beside look p (Birth c) =
     (Proc c.pid, Some (stored.Process (child_of p c))) ∷ (Sig c.pid, Some (stored.Value (values.Signals []))) ∷ (Exit c.pid, Some (stored.Value (values.Exit None))) ∷ []
+written_beside look p _ = []
 
 -- what is made absent, after the process is written
 abbrev pub gone_in : BesideView → List Entity
@@ -79,9 +77,7 @@ effect_after reads look pid plan = record {
 -- the signals of the process are read by a step without input
 abbrev pub signals_read : ℕ → Input → List Entity
 signals_read pid inputs.None = Sig pid ∷ []
-signals_read pid inputs.Good = []
-signals_read pid (inputs.Fresh content) = []
-signals_read pid (inputs.Stale content) = []
+signals_read pid _ = []
 
 -- the whole step
 abbrev pub effect_of : (Entity → Option EntityState) → ℕ → Input → PlanView → Effect Entity EntityState Saying
@@ -95,17 +91,12 @@ planned reads look pid (Err why) = Err why
 -- a change that is planned fits what is there, and a link is not made empty
 abbrev pub CanBecome : Option EntityState → BecomesView → Type 0
 CanBecome now (Empty kind) = kind ≢ kinds.Link
-CanBecome now (Exited status) = Unit {0}
-CanBecome now (Linked object) = Unit {0}
-CanBecome now (Cached content) = Unit {0}
 CanBecome now (Changed change) = FitsAt now change
+CanBecome now _ = Unit {0}
 
 abbrev pub CanDo : (Entity → Option EntityState) → BesideView → Type 0
-CanDo look Nothing = Unit {0}
-CanDo look Says = Unit {0}
 CanDo look (One e becomes) = CanBecome (look e) becomes
-CanDo look (Birth c) = Unit {0}
-CanDo look (Gone e) = Unit {0}
+CanDo look _ = Unit {0}
 
 abbrev pub IsNoProcess : Entity → Type 0
 IsNoProcess (Proc p) = ⊥
@@ -113,30 +104,23 @@ IsNoProcess _ = Unit {0}
 
 -- what is written beside a process is not the process
 abbrev pub IsBeside : ℕ → BesideView → Type 0
-IsBeside pid Nothing = Unit {0}
-IsBeside pid Says = Unit {0}
 IsBeside pid (One e becomes) = IsNoProcess e
 IsBeside pid (Birth c) = pid < c.pid
 IsBeside pid (Gone e) = IsNoProcess e
+IsBeside pid _ = Unit {0}
 
 -- a refusal that a step of the plain kernel can have
 abbrev pub IsPlainRefusal : Refusal → Type 0
-IsPlainRefusal NoProcess = Unit {0}
-IsPlainRefusal Ended = Unit {0}
-IsPlainRefusal Mismatch = Unit {0}
-IsPlainRefusal NeedsReply = Unit {0}
-IsPlainRefusal Blocked = Unit {0}
 IsPlainRefusal NoRoom = ⊥
 IsPlainRefusal TooMany = ⊥
 IsPlainRefusal TraceFull = ⊥
 IsPlainRefusal Memory = ⊥
+IsPlainRefusal _ = Unit {0}
 
 -- an input that is a reply
 abbrev pub IsReply : Input → Type 0
 IsReply inputs.None = ⊥
-IsReply inputs.Good = Unit {0}
-IsReply (inputs.Fresh content) = Unit {0}
-IsReply (inputs.Stale content) = Unit {0}
+IsReply _ = Unit {0}
 
 -- the refusals that a step of the plain kernel has
 abbrev pub refusal_of : Result (Effect Entity EntityState Saying) Refusal → Option Refusal
@@ -149,11 +133,9 @@ read_by pid input looks = (Proc pid ∷ signals_read pid input) ++ looked_at loo
 
 -- the entities beside the process that are written
 abbrev pub also_changed : BesideView → List Entity
-also_changed Nothing = []
-also_changed Says = []
 also_changed (One e becomes) = e ∷ []
-also_changed (Gone e) = []
 also_changed (Birth c) = Proc c.pid ∷ Sig c.pid ∷ Exit c.pid ∷ []
+also_changed _ = []
 
 -- the entities that a plan writes
 abbrev pub written_by : ℕ → BesideView → List Entity

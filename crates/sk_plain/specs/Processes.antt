@@ -1,5 +1,5 @@
 -- The rows of the table on processes and signals.
-use Rattle.std.specs.Prelude.{ℕ, ◌+◌, ◌*◌, ◌/◌, ◌==◌, ◌&&◌, pos, negsuc, nat_lt, nat_le, true, false, [], ◌∷◌, length, Option, Some, None, slice_set, if◌then◌else◌}
+use Rattle.std.specs.Prelude.{ℕ, ◌+◌, ◌*◌, ◌/◌, ◌==◌, ◌&&◌, pos, nat_lt, nat_le, true, false, [], ◌∷◌, length, Option, Some, None, slice_set, if◌then◌else◌}
 use Rattle.sk_record.specs.Step.{Ask, Refuse, Done}
 use Rattle.sk_ids.specs.declared.entity.Entity.TheVariants.{Proc, Sig, Exit}
 use Rattle.sk_objects.specs.declared.signals.TheConstants.{SIGNALS_LIMIT}
@@ -60,9 +60,7 @@ handling p signal handler = record p {
 -- the status that a value stands for: the last one for all that is no status
 abbrev pub status_of : Val → ℕ
 status_of (vals.Num (pos n)) = if nat_le n LAST_STATUS then n else LAST_STATUS
-status_of (vals.Num (negsuc n)) = LAST_STATUS
-status_of (vals.Obj o) = LAST_STATUS
-status_of (vals.Who q) = LAST_STATUS
+status_of _ = LAST_STATUS
 
 -- the process ends, and its place stays
 abbrev pub ended_with : ℕ → Process → ℕ → StepTree
@@ -76,14 +74,7 @@ signalled pid p who n (Some (stored.Value (values.Signals queue))) =
     if nat_lt (length queue) SIGNALS_LIMIT
     then with_write pid (Sig who) (value_after (values.Signals queue) (PushSignal n)) (answered p 0)
     else alone pid (failed p Again)
-signalled pid p who n (Some (stored.Value (values.File bytes))) = alone pid (failed p NoSuchProcess)
-signalled pid p who n (Some (stored.Value values.Dir)) = alone pid (failed p NoSuchProcess)
-signalled pid p who n (Some (stored.Value (values.Link object))) = alone pid (failed p NoSuchProcess)
-signalled pid p who n (Some (stored.Value (values.Pipe held))) = alone pid (failed p NoSuchProcess)
-signalled pid p who n (Some (stored.Value (values.Exit status))) = alone pid (failed p NoSuchProcess)
-signalled pid p who n (Some (stored.Value (values.Copy content))) = alone pid (failed p NoSuchProcess)
-signalled pid p who n (Some (stored.Process q)) = alone pid (failed p NoSuchProcess)
-signalled pid p who n None = alone pid (failed p NoSuchProcess)
+signalled pid p who n _ = alone pid (failed p NoSuchProcess)
 
 abbrev pub kill : ℕ → Process → Option ℕ → Option ℕ → StepTree
 kill pid p (Some who) n = on_number pid p (λ n. Ask (Sig who) (signalled pid p who n)) n
@@ -128,14 +119,7 @@ fork pid p r place =
 abbrev pub waited : ℕ → Process → ℕ → Option EntityState → StepTree
 waited pid p r (Some (stored.Value (values.Exit (Some status)))) = alone pid (given p r (vals.Num (pos status)))
 waited pid p r (Some (stored.Value (values.Exit None))) = Refuse Blocked
-waited pid p r (Some (stored.Value (values.File bytes))) = alone pid (failed p NoChild)
-waited pid p r (Some (stored.Value values.Dir)) = alone pid (failed p NoChild)
-waited pid p r (Some (stored.Value (values.Link object))) = alone pid (failed p NoChild)
-waited pid p r (Some (stored.Value (values.Pipe held))) = alone pid (failed p NoChild)
-waited pid p r (Some (stored.Value (values.Signals queue))) = alone pid (failed p NoChild)
-waited pid p r (Some (stored.Value (values.Copy content))) = alone pid (failed p NoChild)
-waited pid p r (Some (stored.Process q)) = alone pid (failed p NoChild)
-waited pid p r None = alone pid (failed p NoChild)
+waited pid p r _ = alone pid (failed p NoChild)
 
 abbrev pub wait : ℕ → Process → ℕ → Option ℕ → StepTree
 wait pid p r (Some who) = if who / 65536 == pid then Ask (Exit who) (waited pid p r) else alone pid (failed p NoChild)

@@ -14,7 +14,7 @@ use Rattle.sk_plain.specs.Seen.{looked, looks_of, written_in}
 use Rattle.sk_plain.specs.declared.plan.Plan.{Plan}
 use Rattle.sk_store.specs.declared.entity_state.EntityState.{EntityState}
 use Rattle.sk_plain.specs.declared.refusal.Refusal.{Refusal}
-use Rattle.sk_plain.specs.declared.refusal.Refusal.TheVariants.{NoProcess, Ended, Mismatch, NeedsReply, Blocked, NoRoom, TooMany, TraceFull, Memory}
+use Rattle.sk_plain.specs.declared.refusal.Refusal.TheVariants.{Memory}
 
 -- the same entities are in both
 abbrev pub AreAlike : List Entity → List Entity → Type 0
@@ -47,11 +47,4 @@ BeginsWell scripts s (n ∷ ns) = IsOk (outcome (plain scripts) s n)
 -- why a record is not read to its end: want of memory, or the first refusal of its steps
 abbrev pub EndsBy : Option Refusal → Refusal → Type 0
 EndsBy first Memory = Unit {0}
-EndsBy first NoProcess = first ≡ Some NoProcess
-EndsBy first Ended = first ≡ Some Ended
-EndsBy first Mismatch = first ≡ Some Mismatch
-EndsBy first NeedsReply = first ≡ Some NeedsReply
-EndsBy first Blocked = first ≡ Some Blocked
-EndsBy first NoRoom = first ≡ Some NoRoom
-EndsBy first TooMany = first ≡ Some TooMany
-EndsBy first TraceFull = first ≡ Some TraceFull
+EndsBy first why = first ≡ Some why

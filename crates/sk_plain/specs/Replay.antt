@@ -20,8 +20,7 @@ module _ (scripts : Scripts) (start : State) where
   abbrev pub IsRefused : List (Happens EntryView) → Happens EntryView → Type 0
   IsRefused before (Taken n) =
       IsErr (outcome (plain scripts) (run (plain scripts) start (record_of (plain scripts) start before)) n)
-  IsRefused before (Commit id) = ⊥
-  IsRefused before (Fail id) = ⊥
+  IsRefused before _ = ⊥
 
   -- it does not, but the event names a guess that is not undecided after these events, or a new one whose number is not above all before
   abbrev pub IsUnknown : List (Happens EntryView) → Happens EntryView → Type 0
@@ -50,10 +49,8 @@ module _ (scripts : Scripts) (start : State) where
 
   -- what a fault tells of a start and these events: there was no memory for the start, or one among them
   abbrev pub FaultIn : List (Happens EntryView) → TraceFault → Type 0
-  FaultIn es (Refused at) = IsFirstFault es at IsRefused
-  FaultIn es (UnknownGuess at) = IsFirstFault es at IsUnknown
   FaultIn es NoStart = Unit {0}
-  FaultIn es Memory = (at : ℕ) × IsFirstFault es at IsTaken
+  FaultIn es fault = StopsIn es fault
 
 -- ---- a replay, event by event
 

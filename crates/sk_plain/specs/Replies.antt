@@ -23,14 +23,7 @@ fetched p c = filled p c.bytes c.version
 -- `fetch NAME` with Good: from the cached copy, which has to be there
 abbrev pub from_copy : ℕ → Process → Option EntityState → StepTree
 from_copy pid p (Some (stored.Value (values.Copy content))) = alone pid (fetched p content)
-from_copy pid p (Some (stored.Value (values.File bytes))) = Refuse Mismatch
-from_copy pid p (Some (stored.Value values.Dir)) = Refuse Mismatch
-from_copy pid p (Some (stored.Value (values.Link object))) = Refuse Mismatch
-from_copy pid p (Some (stored.Value (values.Pipe held))) = Refuse Mismatch
-from_copy pid p (Some (stored.Value (values.Signals queue))) = Refuse Mismatch
-from_copy pid p (Some (stored.Value (values.Exit status))) = Refuse Mismatch
-from_copy pid p (Some (stored.Process q)) = Refuse Mismatch
-from_copy pid p None = Refuse Mismatch
+from_copy pid p _ = Refuse Mismatch
 
 -- `store NAME` with Good: over the cached copy, whose version is not the last, or over none
 abbrev pub over_copy : ℕ → Process → List ℕ → Option EntityState → StepTree
@@ -41,13 +34,7 @@ over_copy pid p name (Some (stored.Value (values.Copy content))) =
     (value_after (values.Copy content) (SetCopy (record { version = content.version + 1; bytes = p.buffer })))
     (answered p (content.version + 1))
     else Refuse Mismatch
-over_copy pid p name (Some (stored.Value (values.File bytes))) = Refuse Mismatch
-over_copy pid p name (Some (stored.Value values.Dir)) = Refuse Mismatch
-over_copy pid p name (Some (stored.Value (values.Link object))) = Refuse Mismatch
-over_copy pid p name (Some (stored.Value (values.Pipe held))) = Refuse Mismatch
-over_copy pid p name (Some (stored.Value (values.Signals queue))) = Refuse Mismatch
-over_copy pid p name (Some (stored.Value (values.Exit status))) = Refuse Mismatch
-over_copy pid p name (Some (stored.Process q)) = Refuse Mismatch
+over_copy pid p name _ = Refuse Mismatch
 
 -- with Good
 abbrev pub good : ℕ → Process → Option Instruction → StepTree

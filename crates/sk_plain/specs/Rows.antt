@@ -1,5 +1,5 @@
 -- What the rows of the table of instructions are made of: what becomes of a process, what a register's value stands for, and what is written.
-use Rattle.std.specs.Prelude.{ℕ, ◌+◌, ◌&&◌, pos, negsuc, neg_ℤ, nat_le, List, [], ◌∷◌, Option, Some, None, Result, Ok, Err, slice_set, if◌then◌else◌}
+use Rattle.std.specs.Prelude.{ℕ, ◌+◌, ◌&&◌, pos, neg_ℤ, nat_le, List, [], ◌∷◌, Option, Some, None, Result, Ok, Err, slice_set, if◌then◌else◌}
 use Rattle.sk_record.specs.Step.{Step, Ask, Done}
 use Rattle.sk_ids.specs.declared.pid.ObjId.{ObjId}
 use Rattle.sk_ids.specs.declared.entity.Entity.{Entity}
@@ -43,28 +43,22 @@ filled p text n = record p { place = p.place + 1; buffer = text; registers = sli
 -- an object
 abbrev pub object_in : Val → Option ObjId
 object_in (vals.Obj o) = Some o
-object_in (vals.Num n) = None
-object_in (vals.Who q) = None
+object_in _ = None
 
 -- a number from 0 on
 abbrev pub number_in : Val → Option ℕ
 number_in (vals.Num (pos n)) = Some n
-number_in (vals.Num (negsuc n)) = None
-number_in (vals.Obj o) = None
-number_in (vals.Who q) = None
+number_in _ = None
 
 -- a number from 1 up to a greatest one
 abbrev pub number_to : ℕ → Val → Option ℕ
 number_to greatest (vals.Num (pos n)) = if nat_le 1 n && nat_le n greatest then Some n else None
-number_to greatest (vals.Num (negsuc n)) = None
-number_to greatest (vals.Obj o) = None
-number_to greatest (vals.Who q) = None
+number_to greatest _ = None
 
 -- a process
 abbrev pub who_in : Val → Option ℕ
 who_in (vals.Who q) = Some q
-who_in (vals.Num n) = None
-who_in (vals.Obj o) = None
+who_in _ = None
 
 -- ---- what is written
 

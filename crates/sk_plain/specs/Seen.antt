@@ -61,14 +61,12 @@ CanBecome p _ = p.place + 1 < 2 ^ 32
 -- the bytes that are read of what an entity has
 abbrev pub text_at : Option EntityState → ℕ → ℕ → List ℕ
 text_at (Some (stored.Value v)) at count = unwrap_or (bytes_from v at count) []
-text_at (Some (stored.Process p)) at count = []
-text_at None at count = []
+text_at _ at count = []
 
 -- of the entity that is looked at
 abbrev pub text_in : (Entity → Option EntityState) → Looks → ℕ → ℕ → List ℕ
-text_in look looks.Nowhere at count = []
 text_in look (looks.At e) at count = text_at (look e) at count
-text_in look (looks.AtName d name) at count = []
+text_in look _ at count = []
 
 -- what is answered with a text: a number, or its length
 abbrev pub number_of : Option ℕ → List ℕ → ℕ
@@ -134,13 +132,11 @@ written_row pid (beside.Gone e) = Proc pid ∷ e ∷ []
 
 -- the entities that a plan writes
 abbrev pub written_in : ℕ → Plan → List Entity
-written_in pid Private = Proc pid ∷ []
-written_in pid Speaks = Proc pid ∷ []
-written_in pid (ReadsFile o at) = Proc pid ∷ []
 written_in pid (WritesFile o at) = Obj o ∷ Proc pid ∷ []
 written_in pid (Received name) = Copy name ∷ Proc pid ∷ []
 written_in pid (Forks r child place) = Proc child ∷ Sig child ∷ Exit child ∷ Proc pid ∷ []
 written_in pid (Acts r) = written_row pid r.beside
+written_in pid _ = Proc pid ∷ []
 
 -- ---- the whole plan
 
@@ -153,21 +149,18 @@ done_by p None = p
 abbrev pub process_given : Process → Input → Process
 process_given p (inputs.Fresh content) = fetched p content
 process_given p (inputs.Stale content) = failed p StaleCopy
-process_given p inputs.None = p
-process_given p inputs.Good = p
+process_given p _ = p
 
 -- and that content
 abbrev pub content_in : Input → ContentView
 content_in (inputs.Fresh content) = content
 content_in (inputs.Stale content) = content
-content_in inputs.None = record { version = 0; bytes = [] }
-content_in inputs.Good = record { version = 0; bytes = [] }
+content_in _ = record { version = 0; bytes = [] }
 
 abbrev pub HasContent : Input → Type 0
 HasContent (inputs.Fresh content) = Unit {0}
 HasContent (inputs.Stale content) = Unit {0}
-HasContent inputs.None = ⊥
-HasContent inputs.Good = ⊥
+HasContent _ = ⊥
 
 -- the parent of a child
 abbrev pub forked_by : Process → ℕ → ℕ → Process
@@ -175,13 +168,10 @@ forked_by p r child = record p { place = p.place + 1; children = p.children + 1;
 
 -- what a plan looks at beside its process
 abbrev pub looks_of : Plan → Looks
-looks_of Private = looks.Nowhere
-looks_of Speaks = looks.Nowhere
 looks_of (ReadsFile o at) = looks.At (Obj o)
 looks_of (WritesFile o at) = looks.At (Obj o)
-looks_of (Forks r child place) = looks.Nowhere
-looks_of (Received name) = looks.Nowhere
 looks_of (Acts r) = r.looks
+looks_of _ = looks.Nowhere
 
 module _ (look : Entity → Option EntityState) (i : Option Instruction) (input : Input) (p : Process) where
   abbrev pub process_of : Plan → Process
@@ -213,12 +203,10 @@ module _ (look : Entity → Option EntityState) (i : Option Instruction) (input 
   -- what it does to the process can be done
   abbrev pub Fits : Plan → Type 0
   Fits Private = IsSome i × (p.place + 1 < 2 ^ 32)
-  Fits Speaks = p.place + 1 < 2 ^ 32
-  Fits (ReadsFile o at) = p.place + 1 < 2 ^ 32
-  Fits (WritesFile o at) = p.place + 1 < 2 ^ 32
   Fits (Forks r child place) = (p.place + 1 < 2 ^ 32) × (p.children + 1 < 2 ^ 16)
   Fits (Received name) = (p.place + 1 < 2 ^ 32) × HasContent input
   Fits (Acts r) = CanChange p r.change × IsWritable r.beside
+  Fits _ = p.place + 1 < 2 ^ 32
 
   -- what a step does after these reads: its plan, which can be done and writes no process but its own, or a refusal
   pub record PlansAfter (reads : List Entity) (pid : ℕ) (step : StepTree) (result : Result Plan Refusal) : Type 0 where

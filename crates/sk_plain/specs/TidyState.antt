@@ -23,8 +23,7 @@ pub record IsPlaced (s : State) (c : ℕ) : Type 0 where
 abbrev pub IsCopy : Option EntityState → Type 0
 IsCopy None = Unit {0}
 IsCopy (Some (stored.Value (values.Copy c))) = Unit {0}
-IsCopy (Some (stored.Value v)) = ⊥
-IsCopy (Some (stored.Process p)) = ⊥
+IsCopy _ = ⊥
 
 -- each process has its place, and each cached copy is one: so it is from a boot on, after each step
 pub record IsTidyState (s : State) : Type 0 where

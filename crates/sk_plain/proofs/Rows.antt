@@ -7,18 +7,15 @@ use Rattle.sk_plain.proofs.Cites.{put_all, and_both, TEXT_LIMIT, ObjId, Entity, 
 use Rattle.sk_plain.proofs.Cites.{ContentView, LAST_SIGNAL, Kind, PipeView, PIPE_LIMIT, Value, Process, Instruction}
 use Rattle.sk_plain.proofs.Cites.{Input, held, private_step, State, EntityState, Refusal, Again, StepTree, object_in}
 use Rattle.sk_plain.proofs.Cites.{number_in, number_to, who_in, failed, alone, with_write, with_removal, on_object}
-use Rattle.sk_plain.proofs.Cites.{after_read, file_in}
+use Rattle.sk_plain.proofs.Cites.{after_read, file_in, on_number, on_file, made, no_directory, unless_error}
+use Rattle.sk_plain.proofs.Cites.{on_directory, target_at, named, link_to, linking, unlink_from, on_pipe, put_in}
+use Rattle.sk_plain.proofs.Cites.{take_none, LEVEL_FOUR, LAST_CHILD, next_child, parent_of, born, fork, signalled, kill}
+use Rattle.sk_plain.proofs.Cites.{waited, wait, returned, from_copy, over_copy, good, fresh, stale, row, private_or}
+use Rattle.sk_plain.proofs.Cites.{does, handled, with_signals, with_input, IsTidyState, cons_cases, no_member, Ask}
 use Rattle.sk_plain.specs.declared.refusal.Errno.{Errno}
-use Rattle.sk_plain.proofs.Cites.{on_number, on_file, made, no_directory, unless_error, on_directory, target_at, named}
-use Rattle.sk_plain.proofs.Cites.{link_to, linking, unlink_from, on_pipe, put_in, take_none, LEVEL_FOUR, LAST_CHILD}
-use Rattle.sk_plain.proofs.Cites.{next_child, parent_of, born, fork, signalled, kill, waited, wait, returned, from_copy}
-use Rattle.sk_plain.proofs.Cites.{over_copy, good, fresh, stale, row, private_or, does, handled, with_signals}
-use Rattle.sk_plain.proofs.Cites.{with_input, IsTidyState}
-use Rattle.sk_plain.proofs.Cites.{cons_cases, no_member}
 use Rattle.sk_plain.specs.Processes.{forked}
 use Rattle.sk_plain.proofs.Alone.{keeps_step}
 use Rattle.std.specs.Prelude.{length}
-use Rattle.sk_record.specs.Step.{Ask}
 use Rattle.sk_objects.specs.declared.value.Kind.TheVariants as kinds
 use Rattle.sk_objects.specs.declared.value.Value.TheVariants as values
 use Rattle.sk_script.specs.declared.instruction.Instruction.TheVariants as does_

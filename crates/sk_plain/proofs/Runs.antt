@@ -1,17 +1,15 @@
 -- A step that is taken keeps a tidy state, and so does a run; and what a process does next, and
 -- what that says of the process.
-use Rattle.sk_plain.proofs.Cites.{◌≡◌, ℕ, Bool, true, false, cond, List, [], ◌∷◌, Option, Some, None, Result, Ok}
-use Rattle.sk_plain.proofs.Cites.{Err, refl, subst, sym, ◌∙◌, ap, get, Effect, Refuse, perform, with_read, outcome}
-use Rattle.sk_plain.proofs.Cites.{after, run, Entity, Proc, Sig, Value, Process, Instruction, Input, State, EntityState}
+use Rattle.sk_plain.proofs.Cites.{◌≡◌, ℕ, Bool, true, false, cond, List, [], ◌∷◌, Option, Some, None, Result, Ok, Err}
+use Rattle.sk_plain.proofs.Cites.{refl, subst, sym, ◌∙◌, ap, get, Effect, Refuse, perform, with_read, outcome, after}
+use Rattle.sk_plain.proofs.Cites.{run, Entity, Proc, Sig, Value, Process, Instruction, Input, State, EntityState}
 use Rattle.sk_plain.proofs.Cites.{Refusal, NoProcess, Ended, Scripts, Saying, act, plain, goes_on, with_input}
-use Rattle.sk_plain.proofs.Cites.{EntryView, IsTidyState, Next, Signal, Fetch, Waits, Other, is_due}
-use Rattle.sk_plain.proofs.Cites.{is_private, waits, next_instruction, next_going, next_at, next_of}
-use Rattle.sk_plain.specs.declared.next.Next.TheVariants.{Private}
+use Rattle.sk_plain.proofs.Cites.{EntryView, IsTidyState, Next, Signal, Fetch, Waits, Other, is_due, is_private, waits}
+use Rattle.sk_plain.proofs.Cites.{next_instruction, next_going, next_at, next_of, StepTree, next_in}
+use Rattle.sk_plain.specs.declared.next.Next.TheVariants.{Private, Store}
 use Rattle.sk_store.specs.declared.entity_state.EntityState.TheVariants as stored
-use Rattle.sk_plain.specs.Act.{StepTree, next_in}
 use Rattle.sk_plain.proofs.Rows.{Keeps, CanWrite, ends_of, input_fine, written_so}
 use Rattle.sk_script.specs.declared.instruction.Instruction.TheVariants as does_
-use Rattle.sk_plain.specs.declared.next.Next.TheVariants.{Store}
 
 -- what a step that is accepted found
 pub record Found (scripts : Scripts) (s : State) (pid : ℕ) (x : Input) (f : Effect Entity EntityState Saying) : Type 0 where

@@ -1,12 +1,11 @@
 -- What is settled stays settled, and the record is what an event makes of it.
 use Rattle.sk_plain.proofs.Cites.{◌≡◌, ℕ, zero, suc, ◌+◌, arith, Bool, true, false, not, cond, ◌||◌, ◌&&◌, inl, inr}
 use Rattle.sk_plain.proofs.Cites.{List, [], ◌∷◌, ◌++◌, take, drop, Option, Some, None, refl, sym, ◌∙◌, ap, subst}
-use Rattle.sk_plain.proofs.Cites.{filter, prefix_len, or_parts, or_from, or_cases, eqb-true}
-use Rattle.sk_plain.proofs.Cites.{true≢false, false_from_ne_true, ◌==◌, OnOk, and_both, list_any-append}
-use Rattle.sk_plain.proofs.Cites.{is_marked, run, effects, strike, has, without, marks, still_marked, has_filter}
-use Rattle.sk_plain.proofs.Cites.{run_append, marked_is, mark_is, State, EntryView, Input, Scripts, plain, is_made}
-use Rattle.sk_plain.proofs.Cites.{Standing, seen, is_settled, is_other, Stands, GoesOn, Settles}
-use Rattle.sk_plain.proofs.Cites.{filter_alike}
+use Rattle.sk_plain.proofs.Cites.{filter, prefix_len, or_parts, or_from, or_cases, eqb-true, true≢false}
+use Rattle.sk_plain.proofs.Cites.{false_from_ne_true, ◌==◌, OnOk, and_both, list_any-append, is_marked, run, effects}
+use Rattle.sk_plain.proofs.Cites.{strike, has, without, marks, still_marked, has_filter, run_append, marked_is, mark_is}
+use Rattle.sk_plain.proofs.Cites.{State, EntryView, Input, Scripts, plain, is_made, Standing, seen, is_settled}
+use Rattle.sk_plain.proofs.Cites.{is_other, Stands, GoesOn, Settles, filter_alike}
 use Rattle.std.proofs.Common.{append_assoc}
 use Rattle.std.specs.Prelude.{Result, Ok, Err}
 use Rattle.sk_trace.specs.declared.event.Event.TheVariants as events

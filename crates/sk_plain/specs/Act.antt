@@ -1,30 +1,14 @@
 -- One step of a process, as a tree: what each instruction does, and what a process does next.
 use Rattle.std.specs.Prelude.{ℕ, ◌==◌, Bool, true, false, List, [], ◌∷◌, Option, Some, None, slice_get, if◌then◌else◌}
 use Rattle.std.specs.FinMap.{get}
-use Rattle.std.specs.List.{list_any}
-use Rattle.sk_record.specs.Step.{Ask, Refuse, Done}
-use Rattle.sk_record.specs.Run.{System}
-use Rattle.sk_ids.specs.declared.entity.Entity.{Entity}
-use Rattle.sk_ids.specs.declared.entity.Entity.TheVariants.{Proc, Sig}
-use Rattle.sk_ids.specs.Entity.{entity_cmp}
-use Rattle.sk_ids.specs.declared.text.TheConstants.{TEXT_LIMIT}
-use Rattle.sk_objects.specs.declared.signals.TheConstants.{LAST_SIGNAL}
+use Rattle.sk_plain.specs.Base.{list_any, Ask, Refuse, Done, System, Entity, Proc, Sig, entity_cmp, TEXT_LIMIT}
+use Rattle.sk_plain.specs.Base.{LAST_SIGNAL, TakeSignal, value_after, held, Process, moved, private_step, Instruction}
+use Rattle.sk_plain.specs.Base.{Input, ScriptMap, EntityState, Refusal, NoProcess, Ended, NeedsReply}
 use Rattle.sk_objects.specs.declared.value.Kind.TheVariants as kinds
 use Rattle.sk_objects.specs.declared.value.Value.TheVariants as values
-use Rattle.sk_changes.specs.declared.change.Change.TheVariants.{TakeSignal}
-use Rattle.sk_changes.specs.Changes.{value_after}
-use Rattle.sk_script.specs.Registers.{held}
-use Rattle.sk_script.specs.declared.process.Process.{Process}
-use Rattle.sk_script.specs.Private.{moved, private_step}
-use Rattle.sk_script.specs.declared.instruction.Instruction.{Instruction}
 use Rattle.sk_script.specs.declared.instruction.Instruction.TheVariants as does_
-use Rattle.sk_script.specs.declared.instruction.Input.{Input}
 use Rattle.sk_script.specs.declared.instruction.Input.TheVariants as inputs
-use Rattle.sk_script.specs.Scripts.{ScriptMap}
-use Rattle.sk_store.specs.declared.entity_state.EntityState.{EntityState}
 use Rattle.sk_store.specs.declared.entity_state.EntityState.TheVariants as stored
-use Rattle.sk_plain.specs.declared.refusal.Refusal.{Refusal}
-use Rattle.sk_plain.specs.declared.refusal.Refusal.TheVariants.{NoProcess, Ended, NeedsReply}
 use Rattle.sk_trace.specs.declared.event.Entry.{Entry}
 use Rattle.sk_plain.specs.Rows.{object_in, number_in, number_to, who_in, alone, with_write}
 use Rattle.sk_plain.specs.Files.{made, size, read, write, cut}

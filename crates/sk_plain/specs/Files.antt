@@ -1,21 +1,13 @@
 -- The rows of the table on new objects and on files.
 use Rattle.std.specs.Prelude.{ℕ, ◌+◌, ◌==◌, nat_lt, nat_le, List, length, Option, Some, None, Result, Ok, Err, slice_set, if◌then◌else◌}
-use Rattle.sk_ids.specs.declared.pid.ObjId.{ObjId}
-use Rattle.sk_ids.specs.declared.entity.Entity.TheVariants.{Obj}
-use Rattle.sk_ids.specs.declared.text.TheConstants.{TEXT_LIMIT}
+use Rattle.sk_plain.specs.Base.{ObjId, Obj, TEXT_LIMIT, empty_of, WriteAt, CutTo, value_after, Process, EntityState}
+use Rattle.sk_plain.specs.Base.{Errno, BadObject, IsDirectory, Invalid, TooBig, NoSpace}
 use Rattle.sk_objects.specs.File.{part}
 use Rattle.sk_objects.specs.declared.file.TheConstants.{FILE_LIMIT}
-use Rattle.sk_objects.specs.Value.{empty_of}
 use Rattle.sk_objects.specs.declared.value.Kind.{Kind}
 use Rattle.sk_objects.specs.declared.value.Value.TheVariants as values
-use Rattle.sk_changes.specs.declared.change.Change.TheVariants.{WriteAt, CutTo}
-use Rattle.sk_changes.specs.Changes.{value_after}
 use Rattle.sk_script.specs.declared.register.Val.TheVariants as vals
-use Rattle.sk_script.specs.declared.process.Process.{Process}
-use Rattle.sk_store.specs.declared.entity_state.EntityState.{EntityState}
 use Rattle.sk_store.specs.declared.entity_state.EntityState.TheVariants as stored
-use Rattle.sk_plain.specs.declared.refusal.Errno.{Errno}
-use Rattle.sk_plain.specs.declared.refusal.Errno.TheVariants.{BadObject, IsDirectory, Invalid, TooBig, NoSpace}
 use Rattle.sk_plain.specs.Rows.{StepTree, answered, failed, filled, alone, with_write, on_object, or_failed, on_number}
 
 -- the last value of the counter of objects

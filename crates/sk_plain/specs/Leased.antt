@@ -1,15 +1,10 @@
 -- Processes that are lent, which do private instructions away from their kernel.
 use Rattle.std.specs.Prelude.{◌≡◌, ℕ, false, List, [], ◌∷◌, Option, Some, Result, Ok, Err, if◌then◌else◌}
-use Rattle.sk_ids.specs.declared.entity.Entity.{Entity}
-use Rattle.sk_ids.specs.declared.entity.Entity.TheVariants.{Proc, Sig}
-use Rattle.sk_script.specs.Scripts.{script_at}
+use Rattle.sk_plain.specs.Base.{Entity, Proc, Sig, script_at, EntityState, Refusal, NoProcess, Ended, Memory}
 use Rattle.sk_script.specs.Lease.{LeaseView, leased}
-use Rattle.sk_store.specs.declared.entity_state.EntityState.{EntityState}
 use Rattle.sk_store.specs.declared.entity_state.EntityState.TheVariants as stored
 use Rattle.sk_plain.specs.Act.{Scripts}
 use Rattle.sk_plain.specs.Next.{is_due}
-use Rattle.sk_plain.specs.declared.refusal.Refusal.{Refusal}
-use Rattle.sk_plain.specs.declared.refusal.Refusal.TheVariants.{NoProcess, Ended, Memory}
 
 -- the process at its place is the one that was lent, its script is the lease's, and no signal is due
 pub record IsAsLent (look : Entity → Option EntityState) (scripts : Scripts) (l : LeaseView) : Type 0 where

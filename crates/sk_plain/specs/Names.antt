@@ -1,17 +1,10 @@
 -- The rows of the table on names of directories. Each name is an entity, which is looked at after its directory.
 use Rattle.std.specs.Prelude.{ℕ, List, Option, Some, None}
-use Rattle.sk_record.specs.Step.{Ask}
-use Rattle.sk_ids.specs.declared.pid.ObjId.{ObjId}
-use Rattle.sk_ids.specs.declared.entity.Entity.TheVariants.{Link}
-use Rattle.sk_objects.specs.Value.{target_of}
+use Rattle.sk_plain.specs.Base.{Ask, ObjId, Link, target_of, Process, given, EntityState, Errno, BadObject, NotLinked}
+use Rattle.sk_plain.specs.Base.{Exists, NotDirectory}
 use Rattle.sk_objects.specs.declared.value.Value.TheVariants as values
 use Rattle.sk_script.specs.declared.register.Val.TheVariants as vals
-use Rattle.sk_script.specs.declared.process.Process.{Process}
-use Rattle.sk_script.specs.Private.{given}
-use Rattle.sk_store.specs.declared.entity_state.EntityState.{EntityState}
 use Rattle.sk_store.specs.declared.entity_state.EntityState.TheVariants as stored
-use Rattle.sk_plain.specs.declared.refusal.Errno.{Errno}
-use Rattle.sk_plain.specs.declared.refusal.Errno.TheVariants.{BadObject, NotLinked, Exists, NotDirectory}
 use Rattle.sk_plain.specs.Rows.{StepTree, answered, failed, alone, with_write, with_removal, on_object}
 
 -- why what is there is no directory: the error 9 where there is no object, 20 at another object

@@ -1,19 +1,11 @@
 -- The rows of the table on pipes.
 use Rattle.std.specs.Prelude.{ℕ, ◌+◌, ◌==◌, nat_le, Bool, true, false, [], length, take, Option, Some, Result, Ok, Err, min, if◌then◌else◌}
-use Rattle.sk_record.specs.Step.{Refuse}
-use Rattle.sk_ids.specs.declared.pid.ObjId.{ObjId}
-use Rattle.sk_ids.specs.declared.entity.Entity.TheVariants.{Obj}
+use Rattle.sk_plain.specs.Base.{Refuse, ObjId, Obj, Put, Take, Shut, value_after, Process, EntityState, Blocked, Errno}
+use Rattle.sk_plain.specs.Base.{BadObject, Invalid, BrokenPipe}
 use Rattle.sk_objects.specs.Pipe.{PipeView}
 use Rattle.sk_objects.specs.declared.pipe.TheConstants.{PIPE_LIMIT}
 use Rattle.sk_objects.specs.declared.value.Value.TheVariants as values
-use Rattle.sk_changes.specs.declared.change.Change.TheVariants.{Put, Take, Shut}
-use Rattle.sk_changes.specs.Changes.{value_after}
-use Rattle.sk_script.specs.declared.process.Process.{Process}
-use Rattle.sk_store.specs.declared.entity_state.EntityState.{EntityState}
 use Rattle.sk_store.specs.declared.entity_state.EntityState.TheVariants as stored
-use Rattle.sk_plain.specs.declared.refusal.Refusal.TheVariants.{Blocked}
-use Rattle.sk_plain.specs.declared.refusal.Errno.{Errno}
-use Rattle.sk_plain.specs.declared.refusal.Errno.TheVariants.{BadObject, Invalid, BrokenPipe}
 use Rattle.sk_plain.specs.Rows.{StepTree, answered, failed, filled, alone, with_write, on_object, or_failed, on_number}
 
 -- the pipe that is there: the error 9 where there is no object, 22 at another object

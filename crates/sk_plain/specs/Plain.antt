@@ -1,21 +1,13 @@
 -- The plain kernel as it is seen: what entities have, and the texts that were said.
 use Rattle.std.specs.Prelude.{◌≡◌, ℕ, List, [], map, Option, Result, Ok, Err, refl}
-use Rattle.std.specs.List.{AllByRecursion}
+use Rattle.sk_plain.specs.Base.{AllByRecursion, option_map, Effect, perform, put_all, Entity, TerminalMap}
+use Rattle.sk_plain.specs.Base.{terminals_code, texts_at, ScriptMap, script_map_code, Input, State, state_code}
+use Rattle.sk_plain.specs.Base.{EntityState, Refusal}
 use Rattle.std.specs.Coded.{Coded, code_by, coded×}
-use Rattle.std.specs.Option.{option_map}
 use Rattle.std.specs.FinMap as maps
-use Rattle.sk_record.specs.Step.{Effect, perform}
-use Rattle.sk_record.specs.Run.{put_all}
-use Rattle.sk_ids.specs.declared.entity.Entity.{Entity}
 use Rattle.sk_record.specs.Machine.{released}
-use Rattle.sk_terminal.specs.Terminals.{TerminalMap, terminals_code, texts_at}
-use Rattle.sk_script.specs.Scripts.{ScriptMap, script_map_code}
 use Rattle.sk_script.specs.Boot.{BootView}
-use Rattle.sk_script.specs.declared.instruction.Input.{Input}
-use Rattle.sk_store.specs.State.{State, state_code}
 use Rattle.sk_store.specs.Start.{start_of}
-use Rattle.sk_store.specs.declared.entity_state.EntityState.{EntityState}
-use Rattle.sk_plain.specs.declared.refusal.Refusal.{Refusal}
 use Rattle.sk_plain.specs.Refusal.{cause}
 use Rattle.sk_plain.specs.Act.{act, Saying}
 use Rattle.sk_plain.specs.Planned.{refusal_of, texts_after}

@@ -1,12 +1,8 @@
 -- What a step will do, seen with the process that it is for: the process as it becomes, what else is looked at, and what else is done.
 use Rattle.std.specs.Prelude.{ℕ, List}
-use Rattle.sk_ids.specs.declared.entity.Entity.{Entity}
-use Rattle.sk_ids.specs.declared.pid.ObjId.{ObjId}
-use Rattle.sk_objects.specs.Content.{ContentView}
+use Rattle.sk_plain.specs.Base.{Entity, ObjId, ContentView, Val, Process}
 use Rattle.sk_objects.specs.declared.value.Kind.{Kind}
 use Rattle.sk_changes.specs.declared.change.Change.{Change}
-use Rattle.sk_script.specs.declared.register.Val.{Val}
-use Rattle.sk_script.specs.declared.process.Process.{Process}
 
 -- the entities beside the process that a step looks at, in their order
 pub data LooksView : Type 0 where

@@ -1,21 +1,13 @@
 -- What a plan stands for: the step's reads, writes and text.
 use Rattle.std.specs.Prelude.{◌≢◌, ◌<◌, ℕ, List, [], ◌∷◌, ◌++◌, map, false, Option, Some, None, Result, Ok, Err}
-use Rattle.sk_record.specs.Step.{Effect}
-use Rattle.sk_ids.specs.declared.entity.Entity.{Entity}
-use Rattle.sk_ids.specs.declared.entity.Entity.TheVariants.{Proc, Sig, Exit}
-use Rattle.sk_objects.specs.Value.{empty_of}
+use Rattle.sk_plain.specs.Base.{Effect, Entity, Proc, Sig, Exit, empty_of, Process, Input, TerminalMap, said_to}
+use Rattle.sk_plain.specs.Base.{EntityState, Refusal, NoRoom, TooMany, TraceFull, Memory}
 use Rattle.sk_objects.specs.declared.value.Kind.TheVariants as kinds
 use Rattle.sk_objects.specs.declared.value.Value.TheVariants as values
-use Rattle.sk_script.specs.declared.process.Process.{Process}
-use Rattle.sk_script.specs.declared.instruction.Input.{Input}
 use Rattle.sk_script.specs.declared.instruction.Input.TheVariants as inputs
-use Rattle.sk_terminal.specs.Terminals.{TerminalMap, said_to}
 use Rattle.sk_plain.specs.Act.{Saying}
 use Rattle.sk_store.specs.Changed.{changed, FitsAt}
-use Rattle.sk_store.specs.declared.entity_state.EntityState.{EntityState}
 use Rattle.sk_store.specs.declared.entity_state.EntityState.TheVariants as stored
-use Rattle.sk_plain.specs.declared.refusal.Refusal.{Refusal}
-use Rattle.sk_plain.specs.declared.refusal.Refusal.TheVariants.{NoRoom, TooMany, TraceFull, Memory}
 use Rattle.sk_plain.specs.Plan.{PlanView, LooksView, Nowhere, At, AtBoth, BecomesView, Empty, Exited, Linked, Cached, Changed, BesideView, Says, One, Birth, Gone, Child}
 
 -- the entities that are looked at, in their order

@@ -1,20 +1,11 @@
 -- The rows of the table on processes and signals.
 use Rattle.std.specs.Prelude.{ℕ, ◌+◌, ◌*◌, ◌/◌, ◌==◌, ◌&&◌, pos, nat_lt, nat_le, true, false, [], ◌∷◌, length, Option, Some, None, slice_set, if◌then◌else◌}
-use Rattle.sk_record.specs.Step.{Ask, Refuse, Done}
-use Rattle.sk_ids.specs.declared.entity.Entity.TheVariants.{Proc, Sig, Exit}
-use Rattle.sk_objects.specs.declared.signals.TheConstants.{SIGNALS_LIMIT}
+use Rattle.sk_plain.specs.Base.{Ask, Refuse, Done, Proc, Sig, Exit, SIGNALS_LIMIT, PushSignal, value_after, Val}
+use Rattle.sk_plain.specs.Base.{Process, given, EntityState, Blocked, NoSuchProcess, NoChild, Again, Invalid}
 use Rattle.sk_objects.specs.declared.value.TheConstants.{LAST_STATUS}
 use Rattle.sk_objects.specs.declared.value.Value.TheVariants as values
-use Rattle.sk_changes.specs.declared.change.Change.TheVariants.{PushSignal}
-use Rattle.sk_changes.specs.Changes.{value_after}
-use Rattle.sk_script.specs.declared.register.Val.{Val}
 use Rattle.sk_script.specs.declared.register.Val.TheVariants as vals
-use Rattle.sk_script.specs.declared.process.Process.{Process}
-use Rattle.sk_script.specs.Private.{given}
-use Rattle.sk_store.specs.declared.entity_state.EntityState.{EntityState}
 use Rattle.sk_store.specs.declared.entity_state.EntityState.TheVariants as stored
-use Rattle.sk_plain.specs.declared.refusal.Refusal.TheVariants.{Blocked}
-use Rattle.sk_plain.specs.declared.refusal.Errno.TheVariants.{NoSuchProcess, NoChild, Again, Invalid}
 use Rattle.sk_plain.specs.Rows.{StepTree, answered, failed, alone, with_write, on_number}
 
 -- the signal that ends a process, and the status that it leaves

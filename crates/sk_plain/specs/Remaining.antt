@@ -1,20 +1,10 @@
 -- What is left of a record when a guess fails, read from left to right.
 use Rattle.std.specs.Prelude.{◌≡◌, ℕ, Bool, ◌||◌, List, [], ◌∷◌, Option, Some, None, Result, Ok, Err, IsOk}
-use Rattle.std.specs.List.{list_any}
-use Rattle.sk_record.specs.Effects.{is_in, is_marked, hits, keep}
-use Rattle.sk_record.specs.Step.{Effect}
-use Rattle.sk_record.specs.Run.{after, outcome, effects}
-use Rattle.sk_ids.specs.declared.entity.Entity.{Entity}
-use Rattle.sk_ids.specs.Entity.{entity_cmp}
-use Rattle.sk_store.specs.State.{State}
-use Rattle.sk_trace.specs.Entry.{EntryView}
+use Rattle.sk_plain.specs.Base.{list_any, is_in, is_marked, hits, keep, Effect, after, outcome, effects, Entity}
+use Rattle.sk_plain.specs.Base.{entity_cmp, State, EntryView, Plan, EntityState, Refusal, Memory}
 use Rattle.sk_plain.specs.Act.{Scripts, Saying, plain}
 use Rattle.sk_plain.specs.Planned.{read_by}
 use Rattle.sk_plain.specs.Seen.{looked, looks_of, written_in}
-use Rattle.sk_plain.specs.declared.plan.Plan.{Plan}
-use Rattle.sk_store.specs.declared.entity_state.EntityState.{EntityState}
-use Rattle.sk_plain.specs.declared.refusal.Refusal.{Refusal}
-use Rattle.sk_plain.specs.declared.refusal.Refusal.TheVariants.{Memory}
 
 -- the same entities are in both
 abbrev pub AreAlike : List Entity → List Entity → Type 0

@@ -1,10 +1,8 @@
 -- What is left of a whole trace, and the first fault of one that is not sound.
 use Rattle.std.specs.Prelude.{◌≡◌, ℕ, ◌+◌, ◌≤◌, nat_lt, Bool, true, false, List, [], ◌∷◌, ◌++◌, length, Option, Some, None, Result, Ok, Err, IsOk, IsErr}
-use Rattle.sk_record.specs.Run.{run, outcome, after}
-use Rattle.sk_record.specs.Notes.{has}
-use Rattle.sk_record.specs.Trace.{Event as Happens, Taken, Commit, Fail, IsDrawn, IsAllowed, IsSound, all_recorded, marks, no_record, record_of}
-use Rattle.sk_store.specs.State.{State}
-use Rattle.sk_trace.specs.Entry.{EntryView}
+use Rattle.sk_plain.specs.Base.{run, outcome, after, has, Taken, Commit, Fail, IsDrawn, IsAllowed, IsSound}
+use Rattle.sk_plain.specs.Base.{all_recorded, marks, no_record, record_of, State, EntryView}
+use Rattle.sk_record.specs.Trace.{Event as Happens}
 use Rattle.sk_plain.specs.Act.{Scripts, plain}
 use Rattle.sk_trace.specs.declared.event.Event.TheVariants as events
 pub use Rattle.sk_plain.specs.Standing.{image, is_made}

@@ -1,19 +1,10 @@
 -- The rows of the table on replies of the server.
 use Rattle.std.specs.Prelude.{ℕ, ◌+◌, nat_lt, List, Option, Some, None, if◌then◌else◌}
-use Rattle.sk_record.specs.Step.{Ask, Refuse}
-use Rattle.sk_ids.specs.declared.entity.Entity.TheVariants.{Copy}
-use Rattle.sk_objects.specs.Content.{ContentView}
-use Rattle.sk_objects.specs.declared.content.TheConstants.{LAST_VERSION}
+use Rattle.sk_plain.specs.Base.{Ask, Refuse, Copy, ContentView, LAST_VERSION, SetCopy, value_after, Process}
+use Rattle.sk_plain.specs.Base.{Instruction, EntityState, Mismatch, StaleCopy}
 use Rattle.sk_objects.specs.declared.value.Value.TheVariants as values
-use Rattle.sk_changes.specs.declared.change.Change.TheVariants.{SetCopy}
-use Rattle.sk_changes.specs.Changes.{value_after}
-use Rattle.sk_script.specs.declared.process.Process.{Process}
-use Rattle.sk_script.specs.declared.instruction.Instruction.{Instruction}
 use Rattle.sk_script.specs.declared.instruction.Instruction.TheVariants.{Fetch, Store}
-use Rattle.sk_store.specs.declared.entity_state.EntityState.{EntityState}
 use Rattle.sk_store.specs.declared.entity_state.EntityState.TheVariants as stored
-use Rattle.sk_plain.specs.declared.refusal.Refusal.TheVariants.{Mismatch}
-use Rattle.sk_plain.specs.declared.refusal.Errno.TheVariants.{StaleCopy}
 use Rattle.sk_plain.specs.Rows.{StepTree, answered, failed, filled, alone, with_write}
 
 -- the process after a fetch of this content

@@ -1,20 +1,11 @@
 -- What the rows of the table of instructions are made of: what becomes of a process, what a register's value stands for, and what is written.
 use Rattle.std.specs.Prelude.{ℕ, ◌+◌, ◌&&◌, pos, neg_ℤ, nat_le, List, [], ◌∷◌, Option, Some, None, Result, Ok, Err, slice_set, if◌then◌else◌}
-use Rattle.sk_record.specs.Step.{Step, Ask, Done}
-use Rattle.sk_ids.specs.declared.pid.ObjId.{ObjId}
-use Rattle.sk_ids.specs.declared.entity.Entity.{Entity}
-use Rattle.sk_ids.specs.declared.entity.Entity.TheVariants.{Proc, Obj}
+use Rattle.sk_plain.specs.Base.{Step, Ask, Done, ObjId, Entity, Proc, Obj, Val, Process, given, EntityState, Refusal}
+use Rattle.sk_plain.specs.Base.{Errno, BadObject, Invalid}
 use Rattle.sk_objects.specs.declared.value.Value.{Value}
-use Rattle.sk_script.specs.declared.register.Val.{Val}
 use Rattle.sk_script.specs.declared.register.Val.TheVariants as vals
-use Rattle.sk_script.specs.declared.process.Process.{Process}
-use Rattle.sk_script.specs.Private.{given}
-use Rattle.sk_store.specs.declared.entity_state.EntityState.{EntityState}
 use Rattle.sk_store.specs.declared.entity_state.EntityState.TheVariants as stored
 use Rattle.sk_plain.specs.Refusal.{error_number}
-use Rattle.sk_plain.specs.declared.refusal.Refusal.{Refusal}
-use Rattle.sk_plain.specs.declared.refusal.Errno.{Errno}
-use Rattle.sk_plain.specs.declared.refusal.Errno.TheVariants.{BadObject, Invalid}
 
 -- a text that is said, and the terminal that it goes to
 pub record Saying : Type 0 where

@@ -1,31 +1,19 @@
 -- A plan, seen with the process that it is for.
 use Rattle.std.specs.Prelude.{true, ◌≡◌, ◌≤◌, ◌+◌, ◌<◌, ◌^◌, ℕ, List, [], ◌∷◌, Option, Some, None, Result, Ok, Err, IfOk, IfErr, length, unwrap_or, slice_set, IsSome}
-use Rattle.sk_ids.specs.declared.entity.Entity.{Entity}
-use Rattle.sk_ids.specs.declared.entity.Entity.TheVariants.{Proc, Sig, Exit, Obj, Link, Copy}
-use Rattle.sk_objects.specs.Content.{ContentView}
-use Rattle.sk_objects.specs.declared.content.TheConstants.{LAST_VERSION}
-use Rattle.sk_objects.specs.Value.{bytes_from}
+use Rattle.sk_plain.specs.Base.{Entity, Proc, Sig, Exit, Obj, Link, Copy, ContentView, LAST_VERSION, bytes_from}
+use Rattle.sk_plain.specs.Base.{Process, Instruction, Input, moved, given, private_step, IsProcess, process_in}
+use Rattle.sk_plain.specs.Base.{EntityState, perform, Refusal, StaleCopy, Plan, Beside}
 use Rattle.sk_changes.specs.declared.change.Change.TheVariants as changes
-use Rattle.sk_script.specs.declared.process.Process.{Process}
 use Rattle.sk_script.specs.declared.register.Val.TheVariants as vals
-use Rattle.sk_script.specs.declared.instruction.Instruction.{Instruction}
-use Rattle.sk_script.specs.declared.instruction.Input.{Input}
 use Rattle.sk_script.specs.declared.instruction.Input.TheVariants as inputs
-use Rattle.sk_script.specs.Private.{moved, given, private_step}
-use Rattle.sk_store.specs.Processes.{IsProcess, process_in}
-use Rattle.sk_store.specs.declared.entity_state.EntityState.{EntityState}
 use Rattle.sk_store.specs.declared.entity_state.EntityState.TheVariants as stored
 use Rattle.sk_plain.specs.Act.{Scripts, StepTree, act, next_in, with_input}
 use Rattle.sk_plain.specs.Rows.{answered, failed, filled}
 use Rattle.sk_plain.specs.Files.{after_read, file_in}
 use Rattle.sk_plain.specs.Processes.{with_handler, returned, handling}
 use Rattle.sk_plain.specs.Replies.{fetched}
-use Rattle.sk_record.specs.Step.{perform}
 use Rattle.sk_plain.specs.Plan.{PlanView, LooksView, Nowhere, At, AtBoth, BecomesView, Empty, Exited, Linked, Cached, Changed, BesideView, Nothing, Says, One, Birth, Gone}
 use Rattle.sk_plain.specs.Planned.{planned, said_by, signals_read, CanDo, IsBeside, IsPlainRefusal}
-use Rattle.sk_plain.specs.declared.refusal.Refusal.{Refusal}
-use Rattle.sk_plain.specs.declared.refusal.Errno.TheVariants.{StaleCopy}
-use Rattle.sk_plain.specs.declared.plan.Plan.{Plan}
 use Rattle.sk_plain.specs.declared.plan.Plan.TheVariants.{Private, Speaks, ReadsFile, WritesFile, Received, Forks, Acts}
 use Rattle.sk_plain.specs.declared.plan.Row.{Row}
 use Rattle.sk_plain.specs.declared.plan.Looks.{Looks}
@@ -34,7 +22,6 @@ use Rattle.sk_plain.specs.declared.plan.ProcessChange.{ProcessChange}
 use Rattle.sk_plain.specs.declared.plan.ProcessChange.TheVariants.{Does, Fills}
 use Rattle.sk_plain.specs.declared.becomes.Becomes.{Becomes}
 use Rattle.sk_plain.specs.declared.becomes.Becomes.TheVariants as becomes
-use Rattle.sk_plain.specs.declared.plan.Beside.{Beside}
 use Rattle.sk_plain.specs.declared.plan.Beside.TheVariants as beside
 use Rattle.sk_plain.specs.declared.plan.Writes.{Writes}
 use Rattle.sk_plain.specs.declared.plan.Writes.TheVariants as writes

@@ -1,12 +1,7 @@
 -- Where the reading of a trace stands: the record so far, of which no failure reaches what is settled.
 use Rattle.std.specs.Prelude.{◌≡◌, ℕ, Bool, true, false, not, List, ◌++◌, Option, Some, None}
-use Rattle.sk_record.specs.Run.{run}
-use Rattle.sk_record.specs.Notes.{has}
-use Rattle.std.specs.List.{list_any}
-use Rattle.sk_record.specs.Effects.{is_marked}
-use Rattle.sk_record.specs.Trace.{Event as Happens, Taken, Commit, Fail, Record, recorded}
-use Rattle.sk_store.specs.State.{State}
-use Rattle.sk_trace.specs.Entry.{EntryView}
+use Rattle.sk_plain.specs.Base.{run, has, list_any, is_marked, Taken, Commit, Fail, Record, recorded, State, EntryView}
+use Rattle.sk_record.specs.Trace.{Event as Happens}
 use Rattle.sk_trace.specs.declared.event.Event.{Event}
 use Rattle.sk_trace.specs.declared.event.Event.TheVariants as events
 use Rattle.sk_plain.specs.Act.{Scripts, plain}

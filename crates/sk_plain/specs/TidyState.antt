@@ -1,13 +1,11 @@
 -- What holds of every state that a kernel comes to, from the start of a boot with numbered processes on.
 use Rattle.std.specs.Prelude.{◌≡◌, ℕ, ◌/◌, ◌%◌, ◌<◌, ◌≤◌, All, List, Option, Some, None, IsSome}
 use Rattle.std.specs.FinMap.{get}
-use Rattle.sk_ids.specs.declared.entity.Entity.TheVariants.{Proc, Copy as CopyOf}
+use Rattle.sk_ids.specs.declared.entity.Entity.TheVariants.{Copy as CopyOf}
+use Rattle.sk_plain.specs.Base.{Proc, Process, State, EntityState}
 use Rattle.sk_objects.specs.declared.value.Value.TheVariants as values
 use Rattle.sk_script.specs.Boot.{BootView}
 use Rattle.sk_script.specs.declared.boot.BootProcess.{BootProcess}
-use Rattle.sk_script.specs.declared.process.Process.{Process}
-use Rattle.sk_store.specs.State.{State}
-use Rattle.sk_store.specs.declared.entity_state.EntityState.{EntityState}
 use Rattle.sk_store.specs.declared.entity_state.EntityState.TheVariants as stored
 
 -- the parent of a forked process is there, and has made so many children

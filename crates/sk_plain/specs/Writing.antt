@@ -1,20 +1,15 @@
 -- What is written beside a process, with it: when it can be, and what a keeper has then.
 use Rattle.std.specs.Prelude.{◌≡◌, ◌+◌, ◌<◌, ◌^◌, ℕ, List, Option, Some, Result, OnOk, OnErr, IfOk}
 use Rattle.std.specs.declared.alloc.AllocError.{AllocError}
-use Rattle.sk_ids.specs.declared.entity.Entity.{Entity}
-use Rattle.sk_ids.specs.declared.entity.Entity.TheVariants.{Proc}
-use Rattle.sk_script.specs.declared.process.Process.{Process}
-use Rattle.sk_script.specs.Private.{moved}
-use Rattle.sk_store.specs.Processes.{CanBecome as CanBecomeThere, IsProcess, process_in}
-use Rattle.sk_store.specs.declared.entity_state.EntityState.{EntityState}
+use Rattle.sk_plain.specs.Base.{Entity, Proc, Process, moved, IsProcess, process_in, EntityState, TerminalMap, said_to}
+use Rattle.sk_plain.specs.Base.{Beside}
+use Rattle.sk_store.specs.Processes.{CanBecome as CanBecomeThere}
 use Rattle.sk_store.specs.declared.entity_state.EntityState.TheVariants as stored
-use Rattle.sk_terminal.specs.Terminals.{TerminalMap, said_to}
 use Rattle.sk_plain.specs.Plan.{Nowhere, Birth}
 use Rattle.sk_plain.specs.Planned.{CanBecome, CanDo, IsBeside, value_of, writes_of, wrote_all}
 use Rattle.sk_plain.specs.Seen.{CanChange, IsWritable, beside_of, row_seen, written}
 use Rattle.sk_plain.specs.Forked.{forked}
 use Rattle.sk_plain.specs.declared.becomes.Forking.{Forking}
-use Rattle.sk_plain.specs.declared.plan.Beside.{Beside}
 use Rattle.sk_plain.specs.declared.plan.Beside.TheVariants.{One}
 use Rattle.sk_plain.specs.declared.plan.Row.{Row}
 use Rattle.sk_plain.specs.declared.plan.Writes.{Writes}

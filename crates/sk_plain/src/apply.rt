@@ -1,16 +1,12 @@
 //! Doing what was planned, where things stand. Nothing here knows of instructions.
 ghost use Rattle.std.specs.Prelude.{◌≡◌, ◌≢◌, ◌≤◌, ◌+◌, ◌<◌, ◌^◌, true, OnOk, OnErr, Some, None, [], length};
-ghost use Rattle.sk_ids.specs.declared.entity.Entity.TheVariants.{Proc, Sig, Exit, Obj, Copy};
+ghost use Rattle.sk_plain.specs.Base.{Proc, Sig, Exit, Obj, Copy, empty_of, LAST_VERSION, moved, said_to, input_in};
+ghost use Rattle.sk_plain.specs.Base.{became, process_in, IsProcess};
 ghost use Rattle.sk_changes.specs.declared.change.Change.TheVariants as changes;
-ghost use Rattle.sk_objects.specs.Value.{empty_of};
-ghost use Rattle.sk_objects.specs.declared.content.TheConstants.{LAST_VERSION};
 ghost use Rattle.sk_objects.specs.declared.value.Value.TheVariants as values;
-ghost use Rattle.sk_script.specs.Private.{moved};
-ghost use Rattle.sk_terminal.specs.Terminals.{said_to};
-ghost use Rattle.sk_trace.specs.Kept.{input_in};
 ghost use Rattle.sk_store.specs.declared.entity_state.EntityState.TheVariants as stored;
 ghost use Rattle.sk_store.specs.Changed.{FitsAt, changed as changed_there};
-ghost use Rattle.sk_store.specs.Processes.{CanBecome as CanBecomeThere, became, process_in, IsProcess};
+ghost use Rattle.sk_store.specs.Processes.{CanBecome as CanBecomeThere};
 ghost use Rattle.sk_plain.specs.Files.{after_read, file_in};
 ghost use Rattle.sk_plain.specs.Rows.{answered};
 ghost use Rattle.sk_plain.specs.Planned.{child_of, said_by, texts_after, writes_of, wrote_all};

@@ -1,7 +1,6 @@
 //! What becomes of a process at a step, told in a few words.
 ghost use Rattle.std.specs.Prelude.{◌≡◌, ◌+◌, ◌<◌, ◌^◌, length};
-ghost use Rattle.std.specs.Option.{option_copied};
-ghost use Rattle.sk_script.specs.Private.{given};
+ghost use Rattle.sk_plain.specs.Base.{option_copied, given};
 ghost use Rattle.sk_plain.specs.Processes.{handling, returned};
 ghost use Rattle.sk_plain.specs.Rows.{answered, failed};
 ghost use Rattle.sk_plain.specs.Seen.{text_at};

@@ -1,10 +1,8 @@
 //! What the instructions on new objects and on files will do.
 ghost use Rattle.std.specs.Prelude.{◌≡◌, ◌≢◌, ◌+◌, ◌<◌, ◌^◌, Some, Ok, pos, neg_ℤ};
-ghost use Rattle.sk_record.specs.Step.{Ask};
-ghost use Rattle.sk_ids.specs.declared.entity.Entity.TheVariants.{Obj};
+ghost use Rattle.sk_plain.specs.Base.{Ask, Obj, held};
 ghost use Rattle.sk_objects.specs.declared.value.Value.TheVariants as values;
 ghost use Rattle.sk_store.specs.declared.entity_state.EntityState.TheVariants as stored;
-ghost use Rattle.sk_script.specs.Registers.{held};
 ghost use Rattle.sk_script.specs.declared.register.Val.TheVariants as vals;
 ghost use Rattle.sk_plain.specs.Refusal.{error_number};
 ghost use Rattle.sk_plain.specs.Rows.{object_in, number_in};

@@ -1,7 +1,6 @@
 //! What the instructions on names of directories will do.
 ghost use Rattle.std.specs.Prelude.{◌+◌, ◌<◌, ◌^◌, IfSome, Ok};
-ghost use Rattle.sk_record.specs.Step.{Ask};
-ghost use Rattle.sk_ids.specs.declared.entity.Entity.TheVariants.{Obj, Link};
+ghost use Rattle.sk_plain.specs.Base.{Ask, Obj, Link};
 ghost use Rattle.sk_plain.specs.Act.{row};
 ghost use Rattle.sk_plain.specs.Names.{link_to};
 ghost use Rattle.sk_plain.specs.Seen.{PlansAny, PlansRow};

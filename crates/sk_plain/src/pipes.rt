@@ -1,12 +1,9 @@
 //! What the instructions on pipes will do.
 ghost use Rattle.std.specs.Prelude.{◌≡◌, ◌+◌, ◌<◌, ◌≤◌, ◌^◌, Some, Ok};
-ghost use Rattle.sk_record.specs.Step.{Ask};
-ghost use Rattle.sk_ids.specs.declared.entity.Entity.TheVariants.{Obj};
+ghost use Rattle.sk_plain.specs.Base.{Ask, Obj, held, TEXT_LIMIT};
 ghost use Rattle.sk_objects.specs.declared.value.Value.TheVariants as values;
 ghost use Rattle.sk_store.specs.declared.entity_state.EntityState.TheVariants as stored;
-ghost use Rattle.sk_script.specs.Registers.{held};
 ghost use Rattle.sk_plain.specs.Rows.{object_in, number_to};
-ghost use Rattle.sk_ids.specs.declared.text.TheConstants.{TEXT_LIMIT};
 ghost use Rattle.sk_plain.specs.Pipes.{put_in, put as put_row, take_from, take_out as take_row, shut as shut_row};
 ghost use Rattle.sk_plain.specs.Seen.{PlansRow};
 

@@ -1,13 +1,9 @@
 //! The plain kernel: it takes steps, and knows no guesses.
 ghost use Rattle.std.specs.Prelude.{◌≡◌, ◌↔◌, [], IsTrue, IfOk, option_map};
-ghost use Rattle.std.specs.List.{All};
+ghost use Rattle.sk_plain.specs.Base.{All, entity_cmp, Proc, IsProcess, input_in};
 ghost use Rattle.std.specs.List.Sorted.{IsStrictlySortedBy};
 ghost use Rattle.std.specs.FinMap as map;
-ghost use Rattle.sk_ids.specs.Entity.{entity_cmp};
-ghost use Rattle.sk_ids.specs.declared.entity.Entity.TheVariants.{Proc};
 ghost use Rattle.sk_store.specs.Present.{IsPresent, entities_of};
-ghost use Rattle.sk_store.specs.Processes.{IsProcess};
-ghost use Rattle.sk_trace.specs.Kept.{input_in};
 ghost use Rattle.sk_plain.specs.Planned.{said_by};
 ghost use Rattle.sk_plain.specs.Seen.{seen_with};
 ghost use Rattle.sk_plain.specs.View.{Shows};

@@ -1,9 +1,7 @@
 //! What the instructions on processes and signals will do.
 ghost use Rattle.std.specs.Prelude.{◌≡◌, ◌+◌, ◌<◌, ◌^◌, true, [], Some, Ok, ◌==◌};
-ghost use Rattle.std.specs.List.{list_any};
-ghost use Rattle.sk_script.specs.Registers.{held};
+ghost use Rattle.sk_plain.specs.Base.{list_any, held, LAST_SIGNAL};
 ghost use Rattle.sk_plain.specs.Rows.{number_to, who_in};
-ghost use Rattle.sk_objects.specs.declared.signals.TheConstants.{LAST_SIGNAL};
 ghost use Rattle.sk_plain.specs.Processes.{KILL, status_of, kill as kill_row, fork as fork_row, wait as wait_row};
 ghost use Rattle.sk_plain.specs.declared.plan.Beside.TheVariants as Beside;
 ghost use Rattle.sk_plain.specs.declared.plan.Looks.TheVariants as Looks;

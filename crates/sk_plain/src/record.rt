@@ -1,16 +1,12 @@
 //! The record without what depends on a guess, read from left to right.
 ghost use Rattle.std.specs.Prelude.{◌≡◌, ◌∷◌, ◌++◌, [], List, IsSome, IsOk, OnOk, IfOk, IfErr, if◌then◌else◌};
-ghost use Rattle.std.specs.List.{list_any};
+ghost use Rattle.sk_plain.specs.Base.{list_any, is_in, is_marked, IsLegal, outcome, run, put_all, entity_cmp};
+ghost use Rattle.sk_plain.specs.Base.{EntryView, Memory};
 ghost use Rattle.std.specs.FinMap as map;
-ghost use Rattle.sk_record.specs.Effects.{is_in, is_marked};
-ghost use Rattle.sk_record.specs.Run.{IsLegal, outcome, run, put_all};
 ghost use Rattle.sk_record.specs.Strike.{strike};
-ghost use Rattle.sk_ids.specs.Entity.{entity_cmp};
-ghost use Rattle.sk_trace.specs.Entry.{EntryView};
 ghost use Rattle.sk_plain.specs.Act.{plain};
 ghost use Rattle.sk_plain.specs.Planned.{writes_of};
 ghost use Rattle.sk_plain.specs.Seen.{CanPerform, seen_with, written_in};
-ghost use Rattle.sk_plain.specs.declared.refusal.Refusal.TheVariants.{Memory};
 ghost use Rattle.sk_plain.specs.Remaining.{AreAlike, depends, remaining, refusal_in, EndsBy, BeginsWell};
 
 use crate::{Entry, InputRef, Plan, Refusal, apply_plan, plan_step};

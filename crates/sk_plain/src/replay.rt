@@ -1,9 +1,8 @@
 //! A whole trace, replayed by the plain kernel.
 ghost use Rattle.std.specs.Prelude.{◌≡◌, [], List, map, OnOk, IfOk, IfErr};
-ghost use Rattle.sk_record.specs.Trace.{Event as Happens, IsSound, record_of};
+ghost use Rattle.sk_record.specs.Trace.{Event as Happens};
+ghost use Rattle.sk_plain.specs.Base.{IsSound, record_of, EntryView, State};
 ghost use Rattle.sk_store.specs.Start.{start_of};
-ghost use Rattle.sk_trace.specs.Entry.{EntryView};
-ghost use Rattle.sk_store.specs.State.{State};
 ghost use Rattle.sk_plain.specs.Act.{Scripts, plain};
 ghost use Rattle.sk_plain.specs.Standing.{image};
 ghost use Rattle.sk_plain.specs.Replay.{is_above, IsReplay, HasTaken, StepFault, HasCommitted, HasFailed, DecisionFault, Goes, FaultIn, Replays};

@@ -1,11 +1,7 @@
 //! What the instructions with a reply of the server will do.
 ghost use Rattle.std.specs.Prelude.{◌≡◌, ◌+◌, ◌<◌, ◌^◌, [], true, Ok, Some, Option, IfOk, IsSome};
-ghost use Rattle.std.specs.Option.{option_copied};
-ghost use Rattle.sk_record.specs.Step.{Ask};
-ghost use Rattle.sk_ids.specs.declared.entity.Entity.TheVariants.{Copy};
-ghost use Rattle.sk_ids.specs.declared.text.TheConstants.{TEXT_LIMIT};
+ghost use Rattle.sk_plain.specs.Base.{option_copied, Ask, Copy, TEXT_LIMIT, Instruction};
 ghost use Rattle.sk_script.specs.declared.instruction.Input.TheVariants as Input;
-ghost use Rattle.sk_script.specs.declared.instruction.Instruction.{Instruction};
 ghost use Rattle.sk_plain.specs.Replies.{from_copy, over_copy, good as good_row};
 ghost use Rattle.sk_plain.specs.Seen.{IsQuiet, PlansAfter, PlansReply, PlansRow, told};
 

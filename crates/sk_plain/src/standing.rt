@@ -1,12 +1,8 @@
 //! The record of a trace and its undecided guesses, read event by event: a failure runs no more than what stands
 //! behind the oldest guess that was undecided before it.
 ghost use Rattle.std.specs.Prelude.{◌≡◌, ◌≤◌, ◌∷◌, ◌++◌, [], List, length, take, drop, OnOk, IfOk, IfErr};
-ghost use Rattle.std.specs.List.{prefix_len};
-ghost use Rattle.sk_record.specs.Run.{run};
-ghost use Rattle.sk_record.specs.Notes.{has};
+ghost use Rattle.sk_plain.specs.Base.{prefix_len, run, has, marks, EntryView};
 ghost use Rattle.sk_record.specs.Strike.{strike};
-ghost use Rattle.sk_record.specs.Trace.{marks};
-ghost use Rattle.sk_trace.specs.Entry.{EntryView};
 ghost use Rattle.sk_trace.specs.declared.event.Event.TheVariants as events;
 ghost use Rattle.sk_plain.specs.Act.{Scripts, plain};
 ghost use Rattle.sk_plain.specs.Standing.{is_made, is_settled, seen, GoesOn, Settles};

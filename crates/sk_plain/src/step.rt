@@ -1,14 +1,9 @@
 //! What a step will do, before it does it. A plan takes no memory.
 ghost use Rattle.std.specs.Prelude.{◌≡◌, ◌+◌, ◌<◌, ◌^◌, [], true, false, is_some, IsSome, IfOk, IfSome, Some, None, Ok, Option};
-ghost use Rattle.std.specs.Option.{option_copied};
-ghost use Rattle.sk_ids.specs.declared.entity.Entity.TheVariants.{Sig};
+ghost use Rattle.sk_plain.specs.Base.{option_copied, Sig, private_step, Instruction, Process, input_in};
 ghost use Rattle.sk_objects.specs.declared.value.Value.TheVariants as values;
 ghost use Rattle.sk_store.specs.declared.entity_state.EntityState.TheVariants as stored;
 ghost use Rattle.sk_script.specs.declared.instruction.Input.TheVariants as Input;
-ghost use Rattle.sk_script.specs.Private.{private_step};
-ghost use Rattle.sk_script.specs.declared.instruction.Instruction.{Instruction};
-ghost use Rattle.sk_script.specs.declared.process.Process.{Process};
-ghost use Rattle.sk_trace.specs.Kept.{input_in};
 ghost use Rattle.sk_plain.specs.Act.{row, does, next_in, is_frequent, due, handled as handled_row, with_signals, with_input};
 ghost use Rattle.sk_plain.specs.Planned.{signals_read, IsReply, said_by};
 ghost use Rattle.sk_plain.specs.declared.plan.Beside.TheVariants as Beside;

@@ -1,10 +1,8 @@
 //! What a register's value stands for, and what the object is that a row is about.
 ghost use Rattle.std.specs.Prelude.{◌≡◌, ◌≤◌, IfSome, IfOk, IfErr, Some, Err};
-ghost use Rattle.std.specs.Option.{option_copied};
-ghost use Rattle.sk_ids.specs.declared.entity.Entity.TheVariants.{Obj, Link};
+ghost use Rattle.sk_plain.specs.Base.{option_copied, Obj, Link, held};
 ghost use Rattle.sk_objects.specs.declared.value.Value.TheVariants as values;
 ghost use Rattle.sk_store.specs.declared.entity_state.EntityState.TheVariants as stored;
-ghost use Rattle.sk_script.specs.Registers.{held};
 ghost use Rattle.sk_plain.specs.Rows.{object_in, number_in, number_to, who_in};
 ghost use Rattle.sk_plain.specs.Files.{file_in};
 ghost use Rattle.sk_plain.specs.Names.{no_directory, target_at};

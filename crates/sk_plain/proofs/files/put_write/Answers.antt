@@ -1,8 +1,7 @@
 -- The bytes of the file that is there.
-use Rattle.sk_plain.proofs.Cites.{◌≡◌, ℕ, List, [], Option, Some, Result, Ok, ap, subst, ◌∙◌, Ask, perform, with_read, held}
-use Rattle.sk_plain.proofs.Cites.{Entity, ObjId, Process, Instruction, EntityState, on_file, on_number, number_in}
-use Rattle.sk_plain.proofs.Cites.{PlansAfter, Plan, Refusal}
-use Rattle.sk_ids.specs.declared.entity.Entity.TheVariants.{Obj}
+use Rattle.sk_plain.proofs.Cites.{◌≡◌, ℕ, List, [], Option, Some, Result, Ok, ap, subst, ◌∙◌, Ask, perform, with_read}
+use Rattle.sk_plain.proofs.Cites.{held, Entity, ObjId, Process, Instruction, EntityState, on_file, on_number, number_in}
+use Rattle.sk_plain.proofs.Cites.{PlansAfter, Plan, Refusal, Obj}
 use Rattle.sk_objects.specs.declared.value.Value.TheVariants as values
 use Rattle.sk_store.specs.declared.entity_state.EntityState.TheVariants as stored
 use Rattle.sk_script.specs.declared.instruction.Input.TheVariants as inputs

@@ -1,7 +1,6 @@
 -- The bytes of the copy that is there are read whole.
 use Rattle.sk_plain.proofs.Cites.{◌≡◌, ◌<◌, ◌^◌, Ok, Some, sym, ◌∙◌, ap, subst, arith, rules, Ask, Copy, from_copy}
-use Rattle.sk_plain.proofs.Cites.{PlansRow, Row, ProcessChange, Fills}
-use Rattle.sk_objects.specs.Content.{ContentView}
+use Rattle.sk_plain.proofs.Cites.{PlansRow, Row, ProcessChange, Fills, ContentView}
 use Rattle.sk_objects.specs.declared.value.Value.TheVariants as values
 use Rattle.sk_store.specs.declared.entity_state.EntityState.TheVariants as stored
 use Rattle.sk_plain.specs.declared.plan.Looks.TheVariants as looks

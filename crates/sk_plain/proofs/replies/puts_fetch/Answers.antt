@@ -1,7 +1,6 @@
 -- The bytes of the copy that is there are read whole, and nothing is said.
 use Rattle.sk_plain.proofs.Cites.{◌≡◌, ◌<◌, ◌^◌, Ok, Some, sym, ◌∙◌, ap, subst, arith, rules, Ask, Copy, from_copy}
-use Rattle.sk_plain.proofs.Cites.{PlansRow, Row, ProcessChange, Fills, changed_by}
-use Rattle.sk_objects.specs.Content.{ContentView}
+use Rattle.sk_plain.proofs.Cites.{PlansRow, Row, ProcessChange, Fills, changed_by, ContentView}
 use Rattle.sk_objects.specs.declared.value.Value.TheVariants as values
 use Rattle.sk_script.specs.declared.instruction.Input.TheVariants as inputs
 use Rattle.sk_store.specs.declared.entity_state.EntityState.TheVariants as stored

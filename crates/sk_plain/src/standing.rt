@@ -65,7 +65,10 @@ fn take_step(store: &mut Store, scripts: &Scripts, entry: &Entry) -> Result<(), 
         (plain scripts.now) store.old (entry.now ∷ rest)) }
 {
     let input = InputRef::of(&entry.input);
-    let plan = plan_step(store, scripts, entry.pid, input)?;
+    let plan = match plan_step(store, scripts, entry.pid, input) {
+        Ok(plan) => plan,
+        Err(why) => return Err(why),
+    };
     apply_plan(store, scripts, entry.pid, input, &plan)?;
     Ok(())
 }

@@ -145,8 +145,13 @@ fn tabled<S: Look>(
 fn keep(plan: &mut Plan, planned: Result<Plan, Refusal>) -> Result<(), Refusal>
     ensures { told result plan.new ≡ planned }
 {
-    *plan = planned?;
-    Ok(())
+    match planned {
+        Ok(next) => {
+            *plan = next;
+            Ok(())
+        }
+        Err(why) => Err(why),
+    }
 }
 
 /// The same as `tabled`, put into a plan. It stands by itself, since each plan of the table has a place of its own

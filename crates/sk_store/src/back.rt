@@ -1,10 +1,7 @@
 //! What takes a write back, in a store.
-ghost use Rattle.std.specs.Prelude.{◌≡◌, OnOk, OnErr, IsSome, IfOk, Some, false};
-ghost use Rattle.std.specs.Ordering.{eq_by_cmp};
+ghost use Rattle.std.specs.Prelude.{◌≡◌, OnOk, OnErr, IfOk};
 ghost use Rattle.std.specs.FinMap as map;
-ghost use Rattle.sk_ids.specs.Entity.{entity_cmp};
-ghost use Rattle.sk_ids.specs.declared.entity.Entity.TheVariants.{Proc, Obj};
-ghost use Rattle.sk_changes.specs.declared.change.Change.TheVariants as changes;
+ghost use Rattle.sk_ids.specs.declared.entity.Entity.TheVariants.{Proc};
 ghost use Rattle.sk_store.specs.Changed.{FitsAt, changed};
 ghost use Rattle.sk_store.specs.Processes.{CanBecome, IsProcess, became, process_in};
 ghost use Rattle.sk_store.specs.Back.{put_back_at, CanPutBack};
@@ -115,96 +112,6 @@ fn become_in<C: Becoming>(store: &mut Store, pid: Pid, by: &C)
     }
 }
 
-/// Changes a value and then a process, where they stand. Without memory nothing has changed.
-fn change_both<C: Becoming>(
-    store: &mut Store,
-    entity: &Entity,
-    change: &Change,
-    pid: Pid,
-    by: &C,
-) -> Result<(), AllocError>
-    requires fits { FitsAt (map.get store.old entity.now) change.now }
-    requires can { CanBecome (C.can by.now) (map.get store.old (Proc pid)) }
-    requires apart { eq_by_cmp entity_cmp (Proc pid) entity.now ≡ false }
-    ensures ok { OnOk result
-        (store.new ≡ map.insert
-        (map.insert store.old entity.now (changed (map.get store.old entity.now) change.now))
-        (Proc pid) (became (C.after by.now) (map.get store.old (Proc pid)))) }
-    ensures err { OnErr result (store.new ≡ store.old) }
-{
-    change_alone_in(store, entity, change)?;
-    become_in(store, pid, by);
-    Ok(())
-}
-
-/// Changes a process by what an entity has.
-fn change_by<C: BecomingBy>(store: &mut Store, pid: Pid, entity: &Entity, by: &C)
-    requires { CanBecome (C.can by.now (map.get store.old entity.now))
-        (map.get store.old (Proc pid)) }
-    ensures { store.new ≡ map.insert store.old (Proc pid)
-        (became (C.after by.now (map.get store.old entity.now)) (map.get store.old (Proc pid))) }
-{
-    let mut process = *process_in(store, pid);
-    by.change(store.value(*entity), &mut process);
-    become_in(store, pid, &process);
-}
-
-/// Writes the buffer of a process at a place of a file, and then changes the process. Without memory nothing has changed.
-fn write_buffer<C: Becoming>(
-    store: &mut Store,
-    object: &ObjId,
-    at: u32,
-    pid: Pid,
-    by: &C,
-) -> Result<(), AllocError>
-    requires fits { FitsAt (map.get store.old (Obj object.now))
-        (changes.WriteAt at (process_in (map.get store.old (Proc pid))).buffer) }
-    requires can { CanBecome (C.can by.now) (map.get store.old (Proc pid)) }
-    ensures ok { OnOk result
-        (store.new ≡ map.insert
-        (map.insert store.old (Obj object.now) (changed (map.get store.old (Obj object.now))
-        (changes.WriteAt at (process_in (map.get store.old (Proc pid))).buffer)))
-        (Proc pid) (became (C.after by.now) (map.get store.old (Proc pid)))) }
-    ensures err { OnErr result (store.new ≡ store.old) }
-{
-    let change = Change::WriteAt {
-        offset: at,
-        bytes: process_in(store, pid).buffer,
-    };
-    change_both(store, &Entity::Obj(*object), &change, pid, by)
-}
-
-/// Sets what an entity has, and then changes a process where it stands. Without memory nothing has changed.
-fn write_beside<C: Becoming>(
-    store: &mut Store,
-    entity: &Entity,
-    stored: EntityState,
-    pid: Pid,
-    by: &C,
-) -> Result<(), AllocError>
-    requires can { CanBecome (C.can by.now) (map.get store.old (Proc pid)) }
-    requires apart { eq_by_cmp entity_cmp (Proc pid) entity.now ≡ false }
-    ensures ok { OnOk result
-        (store.new ≡ map.insert (map.insert store.old entity.now stored) (Proc pid)
-        (became (C.after by.now) (map.get store.old (Proc pid)))) }
-    ensures err { OnErr result (store.new ≡ store.old) }
-{
-    store.put(*entity, stored)?;
-    become_in(store, pid, by);
-    Ok(())
-}
-
-/// Changes a process where it stands, and makes an entity beside it absent.
-fn remove_beside<C: Becoming>(store: &mut Store, entity: &Entity, pid: Pid, by: &C)
-    requires { CanBecome (C.can by.now) (map.get store.old (Proc pid)) }
-    ensures { store.new ≡ map.remove
-        (map.insert store.old (Proc pid)
-        (became (C.after by.now) (map.get store.old (Proc pid)))) entity.now }
-{
-    become_in(store, pid, by);
-    store.remove(*entity);
-}
-
 /// Puts a write back, which takes no memory.
 fn put_back(store: &mut Store, entity: &Entity, undo: PutBack<EntityState>)
     requires { CanPutBack store.old entity.now undo }
@@ -291,7 +198,9 @@ impl Keeper for Store {
         entity: &Entity,
         by: &C,
     ) -> Result<(), AllocError> {
-        change_by(self, pid, entity, by);
+        let mut process = *process_in(self, pid);
+        by.change(self.value(*entity), &mut process);
+        become_in(self, pid, &process);
         Ok(())
     }
 
@@ -302,7 +211,11 @@ impl Keeper for Store {
         pid: Pid,
         by: &C,
     ) -> Result<(), AllocError> {
-        write_buffer(self, object, at, pid, by)
+        let change = Change::WriteAt {
+            offset: at,
+            bytes: process_in(self, pid).buffer,
+        };
+        self.change_both(&Entity::Obj(*object), &change, pid, by)
     }
 
     /// A store has no notes.
@@ -325,7 +238,9 @@ impl Keeper for Store {
         pid: Pid,
         by: &C,
     ) -> Result<(), AllocError> {
-        change_both(self, entity, change, pid, by)
+        change_alone_in(self, entity, change)?;
+        become_in(self, pid, by);
+        Ok(())
     }
 
     fn write_beside<C: Becoming>(
@@ -335,7 +250,9 @@ impl Keeper for Store {
         pid: Pid,
         by: &C,
     ) -> Result<(), AllocError> {
-        write_beside(self, entity, stored, pid, by)
+        self.put(*entity, stored)?;
+        become_in(self, pid, by);
+        Ok(())
     }
 
     fn remove_beside<C: Becoming>(
@@ -344,7 +261,8 @@ impl Keeper for Store {
         pid: Pid,
         by: &C,
     ) -> Result<(), AllocError> {
-        remove_beside(self, entity, pid, by);
+        become_in(self, pid, by);
+        Store::remove(self, *entity);
         Ok(())
     }
 

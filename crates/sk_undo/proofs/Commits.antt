@@ -113,15 +113,15 @@ module _ {V : Type 0} where
 
 -- ---- notes that are there
 module _ {U : Type 0} where
-  light_more : (g : ℕ) (xs : List (RawNote U)) (n : RawNote U) → lightened g (xs ++ n ∷ []) ≡ lightened g xs ++ record { tags = without g n.tags; undo = n.undo } ∷ []
-  light_more g [] n = refl
-  light_more g (x ∷ xs) n = ap (λ ys. record { tags = without g x.tags; undo = x.undo } ∷ ys) (light_more g xs n)
+  pub light_append : (g : ℕ) (xs ys : List (RawNote U)) → lightened g (xs ++ ys) ≡ lightened g xs ++ lightened g ys
+  light_append g [] ys = refl
+  light_append g (x ∷ xs) ys = ap (λ zs. record { tags = without g x.tags; undo = x.undo } ∷ zs) (light_append g xs ys)
 
   pub light_reverse : (g : ℕ) (xs : List (RawNote U)) → reverse (lightened g xs) ≡ lightened g (reverse xs)
   light_reverse g [] = refl
   light_reverse g (n ∷ ns) =
       let m : RawNote U = record { tags = without g n.tags; undo = n.undo } in
-      reverse_onto (lightened g ns) m [] ∙ ap (λ ys. ys ++ m ∷ []) (light_reverse g ns) ∙ sym (light_more g (reverse ns) n) ∙ ap (lightened g) (sym (reverse_onto ns n []))
+      reverse_onto (lightened g ns) m [] ∙ ap (λ ys. ys ++ m ∷ []) (light_reverse g ns) ∙ sym (light_append g (reverse ns) (n ∷ [])) ∙ ap (lightened g) (sym (reverse_onto ns n []))
 
 -- ---- what is left can still be undone
 module _ {U V : Type 0} (fits : U → Option V → Type 0) (undone : U → Option V → Option V) where

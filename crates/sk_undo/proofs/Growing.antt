@@ -3,6 +3,7 @@ use Rattle.sk_undo.proofs.Cites.{◌≡◌, ℕ, true, false, cond, ◌&&◌, Li
 use Rattle.sk_undo.proofs.Cites.{subst, reverse, list_all, reverse_onto, has, carried, IsGrowing, and_both, RawNote}
 use Rattle.sk_undo.proofs.Cites.{log_of, newest_tags, from_first, Grows, Covers}
 use Rattle.sk_undo.proofs.Commits.{in_order, order_is}
+use Rattle.sk_undo.proofs.SeenNotes.{all_more}
 
 module _ {U V : Type 0} (undone : U → Option V → Option V) where
   same_all : (g : ℕ) (now : Option V) (ns : List (RawNote U)) → list_all (λ n. has g n.tags) (in_order undone now ns) ≡ list_all (λ n. has g n.tags) ns
@@ -55,12 +56,6 @@ module _ {U : Type 0} where
   last_rests g tags [] all here = here
   last_rests g tags (n ∷ ns) all here = let both = and_both _ _ all in last_rests g n.tags ns both.1 both.0
 
-  all_more : (g : ℕ) (ns : List (RawNote U)) (n : RawNote U) → AllRest g ns → has g n.tags ≡ true → AllRest g (ns ++ n ∷ [])
-  all_more g [] n all here = ap (λ b. b && true) here
-  all_more g (x ∷ ns) n all here =
-      let both = and_both _ _ all in
-      ap (λ b. b && list_all (λ n. has g n.tags) (ns ++ n ∷ [])) both.0 ∙ all_more g ns n both.1 here
-
   more_at : (g : ℕ) (tags : List ℕ) (ns : List (RawNote U)) (n : RawNote U) → AllRest g (from_first g ns) → (has g (last_on tags ns) ≡ true → has g n.tags ≡ true) → AllRest g (from_first g (ns ++ n ∷ []))
   more_at g tags [] n all covered =
       elim (has g n.tags) as (λ b. has g n.tags ≡ b → AllRest g (cond b (n ∷ []) [])) [
@@ -69,7 +64,7 @@ module _ {U : Type 0} where
       ] refl
   more_at g tags (x ∷ ns) n all covered =
       elim (has g x.tags) as (λ b. has g x.tags ≡ b → AllRest g (cond b (x ∷ ns) (from_first g ns)) → AllRest g (cond b (x ∷ ns ++ n ∷ []) (from_first g (ns ++ n ∷ [])))) [
-        | true ↦ λ here all. all_more g (x ∷ ns) n all (covered (last_rests g x.tags ns (and_both _ _ all).1 here))
+        | true ↦ λ here all. all_more (λ (n : RawNote U). has g n.tags) (x ∷ ns) (n ∷ []) all (ap (λ b. b && true) (covered (last_rests g x.tags ns (and_both _ _ all).1 here)))
         | false ↦ λ _ all. more_at g x.tags ns n all covered
       ] refl all
 

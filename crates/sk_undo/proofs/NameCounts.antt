@@ -8,8 +8,8 @@ use Rattle.sk_undo.proofs.Cites.{contains-empty, len-empty, true≢false}
 use Rattle.sk_undo.proofs.Cites.{name_order, entity_cmp, object_cmp, ObjId, total-law, Entity, Proc, Sig, Exit, Obj}
 use Rattle.sk_undo.proofs.Cites.{Link, Copy, entity_total, entity_exact, object_same, object_exact, IsCount, name_there}
 use Rattle.sk_undo.proofs.Cites.{one_more, one_less, as_many, EntityState, Change, FitsAt, changed, PutBack, TakeBack}
-use Rattle.sk_undo.proofs.Cites.{DropSlot, UndoLast, SlotView, is_bare, slot_wrote, slot_back, SlotMap, slot_in}
-use Rattle.sk_undo.proofs.Cites.{look_at, placed, slots_wrote, slots_back, CanTakeBack, CanUndoLast, ChangedAt}
+use Rattle.sk_undo.proofs.Cites.{DropSlot, UndoLast, SlotView, slot_wrote, slot_back, SlotMap, slot_in}
+use Rattle.sk_undo.proofs.Cites.{look_at, slots_wrote, slots_back, CanTakeBack, CanUndoLast, ChangedAt}
 use Rattle.sk_undo.proofs.Cites.{SlotUnwound, IsWithin, NameMap, IsCounted, count_in, count_for, with_count, with_place}
 use Rattle.sk_undo.proofs.Cites.{made_for, recounted, recounted_at, link_there}
 use Rattle.std.specs.FinMap as map

@@ -6,14 +6,11 @@ use Rattle.sk_undo.proofs.Cites.{Merges, same_tags, merged, past, same_last, gro
 use Rattle.sk_undo.proofs.Cites.{RawNote, is_empty, log_of, CanGoBack, undone_by, FitsBy, restores, newest_tags}
 use Rattle.sk_undo.proofs.Cites.{lightened, dropped, Grows, goes_unnoted_raw, joined_from, is_process_whole}
 use Rattle.sk_undo.proofs.Cites.{process_changed_back, ProcessFits, was, run_of, runs_of, AllSet, is_apart}
-use Rattle.sk_undo.proofs.SeenNotes.{tags_seen, all_reverse, grow_cut}
-use Rattle.sk_undo.proofs.Commits.{value_before, in_order, order_is, commit_seen, grow_commit}
+use Rattle.sk_undo.proofs.SeenNotes.{tags_seen, all_more, all_reverse, grow_cut, last_onto}
+use Rattle.sk_undo.proofs.Commits.{value_before, in_order, order_is, commit_seen, grow_commit, not_true}
+use Rattle.std.proofs.lemmas.List.{map-append}
 use Rattle.sk_undo.proofs.Growing.{grows_seen, grows_there}
 use Rattle.sk_undo.proofs.Joins.{fits_any, all_joined}
-
-not_true : (b : Bool) → not b ≡ true → b ≡ false
-not_true true h = absurd (true≢false (sym h))
-not_true false h = refl
 
 -- ---- runs that are apart
 module _ {V : Type 0} where
@@ -61,12 +58,8 @@ module _ {V : Type 0} where
         | false ↦ λ _. inr (refl, on)
       ] refl
 
-  last_more : (t : List ℕ) (ns : List (Note V)) (n : Note V) → last_tags t (ns ++ n ∷ []) ≡ n.tags
-  last_more t [] n = refl
-  last_more t (x ∷ ns) n = last_more x.tags ns n
-
   pub newest_noted : (ns : List (Note V)) (n : Note V) → last_tags [] (merged [] (ns ++ n ∷ [])) ≡ n.tags
-  newest_noted ns n = sym (same_last [] (ns ++ n ∷ []) (merged [] (ns ++ n ∷ [])) (merges_merged [] (ns ++ n ∷ []))) ∙ last_more [] ns n
+  newest_noted ns n = sym (same_last [] (ns ++ n ∷ []) (merged [] (ns ++ n ∷ [])) (merges_merged [] (ns ++ n ∷ []))) ∙ last_onto [] ns n
 
 -- ---- notes that only set
 abbrev back : PutBack Process → Option Process → Option Process
@@ -111,17 +104,9 @@ unnoted_run tags ns all =
     unnoted_newest tags (reverse ns) (all_reverse (λ n. restores is_process_whole n.undo) ns all) ∙ ap (same_tags tags) (newest_run ns all)
 
 -- ---- one more
-map_more : (ns : List (RawNote (PutBack Process))) (n : RawNote (PutBack Process)) → runs_of (ns ++ n ∷ []) ≡ runs_of ns ++ run_of n ∷ []
-map_more [] n = refl
-map_more (x ∷ ns) n = ap (λ xs. run_of x ∷ xs) (map_more ns n)
-
 pub length_runs : (ns : List (RawNote (PutBack Process))) → length ns ≡ length (runs_of ns)
 length_runs [] = refl
 length_runs (n ∷ ns) = ap suc (length_runs ns)
-
-set_more : (ns : List (RawNote (PutBack Process))) (n : RawNote (PutBack Process)) → AllSet ns → restores is_process_whole n.undo ≡ true → AllSet (ns ++ n ∷ [])
-set_more [] n all one = λ i. one i && true
-set_more (x ∷ ns) n all one = let both = and_both _ _ all in λ i. both.0 i && set_more ns n both.1 one i
 
 whole_before : (before : Option Process) → restores is_process_whole (Was before) ≡ true
 whole_before None = refl
@@ -140,13 +125,13 @@ module _ (tags : List ℕ) (before : Option Process) (ns : List (RawNote (PutBac
 
   -- and one of a new run
   pub kept_more : goes_unnoted_raw is_process_whole tags (reverse ns) ≡ false → runs_of (ns ++ note ∷ []) ≡ merged [] (runs_of ns ++ run_of note ∷ [])
-  kept_more is = map_more ns note ∙ sym (more_merged [] (runs_of ns) (run_of note) apart ∙ ap (λ b. cond b (runs_of ns) (runs_of ns ++ run_of note ∷ [])) (other is))
+  kept_more is = map-append run_of ns (note ∷ []) ∙ sym (more_merged [] (runs_of ns) (run_of note) apart ∙ ap (λ b. cond b (runs_of ns) (runs_of ns ++ run_of note ∷ [])) (other is))
 
   pub apart_noted : goes_unnoted_raw is_process_whole tags (reverse ns) ≡ false → is_apart [] (runs_of (ns ++ note ∷ [])) ≡ true
-  apart_noted is = ap (is_apart []) (map_more ns note) ∙ apart_more [] (runs_of ns) (run_of note) apart (other is)
+  apart_noted is = ap (is_apart []) (map-append run_of ns (note ∷ [])) ∙ apart_more [] (runs_of ns) (run_of note) apart (other is)
 
   pub set_noted : AllSet (ns ++ note ∷ [])
-  set_noted = set_more ns note all (whole_before before)
+  set_noted = all_more (λ (n : RawNote (PutBack Process)). restores is_process_whole n.undo) ns (note ∷ []) all (ap (λ b. b && true) (whole_before before))
 
 -- ---- a failure
 module _ (g : ℕ) (old new : Option Process) (ns ms : List (RawNote (PutBack Process))) (grows : Grows ns) (all : AllSet ns) (left : AllSet ms) where

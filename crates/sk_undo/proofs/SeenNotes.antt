@@ -30,13 +30,32 @@ module _ {U V : Type 0} (undone : U → Option V → Option V) where
   pub none_there : (now : Option V) (ns : List (RawNote U)) → seen undone now (reverse ns) ≡ [] → ns ≡ []
   none_there now ns h = none_is ns (sym (notes_none now ns) ∙ ap is_empty h)
 
+-- ---- what holds of all notes
+pub all_less : {A : Type 0} (p : A → Bool) (xs : List A) → list_all p xs ≡ true → list_all p (less xs) ≡ true
+all_less p [] all = refl
+all_less p (x ∷ xs) all = (and_both _ _ all).1
+
+pub all_more : {A : Type 0} (p : A → Bool) (xs ys : List A) → list_all p xs ≡ true → list_all p ys ≡ true → list_all p (xs ++ ys) ≡ true
+all_more p [] ys all more = more
+all_more p (x ∷ xs) ys all more = let both = and_both _ _ all in λ i. both.0 i && all_more p xs ys both.1 more i
+
+pub all_reverse : {A : Type 0} (p : A → Bool) (xs : List A) → list_all p xs ≡ true → list_all p (reverse xs) ≡ true
+all_reverse p [] all = refl
+all_reverse p (x ∷ xs) all =
+    let both = and_both _ _ all in
+    ap (list_all p) (reverse_onto xs x []) ∙ all_more p (reverse xs) (x ∷ []) (all_reverse p xs both.1) (λ i. both.0 i && true)
+
+pub all_front : {A : Type 0} (p : A → Bool) (xs ys : List A) → list_all p (xs ++ ys) ≡ true → list_all p xs ≡ true
+all_front p [] ys all = refl
+all_front p (x ∷ xs) ys all = let both = and_both _ _ all in λ i. both.0 i && all_front p xs ys both.1 i
+
 -- ---- logs, the oldest note first
 module _ {V : Type 0} where
   abbrev pub AllSeen : ℕ → List (Note V) → Type 0
   AllSeen g ns = list_all (λ n. has g n.tags) ns ≡ true
 
   -- a log that carries g loses its last note, and unwinds to the same
-  one_off : (g : ℕ) (xs : List (Note V)) (n : Note V) (now : Option V) → has g n.tags ≡ true
+  pub one_off : (g : ℕ) (xs : List (Note V)) (n : Note V) (now : Option V) → has g n.tags ≡ true
       → (unwound g xs n.before ≡ unwound g (xs ++ n ∷ []) now) × (cut g xs ≡ cut g (xs ++ n ∷ []))
   one_off g [] n now here = (ap (λ b. cond b n.before now) (sym here), ap (λ b. cond b [] (n ∷ [])) (sym here))
   one_off g (x ∷ xs) n now here =
@@ -74,15 +93,11 @@ module _ {V : Type 0} where
   pub grow_head : (n : Note V) (ns : List (Note V)) → IsGrowing (n ∷ ns) → (g : ℕ) → has g n.tags ≡ true → AllSeen g ns
   grow_head n ns grows g here = (and_both _ _ (subst (λ b. AllSeen g (cond b (n ∷ ns) (carried g ns))) here (grows g))).1
 
-  all_front : (g : ℕ) (xs ys : List (Note V)) → AllSeen g (xs ++ ys) → AllSeen g xs
-  all_front g [] ys all = refl
-  all_front g (x ∷ xs) ys all = let both = and_both _ _ all in ap (λ b. b && list_all (λ n. has g n.tags) xs) both.0 ∙ all_front g xs ys both.1
-
   front_at : (g : ℕ) (xs ys : List (Note V)) → AllSeen g (carried g (xs ++ ys)) → AllSeen g (carried g xs)
   front_at g [] ys all = refl
   front_at g (x ∷ xs) ys all =
       elim (has g x.tags) as (λ b. AllSeen g (cond b (x ∷ xs ++ ys) (carried g (xs ++ ys))) → AllSeen g (cond b (x ∷ xs) (carried g xs))) [
-        | true ↦ λ all. all_front g (x ∷ xs) ys all
+        | true ↦ λ all. all_front (λ (n : Note V). has g n.tags) (x ∷ xs) ys all
         | false ↦ λ all. front_at g xs ys all
       ] all
 
@@ -162,21 +177,6 @@ module _ {U V : Type 0} (undone : U → Option V → Option V) where
       let whole = reverse_onto ns n [] in
       none_off g (log now (r ∷ rs)) now (ap (carries g) whole ∙ last_none g (reverse ns) n (subst IsGrowing whole grows) none)
 
--- ---- what holds of all notes
-pub all_less : {A : Type 0} (p : A → Bool) (xs : List A) → list_all p xs ≡ true → list_all p (less xs) ≡ true
-all_less p [] all = refl
-all_less p (x ∷ xs) all = (and_both _ _ all).1
-
-all_more : {A : Type 0} (p : A → Bool) (xs ys : List A) → list_all p xs ≡ true → list_all p ys ≡ true → list_all p (xs ++ ys) ≡ true
-all_more p [] ys all more = more
-all_more p (x ∷ xs) ys all more = let both = and_both _ _ all in λ i. both.0 i && all_more p xs ys both.1 more i
-
-pub all_reverse : {A : Type 0} (p : A → Bool) (xs : List A) → list_all p xs ≡ true → list_all p (reverse xs) ≡ true
-all_reverse p [] all = refl
-all_reverse p (x ∷ xs) all =
-    let both = and_both _ _ all in
-    ap (list_all p) (reverse_onto xs x []) ∙ all_more p (reverse xs) (x ∷ []) (all_reverse p xs both.1) (λ i. both.0 i && true)
-
 -- ---- the newest notes undone, one after another
 module _ {U V : Type 0} (fits : U → Option V → Type 0) (undone : U → Option V → Option V) where
   -- what is left of a log unwinds to the same
@@ -211,7 +211,7 @@ module _ {U V : Type 0} (fits : U → Option V → Type 0) (undone : U → Optio
       (sym off.0 ∙ so.value, sym off.1 ∙ so.cuts)
 
 module _ {V : Type 0} where
-  last_onto : (tags : List ℕ) (ns : List (Note V)) (n : Note V) → last_tags tags (ns ++ n ∷ []) ≡ n.tags
+  pub last_onto : (tags : List ℕ) (ns : List (Note V)) (n : Note V) → last_tags tags (ns ++ n ∷ []) ≡ n.tags
   last_onto tags [] n = refl
   last_onto tags (x ∷ ns) n = last_onto x.tags ns n
 

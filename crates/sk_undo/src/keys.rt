@@ -10,7 +10,7 @@ use std::cmp::Ordering;
 use std::marker::Model;
 
 /// A process, or what belongs to one. Contracts see its number.
-#[derive(Clone, Copy, PartialEq, Eq)]
+#[derive(Clone, Copy, PartialEq, Eq, PartialOrd)]
 pub struct ProcessKey {
     pub(crate) pid: Pid,
 }
@@ -37,19 +37,6 @@ fn processes_compared(one: u64, other: u64) -> Ordering
         return Ordering::Less;
     }
     Ordering::Equal
-}
-
-impl PartialOrd for ProcessKey {
-    ghost use Rattle.sk_ids.specs.contracts.pid.PidPartialOrd.TheImpl as process;
-    ghost use Rattle.sk_ids.specs.contracts.pid.PidPartialOrd.TheImpl.Laws.{laws-law};
-
-    ghost partial_cmp = { (process.ghosts).partial_cmp };
-
-    ghost laws = { laws-law };
-
-    fn partial_cmp(&self, other: &ProcessKey) -> Option<Ordering> {
-        self.pid.partial_cmp(&other.pid)
-    }
 }
 
 impl Ord for ProcessKey {
@@ -82,7 +69,7 @@ impl Key for ProcessKey {
 }
 
 /// An object, which is compared by numbers. Contracts see the object.
-#[derive(Clone, Copy, PartialEq, Eq)]
+#[derive(Clone, Copy, PartialEq, Eq, PartialOrd)]
 pub struct ObjectKey {
     pub(crate) id: ObjId,
 }
@@ -146,19 +133,6 @@ fn objects_compared(one: &ObjId, other: &ObjId) -> Ordering
     ensures { result ≡ object_cmp one.now other.now }
 {
     made_compared(maker_path(*one), one.count, maker_path(*other), other.count)
-}
-
-impl PartialOrd for ObjectKey {
-    ghost use Rattle.sk_ids.specs.contracts.pid.ObjIdPartialOrd.TheImpl as object;
-    ghost use Rattle.sk_ids.specs.contracts.pid.ObjIdPartialOrd.TheImpl.Laws.{laws-law};
-
-    ghost partial_cmp = { (object.ghosts).partial_cmp };
-
-    ghost laws = { laws-law };
-
-    fn partial_cmp(&self, other: &ObjectKey) -> Option<Ordering> {
-        self.id.partial_cmp(&other.id)
-    }
 }
 
 impl Ord for ObjectKey {

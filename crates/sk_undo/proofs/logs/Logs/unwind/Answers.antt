@@ -1,4 +1,4 @@
-use Rattle.sk_undo.proofs.Cites.{◌≡◌, ◌+◌, ◌∙◌, drop, subst, refl, drop_all}
+use Rattle.sk_undo.proofs.Cites.{◌+◌, ◌∙◌, drop, subst, refl, drop_all}
 use Rattle.sk_undo.proofs.Passes.{Unwinding, next_of, unwinding_from, unwinding_more, all_unwound}
 use Rattle.sk_undo.proofs.logs.Logs.unwind.Goals as goal
 

@@ -1,10 +1,11 @@
 -- A process's slot, and an object's beside it, changed where they stand in the maps of their kinds.
 use Rattle.sk_undo.proofs.Cites.{◌≡◌, ℕ, List, Option, Some, None, Result, Ok, Err, OnOk, OnErr, refl, sym, ap, subst, ◌∙◌, insert, get}
-use Rattle.sk_undo.proofs.Cites.{Obj, Proc, ObjId, EntityState, Process, Change, FitsAt, CanBecome, nat_cmp, object_cmp, name_order}
+use Rattle.sk_undo.proofs.Cites.{Obj, Proc, ObjId, EntityState, Process, Change, FitsAt, CanBecome, nat_cmp, object_cmp}
 use Rattle.sk_undo.proofs.Cites.{SlotView, SlotMap, slot_in, slot_wrote, slots_wrote, look_at}
 use Rattle.std.specs.FinMap.{FinMap}
-use Rattle.sk_undo.specs.Kinds.{link_cmp, joined}
-use Rattle.sk_undo.proofs.ByKind.{joined_get, put_process, put_object}
+use Rattle.sk_map.specs.Seen.{seen}
+use Rattle.sk_undo.specs.declared.entity_map.EntityMap.TheInside.{Inside}
+use Rattle.sk_undo.proofs.ByKind.{kinds_of, together, with_at, together_at, after}
 use Rattle.sk_undo.proofs.Maps.{given, insert_same}
 use Rattle.sk_undo.proofs.Passes.{wrote_get}
 
@@ -55,21 +56,11 @@ module _ (m : SlotMap) (s : Option SlotView) (none : s ≡ None) where
   pub no_process : (pid : ℕ) (can : Process → Type 0) → s ≡ get m (Proc pid) → CanBecome can (look_at m (Proc pid)) → ⊥
   no_process pid can is h = (subst (λ x. CanBecome can (slot_in x).now) (sym is ∙ none) h).0
 
-module _ (ps ss xs : FinMap nat_cmp SlotView) (os : FinMap object_cmp SlotView) (ls : FinMap link_cmp SlotView) (cs : FinMap name_order SlotView)
-    (m : SlotMap) (whole : joined ps ss xs os ls cs ≡ m) where
-  pub process_at : (pid : ℕ) (s : Option SlotView) → s ≡ get ps pid → s ≡ get m (Proc pid)
-  process_at pid s is = is ∙ sym (joined_get ps ss xs os ls cs (Proc pid)) ∙ ap (λ x. get x (Proc pid)) whole
-
-  pub object_at : (o : ObjId) (s : Option SlotView) → s ≡ get os o → s ≡ get m (Obj o)
-  object_at o s is = is ∙ sym (joined_get ps ss xs os ls cs (Obj o)) ∙ ap (λ x. get x (Obj o)) whole
-
-  pub with_process : (n : FinMap nat_cmp SlotView) (pid : ℕ) (w : SlotView) → n ≡ insert ps pid w → joined n ss xs os ls cs ≡ insert m (Proc pid) w
-  with_process n pid w is =
-      ap (λ x. joined x ss xs os ls cs) is ∙ put_process ps ss xs os ls cs pid w ∙ ap (λ x. insert x (Proc pid) w) whole
-
-  pub with_both : (n : FinMap nat_cmp SlotView) (k : FinMap object_cmp SlotView) (pid : ℕ) (o : ObjId) (w f : SlotView) → n ≡ insert ps pid w → k ≡ insert os o f
-      → joined n ss xs k ls cs ≡ insert (insert m (Obj o) f) (Proc pid) w
-  with_both n k pid o w f is_process is_object =
-      ap (λ x. joined x ss xs k ls cs) is_process ∙ put_process ps ss xs k ls cs pid w
-      ∙ ap (λ x. insert x (Proc pid) w)
-      (ap (λ x. joined ps ss xs x ls cs) is_object ∙ put_object ps ss xs os ls cs o f ∙ ap (λ x. insert x (Obj o) f) whole)
+module _ (a : Inside SlotView) {m : SlotMap} (whole : together (kinds_of a) ≡ m) where
+  pub with_both : {j pid : ℕ} {h o : ObjId} {n : FinMap nat_cmp SlotView} {k : FinMap object_cmp SlotView} (w f : SlotView) → j ≡ pid → h ≡ o
+      → n ≡ insert (seen nat_cmp a.processes) j w → k ≡ insert (seen object_cmp a.objects) h f
+      → together (record (kinds_of a) { processes = n; objects = k }) ≡ insert (insert m (Obj o) f) (Proc pid) w
+  with_both {j} {pid} {h} {o} w f process object is_process is_object =
+      (λ i. together (record (kinds_of a) { processes = is_process i; objects = is_object i }))
+      ∙ together_at (with_at (kinds_of a) (Obj h) (Some f)) (Proc j) (Some w)
+      ∙ (λ i. insert (after a whole (Obj h) (Some f) (ap Obj object) i) (Proc (process i)) w)

@@ -2,11 +2,13 @@
 use Rattle.sk_undo.proofs.Cites.{◌≡◌, ℕ, ◌+◌, Bool, true, false, cond, T, ◌&&◌, Option, Some, None, List, [], ◌∷◌, ◌++◌}
 use Rattle.sk_undo.proofs.Cites.{ObjId, AllByRecursion, Equal, Greater}
 use Rattle.sk_undo.proofs.Cites.{OnSome, OnOk, Result, Ok, Err, refl, ap, sym, subst, ◌∙◌, each, Ordering, Less, eq_by_cmp, is_lt, nat_cmp}
-use Rattle.sk_undo.proofs.Cites.{IsTotalOrder, is_sorted, below_all, find, get, insert, remove, get-insert, get-remove, same_map}
+use Rattle.sk_undo.proofs.Cites.{IsTotalOrder, is_sorted, below_all, find, get, same_map}
 use Rattle.sk_undo.proofs.Cites.{entity_cmp, object_cmp, name_order, entity_exact, entity_total, Entity, Proc, Sig, Exit, Obj, Link, Copy}
-use Rattle.std.proofs.lemmas.List.{append-nil, append_assoc}
+use Rattle.std.proofs.lemmas.List.{append-nil, append_assoc, map-append}
 use Rattle.std.specs.Cmp.{nat_cmp_total}
 use Rattle.std.specs.List.Sorted.{IsStrictlySortedBy}
+use Rattle.sk_record.specs.Run.{put}
+use Rattle.sk_map.specs.Seen.{seen}
 use Rattle.std.specs.Cmp.Lexicographic.{nat_list_cmp_total}
 use Rattle.std.specs.FinMap.{FinMap, entries, empty, from_sorted, get-empty, get-entries, get-from_entries, get-from_sorted}
 use Rattle.std.specs.FinMap.{entries-from_sorted, entries_sorted, keys, values}
@@ -15,6 +17,8 @@ use Rattle.sk_ids.specs.contracts.pid.ObjIdOrd.TheImpl.Laws as object_laws
 use Rattle.sk_undo.specs.contracts.keys.LinkKeyOrd.TheImpl.Laws as link_laws
 use Rattle.sk_undo.specs.Kinds.{link_cmp, link_of, lifted, all_entries, joined}
 use Rattle.sk_undo.specs.KindsLemma.{link_same}
+use Rattle.sk_undo.proofs.Maps.{get_put}
+use Rattle.sk_undo.specs.declared.entity_map.EntityMap.TheInside.{Inside}
 use Rattle.sk_undo.specs.declared.keys.LinkKey.{LinkKey}
 
 object_total : IsTotalOrder object_cmp
@@ -60,118 +64,125 @@ onto R f h [] rest s t under = t
 onto R f h (e ∷ es) rest s t under =
     both _ _ (among R f h e.0 es rest (first _ _ s) (under e.0)) (onto R f h es rest (second _ _ s) t under)
 
-module _ {V : Type 0} (ps ss xs : FinMap nat_cmp V) (os : FinMap object_cmp V) (ls : FinMap link_cmp V) (cs : FinMap name_order V) where
+-- the maps of the kinds
+pub record Kinds (V : Type 0) : Type 0 where
+  pub processes : FinMap nat_cmp V
+  pub signals : FinMap nat_cmp V
+  pub exits : FinMap nat_cmp V
+  pub objects : FinMap object_cmp V
+  pub links : FinMap link_cmp V
+  pub copies : FinMap name_order V
+
+-- as one map
+abbrev pub together : {V : Type 0} → Kinds V → FinMap entity_cmp V
+together k = joined k.processes k.signals k.exits k.objects k.links k.copies
+
+-- those of a map of entities
+abbrev pub kinds_of : {V : Type 0} → Inside V → Kinds V
+kinds_of a = record {
+  processes = seen nat_cmp a.processes;
+  signals = seen nat_cmp a.signals;
+  exits = seen nat_cmp a.exits;
+  objects = seen object_cmp a.objects;
+  links = seen link_cmp a.links;
+  copies = seen name_order a.copies;
+}
+
+module _ {V : Type 0} (k : Kinds V) where
   abbrev from_links : List (Entity × V)
-  from_links = lifted link_of (entries ls) ++ (lifted Copy (entries cs) ++ [])
+  from_links = lifted link_of (entries k.links) ++ (lifted Copy (entries k.copies) ++ [])
 
   abbrev from_objects : List (Entity × V)
-  from_objects = lifted Obj (entries os) ++ from_links
+  from_objects = lifted Obj (entries k.objects) ++ from_links
 
   abbrev from_exits : List (Entity × V)
-  from_exits = lifted Exit (entries xs) ++ from_objects
+  from_exits = lifted Exit (entries k.exits) ++ from_objects
 
   abbrev from_signals : List (Entity × V)
-  from_signals = lifted Sig (entries ss) ++ from_exits
+  from_signals = lifted Sig (entries k.signals) ++ from_exits
 
   abbrev whole : List (Entity × V)
-  whole = lifted Proc (entries ps) ++ from_signals
+  whole = lifted Proc (entries k.processes) ++ from_signals
 
-  whole_is : all_entries ps ss xs os ls cs ≡ whole
-  whole_is = ap (λ es. lifted Proc (entries ps) ++ (lifted Sig (entries ss) ++ (lifted Exit (entries xs) ++ (lifted Obj (entries os) ++ (lifted link_of (entries ls) ++ es))))) (sym (append-nil (lifted Copy (entries cs))))
+  abbrev listed : List (Entity × V)
+  listed = all_entries k.processes k.signals k.exits k.objects k.links k.copies
+
+  whole_is : listed ≡ whole
+  whole_is = ap (λ es. lifted Proc (entries k.processes) ++ (lifted Sig (entries k.signals) ++ (lifted Exit (entries k.exits) ++ (lifted Obj (entries k.objects) ++ (lifted link_of (entries k.links) ++ es))))) (sym (append-nil (lifted Copy (entries k.copies))))
 
   -- what the map of its kind has of an entity
   abbrev pub had : Entity → Option V
-  had (Proc p) = get ps p
-  had (Sig p) = get ss p
-  had (Exit p) = get xs p
-  had (Obj o) = get os o
-  had (Link o n) = get ls (record { directory = o; name = n })
-  had (Copy n) = get cs n
+  had (Proc p) = get k.processes p
+  had (Sig p) = get k.signals p
+  had (Exit p) = get k.exits p
+  had (Obj o) = get k.objects o
+  had (Link o n) = get k.links (record { directory = o; name = n })
+  had (Copy n) = get k.copies n
 
   found : (q : Entity) → find entity_cmp q whole ≡ had q
   found (Proc p) =
-      hit nat_cmp Proc (λ j k. refl) p (entries ps) _ (skip Sig (Proc p) (λ k. refl) (entries ss) _ ∙ skip Exit (Proc p) (λ k. refl) (entries xs) _ ∙ skip Obj (Proc p) (λ k. refl) (entries os) _ ∙ skip link_of (Proc p) (λ k. refl) (entries ls) _ ∙ skip Copy (Proc p) (λ k. refl) (entries cs) [])
-      ∙ sym (get-entries ps p)
+      hit nat_cmp Proc (λ i j. refl) p (entries k.processes) _ (skip Sig (Proc p) (λ j. refl) (entries k.signals) _ ∙ skip Exit (Proc p) (λ j. refl) (entries k.exits) _ ∙ skip Obj (Proc p) (λ j. refl) (entries k.objects) _ ∙ skip link_of (Proc p) (λ j. refl) (entries k.links) _ ∙ skip Copy (Proc p) (λ j. refl) (entries k.copies) [])
+      ∙ sym (get-entries k.processes p)
   found (Sig p) =
-      skip Proc (Sig p) (λ k. refl) (entries ps) _
-      ∙ hit nat_cmp Sig (λ j k. refl) p (entries ss) _ (skip Exit (Sig p) (λ k. refl) (entries xs) _ ∙ skip Obj (Sig p) (λ k. refl) (entries os) _ ∙ skip link_of (Sig p) (λ k. refl) (entries ls) _ ∙ skip Copy (Sig p) (λ k. refl) (entries cs) [])
-      ∙ sym (get-entries ss p)
+      skip Proc (Sig p) (λ j. refl) (entries k.processes) _
+      ∙ hit nat_cmp Sig (λ i j. refl) p (entries k.signals) _ (skip Exit (Sig p) (λ j. refl) (entries k.exits) _ ∙ skip Obj (Sig p) (λ j. refl) (entries k.objects) _ ∙ skip link_of (Sig p) (λ j. refl) (entries k.links) _ ∙ skip Copy (Sig p) (λ j. refl) (entries k.copies) [])
+      ∙ sym (get-entries k.signals p)
   found (Exit p) =
-      skip Proc (Exit p) (λ k. refl) (entries ps) _ ∙ skip Sig (Exit p) (λ k. refl) (entries ss) _
-      ∙ hit nat_cmp Exit (λ j k. refl) p (entries xs) _ (skip Obj (Exit p) (λ k. refl) (entries os) _ ∙ skip link_of (Exit p) (λ k. refl) (entries ls) _ ∙ skip Copy (Exit p) (λ k. refl) (entries cs) [])
-      ∙ sym (get-entries xs p)
+      skip Proc (Exit p) (λ j. refl) (entries k.processes) _ ∙ skip Sig (Exit p) (λ j. refl) (entries k.signals) _
+      ∙ hit nat_cmp Exit (λ i j. refl) p (entries k.exits) _ (skip Obj (Exit p) (λ j. refl) (entries k.objects) _ ∙ skip link_of (Exit p) (λ j. refl) (entries k.links) _ ∙ skip Copy (Exit p) (λ j. refl) (entries k.copies) [])
+      ∙ sym (get-entries k.exits p)
   found (Obj o) =
-      skip Proc (Obj o) (λ k. refl) (entries ps) _ ∙ skip Sig (Obj o) (λ k. refl) (entries ss) _ ∙ skip Exit (Obj o) (λ k. refl) (entries xs) _
-      ∙ hit object_cmp Obj (λ j k. refl) o (entries os) _ (skip link_of (Obj o) (λ k. refl) (entries ls) _ ∙ skip Copy (Obj o) (λ k. refl) (entries cs) [])
-      ∙ sym (get-entries os o)
+      skip Proc (Obj o) (λ j. refl) (entries k.processes) _ ∙ skip Sig (Obj o) (λ j. refl) (entries k.signals) _ ∙ skip Exit (Obj o) (λ j. refl) (entries k.exits) _
+      ∙ hit object_cmp Obj (λ i j. refl) o (entries k.objects) _ (skip link_of (Obj o) (λ j. refl) (entries k.links) _ ∙ skip Copy (Obj o) (λ j. refl) (entries k.copies) [])
+      ∙ sym (get-entries k.objects o)
   found (Link o n) =
-      skip Proc (Link o n) (λ k. refl) (entries ps) _ ∙ skip Sig (Link o n) (λ k. refl) (entries ss) _ ∙ skip Exit (Link o n) (λ k. refl) (entries xs) _ ∙ skip Obj (Link o n) (λ k. refl) (entries os) _
-      ∙ hit link_cmp link_of (λ j k. refl) (record { directory = o; name = n }) (entries ls) _ (skip Copy (Link o n) (λ k. refl) (entries cs) [])
-      ∙ sym (get-entries ls (record { directory = o; name = n }))
+      skip Proc (Link o n) (λ j. refl) (entries k.processes) _ ∙ skip Sig (Link o n) (λ j. refl) (entries k.signals) _ ∙ skip Exit (Link o n) (λ j. refl) (entries k.exits) _ ∙ skip Obj (Link o n) (λ j. refl) (entries k.objects) _
+      ∙ hit link_cmp link_of (λ i j. refl) (record { directory = o; name = n }) (entries k.links) _ (skip Copy (Link o n) (λ j. refl) (entries k.copies) [])
+      ∙ sym (get-entries k.links (record { directory = o; name = n }))
   found (Copy n) =
-      skip Proc (Copy n) (λ k. refl) (entries ps) _ ∙ skip Sig (Copy n) (λ k. refl) (entries ss) _ ∙ skip Exit (Copy n) (λ k. refl) (entries xs) _ ∙ skip Obj (Copy n) (λ k. refl) (entries os) _ ∙ skip link_of (Copy n) (λ k. refl) (entries ls) _
-      ∙ hit name_order Copy (λ j k. refl) n (entries cs) [] refl
-      ∙ sym (get-entries cs n)
+      skip Proc (Copy n) (λ j. refl) (entries k.processes) _ ∙ skip Sig (Copy n) (λ j. refl) (entries k.signals) _ ∙ skip Exit (Copy n) (λ j. refl) (entries k.exits) _ ∙ skip Obj (Copy n) (λ j. refl) (entries k.objects) _ ∙ skip link_of (Copy n) (λ j. refl) (entries k.links) _
+      ∙ hit name_order Copy (λ i j. refl) n (entries k.copies) [] refl
+      ∙ sym (get-entries k.copies n)
 
-  pub joined_get : (q : Entity) → get (joined ps ss xs os ls cs) q ≡ had q
+  pub joined_get : (q : Entity) → get (together k) q ≡ had q
   unfolding joined
-  joined_get q = get-from_entries entity_total (all_entries ps ss xs os ls cs) q ∙ ap (find entity_cmp q) whole_is ∙ found q
+  joined_get q = get-from_entries entity_total listed q ∙ ap (find entity_cmp q) whole_is ∙ found q
 
   sorted : T (is_sorted entity_cmp whole)
   sorted =
-      onto nat_cmp Proc (λ j k. refl) (entries ps) from_signals (entries_sorted ps)
-      (onto nat_cmp Sig (λ j k. refl) (entries ss) from_exits (entries_sorted ss)
-      (onto nat_cmp Exit (λ j k. refl) (entries xs) from_objects (entries_sorted xs)
-      (onto object_cmp Obj (λ j k. refl) (entries os) from_links (entries_sorted os)
-      (onto link_cmp link_of (λ j k. refl) (entries ls) _ (entries_sorted ls)
-      (onto name_order Copy (λ j k. refl) (entries cs) [] (entries_sorted cs) tt (λ k. tt))
-      (λ k. ahead (link_of k) Copy (λ j. tt) (entries cs) [] tt))
-      (λ k. ahead (Obj k) link_of (λ j. tt) (entries ls) _ (ahead (Obj k) Copy (λ j. tt) (entries cs) [] tt)))
-      (λ k. ahead (Exit k) Obj (λ j. tt) (entries os) _ (ahead (Exit k) link_of (λ j. tt) (entries ls) _ (ahead (Exit k) Copy (λ j. tt) (entries cs) [] tt))))
-      (λ k. ahead (Sig k) Exit (λ j. tt) (entries xs) _ (ahead (Sig k) Obj (λ j. tt) (entries os) _ (ahead (Sig k) link_of (λ j. tt) (entries ls) _ (ahead (Sig k) Copy (λ j. tt) (entries cs) [] tt)))))
-      (λ k. ahead (Proc k) Sig (λ j. tt) (entries ss) _ (ahead (Proc k) Exit (λ j. tt) (entries xs) _ (ahead (Proc k) Obj (λ j. tt) (entries os) _ (ahead (Proc k) link_of (λ j. tt) (entries ls) _ (ahead (Proc k) Copy (λ j. tt) (entries cs) [] tt)))))
+      onto nat_cmp Proc (λ i j. refl) (entries k.processes) from_signals (entries_sorted k.processes)
+      (onto nat_cmp Sig (λ i j. refl) (entries k.signals) from_exits (entries_sorted k.signals)
+      (onto nat_cmp Exit (λ i j. refl) (entries k.exits) from_objects (entries_sorted k.exits)
+      (onto object_cmp Obj (λ i j. refl) (entries k.objects) from_links (entries_sorted k.objects)
+      (onto link_cmp link_of (λ i j. refl) (entries k.links) _ (entries_sorted k.links)
+      (onto name_order Copy (λ i j. refl) (entries k.copies) [] (entries_sorted k.copies) tt (λ j. tt))
+      (λ x. ahead (link_of x) Copy (λ j. tt) (entries k.copies) [] tt))
+      (λ x. ahead (Obj x) link_of (λ j. tt) (entries k.links) _ (ahead (Obj x) Copy (λ j. tt) (entries k.copies) [] tt)))
+      (λ x. ahead (Exit x) Obj (λ j. tt) (entries k.objects) _ (ahead (Exit x) link_of (λ j. tt) (entries k.links) _ (ahead (Exit x) Copy (λ j. tt) (entries k.copies) [] tt))))
+      (λ x. ahead (Sig x) Exit (λ j. tt) (entries k.exits) _ (ahead (Sig x) Obj (λ j. tt) (entries k.objects) _ (ahead (Sig x) link_of (λ j. tt) (entries k.links) _ (ahead (Sig x) Copy (λ j. tt) (entries k.copies) [] tt)))))
+      (λ x. ahead (Proc x) Sig (λ j. tt) (entries k.signals) _ (ahead (Proc x) Exit (λ j. tt) (entries k.exits) _ (ahead (Proc x) Obj (λ j. tt) (entries k.objects) _ (ahead (Proc x) link_of (λ j. tt) (entries k.links) _ (ahead (Proc x) Copy (λ j. tt) (entries k.copies) [] tt)))))
 
-  seconds : {K : Type 0} (f : K → Entity) (es : List (K × V)) (rest : List (Entity × V)) → each (λ e. e.1) (lifted f es ++ rest) ≡ each (λ e. e.1) es ++ each (λ e. e.1) rest
-  seconds f [] rest = refl
-  seconds f (e ∷ es) rest = ap (λ vs. e.1 ∷ vs) (seconds f es rest)
+  seconds : {K : Type 0} (f : K → Entity) (es : List (K × V)) → each (λ e. e.1) (lifted f es) ≡ each (λ e. e.1) es
+  seconds f [] = refl
+  seconds f (e ∷ es) = ap (λ vs. e.1 ∷ vs) (seconds f es)
 
-  last_seconds : {K : Type 0} (f : K → Entity) (es : List (K × V)) → each (λ e. e.1) (lifted f es) ≡ each (λ e. e.1) es
-  last_seconds f [] = refl
-  last_seconds f (e ∷ es) = ap (λ vs. e.1 ∷ vs) (last_seconds f es)
+  firsts : {K : Type 0} (f : K → Entity) (es : List (K × V)) → each (λ e. e.0) (lifted f es) ≡ each f (each (λ e. e.0) es)
+  firsts f [] = refl
+  firsts f (e ∷ es) = ap (λ ks. f e.0 ∷ ks) (firsts f es)
 
-  firsts : {K : Type 0} (f : K → Entity) (es : List (K × V)) (rest : List (Entity × V)) → each (λ e. e.0) (lifted f es ++ rest) ≡ each f (each (λ e. e.0) es) ++ each (λ e. e.0) rest
-  firsts f [] rest = refl
-  firsts f (e ∷ es) rest = ap (λ ks. f e.0 ∷ ks) (firsts f es rest)
-
-  last_firsts : {K : Type 0} (f : K → Entity) (es : List (K × V)) → each (λ e. e.0) (lifted f es) ≡ each f (each (λ e. e.0) es)
-  last_firsts f [] = refl
-  last_firsts f (e ∷ es) = ap (λ ks. f e.0 ∷ ks) (last_firsts f es)
-
-  pub joined_entries : entries (joined ps ss xs os ls cs) ≡ all_entries ps ss xs os ls cs
+  pub joined_entries : entries (together k) ≡ listed
   joined_entries =
-      ap entries (same_map entity_total entity_exact (joined ps ss xs os ls cs) (from_sorted {R = entity_cmp} whole)
+      ap entries (same_map entity_total entity_exact (together k) (from_sorted {R = entity_cmp} whole)
       (λ q. joined_get q ∙ sym (found q) ∙ sym (get-from_sorted entity_cmp whole q sorted)))
       ∙ entries-from_sorted entity_cmp whole sorted ∙ sym whole_is
 
-  pub joined_values : values (joined ps ss xs os ls cs) ≡ values ps ++ (values ss ++ (values xs ++ (values os ++ (values ls ++ values cs))))
+  pub joined_values : values (together k) ≡ values k.processes ++ (values k.signals ++ (values k.exits ++ (values k.objects ++ (values k.links ++ values k.copies))))
   joined_values =
-      ap (each (λ e. e.1)) joined_entries
-      ∙ seconds Proc (entries ps) _
-      ∙ ap (λ vs. values ps ++ vs) (seconds Sig (entries ss) _
-      ∙ ap (λ vs. values ss ++ vs) (seconds Exit (entries xs) _
-      ∙ ap (λ vs. values xs ++ vs) (seconds Obj (entries os) _
-      ∙ ap (λ vs. values os ++ vs) (seconds link_of (entries ls) _
-      ∙ ap (λ vs. values ls ++ vs) (last_seconds Copy (entries cs))))))
+      ap (each (λ e. e.1)) joined_entries ∙ simp (map-append, seconds Proc, seconds Sig, seconds Exit, seconds Obj, seconds link_of, seconds Copy)
 
-  pub joined_keys : keys (joined ps ss xs os ls cs) ≡ each Proc (keys ps) ++ (each Sig (keys ss) ++ (each Exit (keys xs) ++ (each Obj (keys os) ++ (each link_of (keys ls) ++ each Copy (keys cs)))))
+  pub joined_keys : keys (together k) ≡ each Proc (keys k.processes) ++ (each Sig (keys k.signals) ++ (each Exit (keys k.exits) ++ (each Obj (keys k.objects) ++ (each link_of (keys k.links) ++ each Copy (keys k.copies)))))
   joined_keys =
-      ap (each (λ e. e.0)) joined_entries
-      ∙ firsts Proc (entries ps) _
-      ∙ ap (λ vs. each Proc (keys ps) ++ vs) (firsts Sig (entries ss) _
-      ∙ ap (λ vs. each Sig (keys ss) ++ vs) (firsts Exit (entries xs) _
-      ∙ ap (λ vs. each Exit (keys xs) ++ vs) (firsts Obj (entries os) _
-      ∙ ap (λ vs. each Obj (keys os) ++ vs) (firsts link_of (entries ls) _
-      ∙ ap (λ vs. each link_of (keys ls) ++ vs) (last_firsts Copy (entries cs))))))
+      ap (each (λ e. e.0)) joined_entries ∙ simp (map-append, firsts Proc, firsts Sig, firsts Exit, firsts Obj, firsts link_of, firsts Copy)
 
 -- keys of a map rise
 rise : {K X : Type 0} (R : K → K → Ordering) (es : List (K × X)) → T (is_sorted R es) → IsStrictlySortedBy R (each (λ e. e.0) es)
@@ -191,17 +202,13 @@ rise {K} {X} R (e ∷ es) s = (all e.0 es (first _ _ s), rise R es (second _ _ s
 pub keys_rise : {V : Type 0} (m : FinMap entity_cmp V) → IsStrictlySortedBy entity_cmp (keys m)
 keys_rise m = rise entity_cmp (entries m) (entries_sorted m)
 
--- the map of entities that has just what is said
-given : {V : Type 0} (m n : FinMap entity_cmp V) (k : Entity) (v : V) → ((q : Entity) → get n q ≡ cond (eq_by_cmp entity_cmp q k) (Some v) (get m q)) → n ≡ insert m k v
-given m n k v h = same_map entity_total entity_exact _ _ (λ q. h q ∙ sym (get-insert entity_total m k v q))
-
-gone : {V : Type 0} (m n : FinMap entity_cmp V) (k : Entity) → ((q : Entity) → get n q ≡ cond (eq_by_cmp entity_cmp q k) None (get m q)) → n ≡ remove m k
-gone m n k h = same_map entity_total entity_exact _ _ (λ q. h q ∙ sym (get-remove entity_total m k q))
+abbrev nothing : {V : Type 0} → Kinds V
+nothing = record { processes = empty; signals = empty; exits = empty; objects = empty; links = empty; copies = empty }
 
 pub joined_empty : {V : Type 0} → joined (empty {X = V}) empty empty empty empty empty ≡ empty
-joined_empty {V} = same_map entity_total entity_exact _ _ (λ q. joined_get empty empty empty empty empty empty q ∙ none q ∙ sym (get-empty entity_cmp q))
+joined_empty {V} = same_map entity_total entity_exact _ _ (λ q. joined_get (nothing {V = V}) q ∙ none q ∙ sym (get-empty entity_cmp q))
   where
-    none : (q : Entity) → had (empty {X = V}) empty empty empty empty empty q ≡ None
+    none : (q : Entity) → had (nothing {V = V}) q ≡ None
     none (Proc p) = get-empty nat_cmp p
     none (Sig p) = get-empty nat_cmp p
     none (Exit p) = get-empty nat_cmp p
@@ -209,100 +216,58 @@ joined_empty {V} = same_map entity_total entity_exact _ _ (λ q. joined_get empt
     none (Link o n) = get-empty link_cmp (record { directory = o; name = n })
     none (Copy n) = get-empty name_order n
 
-module _ {V : Type 0} (ps ss xs : FinMap nat_cmp V) (os : FinMap object_cmp V) (ls : FinMap link_cmp V) (cs : FinMap name_order V) where
-  -- that which all have together, of which one kind changes
-  before : (q : Entity) → had ps ss xs os ls cs q ≡ get (joined ps ss xs os ls cs) q
-  before q = sym (joined_get ps ss xs os ls cs q)
+module _ {V : Type 0} where
+  -- with an entity set, or made absent, in the map of its kind
+  abbrev pub with_at : Kinds V → Entity → Option V → Kinds V
+  with_at k (Proc p) o = record k { processes = put k.processes p o }
+  with_at k (Sig p) o = record k { signals = put k.signals p o }
+  with_at k (Exit p) o = record k { exits = put k.exits p o }
+  with_at k (Obj d) o = record k { objects = put k.objects d o }
+  with_at k (Link d n) o = record k { links = put k.links (record { directory = d; name = n }) o }
+  with_at k (Copy n) o = record k { copies = put k.copies n o }
 
-  pub put_process : (p : ℕ) (v : V) → joined (insert ps p v) ss xs os ls cs ≡ insert (joined ps ss xs os ls cs) (Proc p) v
-  put_process p v = given _ _ (Proc p) v (λ q. joined_get (insert ps p v) ss xs os ls cs q ∙ at q ∙ ap (cond (eq_by_cmp entity_cmp q (Proc p)) (Some v)) (before q))
-    where
-      at : (q : Entity) → had (insert ps p v) ss xs os ls cs q ≡ cond (eq_by_cmp entity_cmp q (Proc p)) (Some v) (had ps ss xs os ls cs q)
-      at (Proc x) = get-insert nat_cmp_total ps p v x
-      at _ = refl
+  had_at : (k : Kinds V) (e q : Entity) (o : Option V) → had (with_at k e o) q ≡ cond (eq_by_cmp entity_cmp q e) o (had k q)
+  had_at k (Proc p) (Proc q) o = get_put nat_cmp_total k.processes p q o
+  had_at k (Sig p) (Sig q) o = get_put nat_cmp_total k.signals p q o
+  had_at k (Exit p) (Exit q) o = get_put nat_cmp_total k.exits p q o
+  had_at k (Obj d) (Obj q) o = get_put object_total k.objects d q o
+  had_at k (Link d n) (Link q t) o = get_put link_total k.links (record { directory = d; name = n }) (record { directory = q; name = t }) o
+  had_at k (Copy n) (Copy q) o = get_put nat_list_cmp_total k.copies n q o
+  had_at k _ _ o = refl
 
-  pub put_signals : (p : ℕ) (v : V) → joined ps (insert ss p v) xs os ls cs ≡ insert (joined ps ss xs os ls cs) (Sig p) v
-  put_signals p v = given _ _ (Sig p) v (λ q. joined_get ps (insert ss p v) xs os ls cs q ∙ at q ∙ ap (cond (eq_by_cmp entity_cmp q (Sig p)) (Some v)) (before q))
-    where
-      at : (q : Entity) → had ps (insert ss p v) xs os ls cs q ≡ cond (eq_by_cmp entity_cmp q (Sig p)) (Some v) (had ps ss xs os ls cs q)
-      at (Sig x) = get-insert nat_cmp_total ss p v x
-      at _ = refl
+  pub together_at : (k : Kinds V) (e : Entity) (o : Option V) → together (with_at k e o) ≡ put (together k) e o
+  together_at k e o = same_map entity_total entity_exact _ _ (λ q.
+      joined_get (with_at k e o) q ∙ had_at k e q o ∙ ap (cond (eq_by_cmp entity_cmp q e) o) (sym (joined_get k q)) ∙ sym (get_put entity_total (together k) e q o))
 
-  pub put_exit : (p : ℕ) (v : V) → joined ps ss (insert xs p v) os ls cs ≡ insert (joined ps ss xs os ls cs) (Exit p) v
-  put_exit p v = given _ _ (Exit p) v (λ q. joined_get ps ss (insert xs p v) os ls cs q ∙ at q ∙ ap (cond (eq_by_cmp entity_cmp q (Exit p)) (Some v)) (before q))
-    where
-      at : (q : Entity) → had ps ss (insert xs p v) os ls cs q ≡ cond (eq_by_cmp entity_cmp q (Exit p)) (Some v) (had ps ss xs os ls cs q)
-      at (Exit x) = get-insert nat_cmp_total xs p v x
-      at _ = refl
+-- what a map of entities has, and becomes, by what a map of one kind has, and becomes, whose key is that of the entity
+module _ {V : Type 0} (a : Inside V) {m : FinMap entity_cmp V} (whole : together (kinds_of a) ≡ m) {e : Entity} where
+  pub got : {K : Type 0} (f : K → Entity) {j p : K} {o : Option V} → j ≡ p → e ≡ f p → o ≡ had (kinds_of a) (f j) → o ≡ get m e
+  got f {j} key is found = found ∙ sym (joined_get (kinds_of a) (f j)) ∙ (λ i. get (whole i) ((ap f key ∙ sym is) i))
 
-  pub put_object : (o : ObjId) (v : V) → joined ps ss xs (insert os o v) ls cs ≡ insert (joined ps ss xs os ls cs) (Obj o) v
-  put_object o v = given _ _ (Obj o) v (λ q. joined_get ps ss xs (insert os o v) ls cs q ∙ at q ∙ ap (cond (eq_by_cmp entity_cmp q (Obj o)) (Some v)) (before q))
-    where
-      at : (q : Entity) → had ps ss xs (insert os o v) ls cs q ≡ cond (eq_by_cmp entity_cmp q (Obj o)) (Some v) (had ps ss xs os ls cs q)
-      at (Obj x) = get-insert object_total os o v x
-      at _ = refl
+  pub after : (q : Entity) (o : Option V) → q ≡ e → together (with_at (kinds_of a) q o) ≡ put m e o
+  after q o is = together_at (kinds_of a) q o ∙ (λ i. put (whole i) (is i) o)
 
-  pub put_link : (l : LinkKey) (v : V) → joined ps ss xs os (insert ls l v) cs ≡ insert (joined ps ss xs os ls cs) (link_of l) v
-  put_link l v = given _ _ (link_of l) v (λ q. joined_get ps ss xs os (insert ls l v) cs q ∙ at q ∙ ap (cond (eq_by_cmp entity_cmp q (link_of l)) (Some v)) (before q))
-    where
-      at : (q : Entity) → had ps ss xs os (insert ls l v) cs q ≡ cond (eq_by_cmp entity_cmp q (link_of l)) (Some v) (had ps ss xs os ls cs q)
-      at (Link o n) = get-insert link_total ls l v (record { directory = o; name = n })
-      at _ = refl
+  pub set_process : (o : Option V) {j p : ℕ} {n : FinMap nat_cmp V} → j ≡ p → e ≡ Proc p → n ≡ put (seen nat_cmp a.processes) j o → together (record (kinds_of a) { processes = n }) ≡ put m e o
+  set_process o {j} key is made = (λ i. together (record (kinds_of a) { processes = made i })) ∙ after (Proc j) o (ap Proc key ∙ sym is)
 
-  pub put_copy : (n : List ℕ) (v : V) → joined ps ss xs os ls (insert cs n v) ≡ insert (joined ps ss xs os ls cs) (Copy n) v
-  put_copy n v = given _ _ (Copy n) v (λ q. joined_get ps ss xs os ls (insert cs n v) q ∙ at q ∙ ap (cond (eq_by_cmp entity_cmp q (Copy n)) (Some v)) (before q))
-    where
-      at : (q : Entity) → had ps ss xs os ls (insert cs n v) q ≡ cond (eq_by_cmp entity_cmp q (Copy n)) (Some v) (had ps ss xs os ls cs q)
-      at (Copy x) = get-insert nat_list_cmp_total cs n v x
-      at _ = refl
+  pub set_signals : (o : Option V) {j p : ℕ} {n : FinMap nat_cmp V} → j ≡ p → e ≡ Sig p → n ≡ put (seen nat_cmp a.signals) j o → together (record (kinds_of a) { signals = n }) ≡ put m e o
+  set_signals o {j} key is made = (λ i. together (record (kinds_of a) { signals = made i })) ∙ after (Sig j) o (ap Sig key ∙ sym is)
 
-  pub gone_process : (p : ℕ) → joined (remove ps p) ss xs os ls cs ≡ remove (joined ps ss xs os ls cs) (Proc p)
-  gone_process p = gone _ _ (Proc p) (λ q. joined_get (remove ps p) ss xs os ls cs q ∙ at q ∙ ap (cond (eq_by_cmp entity_cmp q (Proc p)) None) (before q))
-    where
-      at : (q : Entity) → had (remove ps p) ss xs os ls cs q ≡ cond (eq_by_cmp entity_cmp q (Proc p)) None (had ps ss xs os ls cs q)
-      at (Proc x) = get-remove nat_cmp_total ps p x
-      at _ = refl
+  pub set_exit : (o : Option V) {j p : ℕ} {n : FinMap nat_cmp V} → j ≡ p → e ≡ Exit p → n ≡ put (seen nat_cmp a.exits) j o → together (record (kinds_of a) { exits = n }) ≡ put m e o
+  set_exit o {j} key is made = (λ i. together (record (kinds_of a) { exits = made i })) ∙ after (Exit j) o (ap Exit key ∙ sym is)
 
-  pub gone_signals : (p : ℕ) → joined ps (remove ss p) xs os ls cs ≡ remove (joined ps ss xs os ls cs) (Sig p)
-  gone_signals p = gone _ _ (Sig p) (λ q. joined_get ps (remove ss p) xs os ls cs q ∙ at q ∙ ap (cond (eq_by_cmp entity_cmp q (Sig p)) None) (before q))
-    where
-      at : (q : Entity) → had ps (remove ss p) xs os ls cs q ≡ cond (eq_by_cmp entity_cmp q (Sig p)) None (had ps ss xs os ls cs q)
-      at (Sig x) = get-remove nat_cmp_total ss p x
-      at _ = refl
+  pub set_object : (o : Option V) {j p : ObjId} {n : FinMap object_cmp V} → j ≡ p → e ≡ Obj p → n ≡ put (seen object_cmp a.objects) j o → together (record (kinds_of a) { objects = n }) ≡ put m e o
+  set_object o {j} key is made = (λ i. together (record (kinds_of a) { objects = made i })) ∙ after (Obj j) o (ap Obj key ∙ sym is)
 
-  pub gone_exit : (p : ℕ) → joined ps ss (remove xs p) os ls cs ≡ remove (joined ps ss xs os ls cs) (Exit p)
-  gone_exit p = gone _ _ (Exit p) (λ q. joined_get ps ss (remove xs p) os ls cs q ∙ at q ∙ ap (cond (eq_by_cmp entity_cmp q (Exit p)) None) (before q))
-    where
-      at : (q : Entity) → had ps ss (remove xs p) os ls cs q ≡ cond (eq_by_cmp entity_cmp q (Exit p)) None (had ps ss xs os ls cs q)
-      at (Exit x) = get-remove nat_cmp_total xs p x
-      at _ = refl
+  pub set_link : (o : Option V) {j p : LinkKey} {n : FinMap link_cmp V} → j ≡ p → e ≡ link_of p → n ≡ put (seen link_cmp a.links) j o → together (record (kinds_of a) { links = n }) ≡ put m e o
+  set_link o {j} key is made = (λ i. together (record (kinds_of a) { links = made i })) ∙ after (link_of j) o (ap link_of key ∙ sym is)
 
-  pub gone_object : (o : ObjId) → joined ps ss xs (remove os o) ls cs ≡ remove (joined ps ss xs os ls cs) (Obj o)
-  gone_object o = gone _ _ (Obj o) (λ q. joined_get ps ss xs (remove os o) ls cs q ∙ at q ∙ ap (cond (eq_by_cmp entity_cmp q (Obj o)) None) (before q))
-    where
-      at : (q : Entity) → had ps ss xs (remove os o) ls cs q ≡ cond (eq_by_cmp entity_cmp q (Obj o)) None (had ps ss xs os ls cs q)
-      at (Obj x) = get-remove object_total os o x
-      at _ = refl
-
-  pub gone_link : (l : LinkKey) → joined ps ss xs os (remove ls l) cs ≡ remove (joined ps ss xs os ls cs) (link_of l)
-  gone_link l = gone _ _ (link_of l) (λ q. joined_get ps ss xs os (remove ls l) cs q ∙ at q ∙ ap (cond (eq_by_cmp entity_cmp q (link_of l)) None) (before q))
-    where
-      at : (q : Entity) → had ps ss xs os (remove ls l) cs q ≡ cond (eq_by_cmp entity_cmp q (link_of l)) None (had ps ss xs os ls cs q)
-      at (Link o n) = get-remove link_total ls l (record { directory = o; name = n })
-      at _ = refl
-
-  pub gone_copy : (n : List ℕ) → joined ps ss xs os ls (remove cs n) ≡ remove (joined ps ss xs os ls cs) (Copy n)
-  gone_copy n = gone _ _ (Copy n) (λ q. joined_get ps ss xs os ls (remove cs n) q ∙ at q ∙ ap (cond (eq_by_cmp entity_cmp q (Copy n)) None) (before q))
-    where
-      at : (q : Entity) → had ps ss xs os ls (remove cs n) q ≡ cond (eq_by_cmp entity_cmp q (Copy n)) None (had ps ss xs os ls cs q)
-      at (Copy x) = get-remove nat_list_cmp_total cs n x
-      at _ = refl
+  pub set_copy : (o : Option V) {j p : List ℕ} {n : FinMap name_order V} → j ≡ p → e ≡ Copy p → n ≡ put (seen name_order a.copies) j o → together (record (kinds_of a) { copies = n }) ≡ put m e o
+  set_copy o {j} key is made = (λ i. together (record (kinds_of a) { copies = made i })) ∙ after (Copy j) o (ap Copy key ∙ sym is)
 
 -- lists that were added one after another
 pub one_by_one : {A : Type 0} (a b c d e f : List A) → ((((([] ++ a) ++ b) ++ c) ++ d) ++ e) ++ f ≡ a ++ (b ++ (c ++ (d ++ (e ++ f))))
-one_by_one a b c d e f =
-    append_assoc (((a ++ b) ++ c) ++ d) e f ∙ append_assoc ((a ++ b) ++ c) d (e ++ f) ∙ append_assoc (a ++ b) c (d ++ (e ++ f))
-    ∙ append_assoc a b (c ++ (d ++ (e ++ f)))
+one_by_one a b c d e f = simp append_assoc
 
 -- what follows from what is got, or done
 pub on_some : {A P Q : Type 0} (r : Option A) → (P → Q) → OnSome r P → OnSome r Q

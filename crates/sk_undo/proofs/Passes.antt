@@ -1,7 +1,7 @@
 -- What a pass over the listed entities leaves of the slots.
-use Rattle.sk_undo.proofs.Cites.{◌≡◌, ℕ, ◌+◌, ◌<◌, length, drop, get_or, Bool, true, false, cond, ◌||◌, ◌&&◌, List, []}
+use Rattle.sk_undo.proofs.Cites.{◌≡◌, ℕ, ◌+◌, ◌<◌, length, drop, get_or, Bool, true, false, cond, ◌||◌, List, []}
 use Rattle.sk_undo.proofs.Cites.{◌∷◌, Option, Some, None, refl, sym, ◌∙◌, ap, subst, reverse, is_none, is_some}
-use Rattle.sk_undo.proofs.Cites.{list_all, eq_by_cmp, Equal-is, true≢false, drop-cons, suc-eq-add-one, entity_cmp}
+use Rattle.sk_undo.proofs.Cites.{list_all, and_parts, eq_by_cmp, Equal-is, true≢false, drop-cons, suc-eq-add-one, entity_cmp}
 use Rattle.sk_undo.proofs.Cites.{Entity, entity_total, entity_exact, is_in, Note, has, cut, unwound, committed, Merges}
 use Rattle.sk_undo.proofs.Cites.{IsGrowing, all_kept, in_turn, both_committed, grow_in, EntityState, is_empty, carries}
 use Rattle.sk_undo.proofs.Cites.{EachRests, SlotView, slot_of, slot_wrote, is_bare, committed_joined, SlotMap, slot_in}
@@ -16,10 +16,6 @@ use Rattle.sk_undo.proofs.Commits.{committed_free, committed_twice, grow_commit,
 absent_is : (v : Option EntityState) → is_none v ≡ true → v ≡ None
 absent_is None h = refl
 absent_is (Some x) h = absurd (true≢false (sym h))
-
-and_parts : (a b : Bool) → (a && b) ≡ true → (a ≡ true) × (b ≡ true)
-and_parts true b h = (refl, h)
-and_parts false b h = absurd (true≢false (sym h))
 
 bare_is : (s : SlotView) → is_bare s ≡ true → slot_of None ≡ s
 bare_is s h =
@@ -82,7 +78,7 @@ module _ {C : SlotView → SlotView → Type 0} {old new : SlotMap} {e : Entity}
   same_elsewhere is = ap (λ m. map.get m q) h.all ∙ placed_get old e h.slot q is
 
 -- a proof for an entity, where it is the changed one and where it is not
-by_place : (q e : Entity) (P : Type 0) → (eq_by_cmp entity_cmp q e ≡ true → P) → (eq_by_cmp entity_cmp q e ≡ false → P) → P
+pub by_place : (q e : Entity) (P : Type 0) → (eq_by_cmp entity_cmp q e ≡ true → P) → (eq_by_cmp entity_cmp q e ≡ false → P) → P
 by_place q e P here apart = elim (eq_by_cmp entity_cmp q e) as (λ b. eq_by_cmp entity_cmp q e ≡ b → P) [ true ↦ here | false ↦ apart ] refl
 
 -- an entity that has a slot then had one

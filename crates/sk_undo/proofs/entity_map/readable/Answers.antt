@@ -12,7 +12,7 @@ returns-in-Obj c = λ (ps ss xs : FinMap nat_cmp SlotView) (ls : FinMap link_cmp
     let os = seen object_cmp c.args.objects.now in
     let cs = seen name_order c.args.copies.now in
     c.held.ensures ∙ ap (λ k. (slot_in (map.get os k)).now) c.object.ensures
-    ∙ ap (λ (s : Option SlotView). (slot_in s).now) (sym (joined_get ps ss xs os ls cs (Obj c.in-Obj.id)))
+    ∙ ap (λ (s : Option SlotView). (slot_in s).now) (sym (joined_get (record { processes = ps; signals = ss; exits = xs; objects = os; links = ls; copies = cs }) (Obj c.in-Obj.id)))
     ∙ ap (look_at (joined ps ss xs os ls cs)) (sym c.in-Obj.is)
 
 pub returns-in-Copy : goal.returns-in-Copy
@@ -20,5 +20,5 @@ returns-in-Copy c = λ (ps ss xs : FinMap nat_cmp SlotView) (ls : FinMap link_cm
     let os = seen object_cmp c.args.objects.now in
     let cs = seen name_order c.args.copies.now in
     c.held-in-Copy.ensures
-    ∙ ap (λ (s : Option SlotView). (slot_in s).now) (sym (joined_get ps ss xs os ls cs (Copy c.in-Copy.name)))
+    ∙ ap (λ (s : Option SlotView). (slot_in s).now) (sym (joined_get (record { processes = ps; signals = ss; exits = xs; objects = os; links = ls; copies = cs }) (Copy c.in-Copy.name)))
     ∙ ap (look_at (joined ps ss xs os ls cs)) (sym c.in-Copy.is)

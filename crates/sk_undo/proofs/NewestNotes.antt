@@ -4,7 +4,8 @@ use Rattle.sk_undo.proofs.Cites.{List, [], ◌∷◌, ◌++◌, Option, refl, sy
 use Rattle.sk_undo.proofs.Cites.{slice_set, list_all, prefix_len, true≢false, reverse-append, take-append-drop, has}
 use Rattle.sk_undo.proofs.Cites.{without, and_both, RawNote, is_empty, CanGoBack, rests_last, newest_tags, lightened}
 use Rattle.sk_undo.proofs.Cites.{dropped, from_first, Grows}
-use Rattle.sk_undo.proofs.Commits.{without_free, light_reverse, dropped_can}
+use Rattle.sk_undo.proofs.Commits.{without_free, light_append, light_reverse, dropped_can}
+use Rattle.sk_undo.proofs.SeenNotes.{all_front}
 use Rattle.sk_undo.proofs.Growing.{AllRest, last_on, last_rests, newest_last, newest_is}
 
 module _ {U : Type 0} where
@@ -68,17 +69,11 @@ module _ {U : Type 0} where
       rests_before g j ns n lt (is ∙ ap (λ ys. slice_index_or ys j n) same) here (subst (λ k. AllRest g (drop k ns)) next all)
 
   -- ---- where each note rests on what those before it rest on, the others don't rest on the guess
-  all_front : (g : ℕ) (xs ys : List (RawNote U)) → AllRest g (xs ++ ys) → AllRest g xs
-  all_front g [] ys all = refl
-  all_front g (x ∷ xs) ys all =
-      let both = and_both _ _ all in
-      ap (λ b. b && list_all (λ n. has g n.tags) xs) both.0 ∙ all_front g xs ys both.1
-
   free_front : (g : ℕ) (tags : List ℕ) (xs ys : List (RawNote U)) → AllRest g (from_first g (xs ++ ys)) → has g (last_on tags xs) ≡ false → lightened g xs ≡ xs
   free_front g tags [] ys all none = refl
   free_front g tags (x ∷ xs) ys all none =
       elim (has g x.tags) as (λ b. has g x.tags ≡ b → AllRest g (cond b (x ∷ xs ++ ys) (from_first g (xs ++ ys))) → lightened g (x ∷ xs) ≡ x ∷ xs) [
-        | true ↦ λ here all. absurd (true≢false (sym (last_rests g x.tags xs (all_front g xs ys (and_both _ _ all).1) here) ∙ none))
+        | true ↦ λ here all. absurd (true≢false (sym (last_rests g x.tags xs (all_front (λ (n : RawNote U). has g n.tags) xs ys (and_both _ _ all).1) here) ∙ none))
         | false ↦ λ free all.
             let same = without_free g x.tags free in
             let rest = free_front g x.tags xs ys all none in
@@ -89,7 +84,7 @@ module _ {U : Type 0} where
   none_front g tags [] ys all none = refl
   none_front g tags (x ∷ xs) ys all none =
       elim (has g x.tags) as (λ b. has g x.tags ≡ b → AllRest g (cond b (x ∷ xs ++ ys) (from_first g (xs ++ ys))) → list_all (λ n. not (has g n.tags)) (x ∷ xs) ≡ true) [
-        | true ↦ λ here all. absurd (true≢false (sym (last_rests g x.tags xs (all_front g xs ys (and_both _ _ all).1) here) ∙ none))
+        | true ↦ λ here all. absurd (true≢false (sym (last_rests g x.tags xs (all_front (λ (n : RawNote U). has g n.tags) xs ys (and_both _ _ all).1) here) ∙ none))
         | false ↦ λ free all.
             let rest = none_front g x.tags xs ys all none in
             λ i. not (free i) && rest i
@@ -110,10 +105,6 @@ module _ {U : Type 0} where
   first_place g i ns none all within grows =
       let parts = take-append-drop i ns in
       place_is g i ns (none_front g [] (take i ns) (drop i ns) (subst (λ ms. AllRest g (from_first g ms)) (sym parts) (grows g)) (sym (rests_on_last g (take i ns)) ∙ none)) all within
-
-  light_append : (g : ℕ) (xs ys : List (RawNote U)) → lightened g (xs ++ ys) ≡ lightened g xs ++ lightened g ys
-  light_append g [] ys = refl
-  light_append g (x ∷ xs) ys = ap (λ zs. record { tags = without g x.tags; undo = x.undo } ∷ zs) (light_append g xs ys)
 
   pub whole_pass : (g i : ℕ) (ns : List (RawNote U)) → rests_last g (reverse (take i ns)) ≡ false → Grows ns → lightened_from g i ns ≡ lightened g ns
   whole_pass g i ns none grows =

@@ -1,10 +1,10 @@
 -- How many notes slots hold at least and at most: one for each entity that has some, and no more than those of longer logs.
-use Rattle.sk_kernel.proofs.Names.{◌≡◌, ℕ, ◌+◌, ◌≤◌, length, Bool, true, false, cond, ◌&&◌, ◌||◌, List, [], ◌∷◌, Some}
-use Rattle.sk_kernel.proofs.Names.{None, refl, sym, ◌∙◌, ap, subst, arith, each, T, list_all, sum_by, find, is_sorted}
-use Rattle.sk_kernel.proofs.Names.{below_all, eq_by_cmp, is_lt, is_eq, Ordering, Less, Equal, Greater, Equal-is}
-use Rattle.sk_kernel.proofs.Names.{eq_by_cmp_equiv, true≢false, or_parts, and_parts, length-reverse, sum_by-cons}
-use Rattle.sk_kernel.proofs.Names.{entity_cmp, Entity, entity_total, entity_exact, is_in, Note, EntityState, is_empty}
-use Rattle.sk_kernel.proofs.Names.{SlotView, SlotMap, slot_in, log_at, note_count, notes_in, AreApart}
+use Rattle.sk_kernel.proofs.Names.{◌≡◌, ℕ, ◌+◌, ◌≤◌, length, Bool, true, false, cond, ◌&&◌, List, [], ◌∷◌, Some, None}
+use Rattle.sk_kernel.proofs.Names.{refl, sym, ◌∙◌, ap, subst, arith, each, T, list_all, sum_by, find, is_sorted}
+use Rattle.sk_kernel.proofs.Names.{below_all, eq_by_cmp, is_lt, is_eq, Ordering, Equal-is, eq_by_cmp_equiv, true≢false}
+use Rattle.sk_kernel.proofs.Names.{or_parts, and_parts, length-reverse, sum_by-cons, entity_cmp, Entity, entity_total}
+use Rattle.sk_kernel.proofs.Names.{entity_exact, is_in, Note, EntityState, is_empty, SlotView, SlotMap, slot_in, log_at}
+use Rattle.sk_kernel.proofs.Names.{note_count, notes_in, AreApart}
 use Rattle.std.specs.FinMap as map
 
 abbrev Entries : Type 0
@@ -46,44 +46,16 @@ none_own k a f (e ∷ es) out =
 once_most : (k : Entity) (a : ℕ) (f : Entity → ℕ) (es : List Entity) → AreApart es → sum_by (weighed k a f) es ≤ a + sum_by f es
 once_most k a f [] apart = omega arith
 once_most k a f (e ∷ es) apart =
-    let more = sum_by-cons (weighed k a f) e es in
-    let plain = sum_by-cons f e es in
-    elim (eq_by_cmp entity_cmp e k) as (λ b. eq_by_cmp entity_cmp e k ≡ b → sum_by (weighed k a f) (e ∷ es) ≤ a + sum_by f (e ∷ es)) [
-      | true ↦ λ is.
-          let one : weighed k a f e ≡ a = ap (λ b. cond b a (f e)) is in
-          let rest = none_own k a f es (subst (λ x. is_in entity_cmp es x ≡ false) (same e k is) apart.0) in
-          omega (arith, more, plain, one, rest)
-      | false ↦ λ is.
-          let one : weighed k a f e ≡ f e = ap (λ b. cond b a (f e)) is in
-          let rest = once_most k a f es apart.1 in
-          omega (arith, more, plain, one, rest)
-    ] refl
+    grind (arith, sum_by-cons (weighed k a f) e es, sum_by-cons f e es, once_most k a f es apart.1, none_own k a f es, same e k, apart.0)
 
 less_without : (k : Entity) (f : Entity → ℕ) (es : List Entity) → sum_by (weighed k 0 f) es ≤ sum_by f es
 less_without k f [] = omega arith
-less_without k f (e ∷ es) =
-    let more = sum_by-cons (weighed k 0 f) e es in
-    let plain = sum_by-cons f e es in
-    let rest = less_without k f es in
-    let one : weighed k 0 f e ≤ f e = elim (eq_by_cmp entity_cmp e k) as (λ b. cond b 0 (f e) ≤ f e) [ true ↦ omega arith | false ↦ omega arith ] in
-    omega (arith, more, plain, rest, one)
+less_without k f (e ∷ es) = grind (arith, sum_by-cons (weighed k 0 f) e es, sum_by-cons f e es, less_without k f es)
 
 without_one : (k : Entity) (f : Entity → ℕ) (es : List Entity) → is_in entity_cmp es k ≡ true → f k + sum_by (weighed k 0 f) es ≤ sum_by f es
 without_one k f [] here = absurd (true≢false (sym here))
 without_one k f (e ∷ es) here =
-    let more = sum_by-cons (weighed k 0 f) e es in
-    let plain = sum_by-cons f e es in
-    elim (eq_by_cmp entity_cmp e k) as (λ b. eq_by_cmp entity_cmp e k ≡ b → f k + sum_by (weighed k 0 f) (e ∷ es) ≤ sum_by f (e ∷ es)) [
-      | true ↦ λ is.
-          let one : weighed k 0 f e ≡ 0 = ap (λ b. cond b 0 (f e)) is in
-          let at : f e ≡ f k = ap f (same e k is) in
-          let rest = less_without k f es in
-          omega (arith, more, plain, one, at, rest)
-      | false ↦ λ is.
-          let one : weighed k 0 f e ≡ f e = ap (λ b. cond b 0 (f e)) is in
-          let rest = without_one k f es (sym (ap (λ b. b || is_in entity_cmp es k) (either e k is)) ∙ here) in
-          omega (arith, more, plain, one, rest)
-    ] refl
+    grind (arith, sum_by-cons (weighed k 0 f) e es, sum_by-cons f e es, less_without k f es, without_one k f es, same e k, either e k)
 
 -- ---- at least
 none_in : (es : List Entity) → sum_by (λ q. length (log_in [] q)) es ≡ 0
@@ -105,24 +77,15 @@ sum_least (x ∷ xs) es apart =
 
 pub ones : (f : Entity → ℕ) (t : Entity → Bool) → ((e : Entity) → t e ≡ true → 1 ≤ f e) → (es : List Entity) → list_all t es ≡ true → length es ≤ sum_by f es
 ones f t some [] all = omega arith
-ones f t some (e ∷ es) all =
-    let parts = and_parts (t e) (list_all t es) all in
-    let more = sum_by-cons f e es in
-    let one = some e parts.0 in
-    let rest = ones f t some es parts.1 in
-    omega (arith, more, one, rest)
+ones f t some (e ∷ es) all = grind (arith, sum_by-cons f e es, some e, ones f t some es)
 
 -- ---- at most
 below : (o : Ordering) (b : Bool) → (is_lt o && b) ≡ true → (is_eq o ≡ false) × (b ≡ true)
-below Less b h = (refl, h)
-below Equal b h = cc
-below Greater b h = cc
+below o b h = grind arith
 
 below_none : (k : Entity) (xs : Entries) → below_all entity_cmp k xs ≡ true → find entity_cmp k xs ≡ None
 below_none k [] h = refl
-below_none k (x ∷ xs) h =
-    let parts = below (entity_cmp k x.0) (below_all entity_cmp k xs) h in
-    ap (λ b. cond b (Some x.1) (find entity_cmp k xs)) parts.0 ∙ below_none k xs parts.1
+below_none k (x ∷ xs) h = grind (arith, below (entity_cmp k x.0) (below_all entity_cmp k xs), below_none k xs)
 
 empty_long : {A : Type 0} (xs : List A) → is_empty xs ≡ true → length xs ≡ 0
 empty_long [] h = refl

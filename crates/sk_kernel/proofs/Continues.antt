@@ -258,8 +258,7 @@ same_answers None (Some s) h = (h s).1 refl
 same_answers (Some s) b h = sym ((h s).0 refl)
 
 since_since : (a b c : Option Status) → or_since (or_since a b) c ≡ or_since a (or_since b c)
-since_since (Some s) b c = refl
-since_since None b c = refl
+since_since a b c = grind arith
 
 module _ {E V W F N : Type 0} (K : System E V W F N) where
   -- the last number is below what the first one and all drawn ones are below
@@ -272,8 +271,7 @@ module _ {E V W F N : Type 0} (K : System E V W F N) where
         | Some g ↦ λ is. all g (or_left _ _ (is_mark (K.mark n) g is))
       ] refl)
       (λ g here. all g (or_right _ _ here))
-  last_below last bound (Commit h ∷ es) below all = last_below last bound es below (λ g here. all g here)
-  last_below last bound (Fail h ∷ es) below all = last_below last bound es below (λ g here. all g here)
+  last_below last bound (other ∷ es) below all = last_below last bound es below (λ g here. all g here)
 
   -- and not below a number that all of them are above
   last_at_least : (last bound : ℕ) (es : List (Event N)) → bound ≤ last → ((g : ℕ) → list_any (draws K g) es ≡ true → bound < g) → bound ≤ fold (last_after K) last es
@@ -285,8 +283,7 @@ module _ {E V W F N : Type 0} (K : System E V W F N) where
         | Some g ↦ λ is. (let less = all g (or_left _ _ (is_mark (K.mark n) g is)) in omega (arith, less))
       ] refl)
       (λ g here. all g (or_right _ _ here))
-  last_at_least last bound (Commit h ∷ es) le all = last_at_least last bound es le (λ g here. all g here)
-  last_at_least last bound (Fail h ∷ es) le all = last_at_least last bound es le (λ g here. all g here)
+  last_at_least last bound (other ∷ es) le all = last_at_least last bound es le (λ g here. all g here)
 
 module _ {E V W F N : Type 0} (K : System E V W F N) (total : IsTotalOrder K.order) (exact : IsAntisymmetric K.order) (start : FinMap K.order V) (earlier : List Status) (es : List (Event N)) (statuses : List Status)
     (ends : EndsAt K start earlier es (run K start (record_of K start es)) statuses) (last : length statuses ≡ fold (last_after K) (length earlier) es) where

@@ -7,7 +7,7 @@ use Rattle.sk_kernel.proofs.Names.{Undecided, Committed, Failed, Struck, LAST_GU
 use Rattle.sk_kernel.proofs.Names.{status_of, status_since, decided, drawn, next_of, is_full, redeemed, redeemed_at}
 use Rattle.sk_kernel.proofs.Names.{Input, Event, plain, TooMany, Parts, machine_of, KernelView, HasStatus, events_of}
 use Rattle.sk_kernel.proofs.Names.{next_guess, with_event, too_many, IsNew, IsStranger, DecisionPost, IsWhole, StatusOr}
-use Rattle.sk_kernel.proofs.Names.{beyond, entity_total, entity_exact, shorter}
+use Rattle.sk_kernel.proofs.Names.{beyond, entity_total, entity_exact, shorter, MergedStands, number_after, last_guess}
 use Rattle.sk_guesses.specs.declared.guess.Redeemed.TheVariants as redeemed_as
 use Rattle.sk_trace.specs.declared.event.Event.TheVariants as events
 use Rattle.sk_kernel.specs.declared.kernel.Outcome.TheVariants as outcomes
@@ -91,52 +91,42 @@ module _ (k : KernelView) (m b : Parts) (place left : ℕ) (g : ℕ) (es : List 
   pub kept_place : 0 < place
   kept_place = let some = some_open m.opens is_open in let room = whole.place in omega (arith, some, room)
 
-  pub committed_whole : MergedCommits (machine_of m) g (machine_of b) → b.guesses ≡ decided m.guesses g Committed → es ≡ k.trace ++ events.Commit g ∷ [] → left + 1 ≡ place
+  -- after an event that decides it and draws none
+  decided_whole : (e : Event) (s : Status) (p : Open → Bool) → MergedStands (plain k.scripts) k.start (events_of (with_event k e)) (machine_of b)
+      → number_after (last_guess k) e ≡ last_guess k → status_since b.guesses g ≡ Some s → (Some s ≡ Some Undecided → ⊥)
+      → numbers b.opens ≡ numbers (filter p m.opens) → length b.opens ≡ length (filter p m.opens)
+      → b.guesses.earlier ≡ m.guesses.earlier → length b.guesses.statuses ≡ length m.guesses.statuses → es ≡ k.trace ++ e ∷ [] → left + 1 ≡ place
       → IsWhole (after_event k b es) b left
-  committed_whole commits guesses trace room =
-      let earlier : b.guesses.earlier ≡ m.guesses.earlier = ap (λ v. v.earlier) guesses in
-      let e = events.Commit g in
-      let represents = stands_committed k m whole.stands g b undecided commits in
+  decided_whole e s p represents none_drawn status other same long earlier count trace room =
       let stands = stands_more k m b whole.stands earlier es e trace represents in
-      let status : status_since b.guesses g ≡ Some Committed = commits.status g ∙ ap (λ x. cond x (Some Committed) (status_since m.guesses g)) (eq-eqb g g refl) in
-      let gone : has g (numbers b.opens) ≡ false = false_from_ne_true _ (λ here. let both : Some Committed ≡ Some Undecided = sym status ∙ (open_undecided (with_event k e) b stands g).0 here in cc) in
-      let p : Open → Bool = λ o. not (o.0 == g) in
-      let same : numbers b.opens ≡ numbers (filter p m.opens) = ap numbers commits.opens ∙ numbers_without g (filter p m.opens) in
+      let gone : has g (numbers b.opens) ≡ false = false_from_ne_true _ (λ here. other (sym status ∙ (open_undecided (with_event k e) b stands g).0 here)) in
       let less = fewer p m.opens g is_open (sym (ap (has g) same) ∙ gone) in
-      let long : length b.opens ≡ length (filter p m.opens) = ap length commits.opens ∙ length_without g (filter p m.opens) in
-      let enough = whole.place in
       let last = last_after_event k m b whole.stands earlier es e trace in
       let before = earlier_long k m b whole.stands earlier es e trace in
-      let count : length b.guesses.statuses ≡ length m.guesses.statuses = ap (λ v. length v.statuses) guesses ∙ length-set m.guesses.statuses _ Committed in
-      let drawn = whole.drawn in
+      let was = whole.drawn in
+      let enough = whole.place in
       record {
         stands = stands_after k m b whole.stands earlier es e trace represents;
         number = refl;
-        drawn = omega (arith, last, before, count, drawn);
+        drawn = omega (arith, last, none_drawn, before, count, was);
         place = omega (arith, less, long, room, enough);
       }
+
+  pub committed_whole : MergedCommits (machine_of m) g (machine_of b) → b.guesses ≡ decided m.guesses g Committed → es ≡ k.trace ++ events.Commit g ∷ [] → left + 1 ≡ place
+      → IsWhole (after_event k b es) b left
+  committed_whole commits guesses trace room =
+      let p : Open → Bool = λ o. not (o.0 == g) in
+      decided_whole (events.Commit g) Committed p (stands_committed k m whole.stands g b undecided commits) refl
+      (commits.status g ∙ ap (λ x. cond x (Some Committed) (status_since m.guesses g)) (eq-eqb g g refl)) (λ is. cc)
+      (ap numbers commits.opens ∙ numbers_without g (filter p m.opens)) (ap length commits.opens ∙ length_without g (filter p m.opens))
+      (ap (λ v. v.earlier) guesses) (ap (λ v. length v.statuses) guesses ∙ length-set m.guesses.statuses _ Committed) trace room
 
   pub failed_whole : Fails (machine_of m) g (machine_of b) → b.guesses.earlier ≡ m.guesses.earlier → length b.guesses.statuses ≡ length m.guesses.statuses → es ≡ k.trace ++ events.Fail g ∷ [] → left + 1 ≡ place
       → IsWhole (after_event k b es) b left
   failed_whole fails earlier count trace room =
-      let e = events.Fail g in
-      let represents = stands_failed k m whole.stands g b undecided fails in
-      let stands = stands_more k m b whole.stands earlier es e trace represents in
-      let status : status_since b.guesses g ≡ Some Failed = fails.status g ∙ ap (λ x. cond x (Some Failed) (cond (rests_on g m.opens g) (Some Struck) (status_since m.guesses g))) (eq-eqb g g refl) in
-      let gone : has g (numbers b.opens) ≡ false = false_from_ne_true _ (λ here. let both : Some Failed ≡ Some Undecided = sym status ∙ (open_undecided (with_event k e) b stands g).0 here in cc) in
-      let p : Open → Bool = λ o. not (has g o.1) in
-      let less = fewer p m.opens g is_open (sym (ap (λ os. has g (numbers os)) fails.state.opens) ∙ gone) in
-      let long : length b.opens ≡ length (filter p m.opens) = ap length fails.state.opens in
-      let enough = whole.place in
-      let last = last_after_event k m b whole.stands earlier es e trace in
-      let before = earlier_long k m b whole.stands earlier es e trace in
-      let drawn = whole.drawn in
-      record {
-        stands = stands_after k m b whole.stands earlier es e trace represents;
-        number = refl;
-        drawn = omega (arith, last, before, count, drawn);
-        place = omega (arith, less, long, room, enough);
-      }
+      decided_whole (events.Fail g) Failed (λ o. not (has g o.1)) (stands_failed k m whole.stands g b undecided fails) refl
+      (fails.status g ∙ ap (λ x. cond x (Some Failed) (cond (rests_on g m.opens g) (Some Struck) (status_since m.guesses g))) (eq-eqb g g refl))
+      (λ is. cc) (ap numbers fails.state.opens) (ap length fails.state.opens) earlier count trace room
 
 -- ---- a guess
 

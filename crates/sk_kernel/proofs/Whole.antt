@@ -16,7 +16,7 @@ use Rattle.sk_kernel.proofs.Names.{record_at, state_at, undecided_at, tags_at, t
 use Rattle.sk_kernel.proofs.Names.{RestsOn, effect_at, number_after, last_guess, with_event, room, ShowsTerminal}
 use Rattle.sk_kernel.proofs.Names.{SaysNothing, LeavesTexts, released_at, IsWhole, Stands, opened, Machine}
 use Rattle.sk_kernel.proofs.Names.{machine_at_start, BootView, State, start_of, IsAtStart, booted, Scripts, append-nil}
-use Rattle.sk_kernel.proofs.Names.{TaggedText, waiting_of, option_copied, unwrap_or}
+use Rattle.sk_kernel.proofs.Names.{TaggedText, waiting_of, option_copied, unwrap_or, Bool}
 use Rattle.std.specs.List.Sorted.{IsStrictlySortedBy}
 use Rattle.std.specs.FinMap as map
 use Rattle.sk_record.proofs.MachineRuns as machine_runs
@@ -89,6 +89,10 @@ released_said : (t : ℕ) (xs : List TaggedText) → released (said_at t xs) ≡
 released_said t [] = refl
 released_said t ((text, []) ∷ xs) = ap (λ (ws : List Saying). record { to = t; text = text } ∷ ws) (released_said t xs)
 released_said t ((text, g ∷ tags) ∷ xs) = refl
+
+-- what is told of open guesses, and what is known of those that are not
+by_open : (is_open told rests : Bool) → (is_open ≡ true → told ≡ rests) → (is_open ≡ false → told ≡ false) → (rests ≡ true → is_open ≡ true) → told ≡ rests
+by_open is_open told rests here none known = grind arith
 
 module _ (k : KernelView) (m : Parts) (stands : Stands k m) where
   is_plain : IsPlainRun (plain k.scripts) k.start (events_of k) (machine_of m)
@@ -192,15 +196,8 @@ module _ (k : KernelView) (m : Parts) (stands : Stands k m) where
   pub dependents_are : (id : ℕ) (es : List Entity) → (has id (numbers m.opens) ≡ true → (e : Entity) → is_in entity_cmp es e ≡ has id (tags_in (undo_state_of m) e)) → (has id (numbers m.opens) ≡ false → es ≡ [])
       → (e : Entity) → is_in entity_cmp es e ≡ has id (tags_at k e)
   dependents_are id es exact none e =
-      elim (has id (numbers m.opens)) as (λ b. has id (numbers m.opens) ≡ b → is_in entity_cmp es e ≡ has id (tags_at k e)) [
-        | true ↦ λ here. exact here e ∙ ap (has id) (tags_computed e)
-        | false ↦ λ closed.
-            ap (λ xs. is_in entity_cmp xs e) (none closed)
-            ∙ sym (elim (has id (tags_at k e)) as (λ b. has id (tags_at k e) ≡ b → b ≡ false) [
-              | true ↦ λ here. sym (tidy.known e id (ap (has id) (tags_computed e) ∙ here)) ∙ closed
-              | false ↦ λ _. refl
-            ] refl)
-      ] refl
+      by_open (has id (numbers m.opens)) (is_in entity_cmp es e) (has id (tags_at k e)) (λ here. exact here e ∙ ap (has id) (tags_computed e))
+      (λ closed. ap (λ xs. is_in entity_cmp xs e) (none closed)) (λ here. tidy.known e id (ap (has id) (tags_computed e) ∙ here))
 
   -- ---- what stands after an event
   pub stands_stepped : (pid : ℕ) (input : Input) (b : Parts) → MergedTakes (plain k.scripts) (machine_of m) (record { pid = pid; input = input; guess = None }) (machine_of b)

@@ -1,17 +1,22 @@
 -- Steps that rest on just what their process rests on.
-use Rattle.sk_machine.proofs.Names.{both_ways, or_left, ◌≡◌, ℕ, suc, ◌<◌, ◌≤◌, length, true, List, [], ◌∷◌, ◌++◌}
-use Rattle.sk_machine.proofs.Names.{Option, None, Result, Ok, Err, inl, inr, refl, sym, ◌∙◌, ap, subst, arith, list_any}
-use Rattle.sk_machine.proofs.Names.{OnOk, OnErr, slice_index_or, eq_by_cmp_equiv, nat_cmp, eq_by_cmp, or_cases}
+use Rattle.sk_machine.proofs.Names.{both_ways, or_left, ◌≡◌, ℕ, suc, ◌<◌, ◌≤◌, length, true, List, [], ◌∷◌, ◌++◌, None}
+use Rattle.sk_machine.proofs.Names.{Result, Ok, Err, inl, inr, refl, sym, ◌∙◌, ap, subst, arith, list_any}
+use Rattle.sk_machine.proofs.Names.{slice_index_or, eq_by_cmp_equiv, nat_cmp, eq_by_cmp, or_cases, status_since}
 use Rattle.sk_machine.proofs.Names.{or_right, true≢false, false≢true, eqb-true, append-nil, list_any-append, above, has}
 use Rattle.sk_machine.proofs.Names.{IsTidy, Open, numbers, step_tags, entity_cmp, Entity, Proc, Sig, entity_total}
-use Rattle.sk_machine.proofs.Names.{entity_exact, OpenGuess, opens_of, tied_is, Input, EntityState, is_empty, SlotMap}
+use Rattle.sk_machine.proofs.Names.{entity_exact, OpenGuess, opens_of, tied_is, Input, is_empty, SlotMap, TerminalMap}
 use Rattle.sk_machine.proofs.Names.{look_at, undo_state, PlanView, LooksView, Nowhere, Scripts, looked_at, read_by}
-use Rattle.sk_machine.proofs.Names.{signals_read, written_by, writes_of, looked, looks_of, seen_with, written_in, Plan}
-use Rattle.sk_machine.proofs.Names.{Private, written_is, changed_are, tags_in, with_tags, AllExact, Covers, IsEnough}
-use Rattle.sk_machine.proofs.Names.{RestAlike, Parts, undo_state_of, planned_effect, IsClean, Performed, entities_of}
+use Rattle.sk_machine.proofs.Names.{signals_read, written_by, looked, looks_of, seen_with, Plan, said_in_plan}
+use Rattle.sk_machine.proofs.Names.{texts_after, Private, written_is, changed_are, tags_in, with_tags, AllExact, Covers}
+use Rattle.sk_machine.proofs.Names.{IsEnough, plain, RestAlike, Parts, undo_state_of, planned_effect, Performed}
+use Rattle.sk_machine.proofs.Names.{entities_of, machine_of, CanTake, HasTaken, RestsAsProcess, HasPerformed}
+use Rattle.sk_machine.proofs.Names.{CanPerformWith, planned_writes, MergedTakes}
+use Rattle.std.specs.declared.alloc.AllocError.{AllocError}
 use Rattle.std.specs.List.Sorted.{IsStrictlySortedBy}
 use Rattle.sk_script.specs.declared.instruction.Input.TheVariants as inputs
-use Rattle.sk_machine.proofs.Joins.{clean_of}
+use Rattle.sk_machine.proofs.Becomes.{same_parts, takes_of}
+use Rattle.sk_machine.proofs.Given.{on_ok, on_err}
+use Rattle.sk_machine.proofs.Joins.{can_perform}
 use Rattle.sk_machine.proofs.Listed.{exact_as, performed_exact}
 use Rattle.sk_machine.proofs.Tags.{tags_are}
 use Rattle.std.proofs.lemmas.Bool.Decides.{nat_tests}
@@ -121,8 +126,17 @@ module _ (m : SlotMap) (os : List Open) (tidy : IsTidy (undo_state m os)) where
   nothing_at none e [] is = refl
   nothing_at none e (t ∷ ts) is = absurd (false≢true (ap (λ ks. has t (numbers ks)) (sym none) ∙ tidy.known e t (ap (has t) is ∙ itself t ts)))
 
-  pub untagged : os ≡ [] → (e : Entity) → tags_in m e ≡ []
+  untagged : os ≡ [] → (e : Entity) → tags_in m e ≡ []
   untagged none e = nothing_at none e (tags_in m e) refl
+
+  pub none_open : os ≡ [] → (pid : ℕ) (input : Input) (plan : Plan) → RestsAsProcess m [] pid input plan
+  unfolding IsStrictlySortedBy
+  none_open none pid input plan = record {
+    own = untagged none (Proc pid);
+    reads = open_covered [] (read_by pid input (looked (looks_of plan))) (sym (ap numbers none));
+    writes = λ e there. untagged none e;
+    rising = tt;
+  }
 
 -- ---- where a process goes on with the guesses that it rests on
 open_count : (os : List Open) → length (numbers os) ≡ length os
@@ -157,44 +171,57 @@ covers_any tags base g (x ∷ es) covers rests =
 alike_covers : (tags : List ℕ) (base : Entity → List ℕ) (es : List Entity) → RestAlike tags es base → Covers tags es base
 alike_covers tags base es alike e g there rests = ap (has g) (sym (alike e there)) ∙ rests
 
-module _ (m : Parts) (pid : ℕ) (input : Input) (plan : PlanView) (tags : List ℕ) where
-  pub alike_tags : IsTidy (undo_state_of m) → IsStrictlySortedBy nat_cmp (numbers m.opens) → IsStrictlySortedBy nat_cmp tags
-      → tags_in m.slots (Proc pid) ≡ tags → Covers tags (read_by pid input plan.looks) (tags_in m.slots) → RestAlike tags (written_by pid plan.beside) (tags_in m.slots)
-      → tags ≡ step_tags (undo_state_of m) (planned_effect m (record { pid = pid; input = input; guess = None }) plan)
-  alike_tags tidy opens_rise rises own reads writes =
-      let base = tags_in m.slots in
-      tags_are m (record { pid = pid; input = input; guess = None }) plan tags tidy (subst (IsStrictlySortedBy nat_cmp) (sym (append-nil (numbers m.opens))) opens_rise) rises
-      (λ g. both_ways _ _
-      (λ here. or_left _ _ (or_left _ _ (ap (has g) own ∙ here)))
-      (λ rests.
-      elim (or_cases _ _ rests) [
-        | inl r ↦ covers_any tags base g (read_by pid input plan.looks) reads r
-        | inr w ↦ covers_any tags base g (written_by pid plan.beside) (alike_covers tags base (written_by pid plan.beside) writes) w
-      ]))
-
--- ---- a planned step of this kind
-module _ (p : Parts) (scripts : Scripts) (pid : ℕ) (input : Input) (plan : Plan) (tags : List ℕ)
-    (tidy : IsTidy (undo_state_of p)) (opens_rise : IsStrictlySortedBy nat_cmp (numbers p.opens)) (rises : IsStrictlySortedBy nat_cmp tags)
-    (own : tags_in p.slots (Proc pid) ≡ tags) (reads : Covers tags (read_by pid input (looked (looks_of plan))) (tags_in p.slots)) (writes : RestAlike tags (written_in pid plan) (tags_in p.slots)) where
-  pub planned_tags : tags ≡ step_tags (undo_state_of p) (planned_effect p (record { pid = pid; input = input; guess = None }) (seen_with (look_at p.slots) scripts pid input plan))
-  planned_tags =
-      alike_tags p pid input (seen_with (look_at p.slots) scripts pid input plan) tags tidy opens_rise rises own reads
-      (subst (λ es. RestAlike tags es (tags_in p.slots)) (sym (written_is (look_at p.slots) scripts pid input plan)) writes)
-
-  pub planned_clean : IsClean p.slots tags (entities_of (writes_of (look_at p.slots) pid (seen_with (look_at p.slots) scripts pid input plan)))
-  planned_clean = clean_of p (record { pid = pid; input = input; guess = None }) (seen_with (look_at p.slots) scripts pid input plan) tags tidy planned_tags
-
-  pub planned_alike : RestAlike tags (entities_of (writes_of (look_at p.slots) pid (seen_with (look_at p.slots) scripts pid input plan))) (tags_in p.slots)
-  planned_alike =
-      subst (λ es. RestAlike tags es (tags_in p.slots))
-      (sym (written_is (look_at p.slots) scripts pid input plan) ∙ sym (changed_are (look_at p.slots) pid (seen_with (look_at p.slots) scripts pid input plan))) writes
-
 -- ---- the lists stay as they are
 pub alike_exact : (tags : List ℕ) (es : List Entity) (base : Entity → List ℕ) → RestAlike tags es base → (os : List (OpenGuess Entity)) → AllExact base os → AllExact (with_tags tags es base) os
 alike_exact tags es base alike os all = exact_as base (with_tags tags es base) (λ e. grind (arith, alike e)) os all
 
-pub alike_performed : {A F : Type 0} (m n : SlotMap) (tags : List ℕ) (ws : List (Entity × Option EntityState)) (r : Result A F) → IsClean m tags (entities_of ws) → RestAlike tags (entities_of ws) (tags_in m)
-    → OnOk r (Performed m tags ws n) → OnErr r (n ≡ m) → (os : List (OpenGuess Entity)) → AllExact (tags_in m) os → AllExact (tags_in n) os
-alike_performed m n tags ws (Ok done) clean alike did same os all =
-    performed_exact m n tags (entities_of ws) ws refl clean did os (alike_exact tags (entities_of ws) (tags_in m) alike os all)
-alike_performed m n tags ws (Err why) clean alike did same os all = subst (λ x. AllExact (tags_in x) os) (sym same) all
+-- ---- a planned step of this kind
+module _ (p : Parts) (scripts : Scripts) (pid : ℕ) (input : Input) (plan : Plan) (tags : List ℕ) (can : CanTake p scripts pid input plan) (alike : RestsAsProcess p.slots tags pid input plan) where
+  abbrev seen : PlanView
+  seen = seen_with (look_at p.slots) scripts pid input plan
+
+  written_alike : RestAlike tags (written_by pid seen.beside) (tags_in p.slots)
+  written_alike = subst (λ es. RestAlike tags es (tags_in p.slots)) (sym (written_is (look_at p.slots) scripts pid input plan)) alike.writes
+
+  tags_same : tags ≡ step_tags (undo_state_of p) (planned_effect p (record { pid = pid; input = input; guess = None }) seen)
+  tags_same =
+      let base = tags_in p.slots in
+      tags_are p (record { pid = pid; input = input; guess = None }) seen tags can.order.tidy
+      (subst (IsStrictlySortedBy nat_cmp) (sym (append-nil (numbers p.opens))) can.order.rising) alike.rising
+      (λ g. both_ways _ _
+      (λ here. or_left _ _ (or_left _ _ (ap (has g) alike.own ∙ here)))
+      (λ rests.
+      elim (or_cases _ _ rests) [
+        | inl r ↦ covers_any tags base g (read_by pid input seen.looks) alike.reads r
+        | inr w ↦ covers_any tags base g (written_by pid seen.beside) (alike_covers tags base (written_by pid seen.beside) written_alike) w
+      ]))
+
+  pub can_with : CanPerformWith p.slots tags scripts pid input plan
+  can_with = can_perform p scripts (record { pid = pid; input = input; guess = None }) plan tags can.planned can.order.tidy tags_same
+
+  pub exact_after : (n : SlotMap) → Performed p.slots tags (planned_writes p.slots scripts pid input plan) n → (os : List (OpenGuess Entity)) → AllExact (tags_in p.slots) os → AllExact (tags_in n) os
+  exact_after n did os all =
+      let ws = planned_writes p.slots scripts pid input plan in
+      performed_exact p.slots n tags (entities_of ws) ws refl can_with.clean did os
+      (alike_exact tags (entities_of ws) (tags_in p.slots) (subst (λ es. RestAlike tags es (tags_in p.slots)) (sym (changed_are (look_at p.slots) pid seen)) written_alike) os all)
+
+  pub taken_after : (b : Parts) → Performed p.slots tags (planned_writes p.slots scripts pid input plan) b.slots → b.opens ≡ p.opens → b.guesses ≡ p.guesses
+      → b.texts ≡ texts_after p.texts tags (said_in_plan seen)
+      → MergedTakes (plain scripts) (machine_of p) (record { pid = pid; input = input; guess = None }) (machine_of b)
+  taken_after b did opens guesses texts =
+      takes_of scripts p b (record { pid = pid; input = input; guess = None }) seen tags can.planned.accepted tags_same did
+      (opens ∙ sym (append-nil p.opens)) (λ g. ap (λ v. status_since v g) guesses) texts
+
+  -- where it was performed or not
+  pub exact_either : (r : Result (Unit {0}) AllocError) (n : SlotMap) (before after : TerminalMap) → HasPerformed r p.slots tags scripts pid input plan n before after
+      → (os : List (OpenGuess Entity)) → AllExact (tags_in p.slots) os → AllExact (tags_in n) os
+  exact_either (Ok done) n before after h os all = exact_after n h.writes os all
+  exact_either (Err why) n before after h os all = subst (λ x. AllExact (tags_in x) os) (sym h.unwritten) all
+
+  pub taken_either : (r : Result (Unit {0}) AllocError) (b : Parts) → HasPerformed r p.slots tags scripts pid input plan b.slots p.texts b.texts → b.opens ≡ p.opens → b.guesses ≡ p.guesses
+      → HasTaken r scripts pid input p b
+  taken_either r b h opens guesses = record {
+    ok = on_ok r h.writes h.says (λ writes says. taken_after b writes opens guesses says);
+    guesses = guesses;
+    err = on_err r h.unwritten h.unsaid (λ slots texts. same_parts b p slots opens guesses texts);
+  }

@@ -7,7 +7,7 @@ use Rattle.sk_machine.proofs.Names.{Committed, status_since, drawn, next_of, sta
 use Rattle.sk_machine.proofs.Names.{TerminalMap, texts_at, texts_said, entity_cmp, look_at, log_at, Lightened, Unwound}
 use Rattle.sk_machine.proofs.Names.{EntryView, Scripts, Saying, act, plain, effect_of, writes_of, texts_after}
 use Rattle.sk_machine.proofs.Names.{said_in_plan, PlanView, Parts, machine_of, undo_state_of, planned_effect, said_at}
-use Rattle.sk_machine.proofs.Names.{Performed, entities_of}
+use Rattle.sk_machine.proofs.Names.{Performed, entities_of, SlotMap}
 use Rattle.std.proofs.Common.{arith}
 
 -- ---- texts
@@ -100,3 +100,7 @@ fails_of a b g did opens status texts = record {
 -- equal in each part
 pub same_parts : (a b : Parts) → a.slots ≡ b.slots → a.opens ≡ b.opens → a.guesses ≡ b.guesses → a.texts ≡ b.texts → a ≡ b
 same_parts a b slots opens guesses texts = λ i. record { slots = slots i; opens = opens i; guesses = guesses i; texts = texts i }
+
+-- or but for what is in place, which is equal
+pub with_slots : (p : Parts) (m : SlotMap) → m ≡ p.slots → record p { slots = m } ≡ p
+with_slots p m is = λ i. record p { slots = is i }

@@ -9,6 +9,10 @@ pub on_ok : {A F P Q R : Type 0} (r : Result A F) → OnOk r P → OnOk r Q → 
 on_ok (Ok x) p q f = f p q
 on_ok (Err why) p q f = tt
 
+pub on_err : {A F P Q R : Type 0} (r : Result A F) → OnErr r P → OnErr r Q → (P → Q → R) → OnErr r R
+on_err (Ok x) p q f = tt
+on_err (Err why) p q f = f p q
+
 pub from_ok : {A F P : Type 0} (r : Result A F) → false ≡ is_err r → OnOk r P → P
 from_ok (Ok x) is p = p
 from_ok (Err why) is p = absurd (true≢false (sym is))
@@ -20,6 +24,10 @@ from_err (Err why) is p = p
 pub then_ok : {A F P Q : Type 0} (r : Result A F) → OnOk r P → (P → Q) → OnOk r Q
 then_ok (Ok x) p f = f p
 then_ok (Err why) p f = tt
+
+pub then_err : {A F P Q : Type 0} (r : Result A F) → OnErr r P → (P → Q) → OnErr r Q
+then_err (Ok x) p f = tt
+then_err (Err why) p f = f p
 
 pub for_err : {A F P : Type 0} (r : Result A F) → P → OnErr r P
 for_err (Ok x) p = tt

@@ -4,7 +4,8 @@ use Rattle.sk_machine.proofs.Names.{None, refl, sym, ◌∙◌, ap, arith, Conta
 use Rattle.sk_machine.proofs.Names.{Proc, Process, written_beside, gone_in, entity_exact, true≢false, is_in, writes}
 use Rattle.sk_machine.proofs.Names.{IsTidy, step_tags, tidy_clean, EntityState, IsBeside, IsNoProcess, writes_of}
 use Rattle.sk_machine.proofs.Names.{PlanView, BesideView, Nothing, Says, One, Birth, Gone, EntryView, look_at, Parts}
-use Rattle.sk_machine.proofs.Names.{undo_state_of, planned_effect, AreApart, IsClean, entities_of}
+use Rattle.sk_machine.proofs.Names.{undo_state_of, planned_effect, AreApart, IsClean, entities_of, IsPlanned, Plan}
+use Rattle.sk_machine.proofs.Names.{CanPerformWith, Scripts, seen_with}
 use Rattle.sk_store.specs.declared.entity_state.EntityState.TheVariants as stored
 
 pub contained : (es : List Entity) (e : Entity) → is_in entity_cmp es e ≡ true → Contains es e
@@ -56,3 +57,8 @@ apart_with look pid p (Birth c) h = (ap (λ b. b || false) (child_apart c.pid pi
 
 pub apart_of : (look : Entity → Option EntityState) (pid : ℕ) (plan : PlanView) → IsBeside pid plan.beside → AreApart (entities_of (writes_of look pid plan))
 apart_of look pid plan h = apart_with look pid plan.process plan.beside h
+
+-- a planned step can be performed with its tags
+pub can_perform : (m : Parts) (scripts : Scripts) (n : EntryView) (plan : Plan) (tags : List ℕ) → IsPlanned m scripts n.pid n.input plan → IsTidy (undo_state_of m)
+    → tags ≡ step_tags (undo_state_of m) (planned_effect m n (seen_with (look_at m.slots) scripts n.pid n.input plan)) → CanPerformWith m.slots tags scripts n.pid n.input plan
+can_perform m scripts n plan tags planned tidy is = record { can = planned.can; clean = clean_of m n (seen_with (look_at m.slots) scripts n.pid n.input plan) tags tidy is }

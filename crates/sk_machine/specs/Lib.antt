@@ -2,4 +2,5 @@ pub mod Parts
 pub mod Noted
 pub mod Performed
 pub mod Dependents
+pub mod Taken
 pub mod HandsIn

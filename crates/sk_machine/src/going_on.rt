@@ -1,15 +1,13 @@
 //! Private steps of a process that rests on all that its step reads rests on: it is changed where it stands, and neither notes
 //! nor lists change.
 ghost use Rattle.std.specs.Prelude.{◌≡◌, IfSome, None, true, false};
-ghost use Rattle.std.specs.List.Sorted.{IsStrictlySortedBy};
-ghost use Rattle.std.specs.Ordering.{nat_cmp};
 ghost use Rattle.sk_record.specs.Merged.{MergedTakes};
-ghost use Rattle.sk_record.specs.UndoState.{IsTidy, numbers};
 ghost use Rattle.sk_trace.specs.Kept.{input_in};
 ghost use Rattle.sk_plain.specs.Act.{plain};
 ghost use Rattle.sk_plain.specs.Seen.{DoesNext};
-ghost use Rattle.sk_machine.specs.Dependents.{IsEnough};
-ghost use Rattle.sk_machine.specs.Parts.{IsPlanned, machine_of, undo_state_of};
+ghost use Rattle.sk_machine.specs.Dependents.{IsEnough, IsOrdered};
+ghost use Rattle.sk_machine.specs.Parts.{machine_of, undo_state_of};
+ghost use Rattle.sk_machine.specs.Taken.{CanTake};
 ghost use Rattle.sk_undo.specs.Logs.{look_at};
 
 use crate::Machine;
@@ -23,8 +21,7 @@ impl Machine {
     /// So many guesses a process has to rest on at least, for its signals to rest on no others: all that are undecided, or none
     /// where the signals rest on none. The last step tells which is looked for. `None` where neither is known.
     fn least_tags(&self, pid: Pid) -> Option<usize>
-        requires tidy { IsTidy (undo_state_of self.now) }
-        requires rising { IsStrictlySortedBy nat_cmp (numbers self.now.opens) }
+        requires { IsOrdered (undo_state_of self.now) }
         ensures { IfSome result (λ least. IsEnough least pid self.now.slots) }
     {
         let all = self.open_count();
@@ -50,10 +47,8 @@ impl Machine {
         plan: &Plan,
         instruction: &Instruction,
     ) -> bool
-        requires planned { IsPlanned self.old scripts.now pid (input_in input) plan.now }
+        requires step { CanTake self.old scripts.now pid (input_in input) plan.now }
         requires next { DoesNext (look_at self.old.slots) scripts.now pid plan.now instruction.now }
-        requires tidy { IsTidy (undo_state_of self.old) }
-        requires rising { IsStrictlySortedBy nat_cmp (numbers self.old.opens) }
         ensures takes { result ≡ true
             → MergedTakes (plain scripts.now) (machine_of self.old)
             (record { pid = pid; input = (input_in input.entry); guess = None })

@@ -4,7 +4,7 @@ ghost use Rattle.std.specs.List.Sorted.{IsStrictlySortedBy};
 ghost use Rattle.std.specs.Ordering.{nat_cmp};
 ghost use Rattle.sk_record.specs.UndoState.{IsTidy, numbers};
 ghost use Rattle.sk_ids.specs.declared.entity.Entity.TheVariants.{Proc};
-ghost use Rattle.sk_machine.specs.Dependents.{Covers, tags_in};
+ghost use Rattle.sk_machine.specs.Dependents.{Covers, IsOrdered, tags_in};
 ghost use Rattle.sk_machine.specs.HandsIn.{AreAlone, SetsProcess, HandsInProcess};
 ghost use Rattle.sk_machine.specs.Parts.{undo_state_of};
 ghost use Rattle.sk_machine.specs.Performed.{IsClean};
@@ -36,8 +36,7 @@ impl Machine {
     /// The guesses that private instructions of a process rest on: those of the process and of its signals, of which there
     /// are none where no guess is open.
     fn alone_tags(&self, pid: Pid) -> Result<TagSet, AllocError>
-        requires tidy { IsTidy (undo_state_of self.now) }
-        requires rising { IsStrictlySortedBy nat_cmp (numbers self.now.opens) }
+        requires { IsOrdered (undo_state_of self.now) }
         ensures alone { IfOk result (AreAlone self.now pid) }
         ensures covers { IfOk result
             (λ tags. Covers tags (Proc pid ∷ []) (tags_in self.now.slots)) }

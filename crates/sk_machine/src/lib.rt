@@ -3,7 +3,7 @@
 //! terminals.
 #![tactic(auto)]
 
-mod alike;
+mod as_process;
 mod going_on;
 pub mod hand_in;
 mod lists;

@@ -3,12 +3,12 @@ ghost use Rattle.std.specs.Prelude.{◌≡◌, ◌∷◌, ℕ, true, OnOk, OnErr
 ghost use Rattle.std.specs.List.Sorted.{IsStrictlySortedBy};
 ghost use Rattle.std.specs.Ordering.{nat_cmp};
 ghost use Rattle.sk_record.specs.Notes.{has};
-ghost use Rattle.sk_record.specs.UndoState.{IsTidy, numbers};
+ghost use Rattle.sk_record.specs.UndoState.{numbers};
 ghost use Rattle.sk_undo.specs.Decisions.{undo_state};
 ghost use Rattle.sk_guesses.specs.Opens.{dependents_of, opens_of};
-ghost use Rattle.sk_machine.specs.Dependents.{AllAlmostExact, AllExact, Covers, Depends, tags_in, with_tags};
+ghost use Rattle.sk_machine.specs.Dependents.{AllAlmostExact, AllExact, Covers, Depends, HasListed, IsOrdered, tags_in};
 
-use crate::alike::are_all;
+use crate::as_process::are_all;
 use crate::machine::is_none;
 use sk_guesses::Guesses;
 use sk_ids::{Entity, GuessId, TagSet};
@@ -64,16 +64,11 @@ fn depend_each(
     tags: &TagSet,
     entities: &[Entity],
 ) -> Result<(), AllocError>
-    requires tidy { IsTidy (undo_state logs.now.slots (opens_of guesses.old.opens)) }
-    requires rising { IsStrictlySortedBy nat_cmp (numbers (opens_of guesses.old.opens)) }
+    requires order { IsOrdered (undo_state logs.now.slots (opens_of guesses.old.opens)) }
     requires exact { AllExact (tags_in logs.now.slots) guesses.old.opens }
     requires covers { Covers tags.now entities.now (tags_in logs.now.slots) }
     requires untagged { untagged.now ≡ [] }
-    ensures view { guesses.new.view ≡ guesses.old.view }
-    ensures opens { opens_of guesses.new.opens ≡ opens_of guesses.old.opens }
-    ensures ok { OnOk result
-        (AllExact (with_tags tags.now entities.now (tags_in logs.now.slots)) guesses.new.opens) }
-    ensures err { OnErr result (AllExact (tags_in logs.now.slots) guesses.new.opens) }
+    ensures { HasListed result logs.now.slots tags.now entities.now guesses.old guesses.new }
 {
     for entity in entities {
         let own = tags_of(logs, untagged, entity);
@@ -95,16 +90,11 @@ pub(crate) fn depend_all(
     tags: &TagSet,
     entities: &[Entity],
 ) -> Result<(), AllocError>
-    requires tidy { IsTidy (undo_state logs.now.slots (opens_of guesses.old.opens)) }
-    requires rising { IsStrictlySortedBy nat_cmp (numbers (opens_of guesses.old.opens)) }
+    requires order { IsOrdered (undo_state logs.now.slots (opens_of guesses.old.opens)) }
     requires exact { AllExact (tags_in logs.now.slots) guesses.old.opens }
     requires covers { Covers tags.now entities.now (tags_in logs.now.slots) }
     requires untagged { untagged.now ≡ [] }
-    ensures view { guesses.new.view ≡ guesses.old.view }
-    ensures opens { opens_of guesses.new.opens ≡ opens_of guesses.old.opens }
-    ensures ok { OnOk result
-        (AllExact (with_tags tags.now entities.now (tags_in logs.now.slots)) guesses.new.opens) }
-    ensures err { OnErr result (AllExact (tags_in logs.now.slots) guesses.new.opens) }
+    ensures { HasListed result logs.now.slots tags.now entities.now guesses.old guesses.new }
 {
     if guesses.are_later(tags) {
         return Ok(());

@@ -26,14 +26,15 @@ ghost use Rattle.sk_store.specs.Start.{start_of};
 ghost use Rattle.sk_undo.specs.Logs.{look_at};
 ghost use Rattle.sk_trace.specs.Kept.{input_in};
 ghost use Rattle.sk_plain.specs.Act.{plain};
-ghost use Rattle.sk_plain.specs.Planned.{read_by, said_by, texts_after, writes_of};
-ghost use Rattle.sk_plain.specs.Seen.{CanPerform, DoesNext, looked, looks_of, seen_with, written_in};
+ghost use Rattle.sk_plain.specs.Planned.{read_by};
+ghost use Rattle.sk_plain.specs.Seen.{DoesNext, looked, looks_of, seen_with, written_in};
 ghost use Rattle.sk_machine.specs.Parts.{IsPlanned, any_rests, machine_of, planned_effect, undo_state_of};
 ghost use Rattle.sk_guesses.specs.Room.{HasRoom};
-ghost use Rattle.sk_machine.specs.Dependents.{Covers, tags_in};
-ghost use Rattle.sk_machine.specs.Performed.{entities_of, AreApart, IsClean, Performed};
+ghost use Rattle.sk_machine.specs.Dependents.{Covers, IsOrdered, tags_in};
+ghost use Rattle.sk_machine.specs.Performed.{CanPerformWith, HasPerformed};
+ghost use Rattle.sk_machine.specs.Taken.{CanTake, HasTaken};
 
-use crate::alike::{are_all, set_alike};
+use crate::as_process::{are_all, set_alike};
 use crate::lists::{depend_all, is_alone, relieve_all, relieve_freed, tags_of};
 use sk_guesses::{Guess, Guesses, Redeemed, Status};
 use sk_ids::{Entity, GuessId, ObjId, Pid, TagSet};
@@ -87,9 +88,8 @@ impl Look for Machine {
     }
 }
 
-/// Performs a plan, whose writes and text rest on these guesses. Without memory nothing has changed.
+/// Performs a plan, whose writes and text rest on the guesses of the next step. Without memory nothing has changed.
 #[inline(always)]
-#[tactic(auto, using(crate::proofs::Writes::performed))]
 fn perform(
     logs: &mut Logs,
     terminals: &mut Terminals,
@@ -97,64 +97,10 @@ fn perform(
     pid: Pid,
     input: InputRef<'_>,
     plan: &Plan,
-    tags: TagSet,
 ) -> Result<(), AllocError>
-    requires can { CanPerform (look_at logs.old.slots) scripts.now pid (input_in input) plan.now }
-    requires apart { AreApart (entities_of
-        (writes_of (look_at logs.old.slots) pid
-        (seen_with (look_at logs.old.slots) scripts.now pid (input_in input) plan.now))) }
-    requires clean { IsClean logs.old.slots tags
-        (entities_of
-        (writes_of (look_at logs.old.slots) pid
-        (seen_with (look_at logs.old.slots) scripts.now pid (input_in input) plan.now))) }
-    ensures writes { OnOk result
-        (Performed logs.old.slots tags
-        (writes_of (look_at logs.old.slots) pid
-        (seen_with (look_at logs.old.slots) scripts.now pid (input_in input.entry) plan.now))
-        logs.new.slots) }
-    ensures says { OnOk result
-        (terminals.new
-        ≡ texts_after terminals.old tags
-        (said_by (seen_with (look_at logs.old.slots) scripts.now pid (input_in input.entry)
-        plan.now))) }
-    ensures unwritten { OnErr result (logs.new.slots ≡ logs.old.slots) }
-    ensures unsaid { OnErr result (terminals.new ≡ terminals.old) }
-{
-    logs.set_tags(tags);
-    perform_next(logs, terminals, scripts, pid, input, plan)
-}
-
-/// Performs a plan, whose writes and text rest on the guesses of the next step. Without memory nothing has changed.
-#[inline(always)]
-#[tactic(auto, using(crate::proofs::Writes::performed))]
-fn perform_next(
-    logs: &mut Logs,
-    terminals: &mut Terminals,
-    scripts: &Scripts,
-    pid: Pid,
-    input: InputRef<'_>,
-    plan: &Plan,
-) -> Result<(), AllocError>
-    requires can { CanPerform (look_at logs.old.slots) scripts.now pid (input_in input) plan.now }
-    requires apart { AreApart (entities_of
-        (writes_of (look_at logs.old.slots) pid
-        (seen_with (look_at logs.old.slots) scripts.now pid (input_in input) plan.now))) }
-    requires clean { IsClean logs.old.slots logs.old.tags
-        (entities_of
-        (writes_of (look_at logs.old.slots) pid
-        (seen_with (look_at logs.old.slots) scripts.now pid (input_in input) plan.now))) }
-    ensures writes { OnOk result
-        (Performed logs.old.slots logs.old.tags
-        (writes_of (look_at logs.old.slots) pid
-        (seen_with (look_at logs.old.slots) scripts.now pid (input_in input.entry) plan.now))
-        logs.new.slots) }
-    ensures says { OnOk result
-        (terminals.new
-        ≡ texts_after terminals.old logs.old.tags
-        (said_by (seen_with (look_at logs.old.slots) scripts.now pid (input_in input.entry)
-        plan.now))) }
-    ensures unwritten { OnErr result (logs.new.slots ≡ logs.old.slots) }
-    ensures unsaid { OnErr result (terminals.new ≡ terminals.old) }
+    requires { CanPerformWith logs.old.slots logs.old.tags scripts.now pid (input_in input) plan.now }
+    ensures { HasPerformed result logs.old.slots logs.old.tags scripts.now pid
+        (input_in input.entry) plan.now logs.new.slots terminals.old terminals.new }
 {
     perform_plan(logs, terminals, scripts, pid, input, plan)
 }
@@ -173,32 +119,16 @@ fn perform_guess(
     tags: TagSet,
     count: usize,
 ) -> Result<(), AllocError>
-    requires can { CanPerform (look_at logs.old.slots) scripts.now pid (input_in input) plan.now }
-    requires apart { AreApart (entities_of
-        (writes_of (look_at logs.old.slots) pid
-        (seen_with (look_at logs.old.slots) scripts.now pid (input_in input) plan.now))) }
-    requires clean { IsClean logs.old.slots tags
-        (entities_of
-        (writes_of (look_at logs.old.slots) pid
-        (seen_with (look_at logs.old.slots) scripts.now pid (input_in input) plan.now))) }
+    requires { CanPerformWith logs.old.slots tags scripts.now pid (input_in input) plan.now }
     ensures view { guesses.new.view ≡ guesses.old.view }
     ensures opens { guesses.new.opens ≡ guesses.old.opens }
     ensures room { OnOk result (HasRoom guesses.new count) }
-    ensures writes { OnOk result
-        (Performed logs.old.slots tags
-        (writes_of (look_at logs.old.slots) pid
-        (seen_with (look_at logs.old.slots) scripts.now pid (input_in input.entry) plan.now))
-        logs.new.slots) }
-    ensures says { OnOk result
-        (terminals.new
-        ≡ texts_after terminals.old tags
-        (said_by (seen_with (look_at logs.old.slots) scripts.now pid (input_in input.entry)
-        plan.now))) }
-    ensures unwritten { OnErr result (logs.new.slots ≡ logs.old.slots) }
-    ensures unsaid { OnErr result (terminals.new ≡ terminals.old) }
+    ensures did { HasPerformed result logs.old.slots tags scripts.now pid (input_in input.entry)
+        plan.now logs.new.slots terminals.old terminals.new }
 {
     guesses.reserve(count)?;
-    perform(logs, terminals, scripts, pid, input, plan, tags)
+    logs.set_tags(tags);
+    perform(logs, terminals, scripts, pid, input, plan)
 }
 
 /// Puts the entities that a plan writes into a list. It stands by itself, so that a guess that writes its process alone has no
@@ -319,8 +249,7 @@ impl Machine {
         plan: &Plan,
         written: &[Entity],
     ) -> Result<TagSet, AllocError>
-        requires tidy { IsTidy (undo_state_of self.now) }
-        requires rising { IsStrictlySortedBy nat_cmp (numbers self.now.opens) }
+        requires { IsOrdered (undo_state_of self.now) }
         ensures members { IfOk result (λ all. (g : ℕ)
             → has g all
             ≡ ((has g own
@@ -408,15 +337,8 @@ impl Machine {
         input: InputRef<'_>,
         plan: &Plan,
     ) -> Result<(), AllocError>
-        requires planned { IsPlanned self.old scripts.now pid (input_in input) plan.now }
-        requires tidy { IsTidy (undo_state_of self.old) }
-        requires rising { IsStrictlySortedBy nat_cmp (numbers self.old.opens) }
-        ensures ok { OnOk result
-            (MergedTakes (plain scripts.now) (machine_of self.old)
-            (record { pid = pid; input = (input_in input.entry); guess = None })
-            (machine_of self.new)) }
-        ensures guesses { self.new.guesses ≡ self.old.guesses }
-        ensures err { OnErr result (self.new ≡ self.old) }
+        requires { CanTake self.old scripts.now pid (input_in input) plan.now }
+        ensures { HasTaken result scripts.now pid (input_in input.entry) self.old self.new }
     {
         let alike = set_alike(
             &mut self.logs,
@@ -427,7 +349,7 @@ impl Machine {
             plan,
         )?;
         if alike {
-            return perform_next(
+            return perform(
                 &mut self.logs,
                 &mut self.terminals,
                 scripts,
@@ -448,15 +370,8 @@ impl Machine {
         input: InputRef<'_>,
         plan: &Plan,
     ) -> Result<(), AllocError>
-        requires planned { IsPlanned self.old scripts.now pid (input_in input) plan.now }
-        requires tidy { IsTidy (undo_state_of self.old) }
-        requires rising { IsStrictlySortedBy nat_cmp (numbers self.old.opens) }
-        ensures ok { OnOk result
-            (MergedTakes (plain scripts.now) (machine_of self.old)
-            (record { pid = pid; input = (input_in input.entry); guess = None })
-            (machine_of self.new)) }
-        ensures guesses { self.new.guesses ≡ self.old.guesses }
-        ensures err { OnErr result (self.new ≡ self.old) }
+        requires { CanTake self.old scripts.now pid (input_in input) plan.now }
+        ensures { HasTaken result scripts.now pid (input_in input.entry) self.old self.new }
     {
         let written = plan.writes(pid);
         let entities = written.as_slice();
@@ -468,6 +383,7 @@ impl Machine {
             &tags,
             entities,
         )?;
+        self.logs.set_tags(tags);
         if perform(
             &mut self.logs,
             &mut self.terminals,
@@ -475,7 +391,6 @@ impl Machine {
             pid,
             input,
             plan,
-            tags,
         )
         .is_err()
         {

@@ -1,5 +1,5 @@
 -- A guess opens its own number alone, whose token is pushed.
-use Rattle.sk_kernel.proofs.Names.{rules, ◌≡◌, input_in, IsHeld}
+use Rattle.sk_kernel.proofs.Names.{rules, ◌≡◌, input_in}
 use Rattle.sk_kernel.proofs.Kept.{draws_hold}
 use Rattle.sk_kernel.proofs.holder.Holder.guess.Goals as goal
 

@@ -1,5 +1,5 @@
 -- A guess is held where its token was found, and is not where none was.
-use Rattle.sk_kernel.proofs.Names.{rules, ◌≡◌, ◌<◌, ◌≤◌, true, false, Some, drop, get_or, length, sym, ap, ◌∙◌, subst}
+use Rattle.sk_kernel.proofs.Names.{rules, ◌≡◌, ◌<◌, ◌≤◌, true, false, Some, get_or, length, sym, ap, ◌∙◌, subst}
 use Rattle.sk_kernel.proofs.Names.{slice_get, has, HolderView, ids}
 use Rattle.sk_kernel.proofs.Held.{has_at, id_at_get, none_past}
 use Rattle.sk_kernel.proofs.holder.Holder.place_of.Goals as goal

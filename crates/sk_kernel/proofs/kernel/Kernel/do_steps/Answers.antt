@@ -34,8 +34,7 @@ returns-then-is_err c = (
   c.requires.as_lent,
   subst (λ n. n ≤ room c.args.self.now) c.requires.count c.requires.places,
   subst (λ n. 0 < n) c.requires.count c.requires.some,
-  (λ i. record { number = c.self.inside.machine.guesses.kernel; scripts = c.self.inside.opening.start.scripts; start = c.self.inside.opening.start.state; limit = c.self.inside.opening.limit; earlier = c.self.inside.machine.guesses.earlier; trace = c.reserve.ensures.events i })
-      ∙ c.self.view_is,
+  (λ i. record (the_view c.self.inside) { trace = c.reserve.ensures.events i }) ∙ c.self.view_is,
 )
 
 pub returns-then-is_err-2 : goal.returns-then-is_err-2
@@ -44,7 +43,7 @@ returns-then-is_err-2 c =
       c.requires.as_lent,
       subst (λ n. n ≤ room c.args.self.now) c.requires.count c.requires.places,
       subst (λ n. 0 < n) c.requires.count c.requires.some,
-      (λ i. record { number = (same i).guesses.kernel; scripts = c.self.inside.opening.start.scripts; start = c.self.inside.opening.start.state; limit = c.self.inside.opening.limit; earlier = (same i).guesses.earlier; trace = c.reserve.ensures.events i })
+      (λ i. record (the_view c.self.inside) { number = (same i).guesses.kernel; earlier = (same i).guesses.earlier; trace = c.reserve.ensures.events i })
           ∙ c.self.view_is,
     )
 
@@ -82,6 +81,6 @@ returns c =
     let trace = c.append.ensures.events ∙ (λ i. c.reserve.ensures.events i ++ replicate (c.requires.count i) (alone_step (own i))) in (
       c.requires.as_lent,
       subst (λ n. n ≤ room c.args.self.now) c.requires.count c.requires.places,
-      (λ i. record { number = (c.hand_in.ensures.guesses i).kernel; scripts = c.self.inside.opening.start.scripts; start = c.self.inside.opening.start.state; limit = c.self.inside.opening.limit; earlier = (c.hand_in.ensures.guesses i).earlier; trace = trace i })
+      (λ i. record (the_view c.self.inside) { number = (c.hand_in.ensures.guesses i).kernel; earlier = (c.hand_in.ensures.guesses i).earlier; trace = trace i })
           ∙ ap (λ (k : KernelView). with_steps k l.lent.pid l.count) c.self.view_is,
     )

@@ -11,13 +11,12 @@ returns-in-Err c =
     let told = stranger_back (the_view c.self.inside) c.self.inside.machine c.self.inside.trace.room c.self.invariant.0 c.args.guess c.args.self.now c.self.view_is c.in-Err.guess (sym c.redeem.ensures ∙ c.in-Err.is) in
     (told.0, told.1, refl)
 
-pub fail-requires-clause-undecided : goal.fail-requires-clause-undecided
-fail-requires-clause-undecided c =
-    undecided_since (the_view c.self.inside) c.self.inside.machine c.self.invariant.0.stands c.in-Undecided.id
-    (token_undecided (the_view c.self.inside) c.self.inside.machine c.self.inside.trace.room c.self.invariant.0 c.args.guess c.in-Undecided.id (sym c.redeem.ensures ∙ c.in-Ok.is ∙ ap Ok c.in-Undecided.is))
-
-pub fail-requires-clause-grow : goal.fail-requires-clause-grow
-fail-requires-clause-grow c = grows (the_view c.self.inside) c.self.inside.machine c.self.invariant.0.stands
+pub fail-requires : goal.fail-requires
+fail-requires c = record {
+  grow = grows (the_view c.self.inside) c.self.inside.machine c.self.invariant.0.stands;
+  undecided = undecided_since (the_view c.self.inside) c.self.inside.machine c.self.invariant.0.stands c.in-Undecided.id
+      (token_undecided (the_view c.self.inside) c.self.inside.machine c.self.inside.trace.room c.self.invariant.0 c.args.guess c.in-Undecided.id (sym c.redeem.ensures ∙ c.in-Ok.is ∙ ap Ok c.in-Undecided.is));
+}
 
 pub push-requires : goal.push-requires
 push-requires c =
@@ -40,4 +39,4 @@ returns-in-Struck c =
 pub returns-in-Undecided : goal.returns-in-Undecided
 returns-in-Undecided c =
     decided_by (the_view c.self.inside) c.self.inside.machine c.self.inside.trace.room c.self.invariant.0 c.args.guess c.args.self.now c.self.view_is c.in-Undecided.id events.Fail _ (sym c.redeem.ensures ∙ c.in-Ok.is ∙ ap Ok c.in-Undecided.is)
-    (λ i. record { number = c.fail.ensures.kernel i; scripts = c.self.inside.opening.start.scripts; start = c.self.inside.opening.start.state; limit = c.self.inside.opening.limit; earlier = c.fail.ensures.earlier i; trace = c.push.ensures.events i })
+    (λ i. record (the_view c.self.inside) { number = c.fail.ensures.kernel i; earlier = c.fail.ensures.earlier i; trace = c.push.ensures.events i })

@@ -1,8 +1,7 @@
 -- The plan is what the plain kernel does on the trace's record; the machine draws the next guess and takes it.
-use Rattle.sk_kernel.proofs.Names.{◌+◌, ◌<◌, ◌^◌, ◌≡◌, Some, None, [], ◌∷◌, ◌++◌, sym, ◌∙◌, ap, subst, arith}
-use Rattle.sk_kernel.proofs.Names.{rules, MergedTakes, next_of, machine_of, plain, EntryView, input_in, TooMany}
-use Rattle.sk_kernel.proofs.Names.{TraceFull, KernelView, guess_refused, next_guess, room, with_event, IsNew, the_view}
-use Rattle.sk_kernel.proofs.Names.{from_ok}
+use Rattle.sk_kernel.proofs.Names.{◌+◌, ◌<◌, ◌^◌, ◌≡◌, Some, None, [], ◌∷◌, ◌++◌, sym, ◌∙◌, ap, subst, arith, rules}
+use Rattle.sk_kernel.proofs.Names.{MergedTakes, next_of, machine_of, plain, EntryView, input_in, TooMany, TraceFull}
+use Rattle.sk_kernel.proofs.Names.{KernelView, guess_refused, next_guess, room, with_event, IsNew, the_view, from_ok}
 use Rattle.sk_trace.specs.declared.event.Event.TheVariants as events
 use Rattle.sk_kernel.proofs.Whole.{tidy, next_rises}
 use Rattle.sk_kernel.proofs.Tokens.{next_is, guess_new, guessed_whole}
@@ -48,8 +47,7 @@ returns-then-is_err c =
       subst (λ (k : KernelView). guess_refused k n ≡ None) c.self.view_is
           (guess_free (the_view c.self.inside) c.self.inside.machine c.self.inside.trace.room c.self.invariant.0 n c.in_ok-plan_guess.ensures.1 (sym c.is_full.ensures ∙ c.if-is_full.false)
           c.room-room.result (c.room-room.ensures ∙ ap room (sym c.self.view_is)) c.if-room-lt2.false),
-      (λ i. record { number = c.self.inside.machine.guesses.kernel; scripts = c.self.inside.opening.start.scripts; start = c.self.inside.opening.start.state; limit = c.self.inside.opening.limit; earlier = c.self.inside.machine.guesses.earlier; trace = c.reserve.ensures.events i })
-          ∙ c.self.view_is,
+      (λ i. record (the_view c.self.inside) { trace = c.reserve.ensures.events i }) ∙ c.self.view_is,
     )
 
 pub returns-in-Err : goal.returns-in-Err
@@ -58,8 +56,7 @@ returns-in-Err c =
       subst (λ (k : KernelView). guess_refused k n ≡ None) c.self.view_is
           (guess_free (the_view c.self.inside) c.self.inside.machine c.self.inside.trace.room c.self.invariant.0 n c.in_ok-plan_guess.ensures.1 (sym c.is_full.ensures ∙ c.if-is_full.false)
           c.room-room.result (c.room-room.ensures ∙ ap room (sym c.self.view_is)) c.if-room-lt2.false),
-      (λ i. record { number = c.self.inside.machine.guesses.kernel; scripts = c.self.inside.opening.start.scripts; start = c.self.inside.opening.start.state; limit = c.self.inside.opening.limit; earlier = c.self.inside.machine.guesses.earlier; trace = c.reserve.ensures.events i })
-          ∙ c.self.view_is,
+      (λ i. record (the_view c.self.inside) { trace = c.reserve.ensures.events i }) ∙ c.self.view_is,
     )
 
 pub returns-in_default : goal.returns-in_default
@@ -69,7 +66,7 @@ returns-in_default c =
       subst (λ (k : KernelView). guess_refused k n ≡ None) c.self.view_is
           (guess_free (the_view c.self.inside) c.self.inside.machine c.self.inside.trace.room c.self.invariant.0 n c.in_ok-plan_guess.ensures.1 (sym c.is_full.ensures ∙ c.if-is_full.false)
           c.room-room.result (c.room-room.ensures ∙ ap room (sym c.self.view_is)) c.if-room-lt2.false),
-      (λ i. record { number = (same i).guesses.kernel; scripts = c.self.inside.opening.start.scripts; start = c.self.inside.opening.start.state; limit = c.self.inside.opening.limit; earlier = (same i).guesses.earlier; trace = c.reserve.ensures.events i })
+      (λ i. record (the_view c.self.inside) { number = (same i).guesses.kernel; earlier = (same i).guesses.earlier; trace = c.reserve.ensures.events i })
           ∙ c.self.view_is,
     )
 
@@ -95,7 +92,7 @@ returns c =
     let number = c.id-id.ensures ∙ ap (λ t. t.id) c.in-Ok-take_guess.ensures.token ∙ next in
     let more = c.push.ensures.events ∙ (λ i. c.reserve.ensures.events i ++ events.Guess c.id-id.result c.args.pid (c.in-Ok.ensures.ok i) ∷ []) ∙ ap (λ g. c.self.inside.trace.events ++ events.Guess g c.args.pid (input_in c.args.input) ∷ []) number in
     let left =
-    (λ i. record { number = (c.in-Ok-take_guess.ensures.guesses i).kernel; scripts = c.self.inside.opening.start.scripts; start = c.self.inside.opening.start.state; limit = c.self.inside.opening.limit; earlier = (c.in-Ok-take_guess.ensures.guesses i).earlier; trace = more i })
+    (λ i. record (the_view c.self.inside) { number = (c.in-Ok-take_guess.ensures.guesses i).kernel; earlier = (c.in-Ok-take_guess.ensures.guesses i).earlier; trace = more i })
     ∙ ap (λ (k : KernelView). with_event k (events.Guess (next_guess c.args.self.now) c.args.pid (input_in c.args.input))) c.self.view_is in
     let drawn_entry : EntryView = record { pid = c.args.pid; input = (input_in c.args.input); guess = Some (next_of c.self.inside.machine.guesses) } in
     let takes = subst (λ s. MergedTakes (plain s) (machine_of c.self.inside.machine) drawn_entry (machine_of c.take_guess.new.self)) c.scripts.ensures c.in-Ok-take_guess.ensures.ok in

@@ -1,64 +1,57 @@
 -- The plan is what the plain kernel does on the trace's record; the machine takes it, and stands for the trace with one event more.
-use Rattle.sk_kernel.proofs.Names.{◌+◌, ◌<◌, ◌^◌, ◌≡◌, Some, None, ◌∷◌, ◌++◌, [], sym, ◌∙◌, ap, subst, arith}
-use Rattle.sk_kernel.proofs.Names.{rules, MergedTakes, machine_of, ScriptMap, Input, SlotMap, look_at, plain, PlansStep}
-use Rattle.sk_kernel.proofs.Names.{Plan, Refusal, EntryView, input_in, NoRoom, TraceFull, KernelView, step_refused}
-use Rattle.sk_kernel.proofs.Names.{room, with_event, the_view, from_ok, from_err}
-use Rattle.std.specs.Prelude.{ℕ, Result, Ok, Err}
+use Rattle.sk_kernel.proofs.Names.{◌+◌, ◌<◌, ◌^◌, ◌≡◌, Some, None, ◌∷◌, ◌++◌, [], sym, ◌∙◌, ap, subst, arith, rules}
+use Rattle.sk_kernel.proofs.Names.{MergedTakes, machine_of, look_at, plain, PlansStep, EntryView, input_in, KernelView}
+use Rattle.sk_kernel.proofs.Names.{step_refused, room, with_event, the_view, from_ok, from_err}
+use Rattle.std.specs.Prelude.{Err}
 use Rattle.sk_trace.specs.declared.event.Event.TheVariants as events
 use Rattle.sk_kernel.proofs.Whole.{tidy, opens_rise, stepped_whole, no_more_opens}
-use Rattle.sk_kernel.proofs.Refusals.{step_misfits, step_crowded, step_without_room, step_free}
-use Rattle.sk_kernel.proofs.Rooms.{roomy, crowded_by}
+use Rattle.sk_kernel.proofs.Refusals.{step_misfits}
+use Rattle.sk_kernel.proofs.Rooms.{crowded_at, full_at, free_at}
 use Rattle.sk_kernel.proofs.Opened.{still_opened, few_open}
 use Rattle.sk_kernel.proofs.kernel.Kernel.step_lent.Goals as goal
-
-by_scripts : (m : SlotMap) (pid : ℕ) (input : Input) (result : Result Plan Refusal) (scripts known : ScriptMap) → scripts ≡ known
-    → PlansStep (look_at m) scripts pid input result → PlansStep (look_at m) known pid input result
-by_scripts m pid input result scripts known is = subst (λ s. PlansStep (look_at m) s pid input result) is
 
 pub returns-in-Err : goal.returns-in-Err
 returns-in-Err c =
     let n : EntryView = record { pid = c.args.pid; input = (input_in c.args.input); guess = None } in
     let why = c.in-Err.why in
+    let step = subst (λ s. PlansStep (look_at c.self.inside.machine.slots) s n.pid n.input (Err why)) c.scripts-scripts.ensures c.in-Err.ensures.step in
     let refused = subst (λ (k : KernelView). step_refused k n ≡ Some why) c.self.view_is
-    (step_misfits (the_view c.self.inside) c.self.inside.machine c.self.inside.trace.room c.self.invariant.0 n why (by_scripts c.self.inside.machine.slots c.args.pid (input_in c.args.input) (Err why) c.scripts-scripts.result.now c.self.inside.opening.start.scripts c.scripts-scripts.ensures c.in-Err.ensures.step).plans) in
+    (step_misfits (the_view c.self.inside) c.self.inside.machine c.self.inside.trace.room c.self.invariant.0 n why step.plans) in
     search (rules, refused, c.self.view_is)
 
 pub returns-then-is_crowded : goal.returns-then-is_crowded
 returns-then-is_crowded c =
-    let n : EntryView = record { pid = c.args.pid; input = (input_in c.args.input); guess = None } in
-    let none = crowded_by (the_view c.self.inside) c.self.inside.machine c.self.inside.trace.room c.self.invariant.0 n c.plan_into.new.plan c.is_crowded.result c.is_crowded.ensures c.if-is_crowded.true in (
-      subst (λ (k : KernelView). step_refused k n ≡ Some NoRoom) c.self.view_is
-          (step_crowded (the_view c.self.inside) c.self.inside.machine c.self.inside.trace.room c.self.invariant.0 n _ (by_scripts c.self.inside.machine.slots c.args.pid (input_in c.args.input) (Ok c.plan_into.new.plan) c.scripts-scripts.result.now c.self.inside.opening.start.scripts c.scripts-scripts.ensures c.in-Ok.ensures.step).plans none),
+    let n : EntryView = record { pid = c.args.pid; input = (input_in c.args.input); guess = None } in (
+      crowded_at (the_view c.self.inside) c.self.inside.machine c.self.inside.trace.room c.self.invariant.0 n c.plan_into.new.plan
+          c.is_crowded.result c.is_crowded.ensures c.self.view_is c.scripts-scripts.ensures c.in-Ok.ensures.step c.if-is_crowded.true,
       c.self.view_is,
     )
 
 pub returns-then-room-lt1 : goal.returns-then-room-lt1
 returns-then-room-lt1 c =
-    let n : EntryView = record { pid = c.args.pid; input = (input_in c.args.input); guess = None } in
-    let free = roomy (the_view c.self.inside) c.self.inside.machine c.self.inside.trace.room c.self.invariant.0 n c.plan_into.new.plan c.is_crowded.result c.is_crowded.ensures c.if-is_crowded.false in (
-      subst (λ (k : KernelView). step_refused k n ≡ Some TraceFull) c.self.view_is
-          (step_without_room (the_view c.self.inside) c.self.inside.machine c.self.inside.trace.room c.self.invariant.0 n _ c.room-room.result (by_scripts c.self.inside.machine.slots c.args.pid (input_in c.args.input) (Ok c.plan_into.new.plan) c.scripts-scripts.result.now c.self.inside.opening.start.scripts c.scripts-scripts.ensures c.in-Ok.ensures.step).plans free (c.room-room.ensures ∙ ap room (sym c.self.view_is)) c.if-room-lt1.true),
+    let n : EntryView = record { pid = c.args.pid; input = (input_in c.args.input); guess = None } in (
+      full_at (the_view c.self.inside) c.self.inside.machine c.self.inside.trace.room c.self.invariant.0 n c.plan_into.new.plan
+          c.is_crowded.result c.is_crowded.ensures c.self.view_is c.scripts-scripts.ensures c.in-Ok.ensures.step
+          c.if-is_crowded.false c.room-room.ensures c.if-room-lt1.true,
       c.self.view_is,
     )
 
 pub returns-then-is_err : goal.returns-then-is_err
 returns-then-is_err c =
-    let n : EntryView = record { pid = c.args.pid; input = (input_in c.args.input); guess = None } in
-    let free = roomy (the_view c.self.inside) c.self.inside.machine c.self.inside.trace.room c.self.invariant.0 n c.plan_into.new.plan c.is_crowded.result c.is_crowded.ensures c.if-is_crowded.false in (
-      subst (λ (k : KernelView). step_refused k n ≡ None) c.self.view_is
-          (step_free (the_view c.self.inside) c.self.inside.machine c.self.inside.trace.room c.self.invariant.0 n _ c.room-room.result (by_scripts c.self.inside.machine.slots c.args.pid (input_in c.args.input) (Ok c.plan_into.new.plan) c.scripts-scripts.result.now c.self.inside.opening.start.scripts c.scripts-scripts.ensures c.in-Ok.ensures.step).plans free (c.room-room.ensures ∙ ap room (sym c.self.view_is)) c.if-room-lt1.false),
-      (λ i. record { number = c.self.inside.machine.guesses.kernel; scripts = c.self.inside.opening.start.scripts; start = c.self.inside.opening.start.state; limit = c.self.inside.opening.limit; earlier = c.self.inside.machine.guesses.earlier; trace = c.reserve.ensures.events i })
-          ∙ c.self.view_is,
+    let n : EntryView = record { pid = c.args.pid; input = (input_in c.args.input); guess = None } in (
+      free_at (the_view c.self.inside) c.self.inside.machine c.self.inside.trace.room c.self.invariant.0 n c.plan_into.new.plan
+          c.is_crowded.result c.is_crowded.ensures c.self.view_is c.scripts-scripts.ensures c.in-Ok.ensures.step
+          c.if-is_crowded.false c.room-room.ensures c.if-room-lt1.false,
+      (λ i. record (the_view c.self.inside) { trace = c.reserve.ensures.events i }) ∙ c.self.view_is,
     )
 
 pub returns-in-Err-keep : goal.returns-in-Err-keep
 returns-in-Err-keep c =
-    let n : EntryView = record { pid = c.args.pid; input = (input_in c.args.input); guess = None } in
-    let free = roomy (the_view c.self.inside) c.self.inside.machine c.self.inside.trace.room c.self.invariant.0 n c.plan_into.new.plan c.is_crowded.result c.is_crowded.ensures c.if-is_crowded.false in (
-      subst (λ (k : KernelView). step_refused k n ≡ None) c.self.view_is
-          (step_free (the_view c.self.inside) c.self.inside.machine c.self.inside.trace.room c.self.invariant.0 n _ c.room-room.result (by_scripts c.self.inside.machine.slots c.args.pid (input_in c.args.input) (Ok c.plan_into.new.plan) c.scripts-scripts.result.now c.self.inside.opening.start.scripts c.scripts-scripts.ensures c.in-Ok.ensures.step).plans free (c.room-room.ensures ∙ ap room (sym c.self.view_is)) c.if-room-lt1.false),
-      (λ i. record { number = c.self.inside.machine.guesses.kernel; scripts = c.self.inside.opening.start.scripts; start = c.self.inside.opening.start.state; limit = c.self.inside.opening.limit; earlier = c.self.inside.machine.guesses.earlier; trace = c.reserve.ensures.events i })
-          ∙ c.self.view_is,
+    let n : EntryView = record { pid = c.args.pid; input = (input_in c.args.input); guess = None } in (
+      free_at (the_view c.self.inside) c.self.inside.machine c.self.inside.trace.room c.self.invariant.0 n c.plan_into.new.plan
+          c.is_crowded.result c.is_crowded.ensures c.self.view_is c.scripts-scripts.ensures c.in-Ok.ensures.step
+          c.if-is_crowded.false c.room-room.ensures c.if-room-lt1.false,
+      (λ i. record (the_view c.self.inside) { trace = c.reserve.ensures.events i }) ∙ c.self.view_is,
     )
 
 pub take_found-requires-clause-tidy : goal.take_found-requires-clause-tidy
@@ -70,12 +63,12 @@ take_found-requires-clause-rising c = opens_rise (the_view c.self.inside) c.self
 pub returns-then-is_err-2 : goal.returns-then-is_err-2
 returns-then-is_err-2 c =
     let n : EntryView = record { pid = c.args.pid; input = (input_in c.args.input); guess = None } in
-    let free = roomy (the_view c.self.inside) c.self.inside.machine c.self.inside.trace.room c.self.invariant.0 n c.plan_into.new.plan c.is_crowded.result c.is_crowded.ensures c.if-is_crowded.false in
-    let same = from_err c.take_found.result c.if-is_err-2.ensures.value c.take_found.ensures.err in (
-      subst (λ (k : KernelView). step_refused k n ≡ None) c.self.view_is
-          (step_free (the_view c.self.inside) c.self.inside.machine c.self.inside.trace.room c.self.invariant.0 n _ c.room-room.result (by_scripts c.self.inside.machine.slots c.args.pid (input_in c.args.input) (Ok c.plan_into.new.plan) c.scripts-scripts.result.now c.self.inside.opening.start.scripts c.scripts-scripts.ensures c.in-Ok.ensures.step).plans free (c.room-room.ensures ∙ ap room (sym c.self.view_is)) c.if-room-lt1.false),
-      (λ i. record { number = (same i).guesses.kernel; scripts = c.self.inside.opening.start.scripts; start = c.self.inside.opening.start.state; limit = c.self.inside.opening.limit; earlier = (same i).guesses.earlier; trace = c.reserve.ensures.events i })
-          ∙ c.self.view_is,
+    let still = from_err c.take_found.result c.if-is_err-2.ensures.value c.take_found.ensures.err in (
+      free_at (the_view c.self.inside) c.self.inside.machine c.self.inside.trace.room c.self.invariant.0 n c.plan_into.new.plan
+          c.is_crowded.result c.is_crowded.ensures c.self.view_is c.scripts-scripts.ensures c.in-Ok.ensures.step
+          c.if-is_crowded.false c.room-room.ensures c.if-room-lt1.false,
+      (λ i. record (the_view c.self.inside)
+          { number = (still i).guesses.kernel; earlier = (still i).guesses.earlier; trace = c.reserve.ensures.events i }) ∙ c.self.view_is,
     )
 
 pub invariant_of-self-2 : goal.invariant_of-self-2
@@ -96,12 +89,13 @@ invariant_of-self-2 c =
 pub returns : goal.returns
 returns c =
     let n : EntryView = record { pid = c.args.pid; input = (input_in c.args.input); guess = None } in
-    let free = roomy (the_view c.self.inside) c.self.inside.machine c.self.inside.trace.room c.self.invariant.0 n c.plan_into.new.plan c.is_crowded.result c.is_crowded.ensures c.if-is_crowded.false in
+    let guesses = c.take_found.ensures.guesses in
     let more = c.push.ensures.events ∙ (λ i. c.reserve.ensures.events i ++ events.Step c.args.pid (c.in-Ok-keep.ensures.ok i) ∷ []) in (
-      subst (λ (k : KernelView). step_refused k n ≡ None) c.self.view_is
-          (step_free (the_view c.self.inside) c.self.inside.machine c.self.inside.trace.room c.self.invariant.0 n _ c.room-room.result (by_scripts c.self.inside.machine.slots c.args.pid (input_in c.args.input) (Ok c.plan_into.new.plan) c.scripts-scripts.result.now c.self.inside.opening.start.scripts c.scripts-scripts.ensures c.in-Ok.ensures.step).plans free (c.room-room.ensures ∙ ap room (sym c.self.view_is)) c.if-room-lt1.false),
-      (λ i. record { number = (c.take_found.ensures.guesses i).kernel; scripts = c.self.inside.opening.start.scripts; start = c.self.inside.opening.start.state; limit = c.self.inside.opening.limit; earlier = (c.take_found.ensures.guesses i).earlier; trace = more i })
-          ∙ ap (λ (k : KernelView). with_event k (events.Step c.args.pid (input_in c.args.input))) c.self.view_is,
+      free_at (the_view c.self.inside) c.self.inside.machine c.self.inside.trace.room c.self.invariant.0 n c.plan_into.new.plan
+          c.is_crowded.result c.is_crowded.ensures c.self.view_is c.scripts-scripts.ensures c.in-Ok.ensures.step
+          c.if-is_crowded.false c.room-room.ensures c.if-room-lt1.false,
+      (λ i. record (the_view c.self.inside) { number = (guesses i).kernel; earlier = (guesses i).earlier; trace = more i })
+          ∙ ap (λ (k : KernelView). with_event k (events.Step n.pid n.input)) c.self.view_is,
     )
 
 pub overflow_add-open_count : goal.overflow_add-open_count

@@ -1,7 +1,8 @@
 -- A commit of each part is the machine's, and the lists stay exact.
-use Rattle.sk_machine.proofs.Names.{◌≡◌, List, Some, ap, ◌∙◌, map, subst, sym, MergedCommits, Undecided, Committed, Entity}
-use Rattle.sk_machine.proofs.Names.{status_since, opens_of, status-decided, AllExact, tags_in, Parts, machine_of, decided}
-use Rattle.sk_machine.proofs.Names.{AllGrow, AreListed, Lightened, after_commit, but_taken, dependents_of}
+use Rattle.sk_machine.proofs.Names.{◌≡◌, List, Some, ap, ◌∙◌, map, subst, sym, MergedCommits, Undecided, Committed}
+use Rattle.sk_machine.proofs.Names.{Entity, status_since, opens_of, status-decided, AllExact, tags_in, Parts}
+use Rattle.sk_machine.proofs.Names.{machine_of, decided, the_view, AllGrow, AreListed, Lightened, after_commit}
+use Rattle.sk_machine.proofs.Names.{but_taken, dependents_of}
 use Rattle.sk_guesses.specs.Opens.{without_tag}
 use Rattle.sk_machine.proofs.Listed.{commit_opens, committed_exact, listed}
 use Rattle.sk_machine.proofs.Becomes.{commits_of}
@@ -33,7 +34,7 @@ pub returns-clause-commits : goal.returns-clause-commits
 returns-clause-commits c =
     let id = c.args.id in
     let os = c.self.inside.guesses.opens in
-    let a : Parts = record { slots = c.self.inside.logs.slots; opens = opens_of os; guesses = c.self.inside.guesses.view; texts = c.self.inside.terminals } in
+    let a : Parts = the_view c.self.inside in
     let b : Parts = record { slots = c.commit.new.self.slots; opens = opens_of c.reuse.new.self.opens; guesses = c.reuse.new.self.view; texts = c.commit-3.new.self } in
     let undecided : status_since a.guesses id ≡ Some Undecided = ap (λ (p : Parts). status_since p.guesses id) c.self.view_is ∙ c.requires.undecided in
     let still : status_since c.take_dependents-freed.new.self.view id ≡ Some Undecided = ap (λ v. status_since v id) c.take_dependents-freed.ensures.view ∙ undecided in

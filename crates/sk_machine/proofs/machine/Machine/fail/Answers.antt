@@ -3,7 +3,7 @@ use Rattle.sk_machine.proofs.Names.{◌≡◌, List, ℕ, Some, cond, length, le
 use Rattle.sk_machine.proofs.Names.{with_failure, rests_on, not_struck, Undecided, Failed, Struck, Entity, GuessesView}
 use Rattle.sk_machine.proofs.Names.{decided, status_since, but, dependents_of, not_resting, opens_of, but_taken}
 use Rattle.sk_machine.proofs.Names.{failed_status, taken_opens, AllAlmostExact, AllExact, tags_in, Parts, machine_of}
-use Rattle.sk_machine.proofs.Names.{AllGrow, AreListed}
+use Rattle.sk_machine.proofs.Names.{AllGrow, AreListed, the_view}
 use Rattle.sk_machine.proofs.Listed.{failed_almost, failed_exact, listed}
 use Rattle.sk_machine.proofs.Becomes.{fails_of}
 use Rattle.sk_machine.proofs.machine.Machine.fail.Goals as goal
@@ -41,7 +41,7 @@ pub returns : goal.returns
 returns c =
     let id = c.args.id in
     let os = c.self.inside.guesses.opens in
-    let a : Parts = record { slots = c.self.inside.logs.slots; opens = opens_of os; guesses = c.self.inside.guesses.view; texts = c.self.inside.terminals } in
+    let a : Parts = the_view c.self.inside in
     let b : Parts = record { slots = c.unwind.new.self.slots; opens = opens_of c.reuse.new.self.opens; guesses = c.reuse.new.self.view; texts = c.drop_of.new.self } in
     let undecided : status_since a.guesses id ≡ Some Undecided = ap (λ (p : Parts). status_since p.guesses id) c.self.view_is ∙ c.requires.undecided in
     let taken = c.take_dependents-freed.ensures in

@@ -1,6 +1,7 @@
 -- What is written is listed for the guesses that it rests on, and is what is handed in.
 use Rattle.sk_machine.proofs.Names.{◌≡◌, [], ◌∷◌, ◌∙◌, List, Some, refl, sym, subst, Entity, Proc, opens_of, IsProcess}
 use Rattle.sk_machine.proofs.Names.{look_at, Covers, tags_in, AreAlone, HandsInProcess, Parts, IsClean, entities_of}
+use Rattle.sk_machine.proofs.Names.{the_view, IsOrdered, undo_state_of}
 use Rattle.std.specs.FinMap as map
 use Rattle.sk_store.specs.declared.entity_state.EntityState.TheVariants as stored
 use Rattle.sk_machine.proofs.Given.{for_err, from_ok, from_err}
@@ -8,6 +9,10 @@ use Rattle.sk_machine.proofs.Becomes.{same_parts}
 use Rattle.sk_machine.proofs.Listed.{performed_exact, unperformed}
 use Rattle.sk_machine.proofs.Alone.{clean_alone, hands_in}
 use Rattle.sk_machine.proofs.machine.Machine.hand_in.Goals as goal
+
+pub depend_all-requires-clause-order : goal.depend_all-requires-clause-order
+depend_all-requires-clause-order c =
+    subst (λ (m : Parts). IsOrdered (undo_state_of m)) (sym c.self.view_is) (record { tidy = c.requires.tidy; rising = c.requires.rising })
 
 pub depend_all-requires-clause-covers : goal.depend_all-requires-clause-covers
 depend_all-requires-clause-covers c =
@@ -42,22 +47,20 @@ invariant_of-self-else-is_err c =
 
 pub returns-in_err-depend_all-clause-err : goal.returns-in_err-depend_all-clause-err
 returns-in_err-depend_all-clause-err c =
-    let old : Parts = record { slots = c.self.inside.logs.slots; opens = opens_of c.self.inside.guesses.opens; guesses = c.self.inside.guesses.view; texts = c.self.inside.terminals } in
-    let new : Parts = record { slots = c.self.inside.logs.slots; opens = opens_of c.depend_all.new.guesses.opens; guesses = c.depend_all.new.guesses.view; texts = c.self.inside.terminals } in
-    for_err c.from_residual-in_err-depend_all.result (same_parts new old refl c.depend_all.ensures.opens c.depend_all.ensures.view refl ∙ c.self.view_is)
+    let new : Parts = record (the_view c.self.inside) { opens = opens_of c.depend_all.new.guesses.opens; guesses = c.depend_all.new.guesses.view } in
+    for_err c.from_residual-in_err-depend_all.result (same_parts new (the_view c.self.inside) refl c.depend_all.ensures.opens c.depend_all.ensures.view refl ∙ c.self.view_is)
 
 pub returns-then-is_err-clause-err : goal.returns-then-is_err-clause-err
 returns-then-is_err-clause-err c =
     let opens = c.relieve_all.ensures.opens ∙ c.depend_all.ensures.opens in
     let guesses = c.relieve_all.ensures.view ∙ c.depend_all.ensures.view in
     let slots = from_err c.set_process.result c.if-is_err.ensures.value c.set_process.ensures.err in
-    let old : Parts = record { slots = c.self.inside.logs.slots; opens = opens_of c.self.inside.guesses.opens; guesses = c.self.inside.guesses.view; texts = c.self.inside.terminals } in
     let new : Parts = record { slots = c.set_process.new.logs.slots; opens = opens_of c.relieve_all.new.guesses.opens; guesses = c.relieve_all.new.guesses.view; texts = c.self.inside.terminals } in
-    same_parts new old slots opens guesses refl ∙ c.self.view_is
+    same_parts new (the_view c.self.inside) slots opens guesses refl ∙ c.self.view_is
 
 pub returns-clause-ok : goal.returns-clause-ok
 returns-clause-ok c =
-    let a : Parts = record { slots = c.self.inside.logs.slots; opens = opens_of c.self.inside.guesses.opens; guesses = c.self.inside.guesses.view; texts = c.self.inside.terminals } in
+    let a : Parts = the_view c.self.inside in
     let b : Parts = record { slots = c.set_process.new.logs.slots; opens = opens_of c.depend_all.new.guesses.opens; guesses = c.depend_all.new.guesses.view; texts = c.self.inside.terminals } in
     let tags : AreAlone a c.args.pid c.in_ok-tags.tags = subst (λ (p : Parts). AreAlone p c.args.pid c.in_ok-tags.tags) (sym c.self.view_is) c.in_ok-tags.ensures.alone in
     subst (λ (p : Parts). HandsInProcess p c.args.pid c.args.process.now b) c.self.view_is

@@ -27,8 +27,8 @@ returns-then-open_count-eq0-clause-covers c =
     let none = no_length m.opens (sym c.open_count.ensures ∙ c.if-open_count-eq0.true) in
     none_covered m c.requires.tidy none c.own_tags-own.result (written_in c.args.pid c.args.plan.now)
 
-pub add_touched-requires-clause-rising : goal.add_touched-requires-clause-rising
-add_touched-requires-clause-rising c = front_rises (numbers c.args.self.now.opens) (marks c.args.own.now) c.requires.rising
+pub add_touched-requires : goal.add_touched-requires
+add_touched-requires c = record { tidy = c.requires.tidy; rising = front_rises (numbers c.args.self.now.opens) (marks c.args.own.now) c.requires.rising }
 
 pub returns-clause-exact : goal.returns-clause-exact
 returns-clause-exact c =

@@ -2,7 +2,7 @@
 use Rattle.sk_machine.proofs.Names.{length, ap, sym, subst, ◌∙◌, nat_cmp, IsStrictlySortedBy, eqb-true, numbers}
 use Rattle.sk_machine.proofs.Names.{opens_of}
 use Rattle.sk_machine.proofs.AsProcess.{as_long, count_is}
-use Rattle.sk_machine.proofs.alike.are_all.Goals as goal
+use Rattle.sk_machine.proofs.as_process.are_all.Goals as goal
 
 pub returns : goal.returns
 returns c = λ is.

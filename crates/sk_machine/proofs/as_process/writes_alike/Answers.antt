@@ -1,7 +1,7 @@
 -- The process rests on just these guesses, and so does the copy that it gets, or the file that it writes.
 use Rattle.sk_machine.proofs.Names.{Copy, Obj, Proc, tags_in}
 use Rattle.sk_machine.proofs.AsProcess.{alike_two}
-use Rattle.sk_machine.proofs.alike.writes_alike.Goals as goal
+use Rattle.sk_machine.proofs.as_process.writes_alike.Goals as goal
 
 pub returns-in-Received : goal.returns-in-Received
 returns-in-Received c = λ is.

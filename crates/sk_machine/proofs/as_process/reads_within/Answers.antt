@@ -1,7 +1,7 @@
 -- The process rests on just these, and the rest on none but these.
 use Rattle.sk_machine.proofs.Names.{input_in, looked, looks_of, tags_in}
 use Rattle.sk_machine.proofs.AsProcess.{covers_reads}
-use Rattle.sk_machine.proofs.alike.reads_within.Goals as goal
+use Rattle.sk_machine.proofs.as_process.reads_within.Goals as goal
 
 pub returns : goal.returns
 returns c = λ is.

@@ -4,14 +4,14 @@ ghost use Rattle.std.specs.Prelude.{◌≡◌, ◌∷◌, [], ℕ, true, IfOk};
 ghost use Rattle.std.specs.List.Sorted.{IsStrictlySortedBy};
 ghost use Rattle.std.specs.Ordering.{nat_cmp};
 ghost use Rattle.sk_record.specs.Notes.{has};
-ghost use Rattle.sk_record.specs.UndoState.{IsTidy, numbers};
+ghost use Rattle.sk_record.specs.UndoState.{numbers};
 ghost use Rattle.sk_guesses.specs.Opens.{opens_of};
 ghost use Rattle.sk_ids.specs.declared.entity.Entity.TheVariants.{Exit, Proc, Sig};
 ghost use Rattle.sk_undo.specs.Decisions.{undo_state};
 ghost use Rattle.sk_trace.specs.Kept.{input_in};
 ghost use Rattle.sk_plain.specs.Planned.{looked_at, read_by, signals_read};
 ghost use Rattle.sk_plain.specs.Seen.{looked, looks_of, written_in, written_row};
-ghost use Rattle.sk_machine.specs.Dependents.{Covers, RestAlike, tags_in};
+ghost use Rattle.sk_machine.specs.Dependents.{Covers, IsOrdered, RestAlike, RestsAsProcess, tags_in};
 
 use crate::lists::tags_of;
 use crate::machine::is_none;
@@ -190,20 +190,12 @@ pub(crate) fn set_alike(
     input: InputRef<'_>,
     plan: &Plan,
 ) -> Result<bool, AllocError>
-    requires tidy { IsTidy (undo_state logs.old.slots (opens_of guesses.now.opens)) }
-    requires rising { IsStrictlySortedBy nat_cmp (numbers (opens_of guesses.now.opens)) }
+    requires order { IsOrdered (undo_state logs.old.slots (opens_of guesses.now.opens)) }
     requires untagged { untagged.now ≡ [] }
     ensures slots { logs.new.slots ≡ logs.old.slots }
-    ensures own { IfOk result
-        (λ alike. alike ≡ true → tags_in logs.new.slots (Proc pid) ≡ logs.new.tags) }
-    ensures reads { IfOk result
+    ensures alike { IfOk result
         (λ alike. alike ≡ true
-        → Covers logs.new.tags (read_by pid (input_in input.entry) (looked (looks_of plan.now)))
-        (tags_in logs.new.slots)) }
-    ensures writes { IfOk result
-        (λ alike. alike ≡ true
-        → RestAlike logs.new.tags (written_in pid plan.now) (tags_in logs.new.slots)) }
-    ensures rising { IfOk result (λ alike. IsStrictlySortedBy nat_cmp logs.new.tags) }
+        → RestsAsProcess logs.new.slots logs.new.tags pid (input_in input.entry) plan.now) }
 {
     if guesses.undecided() == 0 {
         set_untagged(logs);

@@ -1,7 +1,7 @@
 -- It rests on nothing, or on guesses that are all there.
 use Rattle.sk_machine.proofs.Names.{ap, sym, ◌∙◌, has, tags_in}
 use Rattle.sk_machine.proofs.AsProcess.{covers_one, none_within}
-use Rattle.sk_machine.proofs.alike.is_within.Goals as goal
+use Rattle.sk_machine.proofs.as_process.is_within.Goals as goal
 
 pub returns-then-is_none : goal.returns-then-is_none
 returns-then-is_none c = λ _.

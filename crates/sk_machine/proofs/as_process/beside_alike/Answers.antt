@@ -1,7 +1,7 @@
 -- The process rests on just these guesses, and so does the entity.
 use Rattle.sk_machine.proofs.Names.{Proc, tags_in}
 use Rattle.sk_machine.proofs.AsProcess.{alike_two}
-use Rattle.sk_machine.proofs.alike.beside_alike.Goals as goal
+use Rattle.sk_machine.proofs.as_process.beside_alike.Goals as goal
 
 pub returns-in-One : goal.returns-in-One
 returns-in-One c = λ is.

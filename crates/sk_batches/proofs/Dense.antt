@@ -1,15 +1,14 @@
 -- Batches stand in the log one behind another, and a cut takes away just those of its frame.
-use Rattle.sk_batches.proofs.Names.{same_Some, none-some, or_parts, ◌≡◌, ℕ, ◌+◌, ◌<◌, ◌≤◌, true, false, cond, ◌||◌}
-use Rattle.sk_batches.proofs.Names.{◌&&◌, List, [], ◌∷◌, ◌++◌, length, map, Option, Some, None, inl, inr, refl, sym}
-use Rattle.sk_batches.proofs.Names.{◌∙◌, ap, subst, arith, ◌⊎◌, ◌==◌, nat_lt, nat_le, both_ways, list_any}
-use Rattle.sk_batches.proofs.Names.{AllByRecursion, Contains, true≢false, false≢true, and_from, and_left, and_parts}
-use Rattle.sk_batches.proofs.Names.{eqb-true, eq-eqb, or_cases, or_from, or_left, or_right, cases_order, leb-true}
-use Rattle.sk_batches.proofs.Names.{le-leb, ltb-true, lt-ltb, le-ltb, ne_eqb, false_from_ne_true, length-append}
-use Rattle.sk_batches.proofs.Names.{length-map, All-contains, All-from_recursion, NUMBER_LIMIT, Stage, Kept, Sent}
-use Rattle.sk_batches.proofs.Names.{Synced, Failed, Refused, Batch, Cut, RecordView, kept, QueueView, send, tell}
-use Rattle.sk_batches.proofs.Names.{awaits, cut_off, first_failed, last_in, is_kept, is_sent, is_failed, is_decided}
-use Rattle.sk_batches.proofs.Names.{is_taken, left, past, Call, Appends, Withdraws, Takes, Syncs, Fails, Decides, Cuts}
-use Rattle.sk_batches.proofs.Names.{Stops, Happens, Runs, Story, story_after, is_off, AreDense, CutsARange}
+use Rattle.std.proofs.lemmas.Bool.Decides.{nat_tests}
+use Rattle.sk_batches.proofs.Names.{none-some, or_parts, ◌≡◌, ℕ, ◌+◌, ◌<◌, ◌≤◌, true, false, cond, ◌||◌, ◌&&◌, List}
+use Rattle.sk_batches.proofs.Names.{[], ◌∷◌, ◌++◌, length, map, Option, Some, None, inl, inr, refl, sym, ◌∙◌, ap}
+use Rattle.sk_batches.proofs.Names.{subst, arith, ◌⊎◌, ◌==◌, nat_lt, nat_le, list_any, AllByRecursion, Contains}
+use Rattle.sk_batches.proofs.Names.{true≢false, eq-eqb, cases_order, lt-ltb, ne_eqb, false_from_ne_true}
+use Rattle.sk_batches.proofs.Names.{length-append, length-map, All-contains, All-from_recursion, NUMBER_LIMIT, Stage}
+use Rattle.sk_batches.proofs.Names.{Kept, Sent, Synced, Failed, Refused, Batch, Cut, RecordView, kept, QueueView}
+use Rattle.sk_batches.proofs.Names.{send, tell, awaits, cut_off, first_failed, last_in, is_kept, is_sent, is_failed}
+use Rattle.sk_batches.proofs.Names.{is_taken, left, past, Call, Appends, Withdraws, Takes, Syncs, Fails, Decides}
+use Rattle.sk_batches.proofs.Names.{Cuts, Stops, Happens, Runs, Story, story_after, is_off, AreDense, CutsARange}
 use Rattle.sk_batches.proofs.Names.{FramesAreDense, IsAtCut, IsBehind, IsBetween, IsRange}
 use Rattle.sk_batches.proofs.Order.{cut_number, sent_number, told_number}
 use Rattle.sk_batches.proofs.Synced.{due_cut, else_decided, failed_undecided, failed_unkept, kept_unfailing, sent_undecided, sent_unkept}
@@ -44,8 +43,7 @@ of_all P xs x all at = All-contains P xs x (All-from_recursion P xs all) at
 dense_all : (first next number : ℕ) (bs : List Batch) → AreDense first next number bs
     → AllByRecursion (λ b. (b.number < number) × (is_kept b.stage ≡ false → IsBetween first next b)) bs
 dense_all first next number [] so = tt
-dense_all first next number (b ∷ bs) so =
-    let row = so.0 in ((omega arith, so.1), dense_all first next number bs so.3)
+dense_all first next number (b ∷ bs) so = grind (arith, nat_tests, dense_all first next number bs so.3)
 
 pub dense_at : (first next number : ℕ) (bs : List Batch) (b : Batch) → AreDense first next number bs → Contains bs b
     → (b.number < number) × (is_kept b.stage ≡ false → IsBetween first next b)
@@ -64,109 +62,44 @@ module _ (first next number : ℕ) (records : List RecordView) (least : first �
 
   between_sent : (b : Batch) → (is_kept b.stage ≡ false → IsBetween first next b)
       → IsBetween first (next + 1) (send next b)
-  between_sent b old =
-      elim (is_kept b.stage) as
-      (λ t. is_kept b.stage ≡ t → IsBetween first (next + 1) (cond t (record b { frame = next; stage = Sent }) b)) [
-        | true ↦ λ is. record { from = least; before = omega arith; numbered = small }
-        | false ↦ λ is.
-            let was = old is in
-            let below = was.before in record { from = was.from; before = omega arith; numbered = was.numbered }
-      ] refl
+  between_sent b old = grind (arith, nat_tests)
 
   -- of two, where the second is sent or stays
   first_stays : (b d : Batch) → is_kept b.stage ≡ false → (is_kept b.stage ≡ false → IsBetween first next b)
       → IsBehind b d → IsBehind b (send next d)
-  first_stays b d unkept between old =
-      elim (is_kept d.stage) as
-      (λ t. is_kept d.stage ≡ t → IsBehind b (cond t (record d { frame = next; stage = Sent }) d)) [
-        | true ↦ λ is.
-            let below = (between unkept).before in
-            record {
-              number = old.number;
-              frame = λ e. omega arith;
-              alike = λ e same. absurd (omega arith);
-              last = λ e. absurd (true≢false (sym e ∙ unkept));
-              settled = λ e. absurd (false≢true e);
-            }
-        | false ↦ λ is. old
-      ] refl
+  first_stays b d unkept between old = grind (arith, nat_tests)
 
   both_sent : (b d : Batch) → is_kept b.stage ≡ true → IsBehind b d
       → IsBehind (record b { frame = next; stage = Sent }) (send next d)
-  both_sent b d is old =
-      subst (λ t. IsBehind (record b { frame = next; stage = Sent })
-      (cond t (record d { frame = next; stage = Sent }) d)) (sym (old.last is)) (
-      record {
-        number = old.number;
-        frame = λ e. omega arith;
-        alike = λ e same. refl;
-        last = λ e. absurd (false≢true e);
-        settled = λ e. absurd (false≢true e);
-      }
-      )
+  both_sent b d is old = grind (arith, nat_tests)
 
   two_sent : (b d : Batch) → (is_kept b.stage ≡ false → IsBetween first next b) → IsBehind b d
       → IsBehind (send next b) (send next d)
-  two_sent b d between old =
-      elim (is_kept b.stage) as
-      (λ t. is_kept b.stage ≡ t → IsBehind (cond t (record b { frame = next; stage = Sent }) b) (send next d)) [
-        | true ↦ λ is. both_sent b d is old
-        | false ↦ λ is. first_stays b d is between old
-      ] refl
+  two_sent b d between old = grind (arith, nat_tests, both_sent b d, first_stays b d)
 
   open_behind : (b : Batch) → (is_kept b.stage ≡ false → IsBetween first next b) → b.number < number
       → IsBehind (send next b) opened
-  open_behind b between less =
-      elim (is_kept b.stage) as
-      (λ t. is_kept b.stage ≡ t → IsBehind (cond t (record b { frame = next; stage = Sent }) b) opened) [
-        | true ↦ λ is. record {
-          number = less;
-          frame = λ e. omega arith;
-          alike = λ e same. refl;
-          last = λ e. absurd (false≢true e);
-          settled = λ e. absurd (false≢true e);
-        }
-        | false ↦ λ is.
-            let below = (between is).before in
-            record {
-              number = less;
-              frame = λ e. omega arith;
-              alike = λ e same. absurd (omega arith);
-              last = λ e. absurd (true≢false (sym e ∙ is));
-              settled = λ e. absurd (false≢true e);
-            }
-      ] refl
+  open_behind b between less = grind (arith, nat_tests)
 
   taken : (bs : List Batch) → AreDense first next number bs
       → AreDense first (next + 1) (number + 1) (map (send next) bs ++ opened ∷ [])
   taken [] so = (refl, λ e. between_opened, tt, tt)
   taken (b ∷ bs) so =
-      let row = so.0 in
-      let long = length-append (map (send next) bs) (opened ∷ []) in
-      let same = length-map bs (send next) in
-      let named = sent_number next b in (
-        omega (arith, long, same, named),
-        λ e. between_sent b so.1,
-        all_pushed (IsBehind (send next b)) (map (send next) bs) opened
-            (all_mapped (send next) (IsBehind b) (IsBehind (send next b)) (λ d old. two_sent b d so.1 old) bs so.2)
-            (open_behind b so.1 (omega arith)),
-        taken bs so.3,
-      )
+      let one = length-append (map (send next) bs) in
+      let two = length-map bs (send next) in
+      let three = between_sent b so.1 in
+      let four = all_pushed (IsBehind (send next b)) (map (send next) bs) in
+      let five = all_mapped (send next) (IsBehind b) (IsBehind (send next b)) (λ d old. two_sent b d so.1 old) bs so.2
+      in
+      let six = open_behind b so.1 (omega arith) in
+      grind (arith, nat_tests, one, two, sent_number next b, three, four, five, two_sent b, six, taken bs so.3)
 
 -- ---- a frame is told of
 
 module _ (frame : ℕ) (stage : Stage) (unkept : is_kept stage ≡ false) (on : is_off stage ≡ false) where
   told_between : (first next : ℕ) (b : Batch) → (is_kept b.stage ≡ false → IsBetween first next b)
       → is_kept (tell frame stage b).stage ≡ false → IsBetween first next (tell frame stage b)
-  told_between first next b old =
-      elim (awaits frame b) as
-      (λ t. awaits frame b ≡ t → is_kept (cond t (record b { stage = stage }) b).stage ≡ false
-      → IsBetween first next (cond t (record b { stage = stage }) b)) [
-        | true ↦ λ is e.
-            let was = old (sent_unkept b.stage (and_parts (is_sent b.stage) (b.frame == frame) is).0) in
-            record { from = was.from; before = was.before; numbered = was.numbered }
-        | false ↦ λ is e. old e
-      ] refl
+  told_between first next b old = grind (arith, nat_tests, sent_unkept b.stage)
 
   -- what was told of both, in one frame, is told of both
   awaits_alike : (b d : Batch) → b.frame ≡ d.frame → b.stage ≡ d.stage → awaits frame b ≡ awaits frame d
@@ -174,65 +107,24 @@ module _ (frame : ℕ) (stage : Stage) (unkept : is_kept stage ≡ false) (on : 
 
   two_told : (b d : Batch) → IsBehind b d → IsBehind (tell frame stage b) (tell frame stage d)
   two_told b d old =
-      elim (awaits frame b) as
-      (λ t. awaits frame b ≡ t → IsBehind (cond t (record b { stage = stage }) b) (tell frame stage d)) [
-        | true ↦ λ is.
-            let sent = (and_parts (is_sent b.stage) (b.frame == frame) is).0 in
-            elim (awaits frame d) as
-            (λ t. awaits frame d ≡ t
-            → IsBehind (record b { stage = stage }) (cond t (record d { stage = stage }) d)) [
-              | true ↦ λ too. record {
-                number = old.number;
-                frame = λ e. old.frame (sent_unkept d.stage (and_parts (is_sent d.stage) (d.frame == frame) too).0);
-                alike = λ e same. refl;
-                last = λ e. e;
-                settled = λ e. absurd (true≢false (sym e ∙ on));
-              }
-              | false ↦ λ other. record {
-                number = old.number;
-                frame = old.frame;
-                alike = λ e same. absurd (true≢false (sym is ∙ awaits_alike b d same (old.alike e same) ∙ other));
-                last = λ e. absurd (true≢false (sym e ∙ unkept));
-                settled = λ e u. absurd
-                    (true≢false (sym (old.settled e (sent_unkept b.stage sent)) ∙ sent_undecided b.stage sent));
-              }
-            ] refl
-        | false ↦ λ is.
-            elim (awaits frame d) as (λ t. awaits frame d ≡ t → IsBehind b (cond t (record d { stage = stage }) d)) [
-              | true ↦ λ too.
-                  let free = sent_unkept d.stage (and_parts (is_sent d.stage) (d.frame == frame) too).0 in
-                  record {
-                    number = old.number;
-                    frame = λ e. old.frame free;
-                    alike = λ e same. absurd
-                        (true≢false (sym too ∙ sym (awaits_alike b d same (old.alike free same)) ∙ is));
-                    last = λ e. absurd (true≢false (sym (old.last e) ∙ free));
-                    settled = λ e. absurd (true≢false (sym e ∙ on));
-                  }
-              | false ↦ λ other. old
-            ] refl
-      ] refl
+      grind (arith, nat_tests, sent_unkept d.stage, awaits_alike b d, sent_unkept b.stage, sent_undecided b.stage)
 
   told : (first next number : ℕ) (bs : List Batch) → AreDense first next number bs
       → AreDense first next number (map (tell frame stage) bs)
   told first next number [] so = tt
   told first next number (b ∷ bs) so =
-      let row = so.0 in
-      let same = length-map bs (tell frame stage) in
-      let named = told_number frame stage b in (
-        omega (arith, same, named),
-        told_between first next b so.1,
-        all_mapped (tell frame stage) (IsBehind b) (IsBehind (tell frame stage b)) (λ d old. two_told b d old) bs so.2,
-        told first next number bs so.3,
-      )
+      let one = length-map bs (tell frame stage) in
+      let two = all_mapped (tell frame stage) (IsBehind b) (IsBehind (tell frame stage b)) (λ d old. two_told b d old)
+      bs so.2 in
+      let three = told first next number bs so.3 in
+      grind (arith, nat_tests, one, told_number frame stage b, told_between first next b so.1, two, two_told b, three)
 
 -- ---- the oldest is let go of
 
 popped : (first next number : ℕ) (bs : List Batch) → AreDense first next number bs
     → AreDense first next number (left bs)
 popped first next number [] so = so
-popped first next number (b ∷ bs) so =
-    elim (is_decided b.stage) as (λ t. AreDense first next number (cond t bs (b ∷ bs))) [ true ↦ so.3 | false ↦ so ]
+popped first next number (b ∷ bs) so = grind (arith, nat_tests)
 
 -- ---- a cut
 
@@ -246,112 +138,39 @@ CutInto c b a =
     ⊎ (((b.frame ≡ c.frame) × (a ≡ record b { stage = Refused })) ⊎ ((c.frame < b.frame) × (a ≡ kept_batch c b)))
 
 pub cut_into : (c : Cut) (b : Batch) → CutInto c b (cut_off c b)
-cut_into c b = elim (cases_order b.frame c.frame) as (λ _. CutInto c b (cut_off c b)) [
-  | inl same ↦ inr (inl (
-    same,
-    ap (λ t. cond t b (cond (b.frame == c.frame) (record b { stage = Refused }) (kept_batch c b)))
-        (le-ltb b.frame c.frame (omega arith))
-        ∙ ap (λ t. cond t (record b { stage = Refused }) (kept_batch c b)) (eq-eqb b.frame c.frame same),
-  ))
-  | inr other ↦ elim other as (λ _. CutInto c b (cut_off c b)) [
-    | inl less ↦ inl (
-      less,
-      ap
-          (λ t. cond t b (cond (b.frame == c.frame) (record b { stage = Refused }) (kept_batch c b)))
-          (lt-ltb b.frame c.frame less),
-    )
-    | inr more ↦ inr (inr (
-      more,
-      ap (λ t. cond t b (cond (b.frame == c.frame) (record b { stage = Refused }) (kept_batch c b)))
-          (le-ltb b.frame c.frame (omega arith))
-          ∙ ap (λ t. cond t (record b { stage = Refused }) (kept_batch c b))
-          (ne_eqb b.frame c.frame (λ e. omega arith)),
-    ))
-  ]
-]
+cut_into c b = grind (arith, nat_tests)
 
 module _ (c : Cut) where
   two_into : (b d a e : Batch) → CutInto c b a → CutInto c d e → IsAtCut c b → IsAtCut c d → IsBehind b d → IsBehind a e
-  two_into b d a e (inl (less, x)) (inl (under, y)) one two old = subst (λ z. IsBehind z e) (sym x)
-      (subst (IsBehind b) (sym y) old)
-  two_into b d a e (inl (less, x)) (inr (inl (same, y))) one two old = subst (λ z. IsBehind z e) (sym x)
-      (subst (IsBehind b) (sym y) (
-      record {
-        number = old.number;
-        frame = λ k. old.frame two.unkept;
-        alike = λ k at. absurd (omega arith);
-        last = λ k. absurd (true≢false (sym k ∙ one.unkept));
-        settled = λ k u. (one.earlier less).0;
-      }))
-  two_into b d a e (inl (less, x)) (inr (inr (more, y))) one two old = subst (λ z. IsBehind z e) (sym x)
-      (subst (IsBehind b) (sym y) (
-      record {
-        number = old.number;
-        frame = λ k. absurd (true≢false k);
-        alike = λ k at. absurd (true≢false k);
-        last = λ k. refl;
-        settled = λ k u. (one.earlier less).0;
-      }))
-  two_into b d a e (inr (inl (same, x))) (inl (under, y)) one two old = let up = old.frame two.unkept in absurd
-      (omega arith)
-  two_into b d a e (inr (inl (same, x))) (inr (inl (too, y))) one two old = subst (λ z. IsBehind z e) (sym x)
-      (subst (IsBehind (record b { stage = Refused })) (sym y) (
-      record {
-        number = old.number;
-        frame = λ k. old.frame two.unkept;
-        alike = λ k at. refl;
-        last = λ k. absurd (false≢true k);
-        settled = λ k u. refl;
-      }))
-  two_into b d a e (inr (inl (same, x))) (inr (inr (more, y))) one two old = subst (λ z. IsBehind z e) (sym x)
-      (subst (IsBehind (record b { stage = Refused })) (sym y) (
-      record {
-        number = old.number;
-        frame = λ k. absurd (true≢false k);
-        alike = λ k at. absurd (true≢false k);
-        last = λ k. refl;
-        settled = λ k u. refl;
-      }))
-  two_into b d a e (inr (inr (more, x))) (inl (under, y)) one two old = let up = old.frame two.unkept in absurd
-      (omega arith)
-  two_into b d a e (inr (inr (more, x))) (inr (inl (too, y))) one two old = let up = old.frame two.unkept in absurd
-      (omega arith)
-  two_into b d a e (inr (inr (more, x))) (inr (inr (over, y))) one two old = subst (λ z. IsBehind z e) (sym x)
-      (subst (IsBehind (kept_batch c b)) (sym y) (
-      record {
-        number = old.number;
-        frame = λ k. absurd (true≢false k);
-        alike = λ k at. absurd (true≢false k);
-        last = λ k. refl;
-        settled = λ k u. absurd (true≢false u);
-      }))
+  two_into b d a e (inl (less, x)) (inl (under, y)) one two old = grind (arith, nat_tests)
+  two_into b d a e (inl (less, x)) (inr (inl (same, y))) one two old = grind (arith, nat_tests)
+  two_into b d a e (inl (less, x)) (inr (inr (more, y))) one two old = grind (arith, nat_tests)
+  two_into b d a e (inr (inl (same, x))) (inl (under, y)) one two old = grind (arith, nat_tests)
+  two_into b d a e (inr (inl (same, x))) (inr (inl (too, y))) one two old = grind (arith, nat_tests)
+  two_into b d a e (inr (inl (same, x))) (inr (inr (more, y))) one two old = grind (arith, nat_tests)
+  two_into b d a e (inr (inr (more, x))) (inl (under, y)) one two old = grind (arith, nat_tests)
+  two_into b d a e (inr (inr (more, x))) (inr (inl (too, y))) one two old = grind (arith, nat_tests)
+  two_into b d a e (inr (inr (more, x))) (inr (inr (over, y))) one two old = grind (arith, nat_tests)
 
   into_between : (first next : ℕ) (b a : Batch) → CutInto c b a → IsAtCut c b
       → (is_kept b.stage ≡ false → IsBetween first next b)
       → is_kept a.stage ≡ false → IsBetween first (c.frame + 1) a
-  into_between first next b a (inl (less, x)) at old free =
-      let was = old at.unkept in subst (IsBetween first (c.frame + 1)) (sym x)
-      (record { from = was.from; before = omega arith; numbered = was.numbered })
-  into_between first next b a (inr (inl (same, x))) at old free =
-      let was = old at.unkept in subst (IsBetween first (c.frame + 1)) (sym x)
-      (record { from = was.from; before = omega arith; numbered = was.numbered })
-  into_between first next b a (inr (inr (more, x))) at old free = absurd
-      (true≢false (sym (ap (λ (z : Batch). is_kept z.stage) x) ∙ free))
+  into_between first next b a (inl (less, x)) at old free = grind (arith, nat_tests)
+  into_between first next b a (inr (inl (same, x))) at old free = grind (arith, nat_tests)
+  into_between first next b a (inr (inr (more, x))) at old free = grind (arith, nat_tests)
 
   cut : (first next number : ℕ) (bs : List Batch) → AllByRecursion (IsAtCut c) bs → AreDense first next number bs
       → AreDense first (c.frame + 1) number (map (cut_off c) bs)
   cut first next number [] at so = tt
   cut first next number (b ∷ bs) at so =
-      let row = so.0 in
-      let same = length-map bs (cut_off c) in
-      let named = cut_number c b in (
-        omega (arith, same, named),
-        into_between first next b (cut_off c b) (cut_into c b) at.0 so.1,
-        all_mapped (cut_off c) (λ d. IsAtCut c d × IsBehind b d) (IsBehind (cut_off c b))
-            (λ d x. two_into b d (cut_off c b) (cut_off c d) (cut_into c b) (cut_into c d) at.0 x.0 x.1) bs
-            (all_both (IsAtCut c) (IsBehind b) (λ d. IsAtCut c d × IsBehind b d) (λ d x y. (x, y)) bs at.1 so.2),
-        cut first next number bs at.1 so.3,
-      )
+      let one = length-map bs (cut_off c) in
+      let two = into_between first next b (cut_off c b) (cut_into c b) at.0 so.1 in
+      let three = all_mapped (cut_off c) (λ d. IsAtCut c d × IsBehind b d) (IsBehind (cut_off c b)) (λ d x. two_into b d
+      (cut_off c b) (cut_off c d) (cut_into c b) (cut_into c d) at.0 x.0 x.1) bs (all_both (IsAtCut c) (IsBehind b) (λ
+      d. IsAtCut c d × IsBehind b d) (λ d x y. (x, y)) bs at.1 so.2) in
+      let four = all_both (IsAtCut c) (IsBehind b) (λ d. IsAtCut c d × IsBehind b d) (λ d x y. (x, y)) bs at.1 so.2 in
+      let five = cut first next number bs at.1 so.3 in
+      grind (arith, nat_tests, one, cut_number c b, two, cut_into c b, three, two_into b, cut_into c, four, five)
 
 -- ---- which batches it takes
 
@@ -362,52 +181,23 @@ record IsRun (frame n last : ℕ) (bs : List Batch) : Type 0 where
   pub each : AllByRecursion (λ b. (b.frame ≡ frame → b.number ≤ last) × (frame < b.frame → last < b.number)) bs
 
 none_between : (n g : ℕ) → (nat_lt n g && nat_le g n) ≡ false
-none_between n g = false_from_ne_true (nat_lt n g && nat_le g n)
-    (λ e. let parts = and_parts (nat_lt n g)
-    (nat_le g n) e in let more = ltb-true n g parts.0 in let less = leb-true g n parts.1 in omega arith)
+none_between n g = grind (arith, nat_tests)
 
 -- one more in front
 run_on : (n last g : ℕ) → n + 1 ≤ last
     → ((n + 1 == g) || (nat_lt (n + 1) g && nat_le g last)) ≡ (nat_lt n g && nat_le g last)
-run_on n last g least = both_ways ((n + 1 == g) || (nat_lt (n + 1) g && nat_le g last)) (nat_lt n g && nat_le g last)
-    (λ e. elim (or_cases (n + 1 == g) (nat_lt (n + 1) g && nat_le g last) e) as
-    (λ _. (nat_lt n g && nat_le g last) ≡ true) [
-      | inl same ↦ let is = eqb-true (n + 1) g same in and_from (nat_lt n g) (nat_le g last)
-          (lt-ltb n g (omega arith)) (le-leb g last (omega arith))
-      | inr more ↦
-          let parts = and_parts (nat_lt (n + 1) g) (nat_le g last) more in
-          let over = ltb-true (n + 1) g parts.0 in
-          and_from (nat_lt n g) (nat_le g last) (lt-ltb n g (omega arith)) parts.1
-    ])
-    (λ e.
-    let parts = and_parts (nat_lt n g) (nat_le g last) e in
-    let over = ltb-true n g parts.0 in
-    elim (cases_order (n + 1) g) as (λ _. ((n + 1 == g) || (nat_lt (n + 1) g && nat_le g last)) ≡ true) [
-      | inl same ↦ or_left (n + 1 == g) (nat_lt (n + 1) g && nat_le g last) (eq-eqb (n + 1) g same)
-      | inr other ↦ elim other as (λ _. ((n + 1 == g) || (nat_lt (n + 1) g && nat_le g last)) ≡ true) [
-        | inl less ↦ or_right (n + 1 == g) (nat_lt (n + 1) g && nat_le g last)
-            (and_from (nat_lt (n + 1) g) (nat_le g last) (lt-ltb (n + 1) g less) parts.1)
-        | inr more ↦ absurd (omega arith)
-      ]
-    ])
+run_on n last g least = grind (arith, nat_tests)
 
 -- none of those behind a higher frame
 none_in : (frame g : ℕ) (bs : List Batch) → AllByRecursion (λ (b : Batch). frame < b.frame) bs
     → list_any (λ (b : Batch). (b.frame == frame) && (b.number == g)) bs ≡ false
 none_in frame g [] all = refl
-none_in frame g (b ∷ bs) all =
-    let more = all.0 in
-    or_from ((b.frame == frame) && (b.number == g)) (list_any (λ (d : Batch). (d.frame == frame) && (d.number == g)) bs)
-    (and_left (b.frame == frame) (b.number == g) (ne_eqb b.frame frame (λ e. omega arith)))
-    (none_in frame g bs all.1)
+none_in frame g (b ∷ bs) all = grind (arith, nat_tests, none_in frame g bs all.1)
 
 last_none : (frame n : ℕ) (bs : List Batch) → AllByRecursion (λ (b : Batch). frame < b.frame) bs
     → last_in frame n bs ≡ n
 last_none frame n [] all = refl
-last_none frame n (b ∷ bs) all =
-    let more = all.0 in
-    ap (λ t. cond t (last_in frame b.number bs) (last_in frame n bs)) (ne_eqb b.frame frame (λ e. omega arith))
-    ∙ last_none frame n bs all.1
+last_none frame n (b ∷ bs) all = grind (arith, nat_tests, last_none frame n bs all.1)
 
 row_of : (first next number frame n : ℕ) (bs : List Batch) → AreDense first next number bs
     → AllByRecursion (λ (b : Batch). is_kept b.stage ≡ false) bs
@@ -481,48 +271,11 @@ before_failed : (b : Batch) (bs : List Batch) (c : Cut) → is_failed b.stage �
     → (b.frame < c.frame) × (b.number < c.first)
 before_failed b [] c stands behind is = absurd (none-some c is)
 before_failed b (d ∷ bs) c stands behind is =
-    let found : Cut = record { frame = d.frame; first = d.number; last = last_in d.frame d.number bs } in
-    elim (is_failed d.stage) as
-    (λ t. is_failed d.stage ≡ t → cond t (Some found) (first_failed bs) ≡ Some c
-    → (b.frame < c.frame) × (b.number < c.first)) [
-      | true ↦ λ fails here.
-          let free = failed_unkept d.stage fails in
-          let up = behind.0.frame free in
-          let on = behind.0.number in
-          let at : d.frame ≡ c.frame = ap (λ (x : Cut). x.frame) (same_Some _ _ here) in
-          let named : d.number ≡ c.first = ap (λ (x : Cut). x.first) (same_Some _ _ here) in
-          elim (cases_order b.frame d.frame) as (λ _. (b.frame < c.frame) × (b.number < c.first)) [
-            | inl same ↦ absurd (true≢false (sym fails ∙ sym (ap is_failed (behind.0.alike free same)) ∙ stands))
-            | inr other ↦ elim other as (λ _. (b.frame < c.frame) × (b.number < c.first)) [
-              | inl less ↦ (omega arith, omega arith)
-              | inr more ↦ absurd (omega arith)
-            ]
-          ]
-      | false ↦ λ stood later. before_failed b bs c stands behind.1 later
-    ] refl is
+    grind (arith, nat_tests, failed_unkept d.stage, before_failed b bs c stands behind.1)
 
 -- the first is one of a range
 from_first : (n last g : ℕ) → n ≤ last → ((n == g) || (nat_lt n g && nat_le g last)) ≡ (nat_le n g && nat_le g last)
-from_first n last g least = both_ways ((n == g) || (nat_lt n g && nat_le g last)) (nat_le n g && nat_le g last)
-    (λ e. elim (or_cases (n == g) (nat_lt n g && nat_le g last) e) as (λ _. (nat_le n g && nat_le g last) ≡ true) [
-      | inl same ↦ let at = eqb-true n g same in and_from (nat_le n g) (nat_le g last) (le-leb n g (omega arith))
-          (le-leb g last (omega arith))
-      | inr more ↦
-          let parts = and_parts (nat_lt n g) (nat_le g last) more in
-          let over = ltb-true n g parts.0 in
-          and_from (nat_le n g) (nat_le g last) (le-leb n g (omega arith)) parts.1
-    ])
-    (λ e.
-    let parts = and_parts (nat_le n g) (nat_le g last) e in
-    let over = leb-true n g parts.0 in
-    elim (cases_order n g) as (λ _. ((n == g) || (nat_lt n g && nat_le g last)) ≡ true) [
-      | inl same ↦ or_left (n == g) (nat_lt n g && nat_le g last) (eq-eqb n g same)
-      | inr other ↦ elim other as (λ _. ((n == g) || (nat_lt n g && nat_le g last)) ≡ true) [
-        | inl less ↦ or_right (n == g) (nat_lt n g && nat_le g last)
-            (and_from (nat_lt n g) (nat_le g last) (lt-ltb n g less) parts.1)
-        | inr more ↦ absurd (omega arith)
-      ]
-    ])
+from_first n last g least = grind (arith, nat_tests)
 
 -- the first that failed, with those behind it
 range_here : (first next number : ℕ) (b : Batch) (bs : List Batch) → AreDense first next number (b ∷ bs)
@@ -625,16 +378,7 @@ pub cut_between : (first next number : ℕ) (c : Cut) (bs : List Batch) → AreD
     → (first ≤ c.frame) × (c.frame < next) × (c.frame < NUMBER_LIMIT)
 cut_between first next number c [] so is = absurd (none-some c is)
 cut_between first next number c (b ∷ bs) so is =
-    let found : Cut = record { frame = b.frame; first = b.number; last = last_in b.frame b.number bs } in
-    elim (is_failed b.stage) as
-    (λ t. is_failed b.stage ≡ t → cond t (Some found) (first_failed bs) ≡ Some c
-    → (first ≤ c.frame) × (c.frame < next) × (c.frame < NUMBER_LIMIT)) [
-      | true ↦ λ fails here.
-          let was = so.1 (failed_unkept b.stage fails) in
-          subst (λ n. (first ≤ n) × (n < next) × (n < NUMBER_LIMIT)) (ap (λ (x : Cut). x.frame) (same_Some _ _ here))
-          (was.from, was.before, was.numbered)
-      | false ↦ λ stands later. cut_between first next number c bs so.3 later
-    ] refl is
+    grind (arith, nat_tests, failed_unkept b.stage, cut_between first next number c bs so.3)
 
 -- ---- any calls
 
@@ -647,24 +391,17 @@ past_is frame small = ap (λ t. cond t (frame + 1) frame) (lt-ltb frame NUMBER_L
 step : (first : ℕ) (q : QueueView) (c : Call) (m : QueueView) → Happens q c m → Stand first q → Stand first m
 step first q (Appends added) m h so = subst (Stand first) (sym h) so
 step first q Withdraws m h so = subst (Stand first) (sym h) so
-step first q Takes m h so = subst (Stand first) (sym h.1)
-    (let low = so.0 in omega arith, taken first q.frame q.number q.records so.0 h.0 q.batches so.1)
+step first q Takes m h so = grind (arith, nat_tests, taken first q.frame q.number q.records so.0 h.0 q.batches so.1)
 step first q (Syncs frame) m h so = subst (Stand first) (sym h.1)
     (so.0, told frame Synced refl refl first q.frame q.number q.batches so.1)
 step first q (Fails frame) m h so = subst (Stand first) (sym h.1)
     (so.0, told frame Failed refl refl first q.frame q.number q.batches so.1)
 step first q Decides m h so = subst (Stand first) (sym h) (so.0, popped first q.frame q.number q.batches so.1)
 step first q (Cuts c) m h so =
-    let due = due_cut (list_any (λ (b : Batch). is_sent b.stage) q.batches) (first_failed q.batches) c h.0 in
-    let within = cut_between first q.frame q.number c q.batches so.1 due.1 in
-    let range = ranged first q.frame q.number c q.batches so.1 due.0 due.1 in
-    let low = within.0 in
-    let next = past_is c.frame within.2 in
-    subst (Stand first) (sym h.1) (
-      omega (arith, next),
-      subst (λ n. AreDense first n q.number (map (cut_off c) q.batches)) (sym next)
-          (cut c first q.frame q.number q.batches range.each so.1),
-    )
+    let one = due_cut (list_any (λ (b : Batch). is_sent b.stage) q.batches) (first_failed q.batches) c h.0 in
+    let two = cut_between first q.frame q.number c q.batches so.1 in
+    let three = ranged first q.frame q.number c q.batches so.1 in
+    grind (arith, nat_tests, one, two, three, past_is c.frame, cut c first q.frame q.number q.batches)
 step first q Stops m h so = subst (Stand first) (sym h) so
 
 run : (first : ℕ) (cs : List Call) (q : QueueView) (s : Story) (last : QueueView) (end : Story) → Runs q s cs last end
@@ -677,6 +414,5 @@ frames_are_dense most most_bytes frame cs q s runs = run frame cs _ _ q s runs (
 
 pub cuts_a_range : CutsARange
 cuts_a_range most most_bytes frame cs q s c runs due =
-    let so = run frame cs _ _ q s runs (omega arith, tt) in
-    let parts = due_cut (list_any (λ (b : Batch). is_sent b.stage) q.batches) (first_failed q.batches) c due in
-    ranged frame q.frame q.number c q.batches so.1 parts.0 parts.1
+    let one = due_cut (list_any (λ (b : Batch). is_sent b.stage) q.batches) (first_failed q.batches) c due in
+    grind (arith, nat_tests, run frame cs, one, ranged frame q.frame q.number c q.batches)

@@ -1,13 +1,14 @@
 -- Passes over lists, one place after the other.
+use Rattle.std.proofs.lemmas.Bool.Decides.{nat_tests}
 use Rattle.sk_batches.proofs.Names.{none-some, ◌≡◌, ℕ, zero, suc, ◌+◌, ◌-◌, ◌<◌, ◌≤◌, length, take, drop, true, false}
-use Rattle.sk_batches.proofs.Names.{cond, not, List, [], ◌∷◌, ◌++◌, map, Some, None, refl, sym, ◌∙◌, ap, subst, arith}
-use Rattle.sk_batches.proofs.Names.{append_assoc, slice_set, slice_index_or, suc-eq-add-one, drop-cons, drop-append-add}
-use Rattle.sk_batches.proofs.Names.{take-append-add, take-append_seam, append-nil, drop_all, take_all, length-append}
-use Rattle.sk_batches.proofs.Names.{length-drop, length-take-le, drop-drop, ◌==◌, nat_lt, sum_by, remove}
-use Rattle.sk_batches.proofs.Names.{take-append-drop, sum_by-cons, true≢false, eqb-true, Stage, Kept, Sent, Synced}
-use Rattle.sk_batches.proofs.Names.{Refused, Batch, Cut, Decision, RecordView, payload, but_last, is_struck, kept, send}
-use Rattle.sk_batches.proofs.Names.{tell, awaits, cut_off, is_kept, is_decided, decided, decision_of, kept_of}
-use Rattle.sk_batches.proofs.Names.{kept_records, left}
+use Rattle.sk_batches.proofs.Names.{cond, List, [], ◌∷◌, ◌++◌, map, Some, None, refl, sym, ◌∙◌, ap, arith}
+use Rattle.sk_batches.proofs.Names.{append_assoc, slice_set, slice_index_or, suc-eq-add-one, drop-cons}
+use Rattle.sk_batches.proofs.Names.{drop-append-add, take-append-add, take-append_seam, append-nil, drop_all}
+use Rattle.sk_batches.proofs.Names.{take_all, length-append, length-drop, length-take-le, drop-drop, ◌==◌, sum_by}
+use Rattle.sk_batches.proofs.Names.{remove, take-append-drop, sum_by-cons, true≢false, eqb-true, Stage, Sent, Synced}
+use Rattle.sk_batches.proofs.Names.{Refused, Batch, Cut, Decision, RecordView, payload, but_last, kept, send, tell}
+use Rattle.sk_batches.proofs.Names.{awaits, cut_off, is_kept, is_decided, decided, decision_of, kept_of, kept_records}
+use Rattle.sk_batches.proofs.Names.{left}
 
 module _ {X : Type 0} where
   -- the next, and what is behind it
@@ -37,15 +38,10 @@ module _ {X : Type 0} where
   pub one_mapped : (f : X → X) (xs ys : List X) (i : ℕ) (x new : X) → IsMapped f xs ys i → i < length xs → x ≡ slice_index_or ys i x → new ≡ f x
       → IsMapped f xs (slice_set ys i new) (i + 1)
   one_mapped f xs ys i x new so lt at is =
-      let next : slice_set ys i new ≡ map f (take (i + 1) xs) ++ drop (i + 1) xs =
-      (λ k. slice_set (so.so_far k) i new)
-      ∙ mapped_suc f xs i x new lt (subst (λ zs. x ≡ slice_index_or zs i x) so.so_far at) is
-      ∙ (λ k. map f (take (suc-eq-add-one i k) xs) ++ drop (suc-eq-add-one i k) xs) in
-      record { so_far = next; as_many = ap length next ∙ mapped_length f xs (i + 1) }
+      grind (arith, nat_tests, mapped_suc f xs i x new lt, suc-eq-add-one i, mapped_length f xs (i + 1))
 
   pub all_mapped : (f : X → X) (xs ys : List X) (i : ℕ) → IsMapped f xs ys i → length xs ≤ i → ys ≡ map f xs
-  all_mapped f xs ys i so le =
-      so.so_far ∙ (λ k. map f (take_all i xs le k) ++ drop_all i xs le k) ∙ append-nil (map f xs)
+  all_mapped f xs ys i so le = grind (arith, nat_tests, take_all i xs le, drop_all i xs le, append-nil (map f xs))
 
 pub payload_append : (rs qs : List RecordView) → payload (rs ++ qs) ≡ payload rs ++ payload qs
 payload_append [] qs = refl
@@ -65,12 +61,7 @@ both_length rs qs = ap length (payload_append rs qs) ∙ length-append (payload 
 pub kept_length : (first last : ℕ) (rs : List RecordView) → length (payload (kept first last rs)) ≤ length (payload rs)
 kept_length first last [] = omega arith
 kept_length first last (r ∷ rs) =
-    let rest = kept_length first last rs in
-    let all = front_length r rs in
-    elim (is_struck first last r) as (λ t. length (payload (cond (not t) (r ∷ kept first last rs) (kept first last rs))) ≤ length (payload (r ∷ rs))) [
-      | true ↦ omega (arith, rest, all)
-      | false ↦ let some = front_length r (kept first last rs) in omega (arith, rest, all, some)
-    ]
+    grind (arith, nat_tests, kept_length first last rs, front_length r rs, front_length r (kept first last rs))
 
 pub last_length : (rs : List RecordView) → length (payload (but_last rs)) ≤ length (payload rs)
 last_length rs =
@@ -96,14 +87,7 @@ pub told_size : (frame : ℕ) (stage : Stage) (b : Batch) → size (tell frame s
 told_size frame stage b = elim (awaits frame b) as (λ t. size (cond t (record b { stage = stage }) b) ≤ size b) [ true ↦ omega arith | false ↦ omega arith ]
 
 pub cut_size : (c : Cut) (b : Batch) → size (cut_off c b) ≤ size b
-cut_size c b =
-    elim (nat_lt b.frame c.frame) as (λ t. size (cond t b (cond (b.frame == c.frame) (record b { stage = Refused }) (record b { stage = Kept; records = kept c.first c.last b.records }))) ≤ size b) [
-      | true ↦ omega arith
-      | false ↦ elim (b.frame == c.frame) as (λ t. size (cond t (record b { stage = Refused }) (record b { stage = Kept; records = kept c.first c.last b.records })) ≤ size b) [
-        | true ↦ omega arith
-        | false ↦ kept_length c.first c.last b.records
-      ]
-    ]
+cut_size c b = grind (arith, nat_tests, kept_length c.first c.last b.records)
 
 pub left_size : (bs : List Batch) → sum_by size (left bs) ≤ sum_by size bs
 left_size [] = omega arith
@@ -135,15 +119,13 @@ none_written place whole first le = record { within = le; bytes = refl; behind =
 
 piece_front : (at : ℕ) (room w d : List ℕ) → at ≤ length room → take (at + length w) (take at room ++ (w ++ d)) ≡ take at room ++ w
 piece_front at room w d le =
-    (λ k. take (sym (length-take-le at room le) k + length w) (take at room ++ (w ++ d)))
-    ∙ take-append-add (take at room) (w ++ d) (length w)
-    ∙ ap (λ zs. take at room ++ zs) (take-append_seam w d)
+    let one = take-append-add (take at room) (w ++ d) (length w) in
+    grind (arith, nat_tests, length-take-le at room le, one, take-append_seam w d)
 
 piece_behind : (at more : ℕ) (room w d : List ℕ) → at ≤ length room → drop (at + (length w + more)) (take at room ++ (w ++ d)) ≡ drop more d
 piece_behind at more room w d le =
-    (λ k. drop (sym (length-take-le at room le) k + (length w + more)) (take at room ++ (w ++ d)))
-    ∙ drop-append-add (take at room) (w ++ d) (length w + more)
-    ∙ drop-append-add w d more
+    let one = drop-append-add (take at room) (w ++ d) (length w + more) in
+    grind (arith, nat_tests, length-take-le at room le, one, drop-append-add w d more)
 
 pub one_written : (before whole rest first room : List ℕ) (at : ℕ) (w next new : List ℕ) → IsWritten before whole rest first room at → rest ≡ w ++ next
     → new ≡ take at room ++ (w ++ drop (at + length w) room) → IsWritten before whole next first new (at + length w)

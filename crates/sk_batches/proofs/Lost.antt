@@ -1,10 +1,11 @@
 -- Each record that was appended is counted once.
+use Rattle.std.proofs.lemmas.Bool.Decides.{nat_tests}
 use Rattle.sk_batches.proofs.Names.{◌≡◌, ℕ, ◌+◌, ◌-◌, Bool, true, false, not, cond, List, [], ◌∷◌, ◌++◌, length, take}
-use Rattle.sk_batches.proofs.Names.{drop, map, refl, sym, ◌∙◌, ap, subst, arith, ◌==◌, nat_lt, count_by, filter}
-use Rattle.sk_batches.proofs.Names.{take-append-drop, sum_by-append, sum_by-filter_both, Stage, Kept, Sent, Synced}
-use Rattle.sk_batches.proofs.Names.{Failed, Refused, Batch, Cut, RecordView, is_struck, kept, but_last, QueueView, send}
-use Rattle.sk_batches.proofs.Names.{tell, awaits, cut_off, is_kept, is_decided, left, Call, Appends, Withdraws, Takes}
-use Rattle.sk_batches.proofs.Names.{Syncs, Fails, Decides, Cuts, Stops, Happens, Runs, Story, story_after, with_decided}
+use Rattle.sk_batches.proofs.Names.{drop, map, refl, sym, ◌∙◌, ap, subst, arith, count_by, filter, take-append-drop}
+use Rattle.sk_batches.proofs.Names.{sum_by-append, sum_by-filter_both, Stage, Kept, Sent, Synced, Failed, Refused}
+use Rattle.sk_batches.proofs.Names.{Batch, Cut, RecordView, is_struck, kept, but_last, QueueView, send, tell, awaits}
+use Rattle.sk_batches.proofs.Names.{cut_off, is_kept, is_decided, left, Call, Appends, Withdraws, Takes, Syncs, Fails}
+use Rattle.sk_batches.proofs.Names.{Decides, Cuts, Stops, Happens, Runs, Story, story_after, with_decided}
 use Rattle.sk_batches.proofs.Names.{with_oldest, struck, struck_of, struck_in, records_in, LosesNothing}
 
 module _ (p : RecordView → Bool) where
@@ -35,25 +36,14 @@ module _ (p : RecordView → Bool) where
   told_records frame stage b = elim (awaits frame b) as (λ t. (cond t (record b { stage = stage }) b).records ≡ b.records) [ true ↦ refl | false ↦ refl ]
 
   one_cut : (c : Cut) (b : Batch) → count_by p (struck_of c b) + count_by p (cut_off c b).records ≡ count_by p b.records
-  one_cut c b =
-      elim (nat_lt b.frame c.frame) as (λ t. count_by p (cond t [] (cond (b.frame == c.frame) [] (struck c b.records)))
-      + count_by p (cond t b (cond (b.frame == c.frame) (record b { stage = Refused }) (record b { stage = Kept; records = kept c.first c.last b.records }))).records ≡ count_by p b.records) [
-        | true ↦ omega arith
-        | false ↦ elim (b.frame == c.frame) as (λ t. count_by p (cond t [] (struck c b.records))
-            + count_by p (cond t (record b { stage = Refused }) (record b { stage = Kept; records = kept c.first c.last b.records })).records ≡ count_by p b.records) [
-              | true ↦ omega arith
-              | false ↦ count_split c.first c.last b.records
-            ]
-      ]
+  one_cut c b = grind (arith, nat_tests, count_split c.first c.last b.records)
 
   all_cut : (c : Cut) (bs : List Batch) → count_by p (struck_in c bs) + count_by p (records_in (map (cut_off c) bs)) ≡ count_by p (records_in bs)
   all_cut c [] = omega arith
   all_cut c (b ∷ bs) =
-      let here = one_cut c b in
-      let rest = all_cut c bs in
       let one = count_append (struck_of c b) (struck_in c bs) in
       let two = count_append (cut_off c b).records (records_in (map (cut_off c) bs)) in
-      let three = count_append b.records (records_in bs) in omega (arith, here, rest, one, two, three)
+      grind (arith, nat_tests, one_cut c b, all_cut c bs, one, two, count_append b.records (records_in bs))
 
   abbrev sum : ℕ → ℕ → ℕ → ℕ → ℕ → ℕ
   sum logged refused withdrawn undecided newest = logged + (refused + (withdrawn + (undecided + newest)))
@@ -68,12 +58,10 @@ module _ (p : RecordView → Bool) where
   oldest_counted Kept b bs s n so = so
   oldest_counted Sent b bs s n so = so
   oldest_counted Synced b bs s n so =
-      let one = count_append s.logged b.records in
-      let two = count_append b.records (records_in bs) in omega (arith, so, one, two)
+      grind (arith, nat_tests, count_append s.logged b.records, count_append b.records (records_in bs))
   oldest_counted Failed b bs s n so = so
   oldest_counted Refused b bs s n so =
-      let one = count_append s.refused b.records in
-      let two = count_append b.records (records_in bs) in omega (arith, so, one, two)
+      grind (arith, nat_tests, count_append s.refused b.records, count_append b.records (records_in bs))
 
   decided_counted : (bs : List Batch) (s : Story) (n : ℕ)
       → count_by p s.appended ≡ sum (count_by p s.logged) (count_by p s.refused) (count_by p s.withdrawn) (count_by p (records_in bs)) n
@@ -86,31 +74,23 @@ module _ (p : RecordView → Bool) where
 
   step : (q : QueueView) (s : Story) (c : Call) (m : QueueView) → Happens q c m → AreCounted q s → AreCounted m (story_after q c s)
   step q s (Appends added) m h so =
-      let one = count_append s.appended (added ∷ []) in
-      let two = count_append q.records (added ∷ []) in
-      subst (λ x. AreCounted x (story_after q (Appends added) s)) (sym h) (omega (arith, so, one, two))
+      grind (arith, nat_tests, count_append s.appended (added ∷ []), count_append q.records (added ∷ []))
   step q s Withdraws m h so =
-      let one = count_append s.withdrawn (drop (length q.records - 1) q.records) in
-      let two = last_counted q.records in
-      subst (λ x. AreCounted x (story_after q Withdraws s)) (sym h) (omega (arith, so, one, two))
+      grind (arith, nat_tests, count_append s.withdrawn (drop (length q.records - 1) q.records), last_counted q.records)
   step q s Takes m h so =
-      let all = ap (count_by p) (same_records (send q.frame) (sent_records q.frame) q.batches) in
-      let one = records_pushed (map (send q.frame) q.batches) (record { number = q.number; frame = q.frame; stage = Sent; records = q.records }) in
-      subst (λ x. AreCounted x s) (sym h.1) (omega (arith, so, all, one))
+      let one = same_records (send q.frame) (sent_records q.frame) q.batches in
+      grind (arith, nat_tests, one, sent_records q.frame, records_pushed (map (send q.frame) q.batches))
   step q s (Syncs frame) m h so =
       let all = ap (count_by p) (same_records (tell frame Synced) (told_records frame Synced) q.batches) in
       subst (λ x. AreCounted x (story_after q (Syncs frame) s)) (sym h.1) (omega (arith, so, all))
   step q s (Fails frame) m h so =
       let all = ap (count_by p) (same_records (tell frame Failed) (told_records frame Failed) q.batches) in
       subst (λ x. AreCounted x s) (sym h.1) (omega (arith, so, all))
-  step q s Decides m h so =
-      subst (λ x. AreCounted x (with_decided q.batches s)) (sym h) (decided_counted q.batches s (count_by p q.records) so)
+  step q s Decides m h so = grind (arith, nat_tests, decided_counted q.batches s (count_by p q.records) so)
   step q s (Cuts cut) m h so =
-      let one = all_cut cut q.batches in
-      let two = count_split cut.first cut.last q.records in
-      let three = count_append s.refused (struck_in cut q.batches ++ struck cut q.records) in
-      let four = count_append (struck_in cut q.batches) (struck cut q.records) in
-      subst (λ x. AreCounted x (story_after q (Cuts cut) s)) (sym h.1) (omega (arith, so, one, two, three, four))
+      let one = count_append s.refused (struck_in cut q.batches ++ struck cut q.records) in
+      let two = count_append (struck_in cut q.batches) (struck cut q.records) in
+      grind (arith, nat_tests, all_cut cut q.batches, count_split cut.first cut.last q.records, one, two)
   step q s Stops m h so = subst (λ x. AreCounted x s) (sym h) so
 
   pub run : (cs : List Call) (q : QueueView) (s : Story) (last : QueueView) (told : Story) → Runs q s cs last told → AreCounted q s → AreCounted last told

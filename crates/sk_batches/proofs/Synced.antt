@@ -1,14 +1,14 @@
 -- Each batch stands where its frame is in the log, and what is told as logged stands behind nothing that is not synced.
-use Rattle.sk_batches.proofs.Names.{same_Some, AllByRecursion, and_right, none-some, or_parts, ◌≡◌, ltb, ℕ, ◌+◌, ◌<◌}
-use Rattle.sk_batches.proofs.Names.{◌≤◌, Bool, true, false, cond, ◌&&◌, List, [], ◌∷◌, ◌++◌, map, Option, Some, None}
-use Rattle.sk_batches.proofs.Names.{inl, inr, refl, sym, ◌∙◌, ap, subst, arith, ◌⊎◌, ◌==◌, nat_lt, filter, list_any}
-use Rattle.sk_batches.proofs.Names.{true≢false, false≢true, eqb-true, eqb-false, eq-eqb, or_left, or_right, or_cases}
-use Rattle.sk_batches.proofs.Names.{ltb-true, ltb-false, lt-ltb, Stage, Kept, Sent, Synced, Failed, Refused, Batch, Cut}
-use Rattle.sk_batches.proofs.Names.{RecordView, kept, QueueView, send, tell, awaits, cut_off, first_failed, last_in}
-use Rattle.sk_batches.proofs.Names.{is_kept, is_sent, is_failed, is_decided, kept_records, left, past, Call, Appends}
-use Rattle.sk_batches.proofs.Names.{Withdraws, Takes, Syncs, Fails, Decides, Cuts, Stops, Happens, Runs, Story}
-use Rattle.sk_batches.proofs.Names.{story_after, synced_after, with_decided, with_oldest, has, LogsWhatIsSynced}
-use Rattle.sk_batches.proofs.Names.{NoneIsKept, NUMBER_LIMIT, and_parts, and_from}
+use Rattle.std.proofs.lemmas.Bool.Decides.{nat_tests}
+use Rattle.sk_batches.proofs.Names.{same_Some, AllByRecursion, and_right, none-some, ◌≡◌, ltb, ℕ, ◌+◌, ◌<◌, ◌≤◌, Bool}
+use Rattle.sk_batches.proofs.Names.{true, false, cond, ◌&&◌, List, [], ◌∷◌, ◌++◌, map, Option, Some, None, inl, inr}
+use Rattle.sk_batches.proofs.Names.{refl, sym, ◌∙◌, ap, subst, arith, ◌⊎◌, ◌==◌, nat_lt, filter, list_any, true≢false}
+use Rattle.sk_batches.proofs.Names.{false≢true, eqb-true, eq-eqb, or_left, or_right, lt-ltb, Stage, Kept, Sent}
+use Rattle.sk_batches.proofs.Names.{Synced, Failed, Refused, Batch, Cut, RecordView, kept, QueueView, send, tell}
+use Rattle.sk_batches.proofs.Names.{awaits, cut_off, first_failed, last_in, is_kept, is_sent, is_failed, is_decided}
+use Rattle.sk_batches.proofs.Names.{kept_records, left, past, Call, Appends, Withdraws, Takes, Syncs, Fails, Decides}
+use Rattle.sk_batches.proofs.Names.{Cuts, Stops, Happens, Runs, Story, story_after, synced_after, with_decided}
+use Rattle.sk_batches.proofs.Names.{with_oldest, has, LogsWhatIsSynced, NoneIsKept, NUMBER_LIMIT, and_parts, and_from}
 
 -- ---- tests
 
@@ -56,27 +56,10 @@ none_told : (synced : List ℕ) (f : ℕ) → AllTold synced f f
 none_told synced f = record { least = omega arith; told = λ k a b. absurd (omega arith) }
 
 join : (synced : List ℕ) (a b c : ℕ) → AllTold synced a b → AllTold synced b c → AllTold synced a c
-join synced a b c x y =
-    let one = x.least in
-    let two = y.least in
-    record {
-      least = omega arith;
-      told = λ k le lt. elim (ltb k b) as (λ t. ltb k b ≡ t → has k synced ≡ true) [
-        | true ↦ λ e. x.told k le (ltb-true k b e)
-        | false ↦ λ e. y.told k (ltb-false k b e) lt
-      ] refl;
-    }
+join synced a b c x y = grind (arith, nat_tests, ltb)
 
 one_told : (synced : List ℕ) (f n : ℕ) → AllTold synced f n → has n synced ≡ true → AllTold synced f (n + 1)
-one_told synced f n x here =
-    let one = x.least in
-    record {
-      least = omega arith;
-      told = λ k le lt. elim (ltb k n) as (λ t. ltb k n ≡ t → has k synced ≡ true) [
-        | true ↦ λ e. x.told k le (ltb-true k n e)
-        | false ↦ λ e. let least = ltb-false k n e in let same : n ≡ k = omega arith in subst (λ z. has z synced ≡ true) same here
-      ] refl;
-    }
+one_told synced f n x here = grind (arith, nat_tests, ltb)
 
 more_told : (synced more : List ℕ) (f n : ℕ) → ((k : ℕ) → k < n → has k synced ≡ true → has k more ≡ true) → AllTold synced f n → AllTold more f n
 more_told synced more f n grows x = record { least = x.least; told = λ k le lt. grows k lt (x.told k le lt) }
@@ -84,17 +67,7 @@ more_told synced more f n grows x = record { least = x.least; told = λ k le lt.
 -- those below a frame stay
 pub stays_below : (frame k : ℕ) (ns : List ℕ) → k < frame → has k ns ≡ true → has k (filter (λ n. nat_lt n frame) ns) ≡ true
 stays_below frame k [] lt here = here
-stays_below frame k (n ∷ ns) lt here =
-    elim (nat_lt n frame) as (λ t. nat_lt n frame ≡ t → has k (cond t (n ∷ filter (λ m. nat_lt m frame) ns) (filter (λ m. nat_lt m frame) ns)) ≡ true) [
-      | true ↦ λ e. elim (or_cases (n == k) (has k ns) here) [
-        | inl is ↦ or_left (n == k) (has k (filter (λ m. nat_lt m frame) ns)) is
-        | inr later ↦ or_right (n == k) (has k (filter (λ m. nat_lt m frame) ns)) (stays_below frame k ns lt later)
-      ]
-      | false ↦ λ e. elim (or_cases (n == k) (has k ns) here) [
-        | inl is ↦ let same = eqb-true n k is in let least = ltb-false n frame e in absurd (omega arith)
-        | inr later ↦ stays_below frame k ns lt later
-      ]
-    ] refl
+stays_below frame k (n ∷ ns) lt here = grind (arith, nat_tests, stays_below frame k ns lt)
 
 -- ---- the batches in the log
 
@@ -134,20 +107,13 @@ module _ (synced : List ℕ) (number next : ℕ) (records : List RecordView) (sm
 
   sent_behind : (calm : Bool) (bs : List Batch) → AllKept bs → InLog synced (next + 1) (Some (next, Sent)) calm (map (send next) bs ++ opened ∷ []) (next + 1)
   sent_behind calm [] all = (λ _. (record { small = small; place = inr refl; told = undecided }, none_told synced (next + 1)), unkept)
-  sent_behind calm (b ∷ bs) all =
-      subst (λ t. InLog synced (next + 1) (Some (next, Sent)) calm (cond t (record b { frame = next; stage = Sent }) b ∷ (map (send next) bs ++ opened ∷ [])) (next + 1)) (sym all.0)
-      (λ _. (record { small = small; place = inr refl; told = undecided }, sent_behind (calm && false) bs all.1), unkept)
+  sent_behind calm (b ∷ bs) all = grind (arith, nat_tests, undecided, sent_behind (calm && false) bs all.1, unkept)
 
   taken : (f : ℕ) (prev : Before) (calm : Bool) (bs : List Batch) → InLog synced f prev calm bs next → InLog synced f prev calm (map (send next) bs ++ opened ∷ []) (next + 1)
   taken f prev calm [] so = (λ _. (record { small = small; place = inl so; told = undecided }, none_told synced (next + 1)), unkept)
   taken f prev calm (b ∷ bs) so =
-      elim (is_kept b.stage) as (λ t. is_kept b.stage ≡ t → InLog synced f prev calm (cond t (record b { frame = next; stage = Sent }) b ∷ (map (send next) bs ++ opened ∷ [])) (next + 1)) [
-        | true ↦ λ is. (λ _. (record { small = small; place = inl (so.1 is).1; told = undecided }, sent_behind (calm && false) bs (so.1 is).2), unkept)
-        | false ↦ λ is. (
-          λ e. ((so.0 e).0, taken (b.frame + 1) (Some (b.frame, b.stage)) (calm && is_decided b.stage) bs (so.0 e).1),
-          λ e. absurd (false≢true (sym is ∙ e)),
-        )
-      ] refl
+      let one = taken (b.frame + 1) (Some (b.frame, b.stage)) (calm && is_decided b.stage) bs in
+      grind (arith, nat_tests, undecided, sent_behind (calm && false) bs, unkept, one)
 
 -- ---- a frame is told of
 
@@ -157,13 +123,7 @@ told_before frame stage (Some x) = Some (x.0, cond (is_sent x.1 && (x.0 == frame
 
 kept_told : (frame : ℕ) (stage : Stage) (bs : List Batch) → AllKept bs → AllKept (map (tell frame stage) bs)
 kept_told frame stage [] all = all
-kept_told frame stage (b ∷ bs) all = (
-  elim (awaits frame b) as (λ t. awaits frame b ≡ t → is_kept (cond t (record b { stage = stage }) b).stage ≡ true) [
-    | true ↦ λ e. absurd (true≢false (sym all.0 ∙ sent_unkept b.stage (and_parts (is_sent b.stage) (b.frame == frame) e).0))
-    | false ↦ λ e. all.0
-  ] refl,
-  kept_told frame stage bs all.1,
-)
+kept_told frame stage (b ∷ bs) all = grind (arith, nat_tests, sent_unkept b.stage, kept_told frame stage bs all.1)
 
 module _ (synced more : List ℕ) (frame : ℕ) (stage : Stage) (grows : (k : ℕ) → has k synced ≡ true → has k more ≡ true) (unkept : is_kept stage ≡ false)
     (now : is_decided stage ≡ true → has frame more ≡ true) where
@@ -235,23 +195,13 @@ lower synced first p stage calm (b ∷ bs) next le all so = (
 
 -- where the oldest is decided, all frames up to its are synced
 oldest_told : (synced : List ℕ) (first frame : ℕ) (stage : Stage) → IsPlaced synced first None frame stage → is_decided stage ≡ true → AllTold synced first (frame + 1)
-oldest_told synced first frame stage placed is =
-    elim placed.place as (λ _. AllTold synced first (frame + 1)) [
-      | inl all ↦ one_told synced first frame all (placed.told is)
-      | inr was ↦ absurd (none-some (frame, stage) was)
-    ]
+oldest_told synced first frame stage placed is = grind (arith, nat_tests, one_told synced first frame)
 
 popped : (synced : List ℕ) (first : ℕ) (bs : List Batch) (next : ℕ) → InLog synced first None true bs next → InLog synced first None true (left bs) next
 popped synced first [] next so = so
 popped synced first (b ∷ bs) next so =
-    elim (is_decided b.stage) as (λ t. is_decided b.stage ≡ t → InLog synced first None true (cond t bs (b ∷ bs)) next) [
-      | true ↦ λ is.
-          let old = so.0 (decided_unkept b.stage is) in
-          let all = oldest_told synced first b.frame b.stage old.0 is in
-          let within = elim old.0.place as (λ _. first ≤ b.frame) [ inl more ↦ more.least | inr was ↦ absurd (none-some (b.frame, b.stage) was) ] in
-          lower synced first b.frame b.stage true bs next within all (subst (λ t. InLog synced (b.frame + 1) (Some (b.frame, b.stage)) t bs next) is old.1)
-      | false ↦ λ is. so
-    ] refl
+    let one = lower synced first b.frame b.stage true bs next in
+    grind (arith, nat_tests, decided_unkept b.stage, oldest_told synced first b.frame b.stage, one)
 
 -- ---- a cut
 
@@ -275,88 +225,39 @@ module _ (synced : List ℕ) (c : Cut) (small : c.frame < NUMBER_LIMIT) where
   kept_batch b = record b { stage = Kept; records = kept c.first c.last b.records }
 
   cut_kept : (b : Batch) → c.frame < b.frame → cut_off c b ≡ kept_batch b
-  cut_kept b lt =
-      let not_before : nat_lt b.frame c.frame ≡ false = elim (ltb b.frame c.frame) as (λ t. ltb b.frame c.frame ≡ t → t ≡ false) [
-        | true ↦ λ e. let less = ltb-true b.frame c.frame e in absurd (omega arith)
-        | false ↦ λ e. refl
-      ] refl in
-      let not_same : (b.frame == c.frame) ≡ false = elim (b.frame == c.frame) as (λ t. (b.frame == c.frame) ≡ t → t ≡ false) [
-        | true ↦ λ e. let same = eqb-true b.frame c.frame e in absurd (omega arith)
-        | false ↦ λ e. refl
-      ] refl in
-      ap (λ t. cond t b (cond (b.frame == c.frame) (record b { stage = Refused }) (kept_batch b))) not_before
-      ∙ ap (λ t. cond t (record b { stage = Refused }) (kept_batch b)) not_same
+  cut_kept b lt = grind (arith, nat_tests, ltb b.frame c.frame)
 
   cut_refused : (b : Batch) → b.frame ≡ c.frame → cut_off c b ≡ record b { stage = Refused }
-  cut_refused b same =
-      let not_before : nat_lt b.frame c.frame ≡ false = elim (ltb b.frame c.frame) as (λ t. ltb b.frame c.frame ≡ t → t ≡ false) [
-        | true ↦ λ e. let less = ltb-true b.frame c.frame e in absurd (omega arith)
-        | false ↦ λ e. refl
-      ] refl in
-      ap (λ t. cond t b (cond (b.frame == c.frame) (record b { stage = Refused }) (kept_batch b))) not_before
-      ∙ ap (λ t. cond t (record b { stage = Refused }) (kept_batch b)) (eq-eqb b.frame c.frame same)
+  cut_refused b same = grind (arith, nat_tests, ltb b.frame c.frame)
 
   cut_stays : (b : Batch) → b.frame < c.frame → cut_off c b ≡ b
   cut_stays b lt = ap (λ t. cond t b (cond (b.frame == c.frame) (record b { stage = Refused }) (kept_batch b))) (lt-ltb b.frame c.frame lt)
 
   -- where a batch stands behind one of frame p
   no_earlier : (p frame : ℕ) (before stage : Stage) → IsPlaced synced (p + 1) (Some (p, before)) frame stage → p ≤ frame
-  no_earlier p frame before stage placed =
-      elim placed.place as (λ _. p ≤ frame) [ inl all ↦ let one = all.least in omega arith | inr was ↦ let same : p ≡ frame = ap (λ (x : ℕ × Stage). x.0) (same_Some _ _ was) in omega arith ]
+  no_earlier p frame before stage placed = grind (arith, nat_tests)
 
   rest_kept : (p : ℕ) (before : Stage) (calm : Bool) (bs : List Batch) (next : ℕ) → calm ≡ false → c.frame < p → InLog synced (p + 1) (Some (p, before)) calm bs next
       → AllKept (map (cut_off c) bs)
   rest_kept p before calm [] next rough lt so = tt
   rest_kept p before calm (b ∷ bs) next rough lt so =
-      elim (is_kept b.stage) as (λ t. is_kept b.stage ≡ t → AllKept (map (cut_off c) (b ∷ bs))) [
-        | true ↦ λ is. absurd (true≢false (sym (so.1 is).0 ∙ rough))
-        | false ↦ λ is.
-            let old = so.0 is in
-            let least = no_earlier p b.frame before b.stage old.0 in
-            let more : c.frame < b.frame = omega arith in (
-              subst (λ (x : Batch). is_kept x.stage ≡ true) (sym (cut_kept b more)) refl,
-              rest_kept b.frame b.stage (calm && is_decided b.stage) bs next (ap (λ t. t && is_decided b.stage) rough) more old.1,
-            )
-      ] refl
+      let one = rest_kept b.frame b.stage (calm && is_decided b.stage) bs next (ap (λ t. t && is_decided b.stage) rough)
+      in
+      grind (arith, nat_tests, no_earlier p b.frame before b.stage, cut_kept b, one)
 
   -- what stands behind a batch of the frame that is cut off
   cut_behind : (before : Stage) (calm calmer : Bool) (bs : List Batch) (next : ℕ) → calm ≡ false → calmer ≡ true → InLog synced (c.frame + 1) (Some (c.frame, before)) calm bs next
       → InLog cut_synced (c.frame + 1) (Some (c.frame, Refused)) calmer (map (cut_off c) bs) (past c.frame)
   cut_behind before calm calmer [] next rough calms so = behind_cut
   cut_behind before calm calmer (b ∷ bs) next rough calms so =
-      elim (is_kept b.stage) as (λ t. is_kept b.stage ≡ t → InLog cut_synced (c.frame + 1) (Some (c.frame, Refused)) calmer (map (cut_off c) (b ∷ bs)) (past c.frame)) [
-        | true ↦ λ is. absurd (true≢false (sym (so.1 is).0 ∙ rough))
-        | false ↦ λ is.
-            let old = so.0 is in
-            let least = no_earlier c.frame b.frame before b.stage old.0 in
-            let roughs : (calm && is_decided b.stage) ≡ false = ap (λ t. t && is_decided b.stage) rough in
-            elim (b.frame == c.frame) as (λ t. (b.frame == c.frame) ≡ t → InLog cut_synced (c.frame + 1) (Some (c.frame, Refused)) calmer (map (cut_off c) (b ∷ bs)) (past c.frame)) [
-              | true ↦ λ e.
-                  let same = eqb-true b.frame c.frame e in
-                  let rest = cut_behind b.stage (calm && is_decided b.stage) (calmer && true) bs next roughs (and_from calmer true calms refl)
-                  (subst (λ n. InLog synced (n + 1) (Some (n, b.stage)) (calm && is_decided b.stage) bs next) same old.1) in
-                  subst (λ (x : Batch). InLog cut_synced (c.frame + 1) (Some (c.frame, Refused)) calmer (x ∷ map (cut_off c) bs) (past c.frame)) (sym (cut_refused b same)) (
-                    λ _. (
-                      record { small = old.0.small; place = inr (ap (λ (n : ℕ). Some (n, Refused)) (sym same)); told = λ _. the_cut b.frame same },
-                      subst (λ n. InLog cut_synced (n + 1) (Some (n, Refused)) (calmer && true) (map (cut_off c) bs) (past c.frame)) (sym same) rest,
-                    ),
-                    λ e. absurd (false≢true e),
-                  )
-              | false ↦ λ e.
-                  let other = eqb-false b.frame c.frame e in
-                  let more : c.frame < b.frame = omega arith in
-                  subst (λ (x : Batch). InLog cut_synced (c.frame + 1) (Some (c.frame, Refused)) calmer (x ∷ map (cut_off c) bs) (past c.frame)) (sym (cut_kept b more)) (
-                    λ e. absurd (true≢false e),
-                    λ _. (calms, behind_cut, rest_kept b.frame b.stage (calm && is_decided b.stage) bs next roughs more old.1),
-                  )
-            ] refl
-      ] refl
+      let one = no_earlier c.frame b.frame before b.stage in
+      let two = cut_behind b.stage (calm && is_decided b.stage) (calmer && true) bs next in
+      let three = rest_kept b.frame b.stage (calm && is_decided b.stage) bs next in
+      grind (arith, nat_tests, one, two, cut_refused b, the_cut b.frame, cut_kept b, behind_cut, three)
 
 pub kept_unfailing : (bs : List Batch) → AllKept bs → first_failed bs ≡ None
 kept_unfailing [] all = refl
-kept_unfailing (b ∷ bs) all =
-    ap (λ t. cond t (Some (record { frame = b.frame; first = b.number; last = last_in b.frame b.number bs })) (first_failed bs)) (kept_unfailed b.stage all.0)
-    ∙ kept_unfailing bs all.1
+kept_unfailing (b ∷ bs) all = grind (arith, nat_tests, kept_unfailed b.stage all.0, kept_unfailing bs all.1)
 
 -- the batch before is of the frame before, and decided
 abbrev Follows : ℕ → Before → Type 0
@@ -434,23 +335,11 @@ module _ (synced : List ℕ) (c : Cut) where
       → list_any (λ (b : Batch). is_sent b.stage) bs ≡ false → first_failed bs ≡ Some c → IsCut synced c f prev calmer bs
   cut_all f prev calm calmer [] next calms follows so none is = absurd (none-some c is)
   cut_all f prev calm calmer (b ∷ bs) next calms follows so none is =
-      let unsent = or_parts (is_sent b.stage) (list_any (λ (x : Batch). is_sent x.stage) bs) none in
-      let found : Cut = record { frame = b.frame; first = b.number; last = last_in b.frame b.number bs } in
-      elim (is_failed b.stage) as (λ t. is_failed b.stage ≡ t → cond t (Some found) (first_failed bs) ≡ Some c → IsCut synced c f prev calmer (b ∷ bs)) [
-        | true ↦ λ fails here.
-            let old = so.0 (failed_unkept b.stage fails) in
-            cut_here f prev calm calmer b bs next (ap (λ (x : Cut). x.frame) (same_Some _ _ here)) fails calms follows old.0 old.1
-        | false ↦ λ stands later.
-            elim (is_kept b.stage) as (λ t. is_kept b.stage ≡ t → IsCut synced c f prev calmer (b ∷ bs)) [
-              | true ↦ λ k. absurd (none-some c (sym (kept_unfailing bs (so.1 k).2) ∙ later))
-              | false ↦ λ n.
-                  let old = so.0 n in
-                  let decided = else_decided b.stage n unsent.0 stands in
-                  cut_later f prev calmer b bs n follows old.0
-                  (cut_all (b.frame + 1) (Some (b.frame, b.stage)) (calm && is_decided b.stage) (calmer && is_decided b.stage) bs next
-                  (and_from calmer (is_decided b.stage) calms decided) (refl, decided) old.1 unsent.1 later)
-            ] refl
-      ] refl is
+      let one = cut_here f prev calm calmer b bs next in
+      let two = cut_later f prev calmer b bs in
+      let three = cut_all (b.frame + 1) (Some (b.frame, b.stage)) (calm && is_decided b.stage) (calmer && is_decided
+      b.stage) bs next in
+      grind (arith, nat_tests, failed_unkept b.stage, one, kept_unfailing bs, else_decided b.stage, two, three)
 
 -- ---- any calls
 
@@ -480,12 +369,10 @@ step first q s (Fails frame) m h so =
     subst (λ x. AreLogged first x s) (sym h.1)
     (told s.synced s.synced frame Failed (λ k here. here) refl (λ e. absurd (false≢true e)) first None true true q.batches q.frame (λ e. e) so)
 step first q s Decides m h so =
-    subst (λ x. AreLogged first x (with_decided q.batches s)) (sym h)
-    (subst (λ ns. InLog ns first None true (left q.batches) q.frame) (sym (decided_synced q.batches s)) (popped s.synced first q.batches q.frame so))
+    grind (arith, nat_tests, decided_synced q.batches s, popped s.synced first q.batches q.frame so)
 step first q s (Cuts cut) m h so =
-    let due = due_cut (list_any (λ (b : Batch). is_sent b.stage) q.batches) (first_failed q.batches) cut h.0 in
-    subst (λ x. AreLogged first x (story_after q (Cuts cut) s)) (sym h.1)
-    (cut_all s.synced cut first None true true q.batches q.frame refl tt so due.0 due.1).placed
+    let one = due_cut (list_any (λ (b : Batch). is_sent b.stage) q.batches) (first_failed q.batches) cut h.0 in
+    grind (arith, nat_tests, one, cut_all s.synced cut first None true true q.batches q.frame refl tt so)
 step first q s Stops m h so = subst (λ x. AreLogged first x s) (sym h) so
 
 run : (first : ℕ) (cs : List Call) (q : QueueView) (s : Story) (last : QueueView) (told : Story) → Runs q s cs last told → AreLogged first q s → AreLogged first last told
@@ -494,10 +381,7 @@ run first (c ∷ cs) q s last told r so = run first cs r.0 (story_after q c s) l
 
 pub logs_what_is_synced : LogsWhatIsSynced
 logs_what_is_synced most most_bytes frame cs q s b bs n runs oldest synced from upto =
-    let so = run frame cs _ _ q s runs (none_told [] frame) in
-    let here = subst (λ (xs : List Batch). InLog s.synced frame None true xs q.frame) oldest so in
-    let old = here.0 (ap is_kept synced) in
-    (oldest_told s.synced frame b.frame b.stage old.0 (ap is_decided synced)).told n from (omega arith)
+    grind (arith, nat_tests, run frame cs, none_told [] frame, oldest_told s.synced frame b.frame b.stage)
 
 -- ---- none is to be sent again where a cut is due
 
@@ -508,10 +392,7 @@ none_of b bs unkept rest = ap (λ t. cond t b.records [] ++ kept_records bs) unk
 rough_none : (synced : List ℕ) (f : ℕ) (prev : Before) (bs : List Batch) (next : ℕ) → InLog synced f prev false bs next → kept_records bs ≡ []
 rough_none synced f prev [] next so = refl
 rough_none synced f prev (b ∷ bs) next so =
-    elim (is_kept b.stage) as (λ t. is_kept b.stage ≡ t → kept_records (b ∷ bs) ≡ []) [
-      | true ↦ λ is. absurd (false≢true (so.1 is).0)
-      | false ↦ λ is. none_of b bs is (rough_none synced (b.frame + 1) (Some (b.frame, b.stage)) bs next (so.0 is).1)
-    ] refl
+    grind (arith, nat_tests, none_of b bs, rough_none synced (b.frame + 1) (Some (b.frame, b.stage)) bs next)
 
 unkept_at_cut : (synced : List ℕ) (f : ℕ) (prev : Before) (calm : Bool) (bs : List Batch) (next : ℕ) (c : Cut) → InLog synced f prev calm bs next
     → first_failed bs ≡ Some c → kept_records bs ≡ []

@@ -1,17 +1,19 @@
 -- What the calls come to that bring bytes in, and those that connect and hang up.
-use Rattle.sk_durable.proofs.Names.{is_some, ◌≡◌, ◌<◌, ◌≤◌, ◌+◌, ◌-◌, ◌^◌, ◌||◌, ◌&&◌, cond, ℕ, Bool, true, false, List}
-use Rattle.sk_durable.proofs.Names.{[], ◌∷◌, ◌++◌, length, take, Option, Some, None, Result, Ok, Err, flat_map, inl}
-use Rattle.sk_durable.proofs.Names.{inr, refl, sym, ◌∙◌, ap, subst, list_any, ◌==◌, nat_lt, is_err, append-nil}
-use Rattle.sk_durable.proofs.Names.{list_any-append, is_marked, has, marks, tags_at, bytes_cmp, TakesOut, undo_state_of}
-use Rattle.sk_durable.proofs.Names.{Stays, Requests, Answer, Work, answer_text, comes_to, names_reserved, Asked}
-use Rattle.sk_durable.proofs.Names.{Channel, Ask, Do, OneAsked, FedBytes, Channels, only_posed, posed_ticket, Feeds}
-use Rattle.sk_durable.proofs.Names.{HasServed, HasServedOn, channel_at, with_channel, Told, NotDone, LongKey, Full}
-use Rattle.sk_durable.proofs.Names.{Memory, End, Asker, error, long_key_words, told_work, work_of, channel_refused}
-use Rattle.sk_durable.proofs.Names.{against, ahead_of, asked_by, batch_for, deed_now, has_now, touched, Batches}
-use Rattle.sk_durable.proofs.Names.{CarryPost, IsNotDone, IsTold, KnowsIfTold, asked_for, came, first_answer, Becomes}
-use Rattle.sk_durable.proofs.Names.{Goes, HasPast, HavePasts, Past, StoreView, AsksFor, Call, Drops, IsDone, IsFor}
-use Rattle.sk_durable.proofs.Names.{LeavesIt, Serves, drops, end_of, is_posed, AnswerPost, has_refused, FreesIfLast}
-use Rattle.sk_durable.proofs.Names.{HasNoneReady, LetGoPost, MayFeed, PosedPost, TakePost, TellPost, TryPost, or-false}
+use Rattle.sk_durable.proofs.Names.{arith, is_some, ◌≡◌, ◌<◌, ◌≤◌, ◌+◌, ◌-◌, ◌^◌, ◌||◌, ◌&&◌, cond, ℕ, Bool, true}
+use Rattle.sk_durable.proofs.Names.{false, List, [], ◌∷◌, ◌++◌, length, take, Option, Some, None, Result, Ok, Err}
+use Rattle.sk_durable.proofs.Names.{flat_map, inl, inr, refl, sym, ◌∙◌, ap, subst, list_any, ◌==◌, nat_lt, is_err}
+use Rattle.sk_durable.proofs.Names.{append-nil, list_any-append, is_marked, has, marks, tags_at, bytes_cmp, TakesOut}
+use Rattle.sk_durable.proofs.Names.{undo_state_of, Stays, Requests, Answer, Work, answer_text, comes_to}
+use Rattle.sk_durable.proofs.Names.{names_reserved, Asked, Channel, Ask, Do, OneAsked, FedBytes, Channels, only_posed}
+use Rattle.sk_durable.proofs.Names.{posed_ticket, Feeds, HasServed, HasServedOn, channel_at, with_channel, Told}
+use Rattle.sk_durable.proofs.Names.{NotDone, LongKey, Full, Memory, End, Asker, error, long_key_words, told_work}
+use Rattle.sk_durable.proofs.Names.{work_of, channel_refused, ahead_of, asked_by, batch_for, deed_now, has_now}
+use Rattle.sk_durable.proofs.Names.{touched, Batches, CarryPost, IsNotDone, IsTold, asked_for, came, first_answer}
+use Rattle.sk_durable.proofs.Names.{Becomes, Goes, HasPast, HavePasts, Past, StoreView, AsksFor, Call, Drops, IsDone}
+use Rattle.sk_durable.proofs.Names.{IsFor, LeavesIt, Serves, drops, end_of, is_posed, AnswerPost, has_refused}
+use Rattle.sk_durable.proofs.Names.{FreesIfLast, HasNoneReady, LetGoPost, MayFeed, PosedPost, TakePost, TellPost}
+use Rattle.sk_durable.proofs.Names.{TryPost, or-false}
+use Rattle.std.proofs.lemmas.Bool.Decides.{nat_tests}
 use Rattle.std.proofs.Common.{true≢false, IfSome, unwrap_or}
 use Rattle.sk_channels.specs.declared.refusal.Refusal.{Refusal as Refused}
 use Rattle.sk_channels.specs.declared.refusal.Refusal.TheVariants as channels
@@ -88,13 +90,7 @@ rests_of b asker known work =
     flat_map (tags_at (undo_state_of bytes_cmp b.kernel.parts)) (touched (deed_now b.kernel (asked_by asker known work))) ++ marks (batch_for b work)
 
 told_of : (b : Batches) (asker : Asker) (known : List (List ℕ)) (work : Work) → IsTold b (now_asked b asker known work) (answer_of b known work) (rests_of b asker known work)
-told_of b asker known work = record {
-  batch = refl;
-  answer_is = refl;
-  rests_are = λ g.
-      list_any-append (λ t. t == g) (flat_map (tags_at (undo_state_of bytes_cmp b.kernel.parts)) (touched (deed_now b.kernel (asked_by asker known work)))) (marks (batch_for b work))
-      ∙ (λ i. has_some g (tags_at (undo_state_of bytes_cmp b.kernel.parts)) (touched (deed_now b.kernel (asked_by asker known work))) i || has_mark g (batch_for b work) i);
-}
+told_of b asker known work = grind (arith, nat_tests, list_any-append, has_some, has_mark)
 
 pub all_stays : (b : Batches) → Stays b b
 all_stays b = record { kernel = inl refl; queue = refl; begun = refl }
@@ -107,15 +103,7 @@ Comes looks asker ask (Err why) b c = LeavesIt b asker ask why c
 
 module _ (looks : Bool) (asker : Asker) (ask : Ask) (b seen : Batches) (still : Stays b seen) (work : Work) (is_for : IsFor b asker ask work) (free : names_reserved work ≡ false) where
   pub comes : (result : Result (Option (List ℕ)) NotDone) (c : Batches) → CarryPost looks asker work result seen c → Comes looks asker ask result b c
-  comes (Ok ahead) c (known, none, carries, is_ahead) = (
-    now_asked seen asker known work,
-    answer_of seen known work,
-    rests_of seen asker known work,
-    refl,
-    refl,
-    record { seen = seen; still = still; is_for = is_for; free = free; carries = carries; told = told_of seen asker known work },
-    is_ahead,
-  )
+  comes (Ok ahead) c (known, none, carries, is_ahead) = grind (arith, nat_tests, told_of seen asker known work)
   comes (Err why) c not_done = (seen, still, work, is_for, not_done)
 
 -- without memory nothing of it is done
@@ -124,17 +112,7 @@ no_memory looks asker ask b c still = (b, all_stays b, work_of ask, inl refl, in
 
 -- a key was too long: nothing has changed
 pub was_long : (asker : Asker) (ask : Ask) (b c : Batches) (work : Work) → work ≡ work_of ask → IsNotDone LongKey b asker work c → Stays b c × IsFor b asker ask (error long_key_words)
-was_long asker ask b c work is (known, knows, long, still) = (
-  still,
-  inr (
-    refl,
-    (
-      known,
-      subst (λ w. KnowsIfTold b.kernel w known) is knows,
-      subst (λ w. against b (asked_by asker known w) ≡ Some LongKey) is long,
-    ),
-  ),
-)
+was_long asker ask b c work is (known, knows, long, still) = grind (arith, nat_tests)
 
 pub tried : (looks : Bool) (asker : Asker) (ask : Ask) (result : Result (Option (List ℕ)) NotDone) (a : StoreView) (b : StoreView)
     → Comes looks asker ask result a.batched b.batched → b ≡ record a { batched = b.batched } → TryPost looks asker ask result a b
@@ -177,10 +155,7 @@ module _ (looks : Bool) (t : ℕ) (bytes : List ℕ) (a : StoreView) (before aft
 
   -- the host is asked there, or not
   pub posed_is : (posed : Bool) → posed ≡ is_some after.inlet.posed → posed ≡ is_posed (channel_at new t)
-  posed_is posed is =
-      let here : channel_at new t ≡ Some after =
-      ap (λ (cs : Channels). channel_at cs t) becomes.left ∙ now_there a.channels t before becomes.there after in
-      is ∙ sym (ap is_posed here)
+  posed_is posed is = grind (arith, nat_tests, now_there a.channels t before becomes.there after)
 
   module _ (fed : FedBytes) (served : IsServed bytes (Ok fed) before after) (have : HavePasts a.limits.requests a.channels) where
     -- so many bytes came
@@ -288,12 +263,7 @@ told_is b asker text work (inr (is, (known, knows, long))) = cc
 
 told_reply : (b : Batches) (text : List ℕ) (asked : Asked) (answer : Answer) (rests : List ℕ) (c : Batches)
     → IsDone b (Do (told_work text)) asked answer rests c → answer_text answer ≡ text
-told_reply b text asked answer rests c done =
-    ap answer_text (
-    done.told.answer_is
-    ∙ ap (λ w. (comes_to asked.known w (has_now done.seen.kernel)).reply)
-    (told_is b (record { channel = asked.channel; ticket = asked.ticket }) text asked.work done.is_for)
-    )
+told_reply b text asked answer rests c done = grind (arith, nat_tests, told_is b)
 
 -- a text is told to a channel, whatever its past was
 abbrev pub IsToldTo : Channel → Channel → Type 0
@@ -313,9 +283,7 @@ told_past limits before after tells (p, has) = (
 -- the channel that is asked is the one that is there
 pub posed_there : (t ticket : ℕ) (a : StoreView) (before : Channel) → PosedPost t (Ok ticket) a → channel_at a.channels t ≡ Some before
     → posed_ticket before.inlet ≡ Some ticket
-posed_there t ticket a before (channel, there, posed) here =
-    let same : channel ≡ before = cc (there, here) in
-    subst (λ (c : Channel). posed_ticket c.inlet ≡ Some ticket) same posed
+posed_there t ticket a before (channel, there, posed) here = grind (arith, nat_tests)
 
 -- it was carried out
 pub was_done : (looks : Bool) (asker : Asker) (work : Work) (result : Result (Option (List ℕ)) NotDone) (b c : Batches)

@@ -1,12 +1,13 @@
 -- A command that is carried out, told to the machine of records.
-use Rattle.sk_durable.proofs.Names.{◌≡◌, ℕ, Bool, true, false, cond, ◌||◌, List, [], ◌∷◌, ◌++◌, map, Option, Some, None}
-use Rattle.sk_durable.proofs.Names.{refl, sym, ◌∙◌, ap, subst, ◌==◌, list_any, eq_by_cmp, true≢false, or_parts}
-use Rattle.sk_durable.proofs.Names.{false_from_ne_true, append-nil, list_any-append, is_marked, has, last_tags, Taken}
-use Rattle.sk_durable.proofs.Names.{tags_at, Status, bytes_cmp, same_bytes, undo_state_of, in_batch, is_touched}
-use Rattle.sk_durable.proofs.Names.{open_numbers, batch_key, is_reserved, spares_named, looks_as_before, Answer}
-use Rattle.sk_durable.proofs.Names.{comes_to, looks_at, may_write_some, IsProper, Out, names_reserved, batch_keys, deed}
-use Rattle.sk_durable.proofs.Names.{Asked, Runs, deed_now, has_now, touched, Batches, CarriesOut, IsTold, Kernel}
-use Rattle.sk_durable.proofs.Names.{KnowsIfTold, TakenIn, StoreView, or-false}
+use Rattle.sk_durable.proofs.Names.{arith, ◌≡◌, ℕ, Bool, true, false, cond, ◌||◌, List, [], ◌∷◌, ◌++◌, map, Option}
+use Rattle.sk_durable.proofs.Names.{Some, None, refl, sym, ◌∙◌, ap, subst, ◌==◌, list_any, eq_by_cmp, append-nil}
+use Rattle.sk_durable.proofs.Names.{list_any-append, is_marked, has, last_tags, Taken, tags_at, Status, bytes_cmp}
+use Rattle.sk_durable.proofs.Names.{same_bytes, undo_state_of, in_batch, is_touched, open_numbers, batch_key}
+use Rattle.sk_durable.proofs.Names.{is_reserved, spares_named, looks_as_before, Answer, comes_to, looks_at}
+use Rattle.sk_durable.proofs.Names.{may_write_some, IsProper, Out, names_reserved, batch_keys, deed, Asked, Runs}
+use Rattle.sk_durable.proofs.Names.{deed_now, has_now, touched, Batches, CarriesOut, IsTold, Kernel, KnowsIfTold}
+use Rattle.sk_durable.proofs.Names.{TakenIn, StoreView, or-false}
+use Rattle.std.proofs.lemmas.Bool.Decides.{nat_tests}
 use Rattle.sk_batched.specs.Batched.{Draws}
 use Rattle.sk_durable.proofs.Inside.{drawn, drawn_store, kept_as, stepped}
 use Rattle.sk_durable.proofs.Machines.{Agree, led_on, machine, InStep, Led}
@@ -24,41 +25,24 @@ deed_alone asked kernel none = ap (λ b. deed (Runs (record asked { batch = b })
 -- and that of work of a batch looks at its key last
 deed_in : (asked : Asked) (kernel : Kernel) (n : ℕ) → asked.batch ≡ Some n
     → in_batch n (deed_now kernel (alone asked)) ≡ deed (Runs asked) (has_now kernel)
-deed_in asked kernel n some =
-    (λ i. record {
-      looked = append-nil (looks_at asked.known asked.work) i ++ batch_key n ∷ [];
-      written = (comes_to asked.known asked.work (has_now kernel)).written;
-      said = Some (asked.channel, (asked.ticket, (comes_to asked.known asked.work (has_now kernel)).reply));
-    })
-    ∙ ap (λ b. deed (Runs (record asked { batch = b })) (has_now kernel)) (sym some)
+deed_in asked kernel n some = grind (arith, nat_tests, append-nil (looks_at asked.known asked.work))
 
 -- the keys that are there are known
 proper : (kernel : Kernel) (status : ℕ → Option Status) (asked : Asked) → names_reserved asked.work ≡ false
     → KnowsIfTold kernel asked.work asked.known
     → IsProper (machine kernel status) (Taken (Runs asked))
-proper kernel status asked free knows = (
-  free,
-  λ wants. (
-    (knows wants).0,
-    λ key named lacking.
-        let at = (knows wants).1 key named lacking in
-        (at.0, ap (last_tags []) at.1),
-  ),
-)
+proper kernel status asked free knows = grind (arith, nat_tests)
 
 -- none of these keys is a batch's
 apart_from : (n : ℕ) (k : List ℕ) → is_reserved k ≡ false → eq_by_cmp bytes_cmp k (batch_key n) ≡ false
-apart_from n k plain = false_from_ne_true (eq_by_cmp bytes_cmp k (batch_key n))
-    (λ same. true≢false (sym (ap is_reserved ((same_bytes k (batch_key n)).0 same)) ∙ plain))
+apart_from n k plain = grind (arith, nat_tests, same_bytes k (batch_key n))
 
 -- what some keys rest on is what they rested on before
 any_same : (p q : List ℕ → Bool) (ks : List (List ℕ)) → ((k : List ℕ) → is_reserved k ≡ false → p k ≡ q k)
     → list_any is_reserved ks ≡ false
     → list_any p ks ≡ list_any q ks
 any_same p q [] same none = refl
-any_same p q (k ∷ ks) same none =
-    let parts = or_parts (is_reserved k) (list_any is_reserved ks) none in
-    λ i. same k parts.0 i || any_same p q ks same parts.1 i
+any_same p q (k ∷ ks) same none = grind (arith, nat_tests, any_same p q ks same)
 
 turn : (l k w : Bool) → ((l || (k || false)) || w) ≡ ((l || w) || k)
 turn false true false = refl

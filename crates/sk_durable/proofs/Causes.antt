@@ -1,16 +1,17 @@
 -- Why work is not carried out is why its step is not taken.
-use Rattle.sk_durable.proofs.Names.{◌≡◌, ℕ, Bool, true, false, cond, ◌||◌, List, [], ◌∷◌, length, Option, Some, None}
-use Rattle.sk_durable.proofs.Names.{Result, Ok, Err, inl, inr, ⊎_elim, refl, sym, ap, ◌∙◌, subst, nat_lt, IfSome, OnErr}
-use Rattle.sk_durable.proofs.Names.{OnOk, list_any, option_map, option_or, IsErr, IsErrAnd, released, said_at, Takes}
-use Rattle.sk_durable.proofs.Names.{TakesOut, bytes_cmp, Deed, KEY_LIMIT, has_long_key, byte_deed, append_refused}
+use Rattle.sk_durable.proofs.Names.{arith, ◌≡◌, ℕ, Bool, true, false, cond, ◌||◌, List, [], ◌∷◌, length, Option, Some}
+use Rattle.sk_durable.proofs.Names.{None, Result, Ok, Err, inl, inr, ⊎_elim, refl, sym, ap, ◌∙◌, subst, nat_lt}
+use Rattle.sk_durable.proofs.Names.{IfSome, OnErr, OnOk, list_any, option_map, option_or, IsErr, IsErrAnd, released}
+use Rattle.sk_durable.proofs.Names.{said_at, TakesOut, Deed, KEY_LIMIT, has_long_key, byte_deed, append_refused}
 use Rattle.sk_durable.proofs.Names.{Queued, Reserved, is_full, log_refused, LogPost, Stays, is_reserved}
 use Rattle.sk_durable.proofs.Names.{has_reserved_key, refusal_of, step_refused, any_touched, Work, Answer, log_text}
 use Rattle.sk_durable.proofs.Names.{may_write_some, Asked, NotDone, Asker, against, asked_by, ahead_in, deed_now}
-use Rattle.sk_durable.proofs.Names.{names_wrong, touched, Batches, CarryPost, IsAhead, IsHanded, IsNotDone, KnowsIfTold}
-use Rattle.sk_durable.proofs.Names.{LetsOut, TakenIn, TakesAlone, WorkStep}
+use Rattle.sk_durable.proofs.Names.{names_wrong, touched, Batches, CarryPost, IsAhead, IsHanded, IsNotDone}
+use Rattle.sk_durable.proofs.Names.{KnowsIfTold, LetsOut, TakesAlone, WorkStep}
+use Rattle.std.proofs.lemmas.Bool.Decides.{nat_tests}
 use Rattle.sk_batched.specs.declared.refusal.Refusal.{Refusal}
 use Rattle.sk_batched.specs.declared.refusal.Refusal.TheVariants.{LongKey, TooMany, Memory}
-use Rattle.sk_batched.specs.Batched.{Logs, TakePost}
+use Rattle.sk_batched.specs.Batched.{TakePost}
 use Rattle.sk_durable.specs.declared.refusal.NotDone.TheVariants as undone
 use Rattle.sk_durable.specs.Refused as told
 use Rattle.sk_durable.specs.Works as works
@@ -111,21 +112,14 @@ module _ (b : Batches) (asker : Asker) (work : Work) (step : WorkStep) (h : IsHa
   logs_against : may_write_some work ≡ true → (bytes : List ℕ) → bytes ≡ log_text work
       → told_as (log_refused b step (length bytes)) ≡ against b asked
   logs_against writes bytes is =
-      step_told (has_long_key step) (has_reserved_key step) (of_queue (queued (length bytes)) (is_full b))
-      ∙ (λ i. cond (wrong_now i) (Some undone.LongKey) (told_as (of_queue (queued (length (is i))) (is_full b))))
-      ∙ ap (cond (names_wrong now) (Some undone.LongKey)) (queue_told (queued (length (log_text work))) (is_full b))
-      ∙ (λ i. cond (names_wrong now) (Some undone.LongKey) (cond (sym writes i) (works.log_against b asked) None))
+      grind (arith, nat_tests, step_told (has_long_key step) (has_reserved_key step), wrong_now, queue_told)
 
   takes_against : may_write_some work ≡ false → told_as (step_refused step) ≡ against b asked
-  takes_against reads =
-      step_alone (has_long_key step) (has_reserved_key step)
-      ∙ (λ i. cond (wrong_now i) (Some undone.LongKey) (cond (sym reads i) (works.log_against b asked) None))
+  takes_against reads = grind (arith, nat_tests, step_alone (has_long_key step) (has_reserved_key step), wrong_now)
 
   plain : step_refused step ≡ None → list_any is_reserved (touched now) ≡ false
   plain none =
-      ap (λ (d : Done). list_any is_reserved (touched d)) (sym h.does)
-      ∙ reserved_is step
-      ∙ none_reserved (has_long_key step) (has_reserved_key step) none
+      grind (arith, nat_tests, reserved_is step, none_reserved (has_long_key step) (has_reserved_key step) none)
 
   -- nothing is done, for this cause
   abbrev Left : NotDone → Batches → Type 0
@@ -138,11 +132,7 @@ module _ (b : Batches) (asker : Asker) (work : Work) (step : WorkStep) (h : IsHa
   left c first why is at stays = (h.known, h.knows, sym is ∙ ap told_as at, stays)
 
   still : (c : Batches) → c ≡ b → Stays b c
-  still c same = record {
-    kernel = inl (ap (λ (x : Batches). x.kernel) same);
-    queue = ap (λ (x : Batches). x.queue) same;
-    begun = ap (λ (x : Batches). x.begun) same;
-  }
+  still c same = grind (arith, nat_tests)
 
   -- what is told ahead is its answer
   ahead_now : (looks : Bool) (ahead : Option (List ℕ)) → ahead ≡ ahead_in looks step.said → IsAhead looks b asked ahead
@@ -165,20 +155,16 @@ module _ (b : Batches) (asker : Asker) (work : Work) (step : WorkStep) (h : IsHa
 
     pub logged : (number : ℕ) (looks : Bool) (ahead : Option (List ℕ)) → LogPost (Ok number) step after bytes b c
         → ahead ≡ ahead_in looks step.said → CarryPost looks asker work (Ok ahead) b c
-    logged number looks ahead post told = (
-      h.known,
-      sym (logs_against writes bytes is) ∙ ap told_as post.0,
-      record {
-        knows = h.knows;
-        plain = plain (first_none (step_refused step) (of_queue (queued (length bytes)) (is_full b)) post.0);
-        taken = subst (λ w. TakenIn w b asked c) (sym writes) (
+    logged number looks ahead post told =
+        grind (
+          arith,
+          nat_tests,
+          logs_against writes bytes is,
+          plain,
+          first_none (step_refused step),
           room post.0,
-          subst (λ (d : Done). Logs b d (log_text work) c) h.does
-              (subst (λ bs. Logs b (byte_deed step) bs c) is post.2),
-        );
-      },
-      ahead_now looks ahead told,
-    )
+          ahead_now looks ahead told,
+        )
 
   -- ---- it is not
 
@@ -190,17 +176,8 @@ module _ (b : Batches) (asker : Asker) (work : Work) (step : WorkStep) (h : IsHa
 
     pub taken : (looks : Bool) (ahead : Option (List ℕ)) → TakePost (Ok tt) step after b c
         → ahead ≡ ahead_in looks step.said → CarryPost looks asker work (Ok ahead) b c
-    taken looks ahead post told = (
-      h.known,
-      sym (takes_against reads) ∙ ap told_as post.0,
-      record {
-        knows = h.knows;
-        plain = plain post.0;
-        taken = subst (λ w. TakenIn w b asked c) (sym reads)
-            (subst (λ (d : Done). Takes bytes_cmp b.kernel.parts d None c.kernel.parts) h.does post.1, post.2, post.3);
-      },
-      ahead_now looks ahead told,
-    )
+    taken looks ahead post told =
+        grind (arith, nat_tests, takes_against reads, plain post.0, ahead_now looks ahead told)
 
 -- it is told as its cause here
 module _ (b c : Batches) (asker : Asker) (work : Work) (why : Refusal) (looks : Bool) where
@@ -218,8 +195,7 @@ module _ (t : ℕ) (b c : Batches) where
       → (told ≡ None → c ≡ b) → (told ≡ None → released (said_at b.kernel.parts.said t) ≡ [])
       → c ≡ record b { kernel = c.kernel } → LetsOut t told b c
   lets_out None some none held rest = (held refl, none refl)
-  lets_out (Some told) some none held rest =
-      (some, ap (λ (x : Batches). x.queue) rest, ap (λ (x : Batches). x.begun) rest)
+  lets_out (Some told) some none held rest = grind (arith, nat_tests)
 
 module _ (asker : Asker) (work : Work) (b behind c : Batches) (told : Option (ℕ × Answer))
     (lets : LetsOut asker.channel told behind c) where

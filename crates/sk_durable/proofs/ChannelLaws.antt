@@ -1,13 +1,13 @@
 -- A ticket was told its command's answer, or that nothing of it was done; a channel let go of just what may go out.
+use Rattle.std.proofs.lemmas.Bool.Decides.{nat_tests}
 use Rattle.sk_durable.proofs.Contained.{at_first, from_map, to_map, from_filter}
 use Rattle.sk_durable.proofs.Names.{◌≡◌, ℕ, ◌+◌, ◌<◌, ◌≤◌, true, false, not, List, [], ◌∷◌, length, Some, None, inl}
 use Rattle.sk_durable.proofs.Names.{inr, refl, sym, ◌∙◌, ap, subst, arith, ◌==◌, ◌⊎◌, nat_lt, slice_get, filter}
-use Rattle.sk_durable.proofs.Names.{Contains, and_parts, eq-eqb, eqb-true, ltb-false, or_left, true≢false}
-use Rattle.sk_durable.proofs.Names.{Contains-append_left, Contains-append_right, Contains-append_cases}
-use Rattle.sk_durable.proofs.Names.{slice_get_within, released, released_if, has, has_filter, open_in, numbers}
-use Rattle.sk_durable.proofs.Names.{first_of, IsSaid, is_struck, resting_among, said_to, Channel, channel_at, Answer}
-use Rattle.sk_durable.proofs.Names.{Entries, served, Limits, Next, first_answer, has_refusals, StoreView, Call}
-use Rattle.sk_durable.proofs.Names.{HasNoneReady, carried_from, failed, past, stands_on, Command}
+use Rattle.sk_durable.proofs.Names.{Contains, eq-eqb, eqb-true, ltb-false, or_left, Contains-append_left}
+use Rattle.sk_durable.proofs.Names.{Contains-append_right, Contains-append_cases, slice_get_within, released_if, has}
+use Rattle.sk_durable.proofs.Names.{has_filter, numbers, first_of, IsSaid, is_struck, resting_among, said_to, Channel}
+use Rattle.sk_durable.proofs.Names.{channel_at, Answer, Entries, served, Limits, Next, first_answer, has_refusals}
+use Rattle.sk_durable.proofs.Names.{StoreView, Call, HasNoneReady, carried_from, failed, past, stands_on, Command}
 use Rattle.sk_durable.proofs.Names.{ChannelsLetGoJustWhatMay, HasDone, IsAnswered, IsGone, IsLogged, IsToldRight}
 use Rattle.sk_durable.proofs.Names.{LetsGoJustWhatMay, TicketsAreToldRight, Waits}
 use Rattle.sk_durable.proofs.Machines.{Machine}
@@ -97,8 +97,7 @@ module _ (limits : Limits) (next : Next) (start : Entries) (cs : List Call) (s :
   -- what is undecided was not told as logged
   not_logged : (g : ℕ) → has g (numbers last.state.opens) ≡ true → IsLogged cs g → ⊥
   not_logged g here logged =
-      let l = led limits next start cs s done in
-      true≢false (sym here ∙ l.agrees.undecided g ∙ ap open_in ((logged_is limits next start cs s done g).0 logged))
+      grind (arith, nat_tests, led limits next start cs s done, logged_is limits next start cs s done g)
 
   abbrev opens : List ℕ
   opens = numbers last.state.opens
@@ -109,12 +108,7 @@ module _ (limits : Limits) (next : Next) (start : Entries) (cs : List Call) (s :
   -- the first that waits rests on something undecided
   first_rests : (y : Output) (ys : List Output) → said.waiting ≡ y ∷ ys → HasNoneReady t s
       → (g : ℕ) × (has g y.1 ≡ true) × (has g opens ≡ true)
-  first_rests y ys is ready =
-      let rests = rests_on (filter (λ g. has g y.1) opens) y.0 (released (resting_among opens ys))
-      (ap released (sym (waiting_is (y ∷ ys) is)) ∙ ready) in
-      let both = and_parts (has rests.0 y.1) (has rests.0 opens)
-      (sym (has_filter (λ g. has g y.1) rests.0 opens) ∙ rests.1) in
-      (rests.0, both.0, both.1)
+  first_rests y ys is ready = grind (arith, nat_tests, rests_on, waiting_is (y ∷ ys) is, has_filter (λ g. has g y.1))
 
   -- and has the next ticket, where no refusal stands before it
   first_next : (y : Output) (ys : List Output) → said.waiting ≡ y ∷ ys

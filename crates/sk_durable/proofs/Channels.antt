@@ -1,16 +1,17 @@
 -- What each channel was asked for and told, along all that a store did.
+use Rattle.std.proofs.lemmas.Bool.Decides.{nat_tests}
 use Rattle.sk_durable.proofs.Contained.{first_or_later, at_first, nothing_there, from_map, to_map}
-use Rattle.sk_durable.proofs.Names.{◌≡◌, ℕ, ◌+◌, ◌-◌, ◌<◌, ◌≤◌, true, false, cond, List, [], ◌∷◌, ◌++◌, length, Some}
-use Rattle.sk_durable.proofs.Names.{None, inl, inr, refl, sym, ◌∙◌, ap, subst, arith, append_assoc, length-append, ◌⊎◌}
-use Rattle.sk_durable.proofs.Names.{slice_get, filter, Contains, eq-eqb, append-nil, length-map, Contains-append_right}
-use Rattle.sk_durable.proofs.Names.{Contains-append_cases, has, said_by, numbers, first_of, said_at, IsSaid, failed_in}
-use Rattle.sk_durable.proofs.Names.{kept, resting_among, said_to, failed_more, kept_more, Requests, Channel, Ask}
-use Rattle.sk_durable.proofs.Names.{channel_at, channel_of, place_at, refused, Answer, Work, answer_text, Entries}
-use Rattle.sk_durable.proofs.Names.{served, Asked, Runs, Limits, Next, error, long_key_words, work_of, Batches}
-use Rattle.sk_durable.proofs.Names.{asked_for, bound, first_answer, no_past, was_refused, was_told, Goes, HasPast, Past}
-use Rattle.sk_durable.proofs.Names.{StoreView, Call, Connects, Does, MayBeTold, Serves, carried, carried_after}
-use Rattle.sk_durable.proofs.Names.{carried_by, carried_from, decided, failed, past, past_after, stands, Command}
-use Rattle.sk_durable.proofs.Names.{HasDone}
+use Rattle.sk_durable.proofs.Names.{◌≡◌, ℕ, ◌+◌, ◌-◌, ◌<◌, ◌≤◌, true, false, List, [], ◌∷◌, ◌++◌, length, Some, None}
+use Rattle.sk_durable.proofs.Names.{inl, inr, refl, sym, ◌∙◌, ap, subst, arith, append_assoc, length-append, ◌⊎◌}
+use Rattle.sk_durable.proofs.Names.{slice_get, filter, Contains, append-nil, length-map, Contains-append_right}
+use Rattle.sk_durable.proofs.Names.{Contains-append_cases, has, said_by, numbers, first_of, said_at, IsSaid}
+use Rattle.sk_durable.proofs.Names.{failed_in, kept, resting_among, said_to, failed_more, kept_more, Requests}
+use Rattle.sk_durable.proofs.Names.{Channel, Ask, channel_at, channel_of, place_at, refused, Answer, Work}
+use Rattle.sk_durable.proofs.Names.{answer_text, Entries, served, Asked, Runs, Limits, Next, error, long_key_words}
+use Rattle.sk_durable.proofs.Names.{work_of, Batches, asked_for, bound, first_answer, no_past, was_refused, was_told}
+use Rattle.sk_durable.proofs.Names.{Goes, HasPast, Past, StoreView, Call, Connects, Does, MayBeTold, Serves, carried}
+use Rattle.sk_durable.proofs.Names.{carried_after, carried_by, carried_from, decided, failed, past, past_after}
+use Rattle.sk_durable.proofs.Names.{stands, Command, HasDone}
 use Rattle.sk_durable.proofs.Machines.{Machine}
 use Rattle.sk_durable.proofs.Served.{carried_behind, decided_behind, outs_from}
 use Rattle.sk_durable.proofs.Pasts.{was_there, by_call, carried_push, carried_reset, connects, connects_is, freed, never_push, outs_behind, outs_grow, past_push, past_reset, same_limits, silent, taken, taken_after, taken_push, taken_reset, Said}
@@ -79,8 +80,7 @@ own_is : (t u : ℕ) (asked : Asked) (answer : Answer) (rests : List ℕ) → u 
     → said_to served t (record { entry = Runs asked; said = Some (u, (asked.ticket, answer)); rests = rests } ∷ [])
     ≡ ((u, (asked.ticket, answer)), rests) ∷ []
 own_is t u asked answer rests its =
-    append-nil (said_by served t (Some (u, (asked.ticket, answer))) rests)
-    ∙ ap (λ b. cond b (((u, (asked.ticket, answer)), rests) ∷ []) []) (eq-eqb u t its)
+    grind (arith, nat_tests, append-nil (said_by served t (Some (u, (asked.ticket, answer))) rests))
 
 -- ---- a channel that is there
 

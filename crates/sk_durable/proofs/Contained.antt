@@ -1,7 +1,8 @@
 -- What is in lists that are made of others.
+use Rattle.std.proofs.lemmas.Bool.Decides.{nat_tests}
 use Rattle.sk_durable.proofs.Names.{◌≡◌, ◌+◌, ◌<◌, Bool, true, false, cond, List, [], ◌∷◌, flat_map, length, map, inl}
 use Rattle.sk_durable.proofs.Names.{inr, refl, sym, ◌∙◌, ap, subst, arith, filter, Contains, Contains-append_cases, ℕ}
-use Rattle.sk_durable.proofs.Names.{◌==◌, list_any, has, false≢true, or_cases, or_left, or_right, eq-eqb, eqb-true}
+use Rattle.sk_durable.proofs.Names.{list_any, has, false≢true}
 pub use Rattle.sk_record.proofs.Lemmas.{cons_cases as first_or_later, cons_first as at_first, cons_later as at_later}
 
 pub nothing_there : {A P : Type 0} (x : A) → Contains [] x → P
@@ -59,55 +60,28 @@ to_filter p (y ∷ xs) x at passes = elim (first_or_later y xs x at) [
 pub filter_of_map : {A B : Type 0} (f : A → B) (p : B → Bool) (xs : List A)
     → filter p (map f xs) ≡ map f (filter (λ x. p (f x)) xs)
 filter_of_map f p [] = refl
-filter_of_map f p (x ∷ xs) =
-    elim (p (f x)) as (λ b. cond b (f x ∷ filter p (map f xs)) (filter p (map f xs))
-    ≡ map f (cond b (x ∷ filter (λ z. p (f z)) xs) (filter (λ z. p (f z)) xs))) [
-      | true ↦ ap (λ ys. f x ∷ ys) (filter_of_map f p xs)
-      | false ↦ filter_of_map f p xs
-    ]
+filter_of_map f p (x ∷ xs) = grind (arith, nat_tests, filter_of_map f p xs)
 
 -- a filter that keeps as many keeps all
 pub filter_shorter : {A : Type 0} (p : A → Bool) (xs : List A) → length (filter p xs) < length xs + 1
 filter_shorter p [] = omega arith
-filter_shorter p (x ∷ xs) =
-    let rest = filter_shorter p xs in
-    elim (p x) as (λ b. length (cond b (x ∷ filter p xs) (filter p xs)) < length (x ∷ xs) + 1) [
-      | true ↦ omega (arith, rest)
-      | false ↦ omega (arith, rest)
-    ]
+filter_shorter p (x ∷ xs) = grind (arith, nat_tests, filter_shorter p xs)
 
 pub none_lost : {A : Type 0} (p : A → Bool) (xs : List A) (x : A) → length (filter p xs) ≡ length xs → Contains xs x
     → p x ≡ true
 none_lost p [] x same at = nothing_there x at
 none_lost p (y ∷ xs) x same at =
-    elim (p y) as (λ b. p y ≡ b → length (cond b (y ∷ filter p xs) (filter p xs)) ≡ length (y ∷ xs) → p x ≡ true) [
-      | true ↦ λ passes all. elim (first_or_later y xs x at) [
-        | inl is ↦ ap p (sym is) ∙ passes
-        | inr later ↦ none_lost p xs x (omega (arith, all)) later
-      ]
-      | false ↦ λ fails all. let less = filter_shorter p xs in absurd (omega (arith, less, all))
-    ] refl same
+    grind (arith, nat_tests, first_or_later y xs x at, none_lost p xs x, filter_shorter p xs)
 
 -- a number that is among others
 pub any_has : (p : ℕ → Bool) (xs : List ℕ) → list_any p xs ≡ true → (g : ℕ) × (has g xs ≡ true) × (p g ≡ true)
 any_has p [] is = absurd (false≢true is)
-any_has p (x ∷ xs) is =
-    elim (or_cases (p x) (list_any p xs) is) as (λ _. (g : ℕ) × (has g (x ∷ xs) ≡ true) × (p g ≡ true)) [
-      | inl here ↦ (x, or_left (x == x) (has x xs) (eq-eqb x x refl), here)
-      | inr later ↦ let r = any_has p xs later in (r.0, or_right (x == r.0) (has r.0 xs) r.1, r.2)
-    ]
+any_has p (x ∷ xs) is = grind (arith, nat_tests, any_has p xs)
 
 pub has_any : (p : ℕ → Bool) (xs : List ℕ) (g : ℕ) → has g xs ≡ true → p g ≡ true → list_any p xs ≡ true
 has_any p [] g here is = absurd (false≢true here)
-has_any p (x ∷ xs) g here is =
-    elim (or_cases (x == g) (has g xs) here) as (λ _. list_any p (x ∷ xs) ≡ true) [
-      | inl same ↦ or_left (p x) (list_any p xs) (subst (λ z. p z ≡ true) (sym (eqb-true x g same)) is)
-      | inr later ↦ or_right (p x) (list_any p xs) (has_any p xs g later is)
-    ]
+has_any p (x ∷ xs) g here is = grind (arith, nat_tests, has_any p xs g)
 
 pub has_at : (ns : List ℕ) (g : ℕ) → has g ns ≡ true → Contains ns g
 has_at [] g is = absurd (false≢true is)
-has_at (n ∷ ns) g is = elim (or_cases (n == g) (has g ns) is) [
-  | inl here ↦ subst (Contains (n ∷ ns)) (eqb-true n g here) (at_first n ns)
-  | inr later ↦ at_later n ns g (has_at ns g later)
-]
+has_at (n ∷ ns) g is = grind (arith, nat_tests, at_first n ns, at_later n ns g, has_at ns g)

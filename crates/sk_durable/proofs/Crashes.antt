@@ -1,20 +1,20 @@
 -- What a crash leaves is read as the first of the logged commands.
+use Rattle.std.proofs.lemmas.Bool.Decides.{nat_tests}
 use Rattle.sk_durable.proofs.Names.{◌≡◌, ℕ, ◌+◌, ◌-◌, ◌^◌, ◌<◌, Bool, true, false, cond, List, [], ◌∷◌, ◌++◌, length}
 use Rattle.sk_durable.proofs.Names.{map, take, zero, suc, Option, Some, None, inl, inr, refl, sym, ◌∙◌, ap, subst}
-use Rattle.sk_durable.proofs.Names.{arith, nat_lt, nat_le, Contains, option_or, false≢true, ltb-true}
-use Rattle.sk_durable.proofs.Names.{Contains-append_cases, Contains-push_cases, Contains-push, kept, Why, take_refused}
-use Rattle.sk_durable.proofs.Names.{first_cause, frame_refused, next_payload, has_room, PlacesView, next_records}
-use Rattle.sk_durable.proofs.Names.{QueueView, payload, RecordView, is_full, Channel, Ask, Do, Reject, Inlet, Rejection}
-use Rattle.sk_durable.proofs.Names.{is_hosts, with_words, AskInTurn, Asks, ComesTo, IsHeard, Text, Queue, Answer, Work}
-use Rattle.sk_durable.proofs.Names.{Say, IsAsked, IsReplyOrAsked, WaitsSaid, may_write_some, what_is_said, ReaderLimits}
-use Rattle.sk_durable.proofs.Names.{Entries, payloads_of, AreLogged, names_reserved, entries_after, Asked, Runs, Limits}
-use Rattle.sk_durable.proofs.Names.{Next, Asker, error, reserved_words, work_of, Batches, asked_for, HasPast, Past}
-use Rattle.sk_durable.proofs.Names.{StoreView, Call, Carries, Cuts, Sends, Does, IsFor, carried, carried_by, cut_off}
-use Rattle.sk_durable.proofs.Names.{decided, failed, frames, frames_by, is_logged, logged, past, synced, Command}
-use Rattle.sk_durable.proofs.Names.{CrashesAreRecovered, HasDone, and_parts}
+use Rattle.sk_durable.proofs.Names.{arith, nat_lt, Contains, option_or, false≢true, Contains-append_cases}
+use Rattle.sk_durable.proofs.Names.{Contains-push_cases, Contains-push, kept, Why, take_refused, first_cause}
+use Rattle.sk_durable.proofs.Names.{frame_refused, next_payload, has_room, PlacesView, next_records, QueueView}
+use Rattle.sk_durable.proofs.Names.{payload, RecordView, is_full, Channel, Ask, Do, Reject, Inlet, Rejection}
+use Rattle.sk_durable.proofs.Names.{is_hosts, with_words, AskInTurn, Asks, ComesTo, IsHeard, Text, Queue, Answer}
+use Rattle.sk_durable.proofs.Names.{Work, Say, IsAsked, IsReplyOrAsked, WaitsSaid, may_write_some, what_is_said}
+use Rattle.sk_durable.proofs.Names.{ReaderLimits, Entries, payloads_of, AreLogged, names_reserved, entries_after}
+use Rattle.sk_durable.proofs.Names.{Asked, Runs, Limits, Next, Asker, error, reserved_words, work_of, Batches}
+use Rattle.sk_durable.proofs.Names.{asked_for, HasPast, Past, StoreView, Call, Carries, Cuts, Sends, Does, IsFor}
+use Rattle.sk_durable.proofs.Names.{carried, carried_by, cut_off, decided, failed, frames, frames_by, is_logged}
+use Rattle.sk_durable.proofs.Names.{logged, past, synced, Command, CrashesAreRecovered, HasDone}
 use Rattle.std.specs.Prelude.{is_some}
 use Rattle.sk_batches.specs.declared.refusal.Refusal.TheVariants as why
-use Rattle.sk_batches.specs.Places.{end_of}
 use Rattle.sk_channels.specs.declared.rejection.Rejection.TheVariants as rejections
 use Rattle.sk_channels.specs.Asking.{Requests}
 use Rattle.sk_durable.proofs.Contained.{filter_of_map, first_or_later, nothing_there}
@@ -51,14 +51,13 @@ short_frame : (q : QueueView) (p : PlacesView) (room : ℕ) (full : Bool)
     → option_or (frame_refused q p room) (cond full (Some why.Busy) None) ≡ None
     → length (payload (next_records q)) < 2 ^ 28
 short_frame q p room full none =
-    let fits : has_room p (length (next_payload q)) ≡ true =
-    no_room (nat_lt room 24) (has_room p (length (next_payload q)))
-    (second_none (take_refused q (room - 24))
-    (cond (nat_lt room 24) (Some why.Short) (cond (has_room p (length (next_payload q))) None (Some why.Full)))
-    (or_none_first (frame_refused q p room) (cond full (Some why.Busy) None) none)) in
-    let lt = ltb-true (24 + length (next_payload q)) (2 ^ 28)
-    (and_parts (nat_lt (24 + length (next_payload q)) (2 ^ 28)) (nat_le (end_of p (length (next_payload q))) p.length) fits).0 in
-    omega (arith, lt)
+    grind (
+      arith,
+      nat_tests,
+      no_room (nat_lt room 24) (has_room p (length (next_payload q))),
+      second_none (take_refused q (room - 24)),
+      or_none_first (frame_refused q p room),
+    )
 
 short_after : (m s : StoreView) (c : Call) (first : ℕ) (log : List (List RecordView)) → Does m c s → AreShort log
     → AreShort (frames_by first c log)
@@ -96,8 +95,7 @@ one_asked : (old : Option Queue) (told : Option (List (List ℕ))) (ask : Ask) (
     → Asks old told ask next → WaitsSaid old
     → WaitsSaid next × ((work : Work) → ask ≡ Do work → IsReplyOrAsked work)
 one_asked old (Some words) (Do work) next asks said =
-    let all = what_is_said old words said in
-    (subst WaitsSaid (sym asks.1) all.0, λ other is. subst IsReplyOrAsked (sym asks.0 ∙ same_do work other is) all.1)
+    grind (arith, nat_tests, what_is_said old words said, same_do work)
 one_asked None (Some words) (Reject rejections.Memory) next asks said = absurd asks
 one_asked (Some queue) (Some words) (Reject rejections.Memory) next asks said =
     (subst WaitsSaid (sym asks) said, λ work is. reject_or_do rejections.Memory work is)
@@ -111,10 +109,7 @@ one_asked old told ask next asks said = absurd asks
 one_comes : (hosts : Bool) (old : Option Queue) (told : Option (List (List ℕ))) (ask : Ask) (next : Option Queue)
     → ComesTo hosts old told ask next → WaitsSaid old
     → WaitsSaid next × ((work : Work) → ask ≡ Do work → IsReplyOrAsked work)
-one_comes true old told ask next ((text, says), same) said = (
-  subst WaitsSaid (sym same) said,
-  λ work is. subst IsReplyOrAsked (same_do (Say (Text text)) work (sym says ∙ is)) tt,
-)
+one_comes true old told ask next ((text, says), same) said = grind (arith, nat_tests, same_do (Say (Text text)))
 one_comes false old told ask next asks said = one_asked old told ask next asks said
 
 all_asked : (old : Option Queue) (told : Requests) (asked : List Ask) (next : Option Queue)
@@ -124,11 +119,13 @@ all_asked old [] [] next asks said work at = nothing_there (Do work) at
 all_asked old [] (a ∷ asked) next asks said work at = absurd asks
 all_asked old (t ∷ told) [] next asks said work at = absurd asks
 all_asked old (t ∷ told) (a ∷ asked) next (mid, one, more) said work at =
-    let here = one_comes (is_hosts old t) old t a mid one said in
-    elim (first_or_later a asked (Do work) at) [
-      | inl is ↦ here.1 work is
-      | inr later ↦ all_asked mid told asked next more here.0 work later
-    ]
+    grind (
+      arith,
+      nat_tests,
+      one_comes (is_hosts old t) old t a mid one said,
+      first_or_later a asked (Do work) at,
+      all_asked mid told asked next more,
+    )
 
 heard_asked : (closed : Bool) (limits : ReaderLimits) (asked : List Ask) (stream : List ℕ) (inlet : Inlet)
     → IsHeard closed limits asked stream inlet

@@ -1,8 +1,9 @@
 -- What a cut leaves of the log: the frames before it, and for the next frame what doesn't rest on what it takes away.
+use Rattle.std.proofs.lemmas.Bool.Decides.{nat_tests}
 use Rattle.sk_durable.proofs.Names.{◌≡◌, ℕ, zero, suc, ◌+◌, ◌-◌, ◌<◌, ◌≤◌, Bool, true, false, cond, not, ◌||◌, ◌&&◌}
 use Rattle.sk_durable.proofs.Names.{List, [], ◌∷◌, ◌++◌, length, map, take, inl, inr, refl, sym, ◌∙◌, ap, subst}
 use Rattle.sk_durable.proofs.Names.{append_assoc, arith, ◌⊎◌, ◌==◌, nat_lt, nat_le, both_ways, filter, list_any}
-use Rattle.sk_durable.proofs.Names.{AllByRecursion, Contains, false≢true, and_from, and_parts, eq-eqb, eqb-true, ne_eqb}
+use Rattle.sk_durable.proofs.Names.{AllByRecursion, Contains, false≢true, and_from, and_parts, eq-eqb, eqb-true}
 use Rattle.sk_durable.proofs.Names.{or_cases, or_left, or_right, or_from, cases_lt, false_from_ne_true, le-leb}
 use Rattle.sk_durable.proofs.Names.{leb-true, lt-leb, lt-ltb, le-ltb, length-take-le, map-append, take-map}
 use Rattle.sk_durable.proofs.Names.{All-contains_itself, All-weaker, filter-append, recursion_from_All}
@@ -43,8 +44,7 @@ all_contained P xs each = recursion_from_All P xs (All-weaker (Contains xs) P ea
 
 filter_all : {X : Type 0} (p : X → Bool) (xs : List X) → AllByRecursion (λ x. p x ≡ true) xs → filter p xs ≡ xs
 filter_all p [] all = refl
-filter_all p (x ∷ xs) all = ap (λ t. cond t (x ∷ filter p xs) (filter p xs)) all.0
-    ∙ ap (λ ys. x ∷ ys) (filter_all p xs all.1)
+filter_all p (x ∷ xs) all = grind (arith, nat_tests, filter_all p xs all.1)
 
 filter_none : {X : Type 0} (p : X → Bool) (xs : List X) → AllByRecursion (λ x. p x ≡ false) xs → filter p xs ≡ []
 filter_none p [] all = refl
@@ -53,22 +53,7 @@ filter_none p (x ∷ xs) all = ap (λ t. cond t (x ∷ filter p xs) (filter p xs
 -- two filters in either order
 filter_turned : {X : Type 0} (p q : X → Bool) (xs : List X) → filter p (filter q xs) ≡ filter q (filter p xs)
 filter_turned p q [] = refl
-filter_turned p q (x ∷ xs) =
-    let rest = filter_turned p q xs in
-    elim (p x) as (λ b. p x ≡ b
-    → filter p (cond (q x) (x ∷ filter q xs) (filter q xs)) ≡ filter q (cond b (x ∷ filter p xs) (filter p xs))) [
-      | true ↦ λ is.
-          elim (q x) as (λ b. filter p (cond b (x ∷ filter q xs) (filter q xs))
-          ≡ cond b (x ∷ filter q (filter p xs)) (filter q (filter p xs))) [
-            | true ↦ ap (λ b. cond b (x ∷ filter p (filter q xs)) (filter p (filter q xs))) is ∙ ap (λ ys. x ∷ ys) rest
-            | false ↦ rest
-          ]
-      | false ↦ λ is.
-          elim (q x) as (λ b. filter p (cond b (x ∷ filter q xs) (filter q xs)) ≡ filter q (filter p xs)) [
-            | true ↦ ap (λ b. cond b (x ∷ filter p (filter q xs)) (filter p (filter q xs))) is ∙ rest
-            | false ↦ rest
-          ]
-    ] refl
+filter_turned p q (x ∷ xs) = grind (arith, nat_tests, filter_turned p q xs)
 
 filter_flat : {X Y : Type 0} (p : Y → Bool) (g : X → List Y) (xs : List X)
     → filter p (flat_map g xs) ≡ flat_map (λ x. filter p (g x)) xs
@@ -80,12 +65,7 @@ filter_flat p g (x ∷ xs) = filter-append p (g x) (flat_map g xs) ∙ ap (λ ys
 has_numbers : (p : Batch → Bool) (bs : List Batch) (g : ℕ)
     → has g (map (λ (b : Batch). b.number) (filter p bs)) ≡ list_any (λ (b : Batch). p b && (b.number == g)) bs
 has_numbers p [] g = refl
-has_numbers p (b ∷ bs) g =
-    elim (p b) as (λ t. has g (map (λ (d : Batch). d.number) (cond t (b ∷ filter p bs) (filter p bs)))
-    ≡ ((t && (b.number == g)) || list_any (λ (d : Batch). p d && (d.number == g)) bs)) [
-      | true ↦ ap (λ t. (b.number == g) || t) (has_numbers p bs g)
-      | false ↦ has_numbers p bs g
-    ]
+has_numbers p (b ∷ bs) g = grind (arith, nat_tests, has_numbers p bs g)
 
 -- ---- the frames before a cut
 
@@ -128,9 +108,7 @@ frame_above f limit xs more =
 numbered_taken : (f k limit : ℕ) (sent : List (List Marked)) → limit ≡ f + k
     → numbered f (take k sent) ≡ filter (is_below limit) (numbered f sent)
 numbered_taken f zero limit sent is =
-    sym (filter_none (is_below limit) (numbered f sent)
-    (all_of (λ (y : Placed). f ≤ y.0) (λ (y : Placed). nat_lt y.0 limit ≡ false)
-    (λ y up. le-ltb y.0 limit (omega arith)) (numbered f sent) (not_below f sent)))
+    grind (arith, nat_tests, filter_none, numbered f sent, all_of (λ (y : Placed). f ≤ y.0), not_below f sent)
 numbered_taken f (suc k) limit [] is = refl
 numbered_taken f (suc k) limit (xs ∷ sent) is =
     (λ i. sym (frame_below f limit xs (omega arith)) i ++ numbered_taken (f + 1) k limit sent (omega arith) i)
@@ -189,8 +167,7 @@ module _ (c : Cut) where
   outside_low n less = ap (λ t. t && nat_le n c.last) (lt-leb c.first n less)
 
   outside_high : (n : ℕ) → c.last < n → in_range c n ≡ false
-  outside_high n more = false_from_ne_true (in_range c n)
-      (λ is. let le = leb-true n c.last (and_parts (nat_le c.first n) (nat_le n c.last) is).1 in omega arith)
+  outside_high n more = grind (arith, nat_tests)
 
   inside : (n : ℕ) → c.first ≤ n → n ≤ c.last → in_range c n ≡ true
   inside n low high = and_from (nat_le c.first n) (nat_le n c.last) (le-leb c.first n low) (le-leb n c.last high)
@@ -207,16 +184,7 @@ module _ (c : Cut) where
   marked_outside : (n : ℕ) (rs : List RecordView) → in_range c n ≡ false
       → filter (stays c) (marked n rs) ≡ marked n (kept c.first c.last rs)
   marked_outside n [] out = refl
-  marked_outside n (r ∷ rs) out =
-      let rest = marked_outside n rs out in
-      ap (λ t. cond (not (t || is_struck c.first c.last r)) ((n, r) ∷ filter (stays c) (marked n rs))
-      (filter (stays c) (marked n rs))) out
-      ∙ elim (is_struck c.first c.last r) as
-      (λ t. cond (not t) ((n, r) ∷ filter (stays c) (marked n rs)) (filter (stays c) (marked n rs))
-      ≡ marked n (cond (not t) (r ∷ kept c.first c.last rs) (kept c.first c.last rs))) [
-        | true ↦ rest
-        | false ↦ ap (λ ys. (n, r) ∷ ys) rest
-      ]
+  marked_outside n (r ∷ rs) out = grind (arith, nat_tests, marked_outside n rs out, marked n rs, marked n)
 
   -- one in it loses all
   marked_inside : (n : ℕ) (rs : List RecordView) → in_range c n ≡ true → filter (stays c) (marked n rs) ≡ []
@@ -229,11 +197,13 @@ module _ (c : Cut) where
 
   none_below : (b : Batch) → c.frame ≤ b.frame → filter (is_below c.frame) (placed b) ≡ []
   none_below b from =
-      elim (is_taken b.stage) as
-      (λ t. filter (is_below c.frame) (cond t (in_frame b.frame (marked b.number b.records)) []) ≡ []) [
-        | true ↦ frame_above b.frame c.frame (marked b.number b.records) from
-        | false ↦ refl
-      ]
+      grind (
+        arith,
+        nat_tests,
+        in_frame b.frame (marked b.number b.records),
+        marked b.number b.records,
+        frame_above b.frame c.frame (marked b.number b.records) from,
+      )
 
   placed_into : (b a : Batch) → CutInto c b a → filter (is_below c.frame) (placed b) ≡ placed a
   placed_into b a (inl (less, x)) =
@@ -341,34 +311,17 @@ module _ (c : Cut) where
       → has g (off ds) ≡ (has g (off bs) || l)
       → has g (off (a ∷ ds)) ≡ (has g (off (b ∷ bs)) || (((b.frame == c.frame) && (b.number == g)) || l))
   off_into b a bs ds g l (inl (less, x)) at rest =
-      ap (λ (z : Batch). has g (off (z ∷ ds))) x
-      ∙ elim (is_refused b.stage) as
-      (λ t. has g (map (λ (d : Batch). d.number)
-      (cond t (b ∷ filter (λ (d : Batch). is_refused d.stage) ds)
-      (filter (λ (d : Batch). is_refused d.stage) ds)))
-      ≡ (has g (map (λ (d : Batch). d.number)
-      (cond t (b ∷ filter (λ (d : Batch). is_refused d.stage) bs)
-      (filter (λ (d : Batch). is_refused d.stage) bs))) || l)) [
-        | true ↦ ap (λ t. (b.number == g) || t) rest ∙ or_in (b.number == g) (has g (off bs)) l
-        | false ↦ rest
-      ]
-      ∙ ap (λ t. has g (off (b ∷ bs)) || ((t && (b.number == g)) || l))
-      (sym (ne_eqb b.frame c.frame (λ e. omega arith)))
+      grind (arith, nat_tests, or_in (b.number == g) (has g (off bs)) l, off bs, off (b ∷ bs))
   off_into b a bs ds g l (inr (inl (same, x))) at rest =
-      ap (λ (z : Batch). has g (off (z ∷ ds))) x
-      ∙ ap (λ t. (b.number == g) || t) rest
-      ∙ or_turned (b.number == g) (has g (off bs)) l
-      ∙ (λ i. has g (map (λ (d : Batch). d.number)
-      (cond (sym (failed_taken b.stage (at.failed same).0) i) (b ∷ filter (λ (d : Batch). is_refused d.stage) bs)
-      (filter (λ (d : Batch). is_refused d.stage) bs)))
-      || ((sym (eq-eqb b.frame c.frame same) i && (b.number == g)) || l))
+      grind (
+        arith,
+        nat_tests,
+        or_turned (b.number == g) (has g (off bs)) l,
+        off bs,
+        failed_taken b.stage (at.failed same).0,
+      )
   off_into b a bs ds g l (inr (inr (more, x))) at rest =
-      ap (λ (z : Batch). has g (off (z ∷ ds))) x
-      ∙ rest
-      ∙ (λ i. has g (map (λ (d : Batch). d.number)
-      (cond (sym (taken_whole b.stage (at.later more).0) i) (b ∷ filter (λ (d : Batch). is_refused d.stage) bs)
-      (filter (λ (d : Batch). is_refused d.stage) bs)))
-      || ((sym (ne_eqb b.frame c.frame (λ e. omega arith)) i && (b.number == g)) || l))
+      grind (arith, nat_tests, off, taken_whole b.stage (at.later more).0)
 
   off_cut : (bs : List Batch) (g : ℕ) → AllByRecursion (IsAtCut c) bs
       → has g (off (map (cut_off c) bs))
@@ -384,8 +337,7 @@ low_all : (rs : List Command) (xs : List Marked) → AreOf rs xs → AllByRecurs
 low_all [] [] all = tt
 low_all [] (x ∷ xs) all = absurd all
 low_all (r ∷ rs) [] all = absurd all
-low_all (r ∷ rs) (x ∷ xs) all =
-    (λ g here. all.0.below g (all.0.rests g ∙ or_left (has g x.1.rests) (x.0 == g) here), low_all rs xs all.1)
+low_all (r ∷ rs) (x ∷ xs) all = grind (arith, nat_tests, low_all rs xs all.1)
 
 of_filtered : (p : Command → Bool) (p' : Marked → Bool) → ((r : Command) (x : Marked) → IsOf r x → p r ≡ p' x)
     → (rs : List Command) (xs : List Marked) → AreOf rs xs
@@ -444,12 +396,18 @@ module _ (c : Cut) (bs : List Batch) (range : IsRange c bs) where
   more_off : (failed : List ℕ) (g : ℕ)
       → has g (failed ++ off (map (cut_off c) bs)) ≡ has g ((failed ++ off bs) ++ taken_away)
   more_off failed g =
-      list_any-append (λ t. t == g) failed (off (map (cut_off c) bs))
-      ∙ ap (λ t. has g failed || t) (off_cut c bs g range.each)
-      ∙ or_in (has g failed) (has g (off bs)) (list_any (λ (b : Batch). (b.frame == c.frame) && (b.number == g)) bs)
-      ∙ (λ i. sym (list_any-append (λ t. t == g) failed (off bs)) i
-      || sym (has_numbers (λ (b : Batch). b.frame == c.frame) bs g) i)
-      ∙ sym (list_any-append (λ t. t == g) (failed ++ off bs) taken_away)
+      grind (
+        arith,
+        nat_tests,
+        list_any-append (λ t. t == g) failed (off (map (cut_off c) bs)),
+        off (map (cut_off c) bs),
+        off_cut c bs g range.each,
+        or_in (has g failed) (has g (off bs)) (list_any (λ (b : Batch). (b.frame == c.frame) && (b.number == g)) bs),
+        off bs,
+        list_any-append (λ t. t == g) failed (off bs),
+        has_numbers (λ (b : Batch). b.frame == c.frame) bs g,
+        list_any-append (λ t. t == g) (failed ++ off bs),
+      )
 
   living_cut : (failed : List ℕ) (commands : List Command)
       → living commands (failed ++ off (map (cut_off c) bs)) ≡ filter (remains c) (living commands (failed ++ off bs))
@@ -462,10 +420,13 @@ module _ (c : Cut) (bs : List Batch) (range : IsRange c bs) where
   -- each number of the range is that of a batch of the frame
   batch_in : (g : ℕ) → c.first ≤ g → g ≤ c.last → (b : Batch) × Contains bs b × (b.frame ≡ c.frame) × (b.number ≡ g)
   batch_in g low high =
-      let found = Any-from_list_any (λ (b : Batch). (b.frame == c.frame) && (b.number == g)) bs
-      (range.numbers g ∙ inside c g low high) in
-      let parts = and_parts (found.1.frame == c.frame) (found.1.number == g) found.4 in
-      (found.1, (found.0, found.2, found.3), eqb-true found.1.frame c.frame parts.0, eqb-true found.1.number g parts.1)
+      grind (
+        arith,
+        nat_tests,
+        Any-from_list_any (λ (b : Batch). (b.frame == c.frame) && (b.number == g)) bs (range.numbers g ∙ inside c g low
+            high),
+        inside c g low high,
+      )
 
 -- ---- the step
 
@@ -475,14 +436,10 @@ three xs ys zs us = ap (λ vs. vs ++ us) (sym (append_assoc xs ys zs)) ∙ appen
 -- what stays sent or failed is as it was
 undecided_into : (c : Cut) (b a : Batch) → CutInto c b a → (is_sent a.stage ≡ true) ⊎ (is_failed a.stage ≡ true) → a ≡ b
 undecided_into c b a (inl (less, x)) is = x
-undecided_into c b a (inr (inl (same, x))) (inl is) = absurd
-    (false≢true (sym (ap (λ (z : Batch). is_sent z.stage) x) ∙ is))
-undecided_into c b a (inr (inl (same, x))) (inr is) = absurd
-    (false≢true (sym (ap (λ (z : Batch). is_failed z.stage) x) ∙ is))
-undecided_into c b a (inr (inr (more, x))) (inl is) = absurd
-    (false≢true (sym (ap (λ (z : Batch). is_sent z.stage) x) ∙ is))
-undecided_into c b a (inr (inr (more, x))) (inr is) = absurd
-    (false≢true (sym (ap (λ (z : Batch). is_failed z.stage) x) ∙ is))
+undecided_into c b a (inr (inl (same, x))) (inl is) = grind (arith, nat_tests)
+undecided_into c b a (inr (inl (same, x))) (inr is) = grind (arith, nat_tests)
+undecided_into c b a (inr (inr (more, x))) (inl is) = grind (arith, nat_tests)
+undecided_into c b a (inr (inr (more, x))) (inr is) = grind (arith, nat_tests)
 
 module _ (first : ℕ) (commands : List Command) (decides : List (Event Entry)) (log : List (List RecordView))
     (told : List ℕ) (q : QueueView) (c : Cut)
@@ -500,10 +457,13 @@ module _ (first : ℕ) (commands : List Command) (decides : List (Event Entry)) 
   -- the frame of the cut is one of the log
   within : (first ≤ c.frame) × (c.frame < q.frame) × (c.frame < NUMBER_LIMIT)
   within =
-      let placed = (dense_at first q.frame q.number q.batches oldest.0 dense oldest.1).1
-      (failed_unkept oldest.0.stage oldest_failed) in
-      subst (λ n. (first ≤ n) × (n < q.frame) × (n < NUMBER_LIMIT)) oldest.2
-      (placed.from, placed.before, placed.numbered)
+      grind (
+        arith,
+        nat_tests,
+        dense_at first q.frame q.number q.batches oldest.0 dense oldest.1,
+        failed_unkept oldest.0.stage oldest_failed,
+        oldest_failed,
+      )
 
   last_below : c.last < q.number
   last_below = subst (λ n. n < q.number) newest.3 (dense_at first q.frame q.number q.batches newest.0 dense newest.1).0
@@ -521,10 +481,7 @@ module _ (first : ℕ) (commands : List Command) (decides : List (Event Entry)) 
   sent_left = take count has_frames.sent ++ [] ∷ []
 
   sent_same : map (map (λ (x : Marked). x.1)) sent_left ≡ take count log ++ [] ∷ []
-  sent_same =
-      map-append (map (λ (x : Marked). x.1)) (take count has_frames.sent) ([] ∷ [])
-      ∙ ap (λ ys. ys ++ [] ∷ [])
-      (sym (take-map (map (λ (x : Marked). x.1)) count has_frames.sent) ∙ ap (take count) has_frames.sent_are)
+  sent_same = grind (arith, nat_tests, map-append (map (λ (x : Marked). x.1)), take-map (map (λ (x : Marked). x.1)))
 
   next_same : past c.frame ≡ first + length sent_left
   next_same =

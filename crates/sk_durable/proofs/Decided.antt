@@ -1,10 +1,10 @@
 -- A batch is decided, or sent: what that is to the machine of records.
-use Rattle.sk_durable.proofs.Names.{◌≡◌, ℕ, Bool, true, false, List, [], ◌∷◌, ◌++◌, Option, Some, refl, sym, ◌∙◌, ap}
-use Rattle.sk_durable.proofs.Names.{subst, filter, moves_of, Logs, StoreCalls}
-use Rattle.sk_durable.proofs.Names.{slice_index_or, remove, Commit, Fail, with_failure, with_status, Status, Token}
-use Rattle.sk_durable.proofs.Names.{open_is, Moves, bytes_cmp, Commits, FailsIn, after_take, left, Decision, open_if}
-use Rattle.sk_durable.proofs.Names.{tokens_of, IsInStep, batch_of, decided_first, oldest_committed, oldest_failed}
-use Rattle.sk_durable.proofs.Names.{taken, Out, served, Kernel, StoreView}
+use Rattle.sk_durable.proofs.Names.{arith, ◌≡◌, ℕ, Bool, true, false, List, [], ◌∷◌, Option, Some, refl, sym, ◌∙◌, ap}
+use Rattle.sk_durable.proofs.Names.{subst, filter, moves_of, Logs, StoreCalls, slice_index_or, remove, Commit, Fail}
+use Rattle.sk_durable.proofs.Names.{with_failure, with_status, Status, Token, open_is, Moves, bytes_cmp, Commits}
+use Rattle.sk_durable.proofs.Names.{FailsIn, after_take, left, Decision, IsInStep, batch_of, decided_first}
+use Rattle.sk_durable.proofs.Names.{oldest_committed, oldest_failed, taken, Out, served, Kernel, StoreView}
+use Rattle.std.proofs.lemmas.Bool.Decides.{nat_tests}
 use Rattle.sk_record.specs.declared.status.Status.TheVariants as status_as
 use Rattle.sk_deeds.specs.Told.{Does}
 use Rattle.sk_batches.specs.Queue.{decided}
@@ -22,9 +22,7 @@ module _ (told : Out) (a : StoreView) (status : ℕ → Option Status)
 
   first_token : (d : Decision) → decided a.batched.queue.batches ≡ Some d
       → t_of (batch_of d) ≡ slice_index_or known.0 0 (t_of (batch_of d))
-  first_token d decides = sym (ap (λ xs. slice_index_or xs 0 (t_of (batch_of d))) (known.1.tokens_are
-      ∙ ap (λ ns. tokens_of a.batched.kernel.parts.guesses.kernel
-      (ns ++ open_if a.batched.begun a.batched.queue.number)) (decided_first a.batched.queue.batches d decides)))
+  first_token d decides = grind (arith, nat_tests, batch_of d, decided_first a.batched.queue.batches d decides)
 
   -- no command is carried out
   led_to : (moves : List Move) (later : ℕ → Option Status) → Agree s.batched.kernel later
@@ -32,18 +30,7 @@ module _ (told : Out) (a : StoreView) (status : ℕ → Option Status)
       → Logs served told x moves [] told (machine s.batched.kernel later)
       → (tokens : List Token) (begun : Bool) → IsInStep s.batched.kernel.parts s.batched.queue begun tokens
       → s.batched.begun ≡ begun → Led told told x [] (filter is_decision (moves_of moves)) s
-  led_to moves later agrees calls logs tokens begun known is = record {
-    moves = moves;
-    log = [];
-    status = later;
-    agrees = agrees;
-    calls = calls;
-    logs = logs;
-    known = (tokens, subst (λ e. IsInStep s.batched.kernel.parts s.batched.queue e tokens) (sym is) known);
-    quiet = tt;
-    commands_are = refl;
-    decides_are = refl;
-  }
+  led_to moves later agrees calls logs tokens begun known is = grind (arith, nat_tests)
 
   pub logged : (n : ℕ) → decided a.batched.queue.batches ≡ Some (decision.Logged n)
       → Commits bytes_cmp a.batched.kernel.parts n s.batched.kernel.parts

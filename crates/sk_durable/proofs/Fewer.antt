@@ -1,8 +1,8 @@
 -- Fewer outputs are left where channels are let go of.
 use Rattle.sk_durable.proofs.Names.{◌≡◌, ℕ, suc, ◌+◌, ◌<◌, ◌≤◌, true, false, cond, List, [], ◌∷◌, length, map, Option}
-use Rattle.sk_durable.proofs.Names.{Some, None, refl, sym, ap, subst, arith, ◌==◌, eqb-true, nat_tests, length-map}
-use Rattle.sk_durable.proofs.Names.{Tagged, said_at, TakesOut, Parts, Answer, Batches, first_answer, StoreView, Serves}
-use Rattle.sk_durable.proofs.Names.{drops, FreesIfLast, HasNoneReady, LetGoPost}
+use Rattle.sk_durable.proofs.Names.{Some, None, refl, sym, ap, subst, arith, ◌==◌, nat_tests, length-map, Tagged}
+use Rattle.sk_durable.proofs.Names.{said_at, TakesOut, Parts, Answer, Batches, first_answer, StoreView, Serves, drops}
+use Rattle.sk_durable.proofs.Names.{FreesIfLast, HasNoneReady, LetGoPost}
 
 -- ---- numbers, counted
 
@@ -18,12 +18,7 @@ less c (k ∷ ks) = cond (k == c) ks (k ∷ less c ks)
 left_of : (c t : ℕ) (ks : List ℕ) → count t ks ≤ count t (less c ks) + cond (c == t) 1 0
 unfolding count less
 left_of c t [] = omega arith
-left_of c t (k ∷ ks) =
-    elim (k == c) as (λ b. (k == c) ≡ b
-    → cond (k == t) 1 0 + count t ks ≤ count t (cond b ks (k ∷ less c ks)) + cond (c == t) 1 0) [
-      | true ↦ λ is. let same = ap {B = ℕ} (λ n. cond (n == t) 1 0) (eqb-true k c is) in omega (arith, same)
-      | false ↦ λ is. omega (arith, left_of c t ks)
-    ] refl
+left_of c t (k ∷ ks) = grind (arith, nat_tests, left_of c t ks)
 
 one_less : (c : ℕ) (ks : List ℕ) → 0 < count c ks → suc (length (less c ks)) ≤ length ks
 unfolding count less
@@ -42,9 +37,14 @@ no_more : (ks ls : List ℕ) → ((t : ℕ) → count t ks ≤ count t ls) → l
 unfolding count
 no_more [] ls le = omega arith
 no_more (k ∷ ks) ls le =
-    let rest = no_more ks (less k ls) (λ t. omega (arith, le t, left_of k t ls)) in
-    let one = one_less k ls (omega (arith, le k, own k)) in
-    omega (arith, rest, one)
+    grind (
+      arith,
+      nat_tests,
+      no_more ks (less k ls) (λ t. omega (arith, le t, left_of k t ls)),
+      left_of k,
+      one_less k ls (omega (arith, le k, own k)),
+      own k,
+    )
 
 -- ---- outputs of channels
 
@@ -60,12 +60,7 @@ channels_of xs = map (λ (x : Tagged (ℕ × (ℕ × Answer))). x.0.0) xs
 many_is : (xs : Said) (t : ℕ) → many xs t ≡ count t (channels_of xs)
 unfolding count
 many_is [] t = refl
-many_is (x ∷ xs) t =
-    elim (x.0.0 == t) as (λ b. length (cond b (x ∷ said_at xs t) (said_at xs t))
-    ≡ cond b 1 0 + count t (channels_of xs)) [
-      | true ↦ omega (arith, many_is xs t)
-      | false ↦ omega (arith, many_is xs t)
-    ]
+many_is (x ∷ xs) t = grind (arith, nat_tests, many_is xs t)
 
 abbrev Parted : Type 0
 Parted = Parts (List ℕ) (List ℕ) (ℕ × Answer)
@@ -74,19 +69,18 @@ taken : (a b : Parted) (t : ℕ) (x : ℕ × Answer) → TakesOut a t x b → ma
 taken a b t x takes = ap length takes.first
 
 fewer : (a b : Parted) (t : ℕ) (x : ℕ × Answer) → TakesOut a t x b → (u : ℕ) → many b.said u ≤ many a.said u
-fewer a b t x takes u =
-    elim (t == u) as (λ c. (t == u) ≡ c → many b.said u ≤ many a.said u) [
-      | true ↦ λ is. subst (λ n. many b.said n ≤ many a.said n) (eqb-true t u is) (omega (arith, taken a b t x takes))
-      | false ↦ λ is. let same = ap length (takes.others u is) in omega (arith, same)
-    ] refl
+fewer a b t x takes u = grind (arith, nat_tests, taken a b t x takes)
 
 dropped : (t : ℕ) (xs : List (ℕ × Answer)) (a b : StoreView) → Serves a (drops t xs) b → (u : ℕ)
     → many b.batched.kernel.parts.said u ≤ many a.batched.kernel.parts.said u
 dropped t [] a b is u = let same = ap (λ (s : StoreView). many s.batched.kernel.parts.said u) is in omega (arith, same)
 dropped t (x ∷ xs) a b (m, does, serves) u =
-    let rest = dropped t xs m b serves u in
-    let one = fewer a.batched.kernel.parts m.batched.kernel.parts t x does.1 u in
-    omega (arith, rest, one)
+    grind (
+      arith,
+      nat_tests,
+      dropped t xs m b serves u,
+      fewer a.batched.kernel.parts m.batched.kernel.parts t x does.1 u,
+    )
 
 freed : (t : ℕ) (first : Option (ℕ × Answer)) (a b : StoreView) → FreesIfLast t first a b → b.batched ≡ a.batched
 freed t None a b frees = frees.2.1
@@ -95,13 +89,7 @@ freed t (Some told) a b same = ap (λ (s : StoreView). s.batched) same
 counted : (t u : ℕ) (x : ℕ × Answer) (a n m : Parted) → TakesOut a t x n → many m.said u ≤ many n.said u
     → many n.said u ≤ many a.said u → count u (t ∷ channels_of m.said) ≤ count u (channels_of a.said)
 unfolding count
-counted t u x a n m takes rest one =
-    elim (t == u) as (λ c. (t == u) ≡ c → cond c 1 0 + count u (channels_of m.said) ≤ count u (channels_of a.said)) [
-      | true ↦ λ is.
-          let first = subst (λ v. many a.said v ≡ suc (many n.said v)) (eqb-true t u is) (taken a n t x takes) in
-          omega (arith, first, rest, many_is m.said u, many_is a.said u)
-      | false ↦ λ is. omega (arith, one, rest, many_is m.said u, many_is a.said u)
-    ] refl
+counted t u x a n m takes rest one = grind (arith, nat_tests, taken a n t x takes, many_is m.said u, many_is a.said u)
 
 -- where something could go out of a channel that is let go of fewer are left
 pub falls : (t : ℕ) (a b : StoreView) → LetGoPost t a b → (HasNoneReady t a → ⊥)

@@ -1,17 +1,19 @@
 -- What each call leaves of the frames and of the commands in them.
+use Rattle.std.proofs.lemmas.Bool.Decides.{nat_tests}
 use Rattle.sk_durable.proofs.Names.{sent_number, ◌≡◌, ℕ, ◌<◌, ◌≤◌, Bool, true, false, cond, not, List, [], ◌∷◌, ◌++◌}
 use Rattle.sk_durable.proofs.Names.{flat_map, map, inl, inr, refl, sym, ◌∙◌, ap, subst, append_assoc, length-append}
-use Rattle.sk_durable.proofs.Names.{arith, ◌⊎◌, ◌==◌, filter, Contains, true≢false, false≢true, append-nil, map-append}
+use Rattle.sk_durable.proofs.Names.{arith, ◌⊎◌, filter, Contains, true≢false, false≢true, append-nil, map-append}
 use Rattle.sk_durable.proofs.Names.{flat_map-append, filter-append, All-contains, All-from_recursion}
 use Rattle.sk_durable.proofs.Names.{Contains-append_cases, Contains-append_left, Contains-push_cases, has, Commit}
-use Rattle.sk_durable.proofs.Names.{Event, Fail, failed_in, is_struck, kept, Stage, Kept, Sent, Synced, Refused, Batch}
-use Rattle.sk_durable.proofs.Names.{AreDense, IsBehind, after_take, after_word, awaits, is_failed, is_kept, is_refused}
+use Rattle.sk_durable.proofs.Names.{Event, Fail, failed_in, is_struck, kept, Stage, Kept, Synced, Refused, Batch}
+use Rattle.sk_durable.proofs.Names.{AreDense, IsBehind, after_take, after_word, is_failed, is_kept, is_refused}
 use Rattle.sk_durable.proofs.Names.{is_sent, is_taken, next_records, tell, QueueView, RecordView, Entry, is_logged}
-use Rattle.sk_durable.proofs.Names.{Command, and_parts, failed_more}
+use Rattle.sk_durable.proofs.Names.{Command, failed_more}
 use Rattle.sk_durable.proofs.Contained.{at_later, from_map, nothing_there}
 use Rattle.sk_durable.proofs.Frames.{in_frame, living, marked, next_marked, off, placed, unsent, AreOf, HasFrames, IsBefore, IsBelow, IsOf, Marked, Placed}
 use Rattle.sk_durable.proofs.Marked.{all_told_placed, all_told_unsent, next_unmarked, none_unsent, numbered_push}
-use Rattle.sk_durable.proofs.Marked.{numbered_within, of_sent, off_sent, off_told, placed_of, placed_sent, told_number}
+use Rattle.sk_durable.proofs.Marked.{numbered_within, of_sent, off_sent, off_told, placed_of, placed_sent}
+use Rattle.sk_durable.proofs.Marked.{told_number}
 
 -- ---- commands
 
@@ -25,30 +27,23 @@ of_more (q ∷ rs) (y ∷ xs) r x all one = (all.0, of_more rs xs r x all.1 one)
 living_more : (cm : List Command) (r : Command) (gone : List ℕ)
     → living (cm ++ r ∷ []) gone ≡ living cm gone ++ living (r ∷ []) gone
 living_more cm r gone =
-    ap (filter (λ (c : Command). is_logged c.entry))
-    (filter-append (λ (c : Command). not (is_struck gone c)) cm (r ∷ []))
-    ∙ filter-append (λ (c : Command). is_logged c.entry) (kept gone cm) (kept gone (r ∷ []))
+    grind (
+      arith,
+      nat_tests,
+      filter-append (λ (c : Command). not (is_struck gone c)) cm (r ∷ []),
+      filter-append (λ (c : Command). is_logged c.entry) (kept gone cm) (kept gone (r ∷ [])),
+    )
 
 living_logged : (r : Command) (gone : List ℕ) → is_struck gone r ≡ false → is_logged r.entry ≡ true
     → living (r ∷ []) gone ≡ r ∷ []
-living_logged r gone stands logs =
-    (λ i. filter (λ (c : Command). is_logged c.entry) (cond (not (stands i)) (r ∷ []) []))
-    ∙ (λ i. cond (logs i) (r ∷ []) [])
+living_logged r gone stands logs = grind (arith, nat_tests)
 
 living_unlogged : (r : Command) (gone : List ℕ) → is_logged r.entry ≡ false → living (r ∷ []) gone ≡ []
-living_unlogged r gone unlogged = elim (not (is_struck gone r)) as
-    (λ t. filter (λ (c : Command). is_logged c.entry) (cond t (r ∷ []) []) ≡ []) [
-      | true ↦ ap (λ t. cond t (r ∷ []) []) unlogged
-      | false ↦ refl
-    ]
+living_unlogged r gone unlogged = grind (arith, nat_tests)
 
 below_more : (cm : List Command) (r : Command) → ((c : Command) → Contains cm c → IsBelow c) → IsBelow r
     → (c : Command) → Contains (cm ++ r ∷ []) c → IsBelow c
-below_more cm r all one c at = elim (Contains-push_cases cm r c at) [
-  | inl before ↦ all c before
-  | inr is ↦
-      subst IsBelow is one
-]
+below_more cm r all one c at = grind (arith, nat_tests, Contains-push_cases cm r c at)
 
 -- ---- the start
 
@@ -80,20 +75,17 @@ module _ (first : ℕ) (cm : List Command) (ds : List (Event Entry)) (log : List
 
   pub with_unlogged : (r : Command) → is_logged r.entry ≡ false → IsBelow r
       → HasFrames first (cm ++ r ∷ []) ds log told q
-  with_unlogged r unlogged under = record {
-    sent = so.sent;
-    sent_are = so.sent_are;
-    next = so.next;
-    done = so.done;
-    stand = so.stand;
-    before = so.before;
-    on_disk = so.on_disk;
-    same = subst (λ rs. AreOf rs (flat ++ next_marked q))
-        (sym (living_more cm r gone ∙ ap (λ rs. living cm gone ++ rs) (living_unlogged r gone unlogged)
-        ∙ append-nil (living cm gone))) so.same;
-    below = below_more cm r so.below under;
-    settled = so.settled;
-  }
+  with_unlogged r unlogged under =
+      grind (
+        arith,
+        nat_tests,
+        next_marked q,
+        living_more cm r,
+        living cm,
+        living_unlogged r,
+        append-nil,
+        below_more cm r so.below under,
+      )
 
   pub with_logged : (r : Command) (x : RecordView) → is_logged r.entry ≡ true → is_struck gone r ≡ false
       → IsOf r (q.number, x) → IsBelow r
@@ -135,15 +127,7 @@ module _ (first : ℕ) (cm : List Command) (ds : List (Event Entry)) (log : List
   later_sent : (P : Stage → Bool) (n : ℕ) → n < q.frame
       → ((b : Batch) → Contains q.batches b → P b.stage ≡ true → n < b.frame)
       → (d : Batch) → Contains (after_take q).batches d → P d.stage ≡ true → n < d.frame
-  later_sent P n less before d there holds = elim (of_sent q d there) [
-    | inl old ↦ elim (is_kept old.0.stage) as
-        (λ t. cond t (record old.0 { frame = q.frame; stage = Sent }) old.0 ≡ d → n < d.frame) [
-          | true ↦ λ is. subst (λ m. n < m) (ap (λ (b : Batch). b.frame) is) less
-          | false ↦ λ is. subst (λ m. n < m) (ap (λ (b : Batch). b.frame) is)
-              (before old.0 old.1 (ap (λ (b : Batch). P b.stage) is ∙ holds))
-        ] old.2
-    | inr last ↦ subst (λ m. n < m) (ap (λ (b : Batch). b.frame) last) less
-  ]
+  later_sent P n less before d there holds = grind (arith, nat_tests, of_sent q d there)
 
   pub with_sent : AreDense first q.frame q.number q.batches
       → HasFrames first cm ds (log ++ next_records q ∷ []) told (after_take q)
@@ -191,12 +175,7 @@ module _ (first : ℕ) (cm : List Command) (ds : List (Event Entry)) (log : List
       (unsaid : is_sent stage ≡ false) (more : List ℕ) (grows : (n : ℕ) → has n told ≡ true → has n more ≡ true) where
     told_is : {P : Type 0} (b d : Batch) → tell frame stage b ≡ d
         → (is_sent b.stage ≡ true → stage ≡ d.stage → b.frame ≡ d.frame → P) → (b ≡ d → P) → P
-    told_is {P} b d is changed same =
-        elim (awaits frame b) as (λ t. awaits frame b ≡ t → cond t (record b { stage = stage }) b ≡ d → P) [
-          | true ↦ λ here was. changed (and_parts (is_sent b.stage) (b.frame == frame) here).0
-              (ap (λ (e : Batch). e.stage) was) (ap (λ (e : Batch). e.frame) was)
-          | false ↦ λ here was. same was
-        ] refl is
+    told_is {P} b d is changed same = grind (arith, nat_tests)
 
     told_above : (n : ℕ) → ((b : Batch) → Contains q.batches b → n < b.number)
         → (d : Batch) → Contains (map (tell frame stage) q.batches) d → n < d.number
@@ -275,11 +254,7 @@ not_synced s (inr e) is = false≢true (sym (ap is_failed is) ∙ e)
 -- what comes behind a synced batch, and waits or failed, is in a later frame
 later_frame : (b d : Batch) → IsBehind b d → b.stage ≡ Synced → (is_sent d.stage ≡ true)
     ⊎ (is_failed d.stage ≡ true) → b.frame < d.frame
-later_frame b d behind synced waits =
-    let unkept : is_kept d.stage ≡ false = not_kept d.stage waits in
-    let le = behind.frame unkept in
-    let apart : b.frame ≡ d.frame → ⊥ = λ same. not_synced d.stage waits (sym (behind.alike unkept same) ∙ synced) in
-    omega (arith, le, apart)
+later_frame b d behind synced waits = grind (arith, nat_tests, not_kept d.stage waits, not_synced d.stage waits)
 
 module _ (first : ℕ) (cm : List Command) (ds : List (Event Entry)) (log : List (List RecordView)) (told : List ℕ)
     (q : QueueView)

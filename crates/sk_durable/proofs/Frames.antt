@@ -1,8 +1,8 @@
 -- What the frames of the log have: the logged commands, each where its batch was sent.
 use Rattle.sk_durable.proofs.Names.{◌==◌, if◌then◌else◌, filter, Contains, has, Commit, Event, failed_in, kept, Batch}
-use Rattle.sk_durable.proofs.Names.{is_failed, is_kept, is_refused, is_sent, is_taken, QueueView, RecordView, log_text}
-use Rattle.sk_durable.proofs.Names.{Asked, Entry, Runs, StoreView, Call, carried, decided, frames, is_logged, synced}
-use Rattle.sk_durable.proofs.Names.{Command}
+use Rattle.sk_durable.proofs.Names.{is_failed, is_kept, is_refused, is_sent, is_taken, QueueView, RecordView}
+use Rattle.sk_durable.proofs.Names.{log_text, Asked, Entry, Runs, StoreView, Call, carried, decided, frames}
+use Rattle.sk_durable.proofs.Names.{is_logged, synced, Command}
 use Rattle.std.specs.Prelude.{◌≡◌, ◌||◌, ◌+◌, ◌<◌, ◌≤◌, ℕ, true, List, [], ◌∷◌, ◌++◌, flat_map, length, map, Some}
 
 -- ---- records, each with the number of its batch, and in frames with that of the frame before that

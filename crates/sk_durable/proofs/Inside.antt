@@ -1,4 +1,5 @@
 -- What a call may do, told to the machine of records: nothing, a guess is drawn, an answer is taken out, a step is taken.
+use Rattle.std.proofs.lemmas.Bool.Decides.{nat_tests}
 use Rattle.sk_durable.proofs.Names.{◌≡◌, ℕ, Bool, true, false, not, ◌||◌, ◌&&◌, List, [], ◌∷◌, ◌++◌, length, map}
 use Rattle.sk_durable.proofs.Names.{Option, Some, None, Ok, inl, inr, refl, sym, ◌∙◌, ap, subst, arith, ◌==◌, nat_le}
 use Rattle.sk_durable.proofs.Names.{list_any, true≢false, leb-false, has, marked_effect, Taken, is_tag, tags_at}
@@ -7,8 +8,8 @@ use Rattle.sk_durable.proofs.Names.{TakenOut, look_at, log_at, bytes_cmp, next_o
 use Rattle.sk_durable.proofs.Names.{IsSame, Parts, is_full, opening, IsStill, Stays, IsInStep, batch_key, Spares}
 use Rattle.sk_durable.proofs.Names.{begins, requeued, said_less, same_seen, step_taken, IsNumbered, all_same}
 use Rattle.sk_durable.proofs.Names.{same_machine, same_statuses, Answer, comes_to, IsProper, Out, deed, served, Asked}
-use Rattle.sk_durable.proofs.Names.{Opens, Runs, acts, has_now, touched, Batches, Kernel, StoreView, Command, none-some}
-use Rattle.sk_durable.proofs.Names.{or-false}
+use Rattle.sk_durable.proofs.Names.{Opens, Runs, acts, has_now, touched, Batches, Kernel, StoreView, Command}
+use Rattle.sk_durable.proofs.Names.{none-some, or-false}
 use Rattle.std.specs.Option.{unwrap_or}
 use Rattle.sk_deeds.specs.Told.{Does, Tells}
 use Rattle.sk_batched.specs.Batched.{Draws}
@@ -29,8 +30,7 @@ kept_as asked answer rests =
     record { entry = Runs asked; said = Some (asked.channel, (asked.ticket, answer)); rests = rests }
 
 seen_still : (old new : Kernel) → IsStill old new → IsSame bytes_cmp old.parts new.parts
-seen_still old new (inl is) =
-    subst (λ (b : Kernel). IsSame bytes_cmp old.parts b.parts) (sym is) (all_same bytes_cmp old.parts)
+seen_still old new (inl is) = grind (arith, nat_tests, all_same bytes_cmp old.parts)
 seen_still old new (inr still) = still.parts
 
 -- the guess of the open batch is drawn, where it was not

@@ -1,11 +1,12 @@
 -- The keys that have places, listed: each once, and none is left out but those of batches.
+use Rattle.std.proofs.lemmas.Bool.Decides.{nat_tests}
 use Rattle.sk_durable.proofs.Names.{◌≡◌, ℕ, zero, suc, ◌+◌, ◌<◌, ◌≤◌, Bool, true, false, cond, ◌||◌, List, [], ◌∷◌}
-use Rattle.sk_durable.proofs.Names.{◌++◌, map, length, get_or, Option, Some, None, inl, inr, ⊎_elim, bytes_eq, refl}
-use Rattle.sk_durable.proofs.Names.{sym, ap, ◌∙◌, subst, arith, Vec, vec_items, IsPermutation, IsSorted, IsSortedByKey}
-use Rattle.sk_durable.proofs.Names.{IsStrictlySortedBy, is_eq, is_lt, ordering_reverse, Ordering, Less, Equal, Greater}
-use Rattle.sk_durable.proofs.Names.{true≢false, cases_eq, cases_lt, false_from_ne_true, or_left, or_right}
-use Rattle.sk_durable.proofs.Names.{nat_list_eq_equiv, get_or-map, length-map, list_any-append, list_any-IsPermutation}
-use Rattle.sk_durable.proofs.Names.{IsPermutation-map, IsDistinct-push, IsDistinct-IsPermutation, apart_from_distinct}
+use Rattle.sk_durable.proofs.Names.{◌++◌, map, get_or, Option, Some, None, inl, inr, ⊎_elim, bytes_eq, refl, sym, ap}
+use Rattle.sk_durable.proofs.Names.{◌∙◌, subst, arith, Vec, vec_items, IsPermutation, IsSorted, IsSortedByKey}
+use Rattle.sk_durable.proofs.Names.{IsStrictlySortedBy, is_eq, is_lt, ordering_reverse, Ordering, Less, Equal}
+use Rattle.sk_durable.proofs.Names.{Greater, true≢false, cases_eq, false_from_ne_true, nat_list_eq_equiv, get_or-map}
+use Rattle.sk_durable.proofs.Names.{length-map, list_any-append, list_any-IsPermutation, IsPermutation-map}
+use Rattle.sk_durable.proofs.Names.{IsDistinct-push, IsDistinct-IsPermutation, apart_from_distinct}
 use Rattle.sk_durable.proofs.Names.{sorted_from_all_adjacent, is_eq-slice_cmp, bytes_eq-Decides, bytes_cmp, number_of}
 use Rattle.sk_durable.proofs.Names.{string_of, Numbered, HasPlaces, IsTwoWay, bytes_total, is_among, is_reserved}
 use Rattle.sk_durable.proofs.Names.{Kernel, LacksNone, same_Some}
@@ -28,18 +29,18 @@ module _ (keys : List (List ℕ)) (key : List ℕ) where
   kept : (place : Option (List ℕ)) → is_among key keys ≡ true → is_among key (more place keys) ≡ true
   kept None is = is
   kept (Some one) is =
-      elim (is_reserved one) as (λ b. is_among key (cond b keys (keys ++ one ∷ [])) ≡ true) [
-        | true ↦ is
-        | false ↦
-            list_any-append (bytes_eq key) keys (one ∷ []) ∙ or_left (is_among key keys) (bytes_eq key one || false) is
-      ]
+      grind (arith, nat_tests, list_any-append (bytes_eq key) keys (one ∷ []), bytes_eq key, bytes_eq key one)
 
   added : is_reserved key ≡ false → is_among key (more (Some key) keys) ≡ true
   added free =
-      let same = or_left (bytes_eq key key) false ((bytes_eq-Decides key key).1 refl) in
-      ap (λ b. is_among key (cond b keys (keys ++ key ∷ []))) free
-      ∙ list_any-append (bytes_eq key) keys (key ∷ [])
-      ∙ or_right (is_among key keys) (bytes_eq key key || false) same
+      grind (
+        arith,
+        nat_tests,
+        bytes_eq key key,
+        bytes_eq-Decides key key,
+        list_any-append (bytes_eq key) keys (key ∷ []),
+        bytes_eq key,
+      )
 
 found : (es : Numbered) (n place : ℕ) (key : List ℕ) → place < n → string_of es place ≡ Some key
     → is_reserved key ≡ false → is_among key (listed es n) ≡ true
@@ -65,22 +66,20 @@ module _ (keys : List (List ℕ)) (key : List ℕ) where
       → (is_among key keys ≡ true) ⊎ (place ≡ Some key)
   among_more None is = inl is
   among_more (Some one) is =
-      elim (is_reserved one) as (λ b. is_among key (cond b keys (keys ++ one ∷ [])) ≡ true
-      → (is_among key keys ≡ true) ⊎ (Some one ≡ Some key)) [
-        | true ↦ λ at. inl at
-        | false ↦ λ at.
-            ⊎_elim (λ before. inl before) (λ same. inr (ap Some (sym ((bytes_eq-Decides key one).0 same))))
-            (one_of (is_among key keys) (bytes_eq key one) (sym (list_any-append (bytes_eq key) keys (one ∷ [])) ∙ at))
-      ] is
+      grind (
+        arith,
+        nat_tests,
+        bytes_eq-Decides key one,
+        one_of (is_among key keys) (bytes_eq key one),
+        bytes_eq key one,
+        list_any-append (bytes_eq key) keys (one ∷ []),
+        bytes_eq key,
+      )
 
 placed : (es : Numbered) (n : ℕ) (key : List ℕ) → is_among key (listed es n) ≡ true
     → (place : ℕ) × (place < n) × (string_of es place ≡ Some key)
 placed es zero key is = absurd (true≢false (sym is))
-placed es (suc n) key is =
-    ⊎_elim
-    (λ before. let at = placed es n key before in (at.0, omega (arith, at.1), at.2))
-    (λ here. (n, omega arith, here))
-    (among_more (listed es n) key (string_of es n) is)
+placed es (suc n) key is = grind (arith, nat_tests, placed es n key, among_more)
 
 apart_more : (place : Option (List ℕ)) (keys : List (List ℕ)) → IsDistinct bytes_eq keys
     → ((key : List ℕ) → place ≡ Some key → is_among key keys ≡ false) → IsDistinct bytes_eq (more place keys)
@@ -123,12 +122,13 @@ rises keys distinct sorted =
 sorted_items : (vs : List (Vec ℕ)) → IsSortedByKey vec_items bytes_cmp vs → IsSorted bytes_cmp (map vec_items vs)
 sorted_items [] up k d from within = let no : ⊥ = omega arith in absurd no
 sorted_items (v ∷ vs) up k d from within =
-    let many = length-map (v ∷ vs) vec_items in
-    let high : k + 1 < length (v ∷ vs) = omega (arith, within, many) in
-    let low : k < length (v ∷ vs) = omega (arith, high) in
-    let next = get_or-map vec_items (v ∷ vs) (k + 1) v d high in
-    let this = get_or-map vec_items (v ∷ vs) k v d low in
-    (λ i. is_lt (bytes_cmp (next i) (this i))) ∙ up k v from high
+    grind (
+      arith,
+      nat_tests,
+      length-map (v ∷ vs) vec_items,
+      get_or-map vec_items (v ∷ vs) (k + 1) v d,
+      get_or-map vec_items (v ∷ vs) k v d,
+    )
 
 -- ---- all keys
 
@@ -143,8 +143,7 @@ module _ (kernel : Kernel) (count : ℕ) (has : HasPlaces kernel)
   keys_moved = IsPermutation-map vec_items was now moved
 
   within : (key : List ℕ) (place : ℕ) → string_of kernel.keys place ≡ Some key → place < count
-  within key place here =
-      ⊎_elim (λ less. less) (λ past. absurd (some_none key (sym here ∙ behind place past))) (cases_lt place count)
+  within key place here = grind (arith, nat_tests, less, some_none key)
 
   -- a key that is not among them has no place
   unplaced : (key : List ℕ) → is_reserved key ≡ false → is_among key (map vec_items now) ≡ false

@@ -1,8 +1,9 @@
 -- Calls of the machine of records, one list behind another, with what is logged of them.
-use Rattle.sk_durable.proofs.Names.{◌≡◌, ℕ, Bool, true, false, List, [], ◌∷◌, ◌++◌, Option, None, refl, sym, ◌∙◌, ap}
-use Rattle.sk_durable.proofs.Names.{subst, append_assoc, filter, filter-append, Event, Taken, Status, AreStatuses}
-use Rattle.sk_durable.proofs.Names.{Token, moves_of, told_more, bytes_cmp, machine_of, IsInStep, Logs, Answer, Out}
-use Rattle.sk_durable.proofs.Names.{StoreCalls, served, Entry, Opens, Runs, Batches, Kernel, StoreView, Command}
+use Rattle.sk_durable.proofs.Names.{arith, ◌≡◌, ℕ, Bool, true, false, List, [], ◌∷◌, ◌++◌, Option, None, refl, ◌∙◌}
+use Rattle.sk_durable.proofs.Names.{ap, filter, filter-append, Event, Taken, Status, AreStatuses, Token, moves_of}
+use Rattle.sk_durable.proofs.Names.{told_more, bytes_cmp, machine_of, IsInStep, Logs, Answer, Out, StoreCalls, served}
+use Rattle.sk_durable.proofs.Names.{Entry, Opens, Runs, Batches, Kernel, StoreView, Command}
+use Rattle.std.proofs.lemmas.Bool.Decides.{nat_tests}
 use Rattle.sk_deeds.specs.Told.{Does, Tells}
 use Rattle.sk_deeds.specs.Told as deeds
 use Rattle.sk_served.specs.Calls as served_calls
@@ -58,8 +59,7 @@ pub record Led (told last : Out) (x : Machine) (commands : List Command) (decide
 calls_behind : (told mid last : Out) (x y z : Machine) (cs ds : List Move) → StoreCalls told x cs mid y
     → StoreCalls mid y ds last z
     → StoreCalls told x (cs ++ ds) last z
-calls_behind told mid last x y z [] ds (same, is) rest =
-    subst (λ w. StoreCalls w x ds last z) (sym same) (subst (λ m. StoreCalls mid m ds last z) (sym is) rest)
+calls_behind told mid last x y z [] ds (same, is) rest = grind (arith, nat_tests)
 calls_behind told mid last x y z (Does e ∷ cs) ds (m, proper, goes, more) rest =
     (m, proper, goes, calls_behind told mid last m y z cs ds more rest)
 calls_behind told mid last x y z (Tells t output ∷ cs) ds (m, out, more) rest =
@@ -68,18 +68,9 @@ calls_behind told mid last x y z (Tells t output ∷ cs) ds (m, out, more) rest 
 logs_behind : (told mid last : Out) (x y z : Machine) (cs ds : List Move) (one two : List Command)
     → Logs served told x cs one mid y → Logs served mid y ds two last z
     → Logs served told x (cs ++ ds) (one ++ two) last z
-logs_behind told mid last x y z [] ds one two (none, same, is) rest =
-    subst (λ l. Logs served told x ds (l ++ two) last z) (sym none)
-    (subst (λ w. Logs served w x ds two last z) (sym same) (subst (λ m. Logs served mid m ds two last z) (sym is) rest))
-logs_behind told mid last x y z (Does e ∷ cs) ds one two (m, first, more, is, goes, logged, behind) rest = (
-  m,
-  first,
-  more ++ two,
-  ap (λ l. l ++ two) is ∙ append_assoc first more two,
-  goes,
-  logged,
-  logs_behind told mid last m y z cs ds more two behind rest,
-)
+logs_behind told mid last x y z [] ds one two (none, same, is) rest = grind (arith, nat_tests)
+logs_behind told mid last x y z (Does e ∷ cs) ds one two (m, first, more, is, goes, logged, behind) rest =
+    grind (arith, nat_tests, logs_behind told mid last m y z cs ds more two behind rest)
 logs_behind told mid last x y z (Tells t output ∷ cs) ds one two (m, out, behind) rest =
     (m, out, logs_behind (told_more t output told) mid last m y z cs ds one two behind rest)
 

@@ -1,12 +1,13 @@
 -- Records of batches in frames, and what a queue's calls make of them.
-use Rattle.sk_durable.proofs.Names.{sent_unkept, sent_number, ◌≡◌, ℕ, zero, suc, ◌+◌, ◌<◌, ◌≤◌, true, false, cond, List}
-use Rattle.sk_durable.proofs.Names.{[], ◌∷◌, ◌++◌, flat_map, length, map, drop, inl, inr, refl, sym, ◌∙◌, ap}
-use Rattle.sk_durable.proofs.Names.{append_assoc, arith, ◌⊎◌, ◌==◌, filter, AllByRecursion, Contains, false≢true}
+use Rattle.std.proofs.lemmas.Bool.Decides.{nat_tests}
+use Rattle.sk_durable.proofs.Names.{sent_unkept, sent_number, ◌≡◌, ℕ, zero, suc, ◌+◌, ◌<◌, ◌≤◌, true, false, cond}
+use Rattle.sk_durable.proofs.Names.{List, [], ◌∷◌, ◌++◌, flat_map, length, map, drop, inl, inr, refl, sym, ◌∙◌, ap}
+use Rattle.sk_durable.proofs.Names.{append_assoc, arith, ◌⊎◌, filter, AllByRecursion, Contains, false≢true}
 use Rattle.sk_durable.proofs.Names.{append-nil, map-append, flat_map-append, filter-append, Contains-append_cases}
-use Rattle.sk_durable.proofs.Names.{Contains-append_left, Contains-append_right, Contains-push_cases, Stage, Kept, Sent}
-use Rattle.sk_durable.proofs.Names.{Refused, Batch, AreDense, IsBehind, after_take, awaits, is_kept, is_refused}
+use Rattle.sk_durable.proofs.Names.{Contains-append_left, Contains-append_right, Contains-push_cases, Stage, Kept}
+use Rattle.sk_durable.proofs.Names.{Sent, Refused, Batch, AreDense, IsBehind, after_take, is_kept, is_refused}
 use Rattle.sk_durable.proofs.Names.{is_sent, is_taken, kept_of, kept_records, next_records, open_batch, send, tell}
-use Rattle.sk_durable.proofs.Names.{QueueView, RecordView, and_parts}
+use Rattle.sk_durable.proofs.Names.{QueueView, RecordView}
 use Rattle.sk_durable.proofs.Contained.{from_map, nothing_there, to_map}
 use Rattle.sk_durable.proofs.Frames.{in_frame, marked, next_marked, numbered, off, placed, unsent, Marked, Placed}
 
@@ -40,18 +41,7 @@ off_same : (g : Batch → Batch) → ((b : Batch) → is_refused (g b).stage ≡
     → ((b : Batch) → (g b).number ≡ b.number)
     → (bs : List Batch) → off (map g bs) ≡ off bs
 off_same g stage number [] = refl
-off_same g stage number (b ∷ bs) =
-    (λ i. map (λ (d : Batch). d.number)
-    (cond (stage b i) (g b ∷ filter (λ d. is_refused d.stage) (map g bs))
-    (filter (λ d. is_refused d.stage) (map g bs))))
-    ∙ elim (is_refused b.stage) as
-    (λ t. map (λ (d : Batch). d.number)
-    (cond t (g b ∷ filter (λ d. is_refused d.stage) (map g bs)) (filter (λ d. is_refused d.stage) (map g bs)))
-    ≡ map (λ (d : Batch). d.number)
-    (cond t (b ∷ filter (λ d. is_refused d.stage) bs) (filter (λ d. is_refused d.stage) bs))) [
-      | true ↦ λ i. number b i ∷ off_same g stage number bs i
-      | false ↦ off_same g stage number bs
-    ]
+off_same g stage number (b ∷ bs) = grind (arith, nat_tests, off_same g stage number bs)
 
 off_append : (bs ds : List Batch) → off (bs ++ ds) ≡ off bs ++ off ds
 off_append bs ds =
@@ -66,11 +56,7 @@ unmarked number [] = refl
 unmarked number (r ∷ rs) = ap (λ xs. r ∷ xs) (unmarked number rs)
 
 kept_unmarked : (b : Batch) → map (λ (x : Marked). x.1) (unsent b) ≡ kept_of b
-kept_unmarked b = elim (is_kept b.stage) as
-    (λ t. map (λ (x : Marked). x.1) (cond t (marked b.number b.records) []) ≡ cond t b.records []) [
-      | true ↦ unmarked b.number b.records
-      | false ↦ refl
-    ]
+kept_unmarked b = grind (arith, nat_tests, marked b.number b.records, unmarked b.number b.records)
 
 all_unmarked : (bs : List Batch) → map (λ (x : Marked). x.1) (flat_map unsent bs) ≡ kept_records bs
 all_unmarked [] = refl
@@ -97,11 +83,16 @@ numbered_push f (ys ∷ sent) xs =
 pub numbered_within : (f : ℕ) (sent : List (List Marked)) (y : Placed) → Contains (numbered f sent) y → (f ≤ y.0)
     × (y.0 < f + length sent)
 numbered_within f [] y at = nothing_there y at
-numbered_within f (xs ∷ sent) y at = elim (Contains-append_cases (in_frame f xs) (numbered (f + 1) sent) y at) [
-  | inl here ↦ let same : f ≡ y.0 = ap (λ (z : Placed). z.0) (from_map (λ (x : Marked). (f, x)) xs y here).2 in
-      (omega (arith, same), omega (arith, same))
-  | inr later ↦ let rest = numbered_within (f + 1) sent y later in (omega (arith, rest.0), omega (arith, rest.1))
-]
+numbered_within f (xs ∷ sent) y at =
+    grind (
+      arith,
+      nat_tests,
+      Contains-append_cases (in_frame f xs) (numbered (f + 1) sent) y at,
+      in_frame f xs,
+      numbered (f + 1) sent,
+      from_map (λ (x : Marked). (f, x)) xs y,
+      numbered_within (f + 1) sent y,
+    )
 
 -- what lies behind the first n frames
 pub numbered_behind : (f n : ℕ) (sent : List (List Marked)) (x : Marked)
@@ -148,21 +139,10 @@ unsent_of b x at =
 -- ---- a frame is taken
 
 sent_refused : (frame : ℕ) (b : Batch) → is_refused (send frame b).stage ≡ is_refused b.stage
-sent_refused frame b =
-    elim (is_kept b.stage) as
-    (λ t. is_kept b.stage ≡ t → is_refused (cond t (record b { frame = frame; stage = Sent }) b).stage
-    ≡ is_refused b.stage) [
-      | true ↦ λ is. sym (kept_unrefused b.stage is)
-      | false ↦ λ is. refl
-    ] refl
+sent_refused frame b = grind (arith, nat_tests, kept_unrefused b.stage)
 
 sent_all : (frame : ℕ) (b : Batch) → unsent (send frame b) ≡ []
-sent_all frame b =
-    elim (is_kept b.stage) as
-    (λ t. is_kept b.stage ≡ t → unsent (cond t (record b { frame = frame; stage = Sent }) b) ≡ []) [
-      | true ↦ λ is. refl
-      | false ↦ λ is. ap (λ t. cond t (marked b.number b.records) []) is
-    ] refl
+sent_all frame b = grind (arith, nat_tests, unsent, marked b.number b.records)
 
 flat_none : {A B : Type 0} (f : A → List B) (g : A → A) → ((x : A) → f (g x) ≡ []) → (xs : List A)
     → flat_map f (map g xs) ≡ []
@@ -231,45 +211,37 @@ off_sent q =
 -- a batch that was sent
 pub of_sent : (q : QueueView) (d : Batch) → Contains (after_take q).batches d
     → ((b : Batch) × Contains q.batches b × (send q.frame b ≡ d)) ⊎ (open_batch q ≡ d)
-of_sent q d at = elim (Contains-push_cases (map (send q.frame) q.batches) (open_batch q) d at) [
-  | inl before ↦ inl (from_map (send q.frame) q.batches d before)
-  | inr last ↦ inr last
-]
+of_sent q d at =
+    grind (
+      arith,
+      nat_tests,
+      Contains-push_cases (map (send q.frame) q.batches) (open_batch q) d at,
+      from_map (send q.frame) q.batches d,
+    )
 
 -- ---- a frame is told of
 
 module _ (frame : ℕ) (stage : Stage) (taken : is_taken stage ≡ true) (unkept : is_kept stage ≡ false)
     (stands : is_refused stage ≡ false) where
   pub told_number : (b : Batch) → (tell frame stage b).number ≡ b.number
-  told_number b = elim (awaits frame b) as (λ t. (cond t (record b { stage = stage }) b).number ≡ b.number) [
-    | true ↦ refl
-    | false ↦ refl
-  ]
+  told_number b = grind (arith, nat_tests)
 
   told_refused : (b : Batch) → is_refused (tell frame stage b).stage ≡ is_refused b.stage
-  told_refused b =
-      elim (awaits frame b) as (λ t. awaits frame b ≡ t → is_refused (cond t (record b { stage = stage }) b).stage
-      ≡ is_refused b.stage) [
-        | true ↦ λ is. stands ∙ sym (sent_unrefused b.stage (and_parts (is_sent b.stage) (b.frame == frame) is).0)
-        | false ↦ λ is. refl
-      ] refl
+  told_refused b = grind (arith, nat_tests, sent_unrefused b.stage)
 
   told_placed : (b : Batch) → placed (tell frame stage b) ≡ placed b
   told_placed b =
-      let own = in_frame b.frame (marked b.number b.records) in
-      elim (awaits frame b) as (λ t. awaits frame b ≡ t → placed (cond t (record b { stage = stage }) b) ≡ placed b) [
-        | true ↦ λ is. ap (λ t. cond t own [])
-            (taken ∙ sym (sent_taken b.stage (and_parts (is_sent b.stage) (b.frame == frame) is).0))
-        | false ↦ λ is. refl
-      ] refl
+      grind (
+        arith,
+        nat_tests,
+        in_frame b.frame (marked b.number b.records),
+        marked b.number b.records,
+        placed b,
+        sent_taken b.stage,
+      )
 
   told_unsent : (b : Batch) → unsent (tell frame stage b) ≡ unsent b
-  told_unsent b =
-      elim (awaits frame b) as (λ t. awaits frame b ≡ t → unsent (cond t (record b { stage = stage }) b) ≡ unsent b) [
-        | true ↦ λ is. ap (λ t. cond t (marked b.number b.records) [])
-            (unkept ∙ sym (sent_unkept b.stage (and_parts (is_sent b.stage) (b.frame == frame) is).0))
-        | false ↦ λ is. refl
-      ] refl
+  told_unsent b = grind (arith, nat_tests, unsent b, marked b.number b.records, sent_unkept b.stage)
 
   pub all_told_placed : (bs : List Batch) → flat_map placed (map (tell frame stage) bs) ≡ flat_map placed bs
   all_told_placed bs = flat_same placed (tell frame stage) told_placed bs

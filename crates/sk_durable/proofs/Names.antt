@@ -1,14 +1,14 @@
 -- What the proofs of this crate cite from outside of them, passed on from one place. Declares nothing.
 pub use Rattle.std.proofs.Math.Bool.{or-false}
-pub use Rattle.std.proofs.Common.{Some, Bool, subst, ◌^◌, ◌-◌, ◌↔◌, arith, ◌*◌, ◌++◌, append_assoc, length-append, suc}
+pub use Rattle.std.proofs.Common.{Some, Bool, subst, ◌^◌, ◌-◌, ◌↔◌, arith, ◌++◌, append_assoc, length-append, suc}
 pub use Rattle.std.proofs.Common.{refl, [], map, ◌≢◌, ◌∷◌, inl, Option, List, get_or, bytes_eq, get_or-set_other, ℕ}
-pub use Rattle.std.proofs.Common.{true, ⊎_elim, sym, is_some, not, cond, get_or-set_same, inr, zero, rules, ap, length}
-pub use Rattle.std.proofs.Common.{◌≤◌, take, false, set, Ok, ◌&&◌, Err, ◌≡◌, ◌+◌, ◌||◌, drop, None, min, ◌<◌, flat_map}
-pub use Rattle.std.proofs.Common.{Result, ◌∙◌}
-pub use Rattle.std.proofs.lemmas.Bool.{or_right, lt-ltb, or_parts, leb-true, eqb-true, ltb-true, false_from_ne_true}
-pub use Rattle.std.proofs.lemmas.Bool.{eq-eqb, eqb-false, not_from_false, cases_eq, or_from, and_parts}
-pub use Rattle.std.proofs.lemmas.Bool.{true_from_ne_false, ltb-false, and_from, cases_lt, true≢false, lt-leb, or_cases}
-pub use Rattle.std.proofs.lemmas.Bool.{or_left, leb-false, le-leb, false≢true, le-ltb, ne_eqb, not-true}
+pub use Rattle.std.proofs.Common.{true, ⊎_elim, sym, is_some, not, cond, get_or-set_same, inr, zero, rules, ap}
+pub use Rattle.std.proofs.Common.{length, ◌≤◌, take, false, Ok, ◌&&◌, Err, ◌≡◌, ◌+◌, ◌||◌, drop, None, min, ◌<◌}
+pub use Rattle.std.proofs.Common.{flat_map, Result, ◌∙◌}
+pub use Rattle.std.proofs.lemmas.Bool.{or_right, lt-ltb, or_parts, leb-true, eqb-true, false_from_ne_true, eq-eqb}
+pub use Rattle.std.proofs.lemmas.Bool.{eqb-false, cases_eq, or_from, and_parts, ltb-false, and_from, cases_lt}
+pub use Rattle.std.proofs.lemmas.Bool.{true≢false, lt-leb, or_cases, or_left, leb-false, le-leb, false≢true, le-ltb}
+pub use Rattle.std.proofs.lemmas.Bool.{not-true}
 pub use Rattle.std.proofs.lemmas.Bool.Decides.{nat_tests}
 pub use Rattle.std.proofs.lemmas.Cmp.{nat_list_eq_equiv}
 pub use Rattle.std.proofs.lemmas.List.{length-take-le, length-map, map-append, take-append-drop, take-map}
@@ -36,7 +36,7 @@ pub use Rattle.std.specs.List.{list_any, remove, AllByRecursion, fold, filter, C
 pub use Rattle.std.specs.List.Sorted.{IsStrictlySortedBy, IsPermutation, IsSortedByKey, IsSorted}
 pub use Rattle.std.specs.Option.{option_or, option_map}
 pub use Rattle.std.specs.Ordering.{is_eq, eq_by_cmp, is_lt, ordering_reverse}
-pub use Rattle.std.specs.Prelude.{◌%◌, ◌==◌, T, slice_index_or, ◌⊎◌, if◌then◌else◌, unwrap_or, slice_get, IfSome, OnErr}
+pub use Rattle.std.specs.Prelude.{◌==◌, T, slice_index_or, ◌⊎◌, if◌then◌else◌, unwrap_or, slice_get, IfSome, OnErr}
 pub use Rattle.std.specs.Prelude.{OnOk, nat_le, nat_lt}
 pub use Rattle.std.specs.Result.{IsErr, is_err, IsErrAnd}
 pub use Rattle.std.specs.Vec.{vec_items}
@@ -46,13 +46,13 @@ pub use Rattle.sk_batched.proofs.Answering.{capped_small}
 pub use Rattle.sk_batched.proofs.Law.{spares_named}
 pub use Rattle.sk_batched.proofs.Moves.{looks_as_before, Spares}
 pub use Rattle.sk_batched.proofs.Queues.{oldest_committed, IsNumbered, requeued, same_seen, step_taken, cut_kept}
-pub use Rattle.sk_batched.proofs.Queues.{word_kept, new_in_step, decided_first, taken, oldest_failed, begins, batch_of}
-pub use Rattle.sk_batched.proofs.Queues.{said_less}
+pub use Rattle.sk_batched.proofs.Queues.{word_kept, new_in_step, decided_first, taken, oldest_failed, begins}
+pub use Rattle.sk_batched.proofs.Queues.{batch_of, said_less}
 pub use Rattle.sk_batched.proofs.Same.{all_same, same_statuses, same_machine}
 pub use Rattle.sk_batched.proofs.Touched.{any_touched}
 pub use Rattle.sk_batched.specs.Batched.{in_batch, Stays, LogPost, IsEmpty, log_refused, IsStill, is_touched, opening}
 pub use Rattle.sk_batched.specs.Batched.{capped, is_full, Begins}
-pub use Rattle.sk_batched.specs.InStep.{IsInStep, notes_by, open_numbers, IsRow, tokens_of, open_if}
+pub use Rattle.sk_batched.specs.InStep.{IsInStep, notes_by, open_numbers, IsRow}
 pub use Rattle.sk_batched.specs.Keys.{has_reserved_key}
 pub use Rattle.sk_batched.specs.Refused.{step_refused, refusal_of}
 pub use Rattle.sk_batched.specs.declared.batched.Outcome.TheVariants.{Logged as LoggedBatch, Logged}
@@ -67,8 +67,8 @@ pub use Rattle.sk_batches.specs.Frames.{frame_refused, first_cause, next_payload
 pub use Rattle.sk_batches.specs.Places.{has_room, PlacesView, next_segment}
 pub use Rattle.sk_batches.specs.Queue.{open_batch, is_kept, is_awaited, is_sent, is_decided, is_taken, left}
 pub use Rattle.sk_batches.specs.Queue.{next_records, decided as decided_batch, after_take, kept_of, is_failed}
-pub use Rattle.sk_batches.specs.Queue.{decision_of, after_word, awaits, QueueView, cut_due, tell, send, after_cut}
-pub use Rattle.sk_batches.specs.Queue.{is_refused, kept_records}
+pub use Rattle.sk_batches.specs.Queue.{decision_of, after_word, QueueView, cut_due, tell, send, after_cut, is_refused}
+pub use Rattle.sk_batches.specs.Queue.{kept_records}
 pub use Rattle.sk_batches.specs.Records.{payload, RecordView}
 pub use Rattle.sk_batches.specs.Runs.{Story, no_story, story_after, synced_after}
 pub use Rattle.sk_batches.specs.declared.batch.Batch.{Batch}
@@ -99,7 +99,7 @@ pub use Rattle.sk_commands.proofs.Works.{what_is_said}
 pub use Rattle.sk_commands.specs.Requests.{IsReplyOrAsked, log_text, WaitsSaid, IsAsked, AreAsked}
 pub use Rattle.sk_commands.specs.Table.{Have, is_among, Written}
 pub use Rattle.sk_commands.specs.Texts.{answer_text}
-pub use Rattle.sk_commands.specs.Work.{with_value, may_write_some, wants_all, after, comes_to, looks_at}
+pub use Rattle.sk_commands.specs.Work.{with_value, may_write_some, after, comes_to, looks_at}
 pub use Rattle.sk_commands.specs.declared.reply.Reply.TheVariants.{Null, Text}
 pub use Rattle.sk_commands.specs.declared.session.Queue.{Queue}
 pub use Rattle.sk_commands.specs.declared.work.Answer.{Answer}
@@ -123,10 +123,11 @@ pub use Rattle.sk_durable.specs.Laws.{TicketsAreToldRight, IsGone, HasDone, Cras
 pub use Rattle.sk_durable.specs.Laws.{IsLogged, Waits, LoggedIsOnDisk, MapIsPlain, AnswersArePlain}
 pub use Rattle.sk_durable.specs.Limits.{are_sound}
 pub use Rattle.sk_durable.specs.Posts.{RefusedPost, PosedPost, LetGoPost, OutputPost, TakePost, SyncedPost, Sweeps}
-pub use Rattle.sk_durable.specs.Posts.{is_posed, AllLetGo, HandsOver, HasNoneReady, TellPost, has_refused, RestorePost}
-pub use Rattle.sk_durable.specs.Posts.{BringPost, LearnPost, LetsGo, TryPost, ReadyPost, FreesIfLast, MayFeed, IsStray}
-pub use Rattle.sk_durable.specs.Posts.{end_of, CutPost, HoldsTooMany, AnswerPost, IsHeldUp, ConnectPost, drops}
-pub use Rattle.sk_durable.specs.Posts.{StopsThere, IsReady, tells, HangUpPost, TurnPost, FailedPost}
+pub use Rattle.sk_durable.specs.Posts.{is_posed, AllLetGo, HandsOver, HasNoneReady, TellPost, has_refused}
+pub use Rattle.sk_durable.specs.Posts.{RestorePost, BringPost, LearnPost, LetsGo, TryPost, ReadyPost, FreesIfLast}
+pub use Rattle.sk_durable.specs.Posts.{MayFeed, IsStray, end_of, CutPost, HoldsTooMany, AnswerPost, IsHeldUp}
+pub use Rattle.sk_durable.specs.Posts.{ConnectPost, drops, StopsThere, IsReady, tells, HangUpPost, TurnPost}
+pub use Rattle.sk_durable.specs.Posts.{FailedPost}
 pub use Rattle.sk_durable.specs.Refused.{channel_refused}
 pub use Rattle.sk_durable.specs.Store.{Past, Becomes, was_told, has_refusals, HasFirstTicket, IsNew, bound, asked_for}
 pub use Rattle.sk_durable.specs.Store.{was_refused, HasPast, no_past, StoreView, came, was_handed, Goes, HavePasts}
@@ -147,8 +148,7 @@ pub use Rattle.sk_durable.specs.declared.store.Store.TheInside.{Inside}
 pub use Rattle.sk_durable.specs.declared.works.Asker.{Asker}
 pub use Rattle.sk_durable.specs.declared.works.TheConstants.{NOBODY}
 pub use Rattle.sk_guesses.proofs.Opens.{open_is}
-pub use Rattle.sk_guesses.specs.Kept.{KeptView, AreStatuses}
-pub use Rattle.sk_guesses.specs.Opens.{open_in}
+pub use Rattle.sk_guesses.specs.Kept.{AreStatuses}
 pub use Rattle.sk_guesses.specs.Token.{Token}
 pub use Rattle.sk_index.proofs.Strings.{same_bytes}
 pub use Rattle.sk_index.specs.Index.{Numbered, bytes_cmp, number_of, string_of}
@@ -159,9 +159,9 @@ pub use Rattle.sk_plain_store.specs.Plain.{keys_of, Entries, held}
 pub use Rattle.sk_record.proofs.Machine.{has_filter}
 pub use Rattle.sk_record.proofs.Merged.{none_left, same_last}
 pub use Rattle.sk_record.proofs.Sound.{eqb_turned}
-pub use Rattle.sk_record.specs.Effects.{writes, MarkedEffect, is_marked, written_value, is_in}
+pub use Rattle.sk_record.specs.Effects.{MarkedEffect, is_marked, written_value, is_in}
 pub use Rattle.sk_record.specs.Machine.{Tagged, released, with_failure, with_status, released_if, with_drawn}
-pub use Rattle.sk_record.specs.Merged.{Merges, MergedTakes}
+pub use Rattle.sk_record.specs.Merged.{MergedTakes}
 pub use Rattle.sk_record.specs.Notes.{last_tags, has, Note, noted}
 pub use Rattle.sk_record.specs.Release.{said_by}
 pub use Rattle.sk_record.specs.Run.{marked_effect}

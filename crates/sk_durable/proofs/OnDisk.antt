@@ -1,14 +1,14 @@
 -- A batch that is told as logged lies in frames that were told as synced, and its frame has all that it logs.
+use Rattle.std.proofs.lemmas.Bool.Decides.{nat_tests}
 use Rattle.sk_durable.proofs.Recovered.{of_at}
-use Rattle.sk_durable.proofs.Names.{same_Some, is_some, ◌≡◌, ℕ, suc, ◌+◌, ◌-◌, ◌<◌, ◌≤◌, true, false, cond, not, List}
-use Rattle.sk_durable.proofs.Names.{[], ◌∷◌, ◌++◌, map, Some, inl, inr, refl, sym, ◌∙◌, ap, subst, arith, ◌==◌}
-use Rattle.sk_durable.proofs.Names.{slice_get, filter, Contains, option_map, true≢false, or_cases, false_from_ne_true}
-use Rattle.sk_durable.proofs.Names.{not_from_false, Contains-append_cases, Contains-append_left, Contains-append_right}
-use Rattle.sk_durable.proofs.Names.{list_any-append, slice_get-map, has, Event, failed_in, is_struck, kept, Batch}
-use Rattle.sk_durable.proofs.Names.{Stage, Synced, AreDense, IsBehind, is_kept, is_refused}
+use Rattle.sk_durable.proofs.Names.{is_some, ◌≡◌, ℕ, suc, ◌+◌, ◌-◌, ◌<◌, ◌≤◌, true, false, cond, not, List, [], ◌∷◌}
+use Rattle.sk_durable.proofs.Names.{◌++◌, map, Some, inl, inr, refl, sym, ◌∙◌, ap, subst, arith, slice_get, filter}
+use Rattle.sk_durable.proofs.Names.{Contains, option_map, true≢false, Contains-append_cases, Contains-append_left}
+use Rattle.sk_durable.proofs.Names.{Contains-append_right, list_any-append, slice_get-map, has, Event, failed_in}
+use Rattle.sk_durable.proofs.Names.{is_struck, kept, Batch, Stage, Synced, AreDense, IsBehind, is_kept, is_refused}
 use Rattle.sk_durable.proofs.Names.{is_taken, QueueView, RecordView, dense_at, of_all, Logged, log_text, Asked, Entry}
 use Rattle.sk_durable.proofs.Names.{Runs, Decides, Serves, carried, told_decided, frames, is_logged, stands, Command}
-use Rattle.sk_durable.proofs.Names.{HasDone, LoggedIsOnDisk, not-true}
+use Rattle.sk_durable.proofs.Names.{HasDone, LoggedIsOnDisk}
 use Rattle.std.specs.Prelude.{flat_map}
 use Rattle.sk_batches.specs.declared.queue.Decision.TheVariants as decision
 use Rattle.sk_durable.proofs.Contained.{at_first, first_or_later, from_filter, from_flat, from_map, nothing_there}
@@ -79,11 +79,7 @@ numbered_has first (xs ∷ sent) x at =
 -- its record is of its batch, and has its bytes
 same_batch : (r : Command) (x : Marked) (asked : Asked) (n : ℕ) → IsOf r x → r.entry ≡ Runs asked → asked.batch ≡ Some n
     → (x.0 ≡ n) × (x.1.bytes ≡ log_text asked.work)
-same_batch r x asked n of runs batch =
-    let same : of.asked ≡ asked = cc (of.entry, runs) in (
-      same_Some x.0 n (sym of.batch ∙ ap (λ (a : Asked). a.batch) same ∙ batch),
-      of.bytes ∙ ap (λ (a : Asked). log_text a.work) same,
-    )
+same_batch r x asked n of runs batch = grind (arith, nat_tests)
 
 logs_it : (r : Command) (asked : Asked) (n : ℕ) → r.entry ≡ Runs asked → asked.batch ≡ Some n → is_logged r.entry ≡ true
 logs_it r asked n runs batch = ap is_logged runs ∙ ap is_some batch
@@ -105,10 +101,13 @@ module _ (first : ℕ) (commands : List Command) (decides : List (Event Entry)) 
 
   -- it is the one with its number
   only : (d : Batch) → Contains q.batches d → d.number ≡ b.number → d ≡ b
-  only d at same = elim (first_or_later b bs d (subst (λ (xs : List Batch). Contains xs d) are at)) as (λ _. d ≡ b) [
-    | inl is ↦ sym is
-    | inr later ↦ let more = (of_all (IsBehind b) bs d dense_here.2 later).number in absurd (omega arith)
-  ]
+  only d at same =
+      grind (
+        arith,
+        nat_tests,
+        first_or_later b bs d (subst (λ (xs : List Batch). Contains xs d) are at),
+        of_all (IsBehind b) bs d dense_here.2,
+      )
 
   -- what was cut off and is undecided stands behind it
   behind_off : (g : ℕ) → has g (off q.batches) ≡ true → b.number < g
@@ -134,22 +133,19 @@ module _ (first : ℕ) (commands : List Command) (decides : List (Event Entry)) 
       → asked.batch ≡ Some b.number
       → Contains (living commands (failed_in decides ++ off q.batches)) r
   is_living r asked at runs batch =
-      let came = from_filter (λ (c : Command). not (is_struck (failed_in decides) c)) commands r at in
-      to_filter (λ (c : Command). is_logged c.entry) (kept (failed_in decides ++ off q.batches) commands) r
-      (to_filter (λ (c : Command). not (is_struck (failed_in decides ++ off q.batches) c)) commands r came.0
-      (not_from_false (is_struck (failed_in decides ++ off q.batches) r)
-      (false_from_ne_true (is_struck (failed_in decides ++ off q.batches) r) (λ struck.
-      let g = any_has (λ h. has h (failed_in decides ++ off q.batches)) r.rests struck in
-      elim (or_cases (has g.0 (failed_in decides)) (has g.0 (off q.batches))
-      (sym (list_any-append (λ t. t == g.0) (failed_in decides) (off q.batches)) ∙ g.2)) as (λ _. ⊥) [
-        | inl failed ↦ true≢false
-            (sym (has_any (λ h. has h (failed_in decides)) r.rests g.0 g.1 failed)
-            ∙ not-true (is_struck (failed_in decides) r) came.1)
-        | inr gone ↦
-            let low = has_frames.below r came.0 asked b.number g.0 runs batch g.1 in
-            let high = behind_off g.0 gone in omega arith
-      ]))))
-      (logs_it r asked b.number runs batch)
+      grind (
+        arith,
+        nat_tests,
+        from_filter (λ (c : Command). not (is_struck (failed_in decides) c)) commands r at,
+        to_filter (λ (c : Command). is_logged c.entry) (kept (failed_in decides ++ off q.batches) commands) r,
+        off q.batches,
+        to_filter (λ (c : Command). not (is_struck (failed_in decides ++ off q.batches) c)) commands r,
+        any_has (λ h. has h (failed_in decides ++ off q.batches)) r.rests,
+        list_any-append,
+        has_any (λ h. has h (failed_in decides)) r.rests,
+        behind_off,
+        logs_it r asked b.number runs batch,
+      )
 
   -- what is to be sent is of batches behind it
   not_next : (x : Marked) → Contains (next_marked q) x → b.number < x.0

@@ -3,15 +3,15 @@ use Rattle.sk_durable.proofs.Names.{◌≡◌, ◌≢◌, ℕ, ◌+◌, ◌-◌,
 use Rattle.sk_durable.proofs.Names.{length, drop, take, min, Option, Some, None, Result, Ok, Err, refl, sym, ◌∙◌, ap}
 use Rattle.sk_durable.proofs.Names.{subst, inl, inr, arith, ◌⊎◌, nat_le, unwrap_or, IfSome, if◌then◌else◌, option_map}
 use Rattle.sk_durable.proofs.Names.{nat_tests, append-nil, append_cancel_left, map-append, released, Tagged, said_at}
-use Rattle.sk_durable.proofs.Names.{first_of, TakesOut, Parts, WordPost, next_segment, PlacesView, QueueView, Stage}
-use Rattle.sk_durable.proofs.Names.{Synced, Failed, Cut, Queued, Channel, Ask, Table, HasServed, RefusePost, ReplyPost}
+use Rattle.sk_durable.proofs.Names.{first_of, TakesOut, Parts, WordPost, next_segment, PlacesView, Stage, Synced}
+use Rattle.sk_durable.proofs.Names.{Failed, Cut, Queued, Channel, Ask, Table, HasServed, RefusePost, ReplyPost}
 use Rattle.sk_durable.proofs.Names.{channel_at, with_channel, Told, Answer, answer_text, Requests, Refusal, NoChannel}
-use Rattle.sk_durable.proofs.Names.{NoTicket, DecisionDue, channel_refused, Batches, bound, first_answer, has_refusals}
-use Rattle.sk_durable.proofs.Names.{was_handed, was_refused, was_told, Becomes, HasPast, HavePasts, Past, StoreView}
-use Rattle.sk_durable.proofs.Names.{Call, Cuts, Drops, Frees, Hands, Refuses, Tells, Does, Passes, SameBatches, Serves}
-use Rattle.sk_durable.proofs.Names.{drops, tells, AllLetGo, BringPost, CutPost, FreesIfLast, HandsOver, HasNoneReady}
-use Rattle.sk_durable.proofs.Names.{HoldsTooMany, IsHeldUp, IsReady, IsStray, LearnPost, LetGoPost, LetsGo, ReadyPost}
-use Rattle.sk_durable.proofs.Names.{RefusedPost, StopsThere, Sweeps, TurnPost}
+use Rattle.sk_durable.proofs.Names.{NoTicket, DecisionDue, channel_refused, Batches, bound, first_answer}
+use Rattle.sk_durable.proofs.Names.{has_refusals, was_handed, was_refused, was_told, Becomes, HasPast, HavePasts}
+use Rattle.sk_durable.proofs.Names.{Past, StoreView, Call, Cuts, Drops, Frees, Hands, Refuses, Tells, Does, Passes}
+use Rattle.sk_durable.proofs.Names.{SameBatches, Serves, drops, tells, AllLetGo, BringPost, CutPost, FreesIfLast}
+use Rattle.sk_durable.proofs.Names.{HandsOver, HasNoneReady, HoldsTooMany, IsHeldUp, IsReady, IsStray, LearnPost}
+use Rattle.sk_durable.proofs.Names.{LetGoPost, LetsGo, ReadyPost, RefusedPost, StopsThere, Sweeps, TurnPost}
 use Rattle.std.specs.List.{slice_get}
 use Rattle.sk_batches.specs.Calls as queued
 use Rattle.sk_batches.specs.Places as places
@@ -73,12 +73,8 @@ pub taken_out : (a b : Parted) (t : ℕ) (told : ℕ × Answer) (result : Option
     → Some told ≡ next_of (released (said_at a.said t))
     → IfSome result (λ output. TakesOut a t output b) → (result ≡ None → released (said_at a.said t) ≡ [])
     → TakesOut a t told b
-taken_out a b t told None next some held = let is : Some told ≡ next_of [] =
-    next ∙ ap next_of (held refl) in absurd (cc)
-taken_out a b t told (Some output) next some held =
-    let is : Some told ≡ Some output = next ∙ ap (λ xs. next_of (released xs)) some.first in
-    let same : output ≡ told = cc in
-    subst (λ x. TakesOut a t x b) same some
+taken_out a b t told None next some held = grind (arith, nat_tests)
+taken_out a b t told (Some output) next some held = grind (arith, nat_tests)
 
 -- a channel is as it was, or another one, with what else is as it was
 abbrev IsLent : ℕ → Channel → Channel → StoreView → StoreView → Type 0
@@ -336,13 +332,8 @@ let_go_sweeps t a b (answers, m, serves, none, frees) = by_first (first_answer m
 -- where nothing may go out nothing is dropped
 none_ready_then : (a b : StoreView) (c : Call) → Does a c b → LetsGo c → ((t : ℕ) → HasNoneReady t a) → (t : ℕ)
     → HasNoneReady t b
-none_ready_then a b (Drops u ticket answer) does lets none t =
-    let takes : TakesOut a.batched.kernel.parts u (ticket, answer) b.batched.kernel.parts = does.1 in
-    let some = ap released takes.first in
-    let empty = none u in
-    absurd (cc)
-none_ready_then a b (Frees u) does lets none t =
-    ap (λ (x : Batches). released (said_at x.kernel.parts.said t)) does.2.1 ∙ none t
+none_ready_then a b (Drops u ticket answer) does lets none t = grind (arith, nat_tests)
+none_ready_then a b (Frees u) does lets none t = grind (arith, nat_tests)
 none_ready_then a b other does lets none t = absurd lets
 
 none_ready_after : (a b : StoreView) (cs : List Call) → Serves a cs b → AllLetGo cs → ((t : ℕ) → HasNoneReady t a)
@@ -387,8 +378,7 @@ none_is p le = ap (λ (b : Bool). if b then None else Some (p.segment + 1)) (too
 -- the log goes on in the next segment
 pub turns : (result : Result (Unit {0}) Queued) (a : StoreView) (p : PlacesView)
     → places.TurnPost false result a.places p → TurnPost result a (record a { places = p })
-turns (Ok unit) a p (lt, is) =
-    (a.places.segment + 1, next_is a.places lt, ap (λ (q : PlacesView). record a { places = q }) is)
+turns (Ok unit) a p (lt, is) = grind (arith, nat_tests, next_is a.places lt)
 turns (Err why) a p (le, is, same) = (none_is a.places le, is, ap (λ (q : PlacesView). record a { places = q }) same)
 
 -- a frame is told of
@@ -396,35 +386,11 @@ pub learns : (stage : Stage) (frame : ℕ) (result : Result (Unit {0}) Queued) (
     → (stage ≡ Synced) ⊎ (stage ≡ Failed)
     → WordPost stage result frame a.batched.queue b.queue → b ≡ record a.batched { queue = b.queue }
     → LearnPost stage frame result a (record a { batched = b })
-learns stage frame (Ok unit) a b of (none, is) rest = (
-  of,
-  none,
-  ap (λ (x : Batches). record a { batched = x }) rest
-      ∙ ap (λ (q : QueueView). record a { batched = record a.batched { queue = q } }) is,
-)
-learns stage frame (Err why) a b of (some, is) rest = (
-  some,
-  ap (λ (x : Batches). record a { batched = x }) rest
-      ∙ ap (λ (q : QueueView). record a { batched = record a.batched { queue = q } }) is,
-)
+learns stage frame (Ok unit) a b of (none, is) rest = grind (arith, nat_tests)
+learns stage frame (Err why) a b of (some, is) rest = grind (arith, nat_tests)
 
 -- the cut that is due is made, and the log goes on in the next segment
 pub cuts : (a : StoreView) (b : Batches) (p : PlacesView) (unit one : Unit {0})
     → queued.CutPost true (Ok unit) a.batched.queue b.queue → b ≡ record a.batched { queue = b.queue }
     → places.TurnPost true (Ok one) a.places p → (cut : Cut) × Does a (Cuts cut) (record a { batched = b; places = p })
-cuts a b p unit one (running, cut, due, is) rest (lt, turned) = (
-  cut,
-  (
-    running,
-    due,
-    (
-      a.places.segment + 1,
-      next_is a.places lt,
-      (λ i. record a {
-        batched = (rest ∙ ap (λ (q : QueueView). record a.batched { queue = q }) is) i;
-        places =
-            turned i;
-      }),
-    ),
-  ),
-)
+cuts a b p unit one (running, cut, due, is) rest (lt, turned) = grind (arith, nat_tests, next_is a.places lt)

@@ -1,16 +1,17 @@
 -- What each call of a store makes of one channel.
-use Rattle.sk_durable.proofs.Names.{◌≡◌, ◌≢◌, ℕ, ◌+◌, ◌<◌, ◌≤◌, Bool, true, false, cond, not, List, [], ◌∷◌, ◌++◌}
-use Rattle.sk_durable.proofs.Names.{length, length-append, get_or-set_same, get_or-set_other, Option, Some, None, inl}
-use Rattle.sk_durable.proofs.Names.{inr, ⊎_elim, refl, sym, ◌∙◌, ap, subst, append_assoc, arith, ◌==◌, ◌⊎◌}
-use Rattle.sk_durable.proofs.Names.{if◌then◌else◌, false≢true, cases_lt, eq-eqb, eqb-true, eqb-false, append-nil}
-use Rattle.sk_durable.proofs.Names.{get_or_past, Requests, Channel, Ask, Channels, channel_at, channel_of, hung_up}
-use Rattle.sk_durable.proofs.Names.{place_at, Answer, Work, answer_text, said_by, is_struck, kept, said_to, told_more}
-use Rattle.sk_durable.proofs.Names.{Out, served, Asked, Runs, Asker, error, long_key_words, work_of, Batches, asked_for}
-use Rattle.sk_durable.proofs.Names.{bound, came, first_answer, no_past, was_handed, was_refused, was_told, Becomes}
-use Rattle.sk_durable.proofs.Names.{Goes, HasPast, Past, StoreView, Call, Connects, HangsUp, Frees, Hears, Carries}
-use Rattle.sk_durable.proofs.Names.{Declines, Tells, Drops, Refuses, Hands, Draws, Sends, Turns, Learns, Cuts, Stops}
-use Rattle.sk_durable.proofs.Names.{Decides, Rests, Does, IsFor, MayBeTold, Passes, carried, carried_after, carried_by}
-use Rattle.sk_durable.proofs.Names.{carried_from, past, past_after, past_from, Command}
+use Rattle.std.proofs.lemmas.Bool.Decides.{nat_tests}
+use Rattle.sk_durable.proofs.Names.{◌≡◌, ◌≢◌, ℕ, ◌+◌, ◌<◌, ◌≤◌, Bool, true, false, cond, List, [], ◌∷◌, ◌++◌, length}
+use Rattle.sk_durable.proofs.Names.{length-append, get_or-set_same, get_or-set_other, Option, Some, None, inl, inr}
+use Rattle.sk_durable.proofs.Names.{⊎_elim, refl, sym, ◌∙◌, ap, subst, append_assoc, arith, ◌==◌, ◌⊎◌, if◌then◌else◌}
+use Rattle.sk_durable.proofs.Names.{false≢true, cases_lt, eq-eqb, eqb-true, eqb-false, append-nil, get_or_past}
+use Rattle.sk_durable.proofs.Names.{Requests, Channel, Ask, Channels, channel_at, channel_of, hung_up, place_at}
+use Rattle.sk_durable.proofs.Names.{Answer, Work, answer_text, said_by, kept, said_to, told_more, Out, served, Asked}
+use Rattle.sk_durable.proofs.Names.{Runs, Asker, error, long_key_words, work_of, Batches, asked_for, bound, came}
+use Rattle.sk_durable.proofs.Names.{first_answer, no_past, was_handed, was_refused, was_told, Becomes, Goes, HasPast}
+use Rattle.sk_durable.proofs.Names.{Past, StoreView, Call, Connects, HangsUp, Frees, Hears, Carries, Declines, Tells}
+use Rattle.sk_durable.proofs.Names.{Drops, Refuses, Hands, Draws, Sends, Turns, Learns, Cuts, Stops, Decides, Rests}
+use Rattle.sk_durable.proofs.Names.{Does, IsFor, MayBeTold, Passes, carried, carried_after, carried_by, carried_from}
+use Rattle.sk_durable.proofs.Names.{past, past_after, past_from, Command}
 use Rattle.sk_channels.specs.Table.{released}
 use Rattle.sk_durable.proofs.Served.{outs_by, outs_from}
 use Rattle.sk_durable.proofs.Tickets.{kept_append}
@@ -90,39 +91,26 @@ taken_by t told front xs u x is =
     ]
 
 more_out : (t : ℕ) (told : Out) (u : ℕ) (x : ℕ × Answer) → length (told t) ≤ length (told_more u x told t)
-more_out t told u x =
-    elim (u == t) as (λ b. length (told t) ≤ length (cond b (told t ++ (u, x) ∷ []) (told t))) [
-      | true ↦ let long = length-append (told t) ((u, x) ∷ []) in omega (arith, long)
-      | false ↦ omega arith
-    ]
+more_out t told u x = grind (arith, nat_tests, length-append (told t) ((u, x) ∷ []))
 
 -- what a command said to another channel
 says_none : (t : ℕ) (gs : List ℕ) (u : ℕ) (r : Command) (w : ℕ × Answer) → r.said ≡ Some (u, w) → (u == t) ≡ false
     → said_to served t (kept gs (r ∷ [])) ≡ []
-says_none t gs u r w says apart =
-    elim (not (is_struck gs r)) as (λ b. said_to served t (cond b (r ∷ []) []) ≡ []) [
-      | true ↦ append-nil (said_by served t r.said r.rests) ∙ ap (λ said. said_by served t said r.rests) says
-          ∙ ap (λ b. cond b (((u, w), r.rests) ∷ []) []) apart
-      | false ↦ refl
-    ]
+says_none t gs u r w says apart = grind (arith, nat_tests, append-nil (said_by served t r.said r.rests))
 
 -- what the commands said to the channel is what all commands did since then
 since_one : (t : ℕ) (gs : List ℕ) (commands : List Command) (c : Call) → connects t c ≡ false
     → said_to served t (kept gs (carried_after t c commands))
     ≡ said_to served t (kept gs commands) ++ said_to served t (kept gs (carried_by c))
-since_one t gs commands (Connects u) apart =
-    ap (λ b. said_to served t (kept gs (cond b [] commands))) apart
-    ∙ sym (append-nil (said_to served t (kept gs commands)))
+since_one t gs commands (Connects u) apart = grind (arith, nat_tests, append-nil (said_to served t (kept gs commands)))
 since_one t gs commands (Carries u bytes ask asked answer rests) apart =
-    let r : Command = record { entry = Runs asked; said = Some (u, (asked.ticket, answer)); rests = rests } in
-    elim (u == t) as (λ b. (u == t) ≡ b → said_to served t (kept gs (cond b (commands ++ r ∷ []) commands))
-    ≡ said_to served t (kept gs commands) ++ said_to served t (kept gs (r ∷ []))) [
-      | true ↦ λ its. kept_append t gs commands (r ∷ [])
-      | false ↦ λ its.
-          sym (append-nil (said_to served t (kept gs commands)))
-          ∙ ap (λ l. said_to served t (kept gs commands) ++ l)
-          (sym (says_none t gs u r (asked.ticket, answer) refl its))
-    ] refl
+    grind (
+      arith,
+      nat_tests,
+      kept_append t gs commands,
+      append-nil (said_to served t (kept gs commands)),
+      says_none t gs u,
+    )
 since_one t gs commands other apart = sym (append-nil (said_to served t (kept gs commands)))
 
 pub since_says : (t : ℕ) (gs : List ℕ) (commands : List Command) (cs : List Call) → Never t cs
@@ -212,10 +200,7 @@ same_released (Some (Some channel)) = refl
 module _ (t : ℕ) (a m : StoreView) where
   -- a place that is another's, or this channel's
   by_number : (P : Type 0) (u : ℕ) → (u ≡ t → P) → ((u == t) ≡ false → P) → P
-  by_number P u same other = elim (u == t) as (λ b. (u == t) ≡ b → P) [
-    | true ↦ λ is. same (eqb-true u t is)
-    | false ↦ λ is. other is
-  ] refl
+  by_number P u same other = grind (arith, nat_tests)
 
   others_place : (u : ℕ) (before now : Channel) → Becomes u before now a.channels m.channels → (u == t) ≡ false
       → place_at m.channels t ≡ place_at a.channels t
@@ -239,15 +224,12 @@ module _ (t : ℕ) (a m : StoreView) where
 
   freed_becomes : (u : ℕ) (before now : Channel) → Becomes u before now a.channels m.channels
       → place_at m.channels t ≡ None → Freed
-  freed_becomes u before now becomes none = by_number Freed u
-      (λ same. absurd (let there = now_place u before now becomes in let gone = ap (place_at m.channels) same
-      ∙ none in cc (there, gone)))
-      (λ apart. inl (sym (others_place u before now becomes apart) ∙ none))
+  freed_becomes u before now becomes none =
+      grind (arith, nat_tests, by_number Freed u, now_place u before now becomes, others_place u before now becomes)
 
   pub freed : (c : Call) → Does a c m → place_at m.channels t ≡ None → Freed
-  freed (Connects u) (channel, came_to, most, (small, free, here, others), is) none = by_number Freed u
-      (λ same. absurd (let gone = ap (place_at m.channels) same ∙ none in cc (here, gone)))
-      (λ apart. inl (sym (others t (apart_from u t apart)) ∙ none))
+  freed (Connects u) (channel, came_to, most, (small, free, here, others), is) none =
+      grind (arith, nat_tests, by_number Freed u, apart_from u t)
   freed (HangsUp u) ((hung, others), is) none = by_number Freed u
       (λ same. inl (ap (place_at a.channels) (sym same)
       ∙ hung_up_none (place_at a.channels u) (sym hung ∙ ap (place_at m.channels) same ∙ none)))
@@ -304,10 +286,7 @@ module _ (t : ℕ) (a m : StoreView) where
     was u before now becomes same = ap (channel_at a.channels) (sym same) ∙ becomes.there
 
     is_now : (u : ℕ) (before now : Channel) → Becomes u before now a.channels m.channels → u ≡ t → now ≡ after
-    is_now u before now becomes same =
-        let at : channel_at m.channels u ≡ Some now = ap channel_of (now_place u before now becomes) in
-        let that : channel_at m.channels u ≡ Some after = ap (channel_at m.channels) same ∙ there in
-        cc (at, that)
+    is_now u before now becomes same = grind (arith, nat_tests, now_place u before now becomes)
 
     -- what is to be shown of its past, of its commands and of what was taken out of it, each by what it was
     module _ (G : (Past → Past) → (List Command → List Command) → (List Said → List Said) → Type 0)

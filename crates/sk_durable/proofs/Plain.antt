@@ -1,16 +1,16 @@
 -- What keys have and what was said is as in a plain store that carries out what stands.
+use Rattle.std.proofs.lemmas.Bool.Decides.{nat_tests}
 use Rattle.sk_durable.proofs.Contained.{first_or_later, at_first, at_later, nothing_there, from_filter, to_filter}
-use Rattle.sk_durable.proofs.Names.{◌≡◌, ◌↔◌, ℕ, ◌+◌, ◌*◌, true, false, cond, not, List, [], ◌∷◌, ◌++◌, map, Option}
-use Rattle.sk_durable.proofs.Names.{Some, None, inl, inr, refl, sym, ◌∙◌, ap, subst, arith, ◌==◌, T, non_zero_u16_get}
-use Rattle.sk_durable.proofs.Names.{filter, Contains, FinMap, from_sorted, get, get-from_sorted, false≢true, map-append}
-use Rattle.sk_durable.proofs.Names.{Contains-append_cases, Contains-append_right, Tagged, has, Commit, Event, Fail}
-use Rattle.sk_durable.proofs.Names.{Taken, numbers, KeptView, Starts, moves_of, said_at, bytes_cmp, bytes_exact}
-use Rattle.sk_durable.proofs.Names.{bytes_total, capped, LoggedBatch, IsInStep, IsRow, batch_key, capped_small}
-use Rattle.sk_durable.proofs.Names.{new_in_step, IsAsLogged, failed_in, is_struck, kept, resting_among, said_to}
-use Rattle.sk_durable.proofs.Names.{as_logged, part_is_kept, Answer, held, Entries, Out, HoldsSame, entries_after}
-use Rattle.sk_durable.proofs.Names.{entry_after, replies_to, reply_to, served, Entry, Opens, Runs, calls_plain, Limits}
-use Rattle.sk_durable.proofs.Names.{Next, has_now, StoreView, Call, Decides, carried, decided, decided_by, entries}
-use Rattle.sk_durable.proofs.Names.{failed, stands, Command, says_to, AnswersArePlain, HasDone, IsLogged, MapIsPlain}
+use Rattle.sk_durable.proofs.Names.{◌≡◌, ◌↔◌, ℕ, ◌+◌, true, List, [], ◌∷◌, ◌++◌, map, Option, Some, None, inl, inr}
+use Rattle.sk_durable.proofs.Names.{refl, sym, ◌∙◌, ap, subst, arith, T, filter, Contains, FinMap, from_sorted, get}
+use Rattle.sk_durable.proofs.Names.{get-from_sorted, map-append, Contains-append_cases, Contains-append_right, Tagged}
+use Rattle.sk_durable.proofs.Names.{has, Commit, Event, Fail, Taken, numbers, Starts, moves_of, bytes_cmp}
+use Rattle.sk_durable.proofs.Names.{bytes_exact, bytes_total, LoggedBatch, capped_small, new_in_step, IsAsLogged}
+use Rattle.sk_durable.proofs.Names.{failed_in, kept, resting_among, said_to, as_logged, part_is_kept, Answer, held}
+use Rattle.sk_durable.proofs.Names.{Entries, Out, HoldsSame, entries_after, entry_after, replies_to, reply_to, served}
+use Rattle.sk_durable.proofs.Names.{Entry, Opens, Runs, calls_plain, Limits, Next, has_now, StoreView, Call, Decides}
+use Rattle.sk_durable.proofs.Names.{carried, decided, decided_by, entries, failed, stands, Command, says_to}
+use Rattle.sk_durable.proofs.Names.{AnswersArePlain, HasDone, IsLogged, MapIsPlain}
 use Rattle.sk_record.specs.Release as releases
 use Rattle.sk_record.specs.declared.status.Status.TheVariants as status_as
 use Rattle.sk_batched.specs.declared.batched.Outcome.TheVariants.{Refused}
@@ -33,40 +33,21 @@ runs_reply t (Runs a ∷ ns) e = ap (λ rs. reply_to t (Runs a) e ++ rs) (runs_r
 said_one : (t : ℕ) (said : Option (ℕ × (ℕ × Answer))) (rests : List ℕ)
     → says_to t said ≡ map (λ x. x.0) (releases.said_by served t said rests)
 said_one t None rests = refl
-said_one t (Some w) rests =
-    elim (w.0 == t) as (λ b. cond b (w ∷ []) []
-    ≡ map (λ (x : Tagged (ℕ × (ℕ × Answer))). x.0) (cond b ((w, rests) ∷ []) [])) [
-      | true ↦ refl
-      | false ↦ refl
-    ]
+said_one t (Some w) rests = grind (arith, nat_tests)
 
 -- what all that stand said is what the commands among them said
 said_all : (t : ℕ) (fails : List ℕ) (log : List Command) → Quiet log
     → said_by t (kept fails (filter (λ r. runs_work r.entry) log)) ≡ map (λ x. x.0) (said_to served t (kept fails log))
 said_all t fails [] quiet = refl
 said_all t fails (r ∷ log) quiet =
-    let others = filter (λ (q : Command). runs_work q.entry) log in
-    let rest = said_all t fails log quiet.1 in
-    let heads : (said : Option (ℕ × (ℕ × Answer))) → says_to t said ++ said_by t (kept fails others)
-    ≡ map (λ x. x.0) (releases.said_by served t said r.rests ++ said_to served t (kept fails log)) =
-    λ said. (λ i. said_one t said r.rests i ++ rest i)
-    ∙ sym (map-append (λ (x : Tagged (ℕ × (ℕ × Answer))). x.0) (releases.said_by served t said r.rests)
-    (said_to served t (kept fails log))) in
-    elim (runs_work r.entry) as (λ b. runs_work r.entry ≡ b
-    → said_by t (kept fails (cond b (r ∷ others) others)) ≡ map (λ x. x.0) (said_to served t (kept fails (r ∷ log)))) [
-      | true ↦ λ runs.
-          elim (not (is_struck fails r)) as (λ b. said_by t (cond b (r ∷ kept fails others) (kept fails others))
-          ≡ map (λ x. x.0) (said_to served t (cond b (r ∷ kept fails log) (kept fails log)))) [
-            | true ↦ heads r.said
-            | false ↦ rest
-          ]
-      | false ↦ λ begins.
-          elim (not (is_struck fails r)) as (λ b. said_by t (kept fails others)
-          ≡ map (λ x. x.0) (said_to served t (cond b (r ∷ kept fails log) (kept fails log)))) [
-            | true ↦ ap (λ said. says_to t said ++ said_by t (kept fails others)) (sym (quiet.0 begins)) ∙ heads r.said
-            | false ↦ rest
-          ]
-    ] refl
+    grind (
+      arith,
+      nat_tests,
+      said_all t fails log quiet.1,
+      said_one t,
+      map-append (λ (x : Tagged (ℕ × (ℕ × Answer))). x.0),
+      runs_work r.entry,
+    )
 
 -- the same outputs, whatever they rest on
 firsts : (guesses : List ℕ) (xs : List (Tagged (ℕ × (ℕ × Answer))))
@@ -120,31 +101,10 @@ module _ (limits : Limits) (next : Next) (start : Entries) (cs : List Call) (s :
 
   -- nothing is known of any guess
   are_none : Agree first.batched.kernel (λ g. None)
-  are_none = record {
-    undecided = λ g. ap (λ os. has g (numbers os)) done.new.opens;
-    struck = λ g here. absurd (false≢true (sym (ap (λ (v : KeptView). has g v.struck) done.new.guesses.1) ∙ here));
-    fresh = λ g above. refl;
-  }
+  are_none = grind (arith, nat_tests)
 
   in_step : InStep first.batched
-  in_step =
-      let most = non_zero_u16_get limits.in_flight in
-      let row : IsRow first.batched.kernel.parts [] = record {
-        row = tt;
-        opens = done.new.opens;
-        struck = ap (λ (v : KeptView). v.struck) done.new.guesses.1;
-        few = omega arith;
-        limit = let at = ap (λ (v : KeptView). v.limit) done.new.guesses.1 in let small = capped_small most in
-            omega (arith, at, small);
-        look = λ n. done.new.look (batch_key n) ∙ done.new.none_reserved (batch_key n) refl;
-        log = λ n. done.new.log (batch_key n);
-      } in (
-        [],
-        subst (λ e. IsInStep first.batched.kernel.parts first.batched.queue e []) (sym done.new.begun)
-            (new_in_step first.batched.kernel.parts first.batched.queue [] done.new.guesses.0
-            (capped most) limits.undecided next.frame (2 * capped most + 1)
-            row done.new.guesses.1 done.new.queue refl),
-      )
+  in_step = grind (arith, nat_tests, capped_small, new_in_step)
 
   abbrev map_of : FinMap served.order (List ℕ)
   map_of = from_sorted start
@@ -153,13 +113,7 @@ module _ (limits : Limits) (next : Next) (start : Entries) (cs : List Call) (s :
   holds_start key = get-from_sorted bytes_cmp start key (subst T (sym done.new.in_order) tt)
 
   pub starts : Starts served map_of (machine first.batched.kernel (λ g. None))
-  starts = record {
-    look = λ k. done.new.look k ∙ sym (holds_start k);
-    logs = done.new.log;
-    opens = done.new.opens;
-    status = λ g. refl;
-    texts = λ t. ap (λ xs. said_at xs t) done.new.said;
-  }
+  starts = grind (arith, nat_tests, holds_start)
 
   holds : HoldsSame map_of start
   holds = record { same = holds_start; in_order = done.new.in_order; none_reserved = done.new.none_reserved }
@@ -203,9 +157,7 @@ module _ (limits : Limits) (next : Next) (start : Entries) (cs : List Call) (s :
 
   -- the entries that stand are the commands that stand, and batches that began
   left_are : filter runs_work (map (λ (r : Command). r.entry) (kept fails led.log)) ≡ entries (stands cs)
-  left_are =
-      sym (part_is_kept Entry (ℕ × Answer) runs_work fails led.log)
-      ∙ (λ i. map (λ (r : Command). r.entry) (kept (fails_are i) (led.commands_are i)))
+  left_are = grind (arith, nat_tests, part_is_kept Entry (ℕ × Answer) runs_work, runs_work, fails_are)
 
   pub map_plain : (key : List ℕ) → has_now s.batched.kernel key ≡ held (entries_after (entries (stands cs)) start) key
   map_plain key =

@@ -1,6 +1,6 @@
 -- All that a store did, told to its queue.
-use Rattle.sk_durable.proofs.Names.{◌≡◌, ℕ, ◌<◌, ◌≤◌, Bool, true, false, List, [], ◌∷◌, ◌++◌, length, Option, Some}
-use Rattle.sk_durable.proofs.Names.{None, inl, inr, refl, ◌∙◌, ap, subst, ◌==◌, nat_le, nat_lt, if◌then◌else◌}
+use Rattle.sk_durable.proofs.Names.{arith, ◌≡◌, ℕ, ◌<◌, ◌≤◌, Bool, true, false, List, [], ◌∷◌, ◌++◌, length, Option}
+use Rattle.sk_durable.proofs.Names.{Some, None, inl, inr, refl, ◌∙◌, ap, subst, ◌==◌, nat_le, nat_lt, if◌then◌else◌}
 use Rattle.sk_durable.proofs.Names.{option_or, leb-false, or_parts, NUMBER_LIMIT, Synced, Failed, Why, has_no_number}
 use Rattle.sk_durable.proofs.Names.{is_busy, take_refused, first_cause, frame_refused, is_awaited, next_records}
 use Rattle.sk_durable.proofs.Names.{QueueView, Batch, Cut, new_queue, AreDense, IsRange, cut_due, no_story}
@@ -8,8 +8,9 @@ use Rattle.sk_durable.proofs.Names.{cuts_a_range, frames_are_dense, decided_sync
 use Rattle.sk_durable.proofs.Names.{RecordView, story_after, Story, Logged, Work, log_text, may_write_some, Asked}
 use Rattle.sk_durable.proofs.Names.{NotDone, Asker, Batches, IsNotDone, MayDraw, TakenIn, StoreView, Call, Connects}
 use Rattle.sk_durable.proofs.Names.{HangsUp, Frees, Hears, Carries, Declines, Tells, Drops, Refuses, Hands, Draws}
-use Rattle.sk_durable.proofs.Names.{Sends, Turns, Learns, Cuts, Stops, Decides, Rests, Does, Serves, synced, synced_by}
-use Rattle.sk_durable.proofs.Names.{synced_from, HasDone, Limits, Next, Entries, capped, non_zero_u16_get}
+use Rattle.sk_durable.proofs.Names.{Sends, Turns, Learns, Cuts, Stops, Decides, Rests, Does, Serves, synced}
+use Rattle.sk_durable.proofs.Names.{synced_by, synced_from, HasDone, Limits, Next, Entries, capped, non_zero_u16_get}
+use Rattle.std.proofs.lemmas.Bool.Decides.{nat_tests}
 use Rattle.std.specs.Prelude.{◌-◌}
 use Rattle.sk_batches.specs.declared.refusal.Refusal.TheVariants as why
 use Rattle.sk_batches.specs.Runs.{has, Runs}
@@ -159,13 +160,7 @@ next a m story Rests cs s (still, keeps, is) rest = stays a m story _ s still.qu
 -- where a store's queue leads, whatever story there was before
 pub queued : (a : StoreView) (story : Story) (cs : List Call) (s : StoreView) → Serves a cs s
     → Queued a.batched.queue story (synced_from story.synced cs) s
-queued a story [] s is = record {
-  calls = [];
-  last = story;
-  runs =
-      (ap (λ (b : StoreView). b.batched.queue) is, refl);
-  synced_are = refl;
-}
+queued a story [] s is = grind (arith, nat_tests)
 queued a story (c ∷ cs) s (m, does, rest) =
     next a m story c cs s does
     (λ synced other same. subst (λ ns. Queued m.batched.queue other (synced_from ns cs) s) same
@@ -189,17 +184,12 @@ module _ (limits : Limits) (origin : Next) (start : Entries) (cs : List Call) (s
   queue_led = subst (λ q. Queued q no_story (synced cs) s) done.new.queue (queued done.first no_story cs s done.serves)
 
   pub stands_densely : (origin.frame ≤ queue.frame) × AreDense origin.frame queue.frame queue.number queue.batches
-  stands_densely =
-      let led = queue_led in frames_are_dense most limits.undecided origin.frame led.calls queue led.last led.runs
+  stands_densely = grind (arith, nat_tests, queue_led, frames_are_dense)
 
   pub cut_is_range : (c : Cut) → cut_due queue ≡ Some c → IsRange c queue.batches
-  cut_is_range c due =
-      let led = queue_led in cuts_a_range most limits.undecided origin.frame led.calls queue led.last c led.runs due
+  cut_is_range c due = grind (arith, nat_tests, queue_led, cuts_a_range)
 
   -- where the oldest batch is synced, its frame is, with all before it
   pub synced_upto : (b : Batch) (bs : List Batch) (n : ℕ) → queue.batches ≡ b ∷ bs → b.stage ≡ Synced → origin.frame ≤ n
       → n ≤ b.frame → has n (synced cs) ≡ true
-  synced_upto b bs n are is from upto =
-      let led = queue_led in
-      subst (λ ns. has n ns ≡ true) led.synced_are
-      (logs_what_is_synced most limits.undecided origin.frame led.calls queue led.last b bs n led.runs are is from upto)
+  synced_upto b bs n are is from upto = grind (arith, nat_tests, queue_led, logs_what_is_synced)

@@ -1,15 +1,17 @@
 -- The frames of the log have the logged commands, along all that a store does.
-use Rattle.sk_durable.proofs.Names.{◌≡◌, ℕ, ◌≤◌, Bool, true, false, cond, not, ◌||◌, ◌&&◌, List, [], ◌∷◌, ◌++◌, map}
-use Rattle.sk_durable.proofs.Names.{Option, Some, None, inl, inr, refl, sym, ◌∙◌, ap, subst, append_assoc, ◌==◌, filter}
-use Rattle.sk_durable.proofs.Names.{list_any, true≢false, or_right, append-nil, is_marked, has, Commit, Event, Fail}
-use Rattle.sk_durable.proofs.Names.{is_struck, Batch, Decision, Stage, after_cut, after_take, after_word, batch_of}
+use Rattle.sk_durable.proofs.Names.{arith, ◌≡◌, ℕ, ◌≤◌, Bool, true, false, cond, not, ◌||◌, ◌&&◌, List, [], ◌∷◌, ◌++◌}
+use Rattle.sk_durable.proofs.Names.{Option, Some, None, inl, inr, refl, sym, ◌∙◌, ap, subst, append_assoc, ◌==◌}
+use Rattle.sk_durable.proofs.Names.{list_any, or_right, append-nil, is_marked, has, Commit, Event, Fail, is_struck}
+use Rattle.sk_durable.proofs.Names.{Batch, Decision, Stage, after_cut, after_take, after_word, batch_of}
 use Rattle.sk_durable.proofs.Names.{decided_batch, decision_of, is_decided, is_refused, left, next_records, Entry}
 use Rattle.sk_durable.proofs.Names.{eqb_turned, QueueView, RecordView, Logged, is_touched, Answer, log_text}
 use Rattle.sk_durable.proofs.Names.{may_write_some, Entries, Asked, Runs, Limits, Next, deed_now, Batches, IsTold}
-use Rattle.sk_durable.proofs.Names.{TakenIn, StoreView, Call, Connects, HangsUp, Frees, Hears, Carries, Declines, Tells}
-use Rattle.sk_durable.proofs.Names.{Drops, Refuses, Hands, Draws, Sends, Turns, Learns, Cuts, Stops, Decides, Rests}
-use Rattle.sk_durable.proofs.Names.{Does, Serves, carried, carried_by, decided, decided_by, failed, frames, frames_by}
-use Rattle.sk_durable.proofs.Names.{frames_from, synced, synced_by, synced_from, Command, HasDone, none-some, same_Some}
+use Rattle.sk_durable.proofs.Names.{TakenIn, StoreView, Call, Connects, HangsUp, Frees, Hears, Carries, Declines}
+use Rattle.sk_durable.proofs.Names.{Tells, Drops, Refuses, Hands, Draws, Sends, Turns, Learns, Cuts, Stops, Decides}
+use Rattle.sk_durable.proofs.Names.{Rests, Does, Serves, carried, carried_by, decided, decided_by, failed, frames}
+use Rattle.sk_durable.proofs.Names.{frames_by, frames_from, synced, synced_by, synced_from, Command, HasDone}
+use Rattle.sk_durable.proofs.Names.{none-some, same_Some}
+use Rattle.std.proofs.lemmas.Bool.Decides.{nat_tests}
 use Rattle.std.specs.Prelude.{is_some}
 use Rattle.sk_batches.specs.declared.batch.Stage.TheVariants as stage_as
 use Rattle.sk_batches.specs.declared.queue.Decision.TheVariants as decision
@@ -63,8 +65,7 @@ pub record IsOldest (bs : List Batch) (d : Decision) : Type 0 where
 
 pub oldest_of : (bs : List Batch) (d : Decision) → decided_batch bs ≡ Some d → IsOldest bs d
 oldest_of [] d is = cc
-oldest_of (b ∷ bs) d is = let at = decided_stage b.stage b.number d is in
-    record { oldest = b; others = bs; are = refl; staged = at.0; number = at.1 }
+oldest_of (b ∷ bs) d is = grind (arith, nat_tests, decided_stage b.stage b.number d is)
 
 without_oldest : (b : Batch) (bs : List Batch) (stage : Stage) → b.stage ≡ stage → is_decided stage ≡ true
     → left (b ∷ bs) ≡ bs
@@ -74,14 +75,7 @@ without_oldest b bs stage is decides = ap (λ t. cond t bs (b ∷ bs)) (ap is_de
 
 none_off : (bs : List Batch) → list_any (λ b. is_refused b.stage) bs ≡ false → off bs ≡ []
 none_off [] none = refl
-none_off (b ∷ bs) none =
-    elim (is_refused b.stage) as (λ t. (t || list_any (λ (d : Batch). is_refused d.stage) bs) ≡ false
-    → map (λ (d : Batch). d.number)
-    (cond t (b ∷ filter (λ (d : Batch). is_refused d.stage) bs) (filter (λ (d : Batch). is_refused d.stage) bs))
-    ≡ []) [
-      | true ↦ λ is. absurd (true≢false is)
-      | false ↦ λ is. none_off bs is
-    ] none
+none_off (b ∷ bs) none = grind (arith, nat_tests, none_off bs)
 
 beside : (a b : Bool) → (a || b) ≡ ((a && not b) || b)
 beside true true = refl
@@ -112,8 +106,7 @@ module _ (limits : Limits) (origin : Next) (start : Entries) (cs : List Call) (m
   -- nothing is decided
   undecided : {rs : List Command} {log : List (List RecordView)} {told : List ℕ} {p : QueueView}
       → HasFrames origin.frame rs (decided cs) log told p → HasFrames origin.frame rs (decided cs ++ []) log told p
-  undecided {rs} {log} {told} {p} now =
-      subst (λ es. HasFrames origin.frame rs es log told p) (sym (append-nil (decided cs))) now
+  undecided {rs} {log} {told} {p} now = grind (arith, nat_tests, append-nil (decided cs))
 
   -- nothing was carried out or decided, and the log and the queue are these
   changed : (log : List (List RecordView)) (told : List ℕ) (p r : QueueView) → r ≡ p
@@ -192,16 +185,7 @@ module _ (limits : Limits) (origin : Next) (start : Entries) (cs : List Call) (m
       → HasFrames origin.frame (carried cs ++ []) (decided cs ++ e (batch_of d) ∷ []) (frames origin.frame cs)
       (synced cs) s.batched.queue
   decides_batch s d e ends decides queue so_decided =
-      let at = oldest_of q.batches d decides in
-      let rest : s.batched.queue ≡ record q { batches = at.others } =
-      queue ∙ ap (λ bs. record q { batches = bs })
-      (ap left at.are ∙ without_oldest at.oldest at.others (stage_of d) at.staged ends) in
-      subst (λ rs. HasFrames origin.frame rs (decided cs ++ e (batch_of d) ∷ []) (frames origin.frame cs)
-      (synced cs) s.batched.queue) (sym (append-nil (carried cs)))
-      (subst (λ k. HasFrames origin.frame (carried cs) (decided cs ++ e k ∷ []) (frames origin.frame cs)
-      (synced cs) s.batched.queue) at.number
-      (subst (HasFrames origin.frame (carried cs) (decided cs ++ e at.oldest.number ∷ []) (frames origin.frame cs)
-      (synced cs)) (sym rest) (so_decided at.oldest at.others at.are at.staged)))
+      grind (arith, nat_tests, oldest_of, without_oldest, batch_of d, append-nil (carried cs))
 
   pub after : (c : Call) (s : StoreView) → Does m c s → After s c
   after (Connects t) s (channel, past, most, connects, is) = idle s.batched.queue (ap (λ (b : Batches). b.queue) is.1)
@@ -266,15 +250,15 @@ module _ (limits : Limits) (origin : Next) (start : Entries) (cs : List Call) (m
 
   pub one_more : (c : Call) (s : StoreView) → Does m c s → InFrames origin.frame (cs ++ c ∷ []) s
   one_more c s does =
-      subst (λ rs. HasFrames origin.frame rs (decided (cs ++ c ∷ [])) (frames origin.frame (cs ++ c ∷ []))
-      (synced (cs ++ c ∷ [])) s.batched.queue) (sym (carried_push cs c))
-      (subst (λ es. HasFrames origin.frame (carried cs ++ carried_by c) es (frames origin.frame (cs ++ c ∷ []))
-      (synced (cs ++ c ∷ [])) s.batched.queue) (sym (decided_push cs c))
-      (subst (λ fs. HasFrames origin.frame (carried cs ++ carried_by c) (decided cs ++ decided_by c) fs
-      (synced (cs ++ c ∷ [])) s.batched.queue) (sym (frames_push origin.frame [] cs c))
-      (subst (λ ns. HasFrames origin.frame (carried cs ++ carried_by c) (decided cs ++ decided_by c)
-      (frames_by origin.frame c (frames origin.frame cs)) ns s.batched.queue) (sym (synced_push [] cs c))
-      (after c s does))))
+      grind (
+        arith,
+        nat_tests,
+        carried_push cs c,
+        decided_push cs c,
+        frames_push origin.frame [] cs c,
+        synced_push [] cs c,
+        after c s does,
+      )
 
 -- ---- any calls
 

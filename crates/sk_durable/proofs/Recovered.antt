@@ -1,14 +1,15 @@
 -- What is read of the first frames is what the first commands do.
+use Rattle.std.proofs.lemmas.Bool.Decides.{nat_tests}
 use Rattle.sk_durable.proofs.Names.{◌≡◌, ℕ, zero, suc, ◌+◌, ◌^◌, ◌<◌, ◌≤◌, true, false, not, List, [], ◌∷◌, ◌++◌}
-use Rattle.sk_durable.proofs.Names.{flat_map, length, map, take, drop, Option, Some, None, inl, inr, refl, sym, ◌∙◌, ap}
-use Rattle.sk_durable.proofs.Names.{subst, append_assoc, arith, ◌==◌, filter, Contains, true≢false, false≢true}
+use Rattle.sk_durable.proofs.Names.{flat_map, length, map, take, drop, Option, Some, None, inl, inr, refl, sym, ◌∙◌}
+use Rattle.sk_durable.proofs.Names.{ap, subst, append_assoc, arith, ◌==◌, filter, Contains, true≢false, false≢true}
 use Rattle.sk_durable.proofs.Names.{false_from_ne_true, or_cases, map-append, take-append-drop, take-map, take_at}
-use Rattle.sk_durable.proofs.Names.{flat_map-append, Contains-append_cases, Contains-append_left, Contains-append_right}
-use Rattle.sk_durable.proofs.Names.{list_any-append, has, Commit, Event, failed_in, is_struck, kept, Batch, is_refused}
-use Rattle.sk_durable.proofs.Names.{QueueView, payload, RecordView, Null, Work, Say, log_text, AreAsked, IsAsked}
-use Rattle.sk_durable.proofs.Names.{Entries, payloads_of, works_in, AreLogged, SayAll, after_work, after_works, restore}
-use Rattle.sk_durable.proofs.Names.{short_is_within, entries_after, entry_after, Asked, Entry, Opens, Runs, is_logged}
-use Rattle.sk_durable.proofs.Names.{Command, same_Some, not-true}
+use Rattle.sk_durable.proofs.Names.{flat_map-append, Contains-append_cases, Contains-append_left}
+use Rattle.sk_durable.proofs.Names.{Contains-append_right, list_any-append, has, Commit, Event, failed_in, is_struck}
+use Rattle.sk_durable.proofs.Names.{kept, Batch, is_refused, QueueView, payload, RecordView, Null, Work, Say}
+use Rattle.sk_durable.proofs.Names.{log_text, AreAsked, IsAsked, Entries, payloads_of, works_in, AreLogged, SayAll}
+use Rattle.sk_durable.proofs.Names.{after_work, after_works, restore, short_is_within, entries_after, entry_after}
+use Rattle.sk_durable.proofs.Names.{Asked, Entry, Opens, Runs, is_logged, Command, same_Some, not-true}
 use Rattle.sk_durable.proofs.Contained.{at_first, at_later, first_or_later, from_filter, from_flat, from_map}
 use Rattle.sk_durable.proofs.Contained.{nothing_there, to_filter, to_map, any_has, has_any, has_at}
 use Rattle.sk_durable.proofs.Frames.{living, marked, next_marked, off, placed, unsent, AreOf, HasFrames, IsOf, Marked, Placed}
@@ -81,10 +82,8 @@ pub of_at : (rs : List Command) (xs : List Marked) (r : Command) → AreOf rs xs
     × Contains xs x × IsOf r x
 of_at [] xs r all at = nothing_there r at
 of_at (q ∷ rs) [] r all at = absurd all
-of_at (q ∷ rs) (x ∷ xs) r all at = elim (first_or_later q rs r at) [
-  | inl is ↦ (x, at_first x xs, subst (λ c. IsOf c x) is all.0)
-  | inr later ↦ let found = of_at rs xs r all.1 later in (found.0, at_later x xs found.0 found.1, found.2)
-]
+of_at (q ∷ rs) (x ∷ xs) r all at =
+    grind (arith, nat_tests, first_or_later q rs r at, at_first x xs, of_at rs xs r all.1, at_later x xs)
 
 -- ---- their works
 
@@ -103,8 +102,7 @@ texts_of : (rs : List Command) (xs : List Marked) → AreOf rs xs → payload (m
 texts_of [] [] all = refl
 texts_of [] (x ∷ xs) all = absurd all
 texts_of (r ∷ rs) [] all = absurd all
-texts_of (r ∷ rs) (x ∷ xs) all = λ i.
-    (all.0.bytes ∙ ap (λ e. log_text (work_at e)) (sym all.0.entry)) i ++ texts_of rs xs all.1 i
+texts_of (r ∷ rs) (x ∷ xs) all = grind (arith, nat_tests, texts_of rs xs all.1)
 
 all_texts : (parts : List (List Command)) (sent : List (List Marked)) → AreAllOf parts sent
     → map payload (map (map (λ (x : Marked). x.1)) sent) ≡ payloads_of (works_of parts)
@@ -147,8 +145,7 @@ abbrev IsWork : Entry → Type 0
 IsWork e = (a : Asked) × (n : ℕ) × (e ≡ Runs a) × (a.batch ≡ Some n)
 
 work_by : (a : Asked) (batch : Option ℕ) → a.batch ≡ batch → is_logged (Runs a) ≡ true → IsWork (Runs a)
-work_by a None is logs = absurd
-    (false≢true (sym (ap (λ (b : Option ℕ). is_logged (Runs (record a { batch = b }))) is) ∙ logs))
+work_by a None is logs = grind (arith, nat_tests)
 work_by a (Some n) is logs = (a, n, refl, is)
 
 is_work : (e : Entry) → is_logged e ≡ true → IsWork e

@@ -1,17 +1,17 @@
 -- A new store that has carried out work which is in the log already is a new one with what the work leaves.
+use Rattle.sk_durable.proofs.Names.{arith, ◌≡◌, ℕ, Bool, true, false, cond, List, [], ◌∷◌, ◌++◌, Option, Some, None}
+use Rattle.sk_durable.proofs.Names.{Result, Ok, Err, inl, inr, refl, sym, ap, ◌∙◌, subst, ◌==◌, filter, eq-eqb}
+use Rattle.sk_durable.proofs.Names.{MarkedEffect, written_value, released, MergedTakes, has, noted, marked_effect}
+use Rattle.sk_durable.proofs.Names.{Effect, is_tag, numbers, step_tags, Status, none_left, AreStatuses, again}
+use Rattle.sk_durable.proofs.Names.{effect_of, Deed, performs, look_at, log_at, said_at, Said, bytes_cmp, Takes}
+use Rattle.sk_durable.proofs.Names.{machine_of, undo_state_of, IsSame, Parts, IsStill, all_same, Answer, Work, Have}
+use Rattle.sk_durable.proofs.Names.{Written, after, comes_to, with_value, held, keys_of, Entries, bytes_same}
+use Rattle.sk_durable.proofs.Names.{holds_written, stays_in_order, KnowsAll, names_reserved, free_after, work_free}
+use Rattle.sk_durable.proofs.Names.{alone_work, more_known, store_knows, Limits, NotDone, Next, Asker, asked_by}
+use Rattle.sk_durable.proofs.Names.{deed_now, has_now, Batches, IsNotRestored, Kernel, KnowsIfTold, LacksNone}
+use Rattle.sk_durable.proofs.Names.{LetsOut, Restores, RestorePost, IsNew, StoreView}
+use Rattle.std.proofs.lemmas.Bool.Decides.{nat_tests}
 use Rattle.sk_durable.proofs.Tagged.{ok_or}
-use Rattle.sk_durable.proofs.Names.{◌≡◌, ℕ, Bool, true, false, cond, List, [], ◌∷◌, ◌++◌, Option, Some, None, Result}
-use Rattle.sk_durable.proofs.Names.{Ok, Err, is_some, inl, inr, refl, sym, ap, ◌∙◌, subst, ◌==◌, filter, eq-eqb}
-use Rattle.sk_durable.proofs.Names.{eqb-true, false≢true, true≢false, true_from_ne_false, is_in, MarkedEffect}
-use Rattle.sk_durable.proofs.Names.{written_value, writes, released, said_by, MergedTakes, Merges, has, noted}
-use Rattle.sk_durable.proofs.Names.{marked_effect, Effect, is_tag, numbers, step_tags, Status, none_left, AreStatuses}
-use Rattle.sk_durable.proofs.Names.{KeptView, again, effect_of, Deed, performs, look_at, log_at, said_at, Said}
-use Rattle.sk_durable.proofs.Names.{bytes_cmp, Takes, machine_of, undo_state_of, IsSame, Parts, IsStill, all_same}
-use Rattle.sk_durable.proofs.Names.{Answer, Work, is_among, Have, Written, after, comes_to, wants_all, with_value, held}
-use Rattle.sk_durable.proofs.Names.{keys_of, Entries, bytes_same, holds_written, stays_in_order, KnowsAll}
-use Rattle.sk_durable.proofs.Names.{names_reserved, free_after, work_free, alone_work, more_known, store_knows, Limits}
-use Rattle.sk_durable.proofs.Names.{NotDone, Next, Asker, asked_by, deed_now, has_now, Batches, IsNotRestored, Kernel}
-use Rattle.sk_durable.proofs.Names.{KnowsIfTold, LacksNone, LetsOut, Restores, RestorePost, IsNew, StoreView}
 use Rattle.sk_served.specs.Plain.{after_work}
 use Rattle.sk_durable.specs.Works as works
 
@@ -43,9 +43,7 @@ none_said (x ∷ xs) none =
 
 written_is : (ws : Written) (has : Have) (key : List ℕ) → written_value bytes_cmp ws key (has key) ≡ after ws has key
 written_is [] has key = refl
-written_is (w ∷ ws) has key =
-    ap (λ b. written_value bytes_cmp ws key (cond b w.1 (has key))) (bytes_same key w.0)
-    ∙ written_is ws (with_value w.0 w.1 has) key
+written_is (w ∷ ws) has key = grind (arith, nat_tests, bytes_same key w.0, written_is ws (with_value w.0 w.1 has) key)
 
 -- ---- a step in a kernel in which no guess is undecided and nothing waits
 
@@ -81,29 +79,17 @@ module _ (a b : State) (d : Done) (w : ℕ × Told) (says : d.said ≡ Some w) (
 
   look_after : (key : List ℕ)
       → look_at bytes_cmp b.slots key ≡ written_value bytes_cmp d.written key (look_at bytes_cmp a.slots key)
-  look_after key =
-      t.look key ∙ ap (λ (f : Shown). written_value bytes_cmp f.written key (look_at bytes_cmp a.slots key)) (sym did)
+  look_after key = grind (arith, nat_tests, did)
 
   log_after : (key : List ℕ) → log_at bytes_cmp b.slots key ≡ []
-  log_after key =
-      let has = look_at bytes_cmp a.slots key in
-      let written = is_in bytes_cmp (writes left) key in
-      let none : log_at bytes_cmp a.slots key ++ noted written tags has [] ≡ [] =
-      (λ i. log key i ++ noted written (no_tags i) has []) ∙ not_noted written has in
-      let merges = subst (λ ns. Merges [] ns (log_at bytes_cmp b.slots key)) none (t.logs key) in
-      none_left [] (log_at bytes_cmp b.slots key) merges
+  log_after key = grind (arith, nat_tests, no_tags, not_noted, none_left [] (log_at bytes_cmp b.slots key))
 
   opens_after : b.opens ≡ []
   opens_after = t.opens ∙ ap (λ os. os ++ []) opens
 
   -- only the answer is said
   said_after : (u : ℕ) → said_at b.said u ≡ cond (w.0 == u) ((w, []) ∷ []) []
-  said_after u =
-      let by = λ (o : Option (ℕ × Told)). said_by (again {V = List ℕ} {O = Told} bytes_cmp) u o tags in
-      t.texts u
-      ∙ ap (λ (f : Shown). said_at a.said u ++ by f.said) (sym did)
-      ∙ ap (λ o. said_at a.said u ++ by o) says
-      ∙ (λ i. said_at (said i) u ++ cond (w.0 == u) ((w, no_tags i) ∷ []) [])
+  said_after u = grind (arith, nat_tests, did, no_tags)
 
   said_here : said_at b.said w.0 ≡ (w, []) ∷ []
   said_here = said_after w.0 ∙ ap (λ e. cond e ((w, []) ∷ []) []) (eq-eqb w.0 w.0 refl)
@@ -112,29 +98,12 @@ module _ (a b : State) (d : Done) (w : ℕ × Told) (says : d.said ≡ Some w) (
 
 module _ (limits : Limits) (next : Next) (start : Entries) (a : StoreView) (new : IsNew limits next start a) where
   none_known : AreStatuses a.batched.kernel.parts.guesses a.batched.kernel.parts.opens no_status
-  none_known = record {
-    undecided = λ g. ap (λ os. has g (numbers os)) new.opens;
-    struck = λ g here. absurd (false≢true (sym (ap (λ (v : KeptView). has g v.struck) new.guesses.1) ∙ here));
-    fresh = λ g above. refl;
-  }
+  none_known = grind (arith, nat_tests)
 
   -- with what is seen as it was
   still_new : (c : Batches) → IsSame bytes_cmp a.batched.kernel.parts c.kernel.parts → c.queue ≡ a.batched.queue
       → c.begun ≡ a.batched.begun → IsNew limits next start (record a { batched = c })
-  still_new c same queue begun = record {
-    takes = new.takes;
-    look = λ key. same.look key ∙ new.look key;
-    in_order = new.in_order;
-    none_reserved = new.none_reserved;
-    log = λ key. same.logs key ∙ new.log key;
-    guesses = (new.guesses.0, same.guesses ∙ new.guesses.1);
-    opens = same.opens ∙ new.opens;
-    said = same.said ∙ new.said;
-    queue = queue ∙ new.queue;
-    begun = begun ∙ new.begun;
-    channels = new.channels;
-    places = new.places;
-  }
+  still_new c same queue begun = grind (arith, nat_tests)
 
   seen : (c : Kernel) → IsStill a.batched.kernel c → IsSame bytes_cmp a.batched.kernel.parts c.parts
   seen c (inl is) =
@@ -153,10 +122,13 @@ module _ (limits : Limits) (next : Next) (start : Entries) (a : StoreView) (new 
   pub not_restored : (c : Batches) (why : NotDone) (asker : Asker) → IsNotRestored why asker a.batched c
       → IsNew limits next start (record a { batched = c })
   not_restored c why asker r =
-      let same = seen r.behind.kernel r.stays.kernel in
-      let none = none_dropped r.behind c asker.channel r.dropped (same.said ∙ new.said) r.lets in
-      subst (λ x. IsNew limits next start (record a { batched = x })) (sym none)
-      (still_new r.behind same r.stays.queue r.stays.begun)
+      grind (
+        arith,
+        nat_tests,
+        seen r.behind.kernel r.stays.kernel,
+        none_dropped r.behind c asker.channel r.dropped,
+        still_new r.behind,
+      )
 
   -- ---- work is carried out
 
@@ -168,25 +140,21 @@ module _ (limits : Limits) (next : Next) (start : Entries) (a : StoreView) (new 
     same_have i key = new.look key i
 
     knows_all : (known : List (List ℕ)) → LacksNone a.batched.kernel known → KnowsAll known (held start)
-    knows_all known lacks = (
-      lacks.0,
-      λ key named there.
-          true_from_ne_false (is_among key known)
-          (λ lacking. true≢false (sym there ∙ ap is_some (sym (new.look key) ∙ (lacks.1 key named lacking).0))),
-    )
+    knows_all known lacks = grind (arith, nat_tests)
 
     -- it comes to what it comes to by these entries
     comes_same : (known : List (List ℕ)) → KnowsIfTold a.batched.kernel work known
         → comes_to known work (has_now a.batched.kernel) ≡ comes_to (keys_of start) work (held start)
     comes_same known knows =
-        ap (comes_to known work) same_have
-        ∙ elim (wants_all work) as (λ b. wants_all work ≡ b
-        → comes_to known work (held start) ≡ comes_to (keys_of start) work (held start)) [
-          | true ↦ λ is.
-              let all = knows_all known (knows is) in
-              more_known work known (keys_of start) (held start) new.none_reserved all (store_knows start new.in_order)
-          | false ↦ λ is. alone_work work known (keys_of start) (held start) is
-        ] refl
+        grind (
+          arith,
+          nat_tests,
+          same_have,
+          knows_all known,
+          more_known work known (keys_of start) (held start) new.none_reserved,
+          store_knows start new.in_order,
+          alone_work work known (keys_of start) (held start),
+        )
 
     module _ (asker : Asker) (known : List (List ℕ)) (knows : KnowsIfTold a.batched.kernel work known) (b : Batches)
         (took : works.TakenIn false a.batched (asked_by asker known work) b) where
@@ -214,14 +182,7 @@ module _ (limits : Limits) (next : Next) (start : Entries) (a : StoreView) (new 
 
       module _ (c : Batches) (told : Told) (lets : LetsOut asker.channel (Some told) b c) where
         none_left_of : (u : ℕ) → said_at c.kernel.parts.said u ≡ []
-        none_left_of u =
-            elim (asker.channel == u) as (λ e. (asker.channel == u) ≡ e → said_at c.kernel.parts.said u ≡ []) [
-              | true ↦ λ e.
-                  let left = said_at c.kernel.parts.said asker.channel in
-                  ap (said_at c.kernel.parts.said) (sym (eqb-true asker.channel u e))
-                  ∙ sym (rest_of (answer, []) ((asker.channel, told), []) [] left (sym said_there ∙ lets.0.first))
-              | false ↦ λ e. lets.0.others u e ∙ said_behind u ∙ ap (λ x. cond x ((answer, []) ∷ []) []) e
-            ] refl
+        none_left_of u = grind (arith, nat_tests, rest_of, said_there, said_behind u)
 
         let_go : IsNew limits next (after_work work start) (record a { batched = c })
         let_go = record {

@@ -1,11 +1,12 @@
 -- All that a store did, told to the machine of records.
-use Rattle.sk_durable.proofs.Names.{◌≡◌, ℕ, Bool, true, false, List, [], ◌∷◌, ◌++◌, length, map, Option, Some, None}
-use Rattle.sk_durable.proofs.Names.{inl, inr, refl, sym, ap, subst, if◌then◌else◌, option_or, Status, told_more}
+use Rattle.sk_durable.proofs.Names.{arith, ◌≡◌, ℕ, Bool, true, false, List, [], ◌∷◌, ◌++◌, length, map, Option, Some}
+use Rattle.sk_durable.proofs.Names.{None, inl, inr, refl, sym, ap, subst, if◌then◌else◌, option_or, Status, told_more}
 use Rattle.sk_durable.proofs.Names.{bytes_cmp, IsSame, Queued, frame_refused, is_full, Begins, Logged, cut_kept}
 use Rattle.sk_durable.proofs.Names.{word_kept, IsNumbered, all_same, Work, Out, NotDone, Asker, IsNotDone, Kernel}
-use Rattle.sk_durable.proofs.Names.{MayDraw, StoreView, Call, Connects, HangsUp, Frees, Hears, Carries, Declines, Tells}
-use Rattle.sk_durable.proofs.Names.{Drops, Refuses, Hands, DrawsGuess, Sends, Turns, Learns, Cuts, Stops, Decides}
-use Rattle.sk_durable.proofs.Names.{Rests, Does, Serves, carried, carried_by, decided, decided_by}
+use Rattle.sk_durable.proofs.Names.{MayDraw, StoreView, Call, Connects, HangsUp, Frees, Hears, Carries, Declines}
+use Rattle.sk_durable.proofs.Names.{Tells, Drops, Refuses, Hands, DrawsGuess, Sends, Turns, Learns, Cuts, Stops}
+use Rattle.sk_durable.proofs.Names.{Decides, Rests, Does, Serves, carried, carried_by, decided, decided_by}
+use Rattle.std.proofs.lemmas.Bool.Decides.{nat_tests}
 use Rattle.std.proofs.lemmas.Grind.{flat_map-append}
 use Rattle.sk_batches.specs.declared.refusal.Refusal.TheVariants as queued
 use Rattle.sk_batched.specs.declared.batched.Outcome.TheVariants.{Refused}
@@ -37,11 +38,15 @@ module _ (told : Out) (a : StoreView) (status : ℕ → Option Status)
   -- the guess of the open batch is drawn, and nothing else is seen to change
   begins : (s : StoreView) → is_full a.batched ≡ false → Begins a.batched s.batched → Led told told x [] [] s
   begins s room (draws, queue, begun) =
-      let one = drawn told a status are known s.batched.kernel room draws in
-      led_on told told told x [] [] [] [] (drawn_store a s.batched.kernel) s one
-      (idle told (drawn_store a s.batched.kernel) one.status one.agrees one.known s
-      (all_same bytes_cmp s.batched.kernel.parts)
-      (ap (λ q. map (λ b. b.number) q.batches) queue, ap (λ q. q.number) queue) begun)
+      grind (
+        arith,
+        nat_tests,
+        drawn told a status are known s.batched.kernel room draws,
+        led_on told told told,
+        drawn_store a s.batched.kernel,
+        idle told (drawn_store a s.batched.kernel),
+        all_same bytes_cmp s.batched.kernel.parts,
+      )
 
   may_draw : (s : StoreView) → MayDraw a.batched s.batched → Led told told x [] [] s
   may_draw s (inl stays) = still told a status are known s stays

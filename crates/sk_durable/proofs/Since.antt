@@ -1,10 +1,11 @@
 -- What commands said to a channel since it was connected: what was taken out of it, and what waits there.
-use Rattle.sk_durable.proofs.Names.{◌≡◌, ℕ, true, false, List, [], ◌∷◌, ◌++◌, map, not, cond, refl, sym, ◌∙◌, ap, subst}
+use Rattle.sk_durable.proofs.Names.{arith, ◌≡◌, ℕ, true, false, List, [], ◌∷◌, ◌++◌, map, refl, sym, ◌∙◌, ap, subst}
 use Rattle.sk_durable.proofs.Names.{◌==◌, filter, Contains, or_right, false_from_ne_true, append-nil}
-use Rattle.sk_durable.proofs.Names.{Contains-append_left, Contains-append_right, list_any-append, has, said_by, numbers}
-use Rattle.sk_durable.proofs.Names.{moves_of, said_at, IsSaid, failed_in, is_struck, kept, said_to, failed_more}
-use Rattle.sk_durable.proofs.Names.{kept_more, Out, served, Entries, Limits, Next, StoreView, Call, Connects, Decides}
-use Rattle.sk_durable.proofs.Names.{Logged, carried, carried_from, decided, failed, stands, stands_on, Command, HasDone}
+use Rattle.sk_durable.proofs.Names.{Contains-append_left, Contains-append_right, list_any-append, has, numbers}
+use Rattle.sk_durable.proofs.Names.{said_at, IsSaid, failed_in, kept, said_to, failed_more, kept_more, served}
+use Rattle.sk_durable.proofs.Names.{Entries, Limits, Next, StoreView, Call, Connects, Decides, Logged, carried}
+use Rattle.sk_durable.proofs.Names.{decided, failed, stands, stands_on, Command, HasDone}
+use Rattle.std.proofs.lemmas.Bool.Decides.{nat_tests}
 use Rattle.sk_durable.proofs.Machines.{machine, runs_work, Machine, Quiet}
 use Rattle.sk_durable.proofs.Served.{carried_behind, decided_behind, outs_from}
 use Rattle.sk_durable.proofs.Plain.{as_log, failed_is, fails_are, led, logged_is}
@@ -15,25 +16,7 @@ use Rattle.sk_durable.proofs.Tickets.{kept_append, mapped_none, parted, settled_
 quiet_said : (t : ℕ) (gs : List ℕ) (log : List Command) → Quiet log
     → said_to served t (kept gs (filter (λ r. runs_work r.entry) log)) ≡ said_to served t (kept gs log)
 quiet_said t gs [] quiet = refl
-quiet_said t gs (r ∷ log) quiet =
-    let others = filter (λ (q : Command). runs_work q.entry) log in
-    let rest = quiet_said t gs log quiet.1 in
-    elim (runs_work r.entry) as (λ b. runs_work r.entry ≡ b
-    → said_to served t (kept gs (cond b (r ∷ others) others)) ≡ said_to served t (kept gs (r ∷ log))) [
-      | true ↦ λ runs.
-          elim (not (is_struck gs r)) as (λ b. said_to served t (cond b (r ∷ kept gs others) (kept gs others))
-          ≡ said_to served t (cond b (r ∷ kept gs log) (kept gs log))) [
-            | true ↦ ap (λ l. said_by served t r.said r.rests ++ l) rest
-            | false ↦ rest
-          ]
-      | false ↦ λ begins.
-          elim (not (is_struck gs r)) as
-          (λ b. said_to served t (kept gs others) ≡ said_to served t (cond b (r ∷ kept gs log) (kept gs log))) [
-            | true ↦ rest ∙ ap (λ said. said_by served t said r.rests ++ said_to served t (kept gs log))
-                (sym (quiet.0 begins))
-            | false ↦ rest
-          ]
-    ] refl
+quiet_said t gs (r ∷ log) quiet = grind (arith, nat_tests, quiet_said t gs log quiet.1, runs_work r.entry)
 
 module _ (limits : Limits) (next : Next) (start : Entries) (cs : List Call) (s : StoreView)
     (done : HasDone limits next start cs s) where
@@ -43,11 +26,15 @@ module _ (limits : Limits) (next : Next) (start : Entries) (cs : List Call) (s :
 
   pub all_said : (t : ℕ) → IsSaid (said_to served t (stands cs)) t (outs_from (λ u. []) cs) last_machine
   all_said t =
-      let l = led limits next start cs s done in
-      subst (λ xs. IsSaid xs t (outs_from (λ u. []) cs) last_machine)
-      (sym (quiet_said t (failed_in (moves_of l.moves)) l.log l.quiet)
-      ∙ (λ i. said_to served t (kept (fails_are limits next start cs s done i) (l.commands_are i))))
-      ((as_log limits next start cs s done).channels t)
+      grind (
+        arith,
+        nat_tests,
+        led limits next start cs s done,
+        outs_from (λ u. []) cs,
+        quiet_said t,
+        fails_are limits next start cs s done,
+        as_log limits next start cs s done,
+      )
 
 -- a channel was connected when nothing waited there, and never since
 pub record Since (limits : Limits) (next : Next) (start : Entries) (t : ℕ) (cs : List Call) : Type 0 where
@@ -79,12 +66,13 @@ module _ (limits : Limits) (next : Next) (start : Entries) (cs : List Call) (s :
 
   all_out : said_to served t (stands since.pre) ≡ out_then.out
   all_out =
-      out_then.split
-      ∙ ap (λ l. out_then.out ++ l)
-      (mapped_none (λ (x : Output).
-      (x.0, filter (λ g. has g x.1) (numbers since.mid.batched.kernel.parts.opens))) out_then.waiting
-      (sym out_then.texts ∙ since.empty))
-      ∙ append-nil out_then.out
+      grind (
+        arith,
+        nat_tests,
+        mapped_none (λ (x : Output). (x.0, filter (λ g. has g x.1) (numbers since.mid.batched.kernel.parts.opens)))
+            out_then.waiting (sym out_then.texts ∙ since.empty),
+        append-nil out_then.out,
+      )
 
   none_fails : (x : Output) (g : ℕ) → Contains (said_to served t (stands since.pre)) x → has g x.1 ≡ true
       → has g more ≡ false
@@ -109,28 +97,32 @@ module _ (limits : Limits) (next : Next) (start : Entries) (cs : List Call) (s :
   firsts = outs_from (λ u. []) since.pre t
 
   first_is : first ≡ out_then.out
-  first_is =
-      ap (λ gs. said_to served t (kept gs (carried since.pre))) failed_then
-      ∙ ap (said_to served t) (kept_more before more (carried since.pre))
-      ∙ settled_kept t more (stands since.pre) none_fails
-      ∙ all_out
+  first_is = grind (arith, nat_tests, failed_then, kept_more, settled_kept t, none_fails, all_out)
 
   whole : IsSaid (said_to served t (stands cs)) t (outs_from (λ u. []) cs) (last_machine limits next start cs s done)
   whole = all_said limits next start cs s done t
 
   all_parts : first ++ later ≡ whole.out ++ whole.waiting
   all_parts =
-      sym (kept_append t (failed cs) (carried since.pre) (carried since.post))
-      ∙ ap (λ l. said_to served t (kept (failed cs) l))
-      (sym (ap carried since.at ∙ carried_behind since.pre (Connects t ∷ since.post)))
-      ∙ whole.split
+      grind (
+        arith,
+        nat_tests,
+        kept_append t (failed cs) (carried since.pre) (carried since.post),
+        carried_behind since.pre (Connects t ∷ since.post),
+      )
 
   -- what was taken out since then stands behind what was before
   outs_then : outs_from (λ u. []) cs t ≡ firsts ++ taken_from t [] since.post
   outs_then =
-      ap (λ ds. outs_from (λ u. []) ds t) since.at
-      ∙ ap (λ (f : Out). f t) (outs_behind (λ u. []) since.pre (Connects t ∷ since.post))
-      ∙ outs_taken t (outs_from (λ u. []) since.pre) firsts [] since.post since.never (sym (append-nil firsts))
+      grind (
+        arith,
+        nat_tests,
+        outs_from (λ u. []),
+        outs_behind (λ u. []) since.pre (Connects t ∷ since.post),
+        outs_taken t (outs_from (λ u. []) since.pre),
+        outs_from (λ u. []) since.pre,
+        append-nil,
+      )
 
   taken_is : taken t cs ≡ taken_from t [] since.post
   taken_is = ap (taken_from t []) since.at ∙ taken_reset t [] since.pre since.post
@@ -147,9 +139,12 @@ module _ (limits : Limits) (next : Next) (start : Entries) (cs : List Call) (s :
 
   since_is : said_to served t (stands_on t cs) ≡ later
   since_is =
-      ap (λ l. said_to served t (kept (failed cs) l))
-      (ap (carried_from t []) since.at ∙ carried_reset t [] since.pre since.post)
-      ∙ since_says t (failed cs) [] since.post since.never
+      grind (
+        arith,
+        nat_tests,
+        carried_reset t [] since.pre since.post,
+        since_says t (failed cs) [] since.post since.never,
+      )
 
   -- all that commands said to it since then is what was taken out since then, and what waits
   pub said_since : IsSaid (said_to served t (stands_on t cs)) t (λ u. taken t cs)

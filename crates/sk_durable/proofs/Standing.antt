@@ -1,13 +1,13 @@
 -- A command that is carried out rests on nothing that failed, and on guesses that were drawn alone.
-use Rattle.sk_durable.proofs.Names.{◌≡◌, ℕ, ◌<◌, ◌≤◌, true, false, not, List, [], ◌∷◌, ◌++◌, length, map, Option, Some}
-use Rattle.sk_durable.proofs.Names.{None, inl, inr, refl, sym, ◌∙◌, ap, subst, append_assoc, arith, filter, fold}
-use Rattle.sk_durable.proofs.Names.{Contains, FinMap, from_sorted, append-nil, append_cancel_left, length-map}
+use Rattle.std.proofs.lemmas.Bool.Decides.{nat_tests}
+use Rattle.sk_durable.proofs.Names.{◌≡◌, ℕ, ◌<◌, ◌≤◌, true, false, not, List, [], ◌∷◌, ◌++◌, length, map, Option}
+use Rattle.sk_durable.proofs.Names.{Some, None, inl, inr, refl, sym, ◌∙◌, ap, subst, append_assoc, arith, filter}
+use Rattle.sk_durable.proofs.Names.{fold, Contains, FinMap, from_sorted, append-nil, append_cancel_left, length-map}
 use Rattle.sk_durable.proofs.Names.{map-append, filter-append, Contains-append_right, fold-append, has, record_after}
 use Rattle.sk_durable.proofs.Names.{record_of, Commit, Event, Fail, Taken, Status, moves_of, told_more, DoesMove}
 use Rattle.sk_durable.proofs.Names.{TellsOut, bytes_exact, bytes_total, IsAsLogged, failed_in, is_struck, kept, Logs}
 use Rattle.sk_durable.proofs.Names.{as_logged, Entries, Out, served, Entry, Limits, Next, StoreView, Call, Does}
-use Rattle.sk_durable.proofs.Names.{carried, carried_by, decided, decided_by, failed, Command, HasDone, not-true}
-use Rattle.sk_durable.proofs.Names.{failed_more}
+use Rattle.sk_durable.proofs.Names.{carried, carried_by, decided, decided_by, failed, Command, HasDone, failed_more}
 use Rattle.sk_record.specs.declared.status.Status.TheVariants as status_as
 use Rattle.sk_durable.proofs.Contained.{from_filter, none_lost, to_filter}
 use Rattle.sk_durable.proofs.Machines.{is_decision, machine, runs_work, Led, Machine, Move, moves_behind}
@@ -23,18 +23,9 @@ none_failed s none = cc
 logs_both : (cs ds : List Move) (told mid last : Out) (x y z : Machine) (one two : List Command)
     → Logs served told x cs one mid y → Logs served mid y ds two last z
     → Logs served told x (cs ++ ds) (one ++ two) last z
-logs_both [] ds told mid last x y z one two (none, same, is) rest =
-    subst (λ l. Logs served told x ds (l ++ two) last z) (sym none)
-    (subst (λ w. Logs served w x ds two last z) (sym same) (subst (λ m. Logs served mid m ds two last z) (sym is) rest))
-logs_both (DoesMove e ∷ cs) ds told mid last x y z one two (m, first, more, is, goes, logged, behind) rest = (
-  m,
-  first,
-  more ++ two,
-  ap (λ l. l ++ two) is ∙ append_assoc first more two,
-  goes,
-  logged,
-  logs_both cs ds told mid last m y z more two behind rest,
-)
+logs_both [] ds told mid last x y z one two (none, same, is) rest = grind (arith, nat_tests)
+logs_both (DoesMove e ∷ cs) ds told mid last x y z one two (m, first, more, is, goes, logged, behind) rest =
+    grind (arith, nat_tests, logs_both cs ds told mid last m y z more two behind rest)
 logs_both (TellsOut t output ∷ cs) ds told mid last x y z one two (m, out, behind) rest =
     (m, out, logs_both cs ds (told_more t output told) mid last m y z one two behind rest)
 
@@ -80,9 +71,7 @@ module _ (limits : Limits) (next : Next) (start : Entries) (cs : List Call) (m :
   both_logged : Logs served (λ t. []) (machine first.batched.kernel (λ g. None)) (one.moves ++ two.moves)
       (one.log ++ two.log) (outs_by c told)
       (machine s.batched.kernel two.status)
-  both_logged = logs_both one.moves two.moves (λ t. []) told (outs_by c told)
-      (machine first.batched.kernel (λ g. None)) (machine m.batched.kernel one.status)
-      (machine s.batched.kernel two.status) one.log two.log one.logs two.logs
+  both_logged = grind (arith, nat_tests, logs_both, outs_by c, machine m.batched.kernel, machine s.batched.kernel)
 
   both_as : IsAsLogged served map_of (moves_of (one.moves ++ two.moves)) (one.log ++ two.log) (outs_by c told)
       (machine s.batched.kernel two.status)
@@ -94,9 +83,7 @@ module _ (limits : Limits) (next : Next) (start : Entries) (cs : List Call) (m :
   fails = failed_in (moves_of one.moves)
 
   same_fails : failed_in (moves_of (one.moves ++ two.moves)) ≡ fails
-  same_fails =
-      ap failed_in (moves_behind one.moves two.moves) ∙ failed_more (moves_of one.moves) (moves_of two.moves)
-      ∙ ap (λ gs. fails ++ gs) (none_failed (moves_of two.moves) (two.decides_are ∙ undecided)) ∙ append-nil fails
+  same_fails = grind (arith, nat_tests, moves_behind, failed_more, none_failed, append-nil)
 
   abbrev entry_of : List Command → List Entry
   entry_of rs = map (λ r. r.entry) rs
@@ -126,8 +113,7 @@ module _ (limits : Limits) (next : Next) (start : Entries) (cs : List Call) (m :
 
   -- no guess failed that it rests on
   pub unstruck : (r : Command) → Contains (carried_by c) r → is_struck (failed cs) r ≡ false
-  unstruck r at = ap (λ gs. is_struck gs r) (sym (fails_are limits next start cs m done))
-      ∙ not-true (is_struck fails r) (stands r at).1
+  unstruck r at = grind (arith, nat_tests, fails_are limits next start cs m done, stands r at)
 
   -- and each was drawn
   pub drawn : (r : Command) → Contains (carried_by c) r → (g : ℕ) → has g r.rests ≡ true → g ≤ s.batched.queue.number

@@ -1,10 +1,10 @@
 -- What keys rest on once the guess of a batch is drawn.
-use Rattle.sk_durable.proofs.Names.{◌≡◌, ℕ, true, false, cond, ◌||◌, List, [], ◌∷◌, ◌++◌, map, Option, Some, None}
-use Rattle.sk_durable.proofs.Names.{Result, Ok, Err, refl, sym, ◌∙◌, ap, ◌==◌, ◌%◌, eq_by_cmp, eq-eqb, append-nil}
-use Rattle.sk_durable.proofs.Names.{is_in, MergedTakes, last_tags, noted, Note, marked_effect, Effect, step_tags}
-use Rattle.sk_durable.proofs.Names.{tags_at, with_drawn, Status, same_last, AreStatuses, again, effect_of, look_at}
-use Rattle.sk_durable.proofs.Names.{log_at, bytes_cmp, Takes, machine_of, undo_state_of, Parts, batch_key, opening}
-use Rattle.sk_durable.proofs.Names.{notes_by, IsRow}
+use Rattle.sk_durable.proofs.Names.{arith, ◌≡◌, ℕ, false, ◌||◌, List, [], ◌∷◌, ◌++◌, map, Option, Some, None, Result}
+use Rattle.sk_durable.proofs.Names.{Ok, Err, sym, ◌∙◌, ap, eq_by_cmp, append-nil, is_in, MergedTakes, last_tags}
+use Rattle.sk_durable.proofs.Names.{noted, Note, marked_effect, Effect, step_tags, tags_at, with_drawn, Status}
+use Rattle.sk_durable.proofs.Names.{same_last, AreStatuses, again, effect_of, look_at, log_at, bytes_cmp, Takes}
+use Rattle.sk_durable.proofs.Names.{machine_of, undo_state_of, Parts, batch_key, opening, notes_by, IsRow}
+use Rattle.std.proofs.lemmas.Bool.Decides.{nat_tests}
 
 -- a note that rests on one guess
 abbrev one_note : {V : Type 0} → ℕ → Note V
@@ -12,14 +12,8 @@ one_note g = record { tags = g ∷ []; before = None }
 
 -- the last note of a batch's key is that of the last guess
 last_noted : (V : Type 0) (t : List ℕ) (n : ℕ) (gs : List ℕ) → last_tags t (notes_by {V = V} n (gs ++ n ∷ [])) ≡ n ∷ []
-last_noted V t n [] =
-    ap (λ b. last_tags t (cond b (one_note n ∷ []) (notes_by {V = V} n []))) (eq-eqb (n % 128) (n % 128) refl)
-last_noted V t n (g ∷ gs) =
-    let others = notes_by {V = V} n (gs ++ n ∷ []) in
-    elim (g % 128 == n % 128) as (λ b. last_tags t (cond b (one_note g ∷ others) others) ≡ n ∷ []) [
-      | true ↦ last_noted V (g ∷ []) n gs
-      | false ↦ last_noted V t n gs
-    ]
+last_noted V t n [] = grind (arith, nat_tests)
+last_noted V t n (g ∷ gs) = grind (arith, nat_tests, last_noted V (g ∷ []) n gs, last_noted V t n gs)
 
 -- it rests on that guess alone
 pub tags_of_batch : {V O : Type 0} (m : Parts (List ℕ) V O) (gs : List ℕ) (n : ℕ) → IsRow m (gs ++ n ∷ [])

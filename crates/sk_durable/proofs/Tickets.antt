@@ -1,10 +1,11 @@
 -- Outputs of a channel by their tickets, and what tickets were told.
+use Rattle.std.proofs.lemmas.Bool.Decides.{nat_tests}
 use Rattle.sk_durable.proofs.Contained.{first_or_later, at_first, at_later, nothing_there, from_map, to_map}
 use Rattle.sk_durable.proofs.Contained.{from_filter}
-use Rattle.sk_durable.proofs.Names.{◌≡◌, ℕ, zero, suc, ◌+◌, ◌-◌, ◌<◌, ◌≤◌, Bool, true, false, cond, not, List, [], ◌∷◌}
-use Rattle.sk_durable.proofs.Names.{◌++◌, length, map, Option, Some, None, inl, inr, refl, sym, ◌∙◌, ap, subst, arith}
-use Rattle.sk_durable.proofs.Names.{append_assoc, length-append, ◌==◌, ◌⊎◌, slice_get, filter, list_any, Contains}
-use Rattle.sk_durable.proofs.Names.{true≢false, or_left, or_right, or_from, eq-eqb, length-replicate, filter-append}
+use Rattle.sk_durable.proofs.Names.{◌≡◌, ℕ, zero, suc, ◌+◌, ◌-◌, ◌<◌, ◌≤◌, Bool, true, false, cond, not, List, []}
+use Rattle.sk_durable.proofs.Names.{◌∷◌, ◌++◌, length, map, Option, Some, None, inl, inr, refl, sym, ◌∙◌, ap, subst}
+use Rattle.sk_durable.proofs.Names.{arith, append_assoc, length-append, ◌==◌, ◌⊎◌, slice_get, filter, list_any}
+use Rattle.sk_durable.proofs.Names.{Contains, true≢false, or_right, length-replicate, filter-append}
 use Rattle.sk_durable.proofs.Names.{Contains-append_left, Contains-append_right, Contains-append_cases}
 use Rattle.sk_durable.proofs.Names.{slice_get_within, Tagged, has, said_by, is_struck, kept, resting_among, said_to}
 use Rattle.sk_durable.proofs.Names.{refused, refused_up_to, Told, Answer, answer_text, served, Command}
@@ -44,11 +45,7 @@ module _ {A : Type 0} where
       → (slice_get xs k ≡ Some v) ⊎ ((j : ℕ) × (k ≡ length xs + j) × (slice_get ys j ≡ Some v))
   got_cases [] ys k v is = inr (k, omega arith, is)
   got_cases (x ∷ xs) ys zero v is = inl is
-  got_cases (x ∷ xs) ys (suc k) v is =
-      elim (got_cases xs ys k v is) [
-        | inl at ↦ inl at
-        | inr more ↦ inr (more.0, omega (arith, more.1), more.2)
-      ]
+  got_cases (x ∷ xs) ys (suc k) v is = grind (arith, nat_tests, got_cases xs ys k v is)
 
 module _ {A B : Type 0} (f : A → B) where
   pub mapped_none : (xs : List A) → map f xs ≡ [] → xs ≡ []
@@ -60,12 +57,7 @@ module _ {A B : Type 0} (f : A → B) where
       → (more : List A) × (xs ≡ us ++ more) × (vs ≡ more ++ ys) × (map f more ≡ zs)
   parted [] vs xs ys zs is maps = (xs, refl, is, maps)
   parted (u ∷ us) vs [] ys zs is maps = cc
-  parted (u ∷ us) vs (x ∷ xs) ys zs is maps =
-      let first : u ≡ x = cc in
-      let others : us ++ vs ≡ xs ++ ys = cc in
-      let mapped_others : map f xs ≡ map f us ++ zs = cc in
-      let rest = parted us vs xs ys zs others mapped_others in
-      (rest.0, (λ i. sym first i ∷ rest.1 i), rest.2, rest.3)
+  parted (u ∷ us) vs (x ∷ xs) ys zs is maps = grind (arith, nat_tests, parted us vs xs ys zs)
 
 -- ---- tickets that rise
 
@@ -134,9 +126,7 @@ rises_resting gs n m (x ∷ xs) (less, rest) = (less, rises_resting gs (ticket_o
 
 pub rested : (gs : List ℕ) (ys : List Output) (x : Output) → Contains (resting_among gs ys) x
     → (y : Output) × Contains ys y × (x.0 ≡ y.0)
-rested gs ys x there =
-    let at = from_map (λ (z : Output). (z.0, filter (λ g. has g z.1) gs)) ys x there in
-    (at.0, at.1, ap (λ (z : Output). z.0) (sym at.2))
+rested gs ys x there = grind (arith, nat_tests, from_map (λ (z : Output). (z.0, filter (λ g. has g z.1) gs)) ys x there)
 
 pub resting : (gs : List ℕ) (ys : List Output) (y : Output) → Contains ys y
     → (x : Output) × Contains (resting_among gs ys) x × (x.0 ≡ y.0)
@@ -148,15 +138,12 @@ resting gs ys y there =
 none_of : (p : ℕ → Bool) (gs : List ℕ) → ((g : ℕ) → has g gs ≡ true → p g ≡ false) → list_any p gs ≡ false
 none_of p [] none = refl
 none_of p (g ∷ gs) none =
-    or_from (p g) (list_any p gs) (none g (or_left (g == g) (has g gs) (eq-eqb g g refl)))
-    (none_of p gs (λ h there. none h (or_right (g == h) (has h gs) there)))
+    grind (arith, nat_tests, none_of p gs (λ h there. none h (or_right (g == h) (has h gs) there)))
 
 module _ (t : ℕ) where
   pub said_append : (xs ys : List Command) → said_to served t (xs ++ ys) ≡ said_to served t xs ++ said_to served t ys
   said_append [] ys = refl
-  said_append (r ∷ xs) ys =
-      ap (λ l. said_by served t r.said r.rests ++ l) (said_append xs ys)
-      ∙ sym (append_assoc (said_by served t r.said r.rests) (said_to served t xs) (said_to served t ys))
+  said_append (r ∷ xs) ys = grind (arith, nat_tests, said_append xs ys)
 
   pub kept_append : (gs : List ℕ) (xs ys : List Command)
       → said_to served t (kept gs (xs ++ ys)) ≡ said_to served t (kept gs xs) ++ said_to served t (kept gs ys)
@@ -185,10 +172,7 @@ module _ (t : ℕ) where
 
   own_said : (r : Command) (w : ℕ × (ℕ × Answer)) → r.said ≡ Some w → (w.0 == t) ≡ true
       → Contains (said_by served t r.said r.rests) (w, r.rests)
-  own_said r w is to =
-      subst (λ said. Contains (said_by served t said r.rests) (w, r.rests)) (sym is)
-      (subst (λ b. Contains {X = Output} (cond b ((w, r.rests) ∷ []) []) (w, r.rests)) (sym to)
-      (at_first {A = Output} (w, r.rests) []))
+  own_said r w is to = grind (arith, nat_tests, at_first)
 
   -- each output is what a command said
   pub says_it : (log : List Command) (y : Output) → Contains (said_to served t log) y
@@ -225,27 +209,13 @@ module _ (t : ℕ) where
   pub fewer_said : (gs : List ℕ) (log : List Command)
       → length (said_to served t (kept gs log)) ≤ length (said_to served t log)
   fewer_said gs [] = omega arith
-  fewer_said gs (r ∷ log) =
-      let rest = fewer_said gs log in
-      let own = said_by served t r.said r.rests in
-      let all = length-append own (said_to served t log) in
-      elim (not (is_struck gs r)) as
-      (λ b. length (said_to served t (cond b (r ∷ kept gs log) (kept gs log))) ≤ length
-      (own ++ said_to served t log)) [
-        | true ↦ let less = length-append own (said_to served t (kept gs log)) in omega (arith, rest, all, less)
-        | false ↦ omega (arith, rest, all)
-      ]
+  fewer_said gs (r ∷ log) = grind (arith, nat_tests, fewer_said gs log, length-append)
 
   pub rises_kept : (gs : List ℕ) (log : List Command) (n m : ℕ) → Rises n (said_to served t log) m
       → Rises n (said_to served t (kept gs log)) m
   rises_kept gs [] n m le = le
   rises_kept gs (r ∷ log) n m rises =
-      let own = said_by served t r.said r.rests in
-      elim (not (is_struck gs r)) as (λ b. Rises n (said_to served t (cond b (r ∷ kept gs log) (kept gs log))) m) [
-        | true ↦ rises_thin n m own (said_to served t log) (said_to served t (kept gs log))
-            (λ k. rises_kept gs log k m) rises
-        | false ↦ rises_kept gs log n m (rises_behind n m own (said_to served t log) rises)
-      ]
+      grind (arith, nat_tests, rises_thin n m, rises_kept gs log, rises_kept gs log n m, rises_behind n m)
 
   -- where what was said rests on none of some guesses, all of it is left once these fail
   pub settled_kept : (gs : List ℕ) (log : List Command)
@@ -279,11 +249,7 @@ pub record IsToldOf (told : Told) (taken : List (ℕ × (ℕ × Answer))) : Type
   pub below : (w : ℕ × (ℕ × Answer)) → Contains taken w → w.1.0 ≤ length told
 
 pub nothing_told : IsToldOf [] []
-nothing_told = record {
-  texts = λ k text is. cc;
-  nones = λ k w is there same. nothing_there w there;
-  below = λ w there. nothing_there w there;
-}
+nothing_told = grind (arith, nat_tests, nothing_there)
 
 got_refused : (n j : ℕ) (v : Option (List ℕ)) → slice_get (refused n) j ≡ Some v → v ≡ None
 got_refused zero j v is = cc

@@ -1,9 +1,9 @@
 -- Channels by number, and the pasts that they have.
-use Rattle.sk_durable.proofs.Names.{◌≡◌, ◌≢◌, ◌<◌, ℕ, [], length, get_or-set_same, get_or-set_other, set, Option, Some}
-use Rattle.sk_durable.proofs.Names.{None, ⊎_elim, refl, sym, ◌∙◌, ap, subst, cases_eq, cases_lt, get_or_past}
-use Rattle.sk_durable.proofs.Names.{set-get_or, Requests, Channel, Channels, HasServed, channel_at, channel_of, hung_up}
-use Rattle.sk_durable.proofs.Names.{place_at, with_channel, KeepsOthers, came, no_past, Becomes, Goes, HasPast}
-use Rattle.sk_durable.proofs.Names.{HavePasts, Past}
+use Rattle.sk_durable.proofs.Names.{arith, ◌≡◌, ◌≢◌, ◌<◌, ℕ, [], length, get_or-set_same, get_or-set_other, Option}
+use Rattle.sk_durable.proofs.Names.{Some, None, refl, sym, ◌∙◌, ap, subst, get_or_past, set-get_or, Requests, Channel}
+use Rattle.sk_durable.proofs.Names.{Channels, HasServed, channel_at, channel_of, hung_up, place_at, with_channel}
+use Rattle.sk_durable.proofs.Names.{KeepsOthers, came, no_past, Becomes, Goes, HasPast, HavePasts, Past}
+use Rattle.std.proofs.lemmas.Bool.Decides.{nat_tests}
 use Rattle.std.proofs.Common.{append-nil}
 use Rattle.sk_channels.specs.Table as table
 
@@ -16,10 +16,7 @@ place_is (Some place) channel is = ap Some is
 
 module _ (old : Channels) (t : ℕ) (before : Channel) (there : channel_at old t ≡ Some before) where
   within : t < length old.places.slots
-  within =
-      ⊎_elim (λ lt. lt)
-      (λ past. absurd (let none : channel_at old t ≡ None = ap channel_of (get_or_past old.places.slots t None past) in cc (there, none)))
-      (cases_lt t (length old.places.slots))
+  within = grind (arith, nat_tests, get_or_past old.places.slots t None)
 
   -- it is there
   pub now_there : (after : Channel) → channel_at (with_channel old t after) t ≡ Some after
@@ -27,9 +24,7 @@ module _ (old : Channels) (t : ℕ) (before : Channel) (there : channel_at old t
 
   -- nothing has changed where it is as it was
   pub unchanged : with_channel old t before ≡ old
-  unchanged =
-      ap (λ slots. record old { places = record old.places { slots = slots } })
-      (ap (set old.places.slots t) (sym (place_is (place_at old t) before there)) ∙ set-get_or old.places.slots t None)
+  unchanged = grind (arith, nat_tests, place_is (place_at old t) before there, set-get_or old.places.slots t None)
 
   pub becomes : (after : Channel) → after.outlet.most ≡ before.outlet.most → Becomes t before after old (with_channel old t after)
   becomes after most = record { there = there; left = refl; most = most }
@@ -52,11 +47,7 @@ module _ (limits : Requests) where
   -- one channel is another, and the others are as they were
   module _ (old new : Channels) (t : ℕ) (have : HavePasts limits old) (others : (u : ℕ) → u ≢ t → channel_at new u ≡ channel_at old u) where
     one_past : (after : Channel) → channel_at new t ≡ Some after → (p : Past) × HasPast limits p after → HavePasts limits new
-    one_past after here past u channel at =
-        ⊎_elim
-        (λ same. let is : channel ≡ after = (let there : channel_at new t ≡ Some channel = ap (channel_at new) (sym same) ∙ at in cc (there, here)) in
-        subst (λ c. (p : Past) × HasPast limits p c) (sym is) past)
-        (λ apart. have u channel (sym (others u apart) ∙ at)) (cases_eq u t)
+    one_past after here past u channel at = grind (arith, nat_tests)
 
   -- it was lent, and has some past then
   pub lent_pasts : (t : ℕ) (before after : Channel) (old : Channels) → HavePasts limits old → channel_at old t ≡ Some before → (p : Past) × HasPast limits p after → HavePasts limits (with_channel old t after)
@@ -66,8 +57,7 @@ module _ (limits : Requests) where
   -- a channel has another past then
   pub past_goes : (t : ℕ) (before after : Channel) (old new : Channels) (change : Past → Past) → HavePasts limits old → Becomes t before after old new → Goes change before after → HavePasts limits new
   past_goes t before after old new change have is goes =
-      let was : (p : Past) × HasPast limits p before = have t before is.there in
-      subst (HavePasts limits) (sym is.left) (lent_pasts t before after old have is.there (change was.0, goes limits was.0 was.1))
+      grind (arith, nat_tests, lent_pasts t before after old have is.there)
 
   pub connected_past : (channel : Channel) (t : ℕ) (old new : Channels) → HasPast limits no_past channel → place_at new t ≡ Some (Some channel) → KeepsOthers t old new → HavePasts limits old → HavePasts limits new
   connected_past channel t old new has here others have =

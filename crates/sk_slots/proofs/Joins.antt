@@ -1,7 +1,8 @@
 -- Notes that have the tags of the note before them are left out, one after another.
-use Rattle.sk_slots.proofs.Names.{◌≡◌, ℕ, zero, suc, ◌<◌, length, take, true, false, not, cond, inr, List, [], ◌∷◌}
-use Rattle.sk_slots.proofs.Names.{Option, refl, sym, ◌∙◌, ap, subst, arith, ◌==◌, slice_index_or, exact_bytes, Note}
-use Rattle.sk_slots.proofs.Names.{without, noted, last_tags, committed, Merges, merged, same_tags, past}
+use Rattle.std.proofs.lemmas.Bool.Decides.{nat_tests}
+use Rattle.sk_slots.proofs.Names.{◌≡◌, ℕ, zero, suc, ◌<◌, length, take, true, false, cond, inr, List, [], ◌∷◌, Option}
+use Rattle.sk_slots.proofs.Names.{refl, sym, ◌∙◌, ap, subst, arith, slice_index_or, exact_bytes, Note, without, noted}
+use Rattle.sk_slots.proofs.Names.{last_tags, committed, Merges, merged, same_tags, past}
 use Rattle.std.specs.List.{remove}
 
 abbrev pub HasTags : List ℕ → Type 0
@@ -10,11 +11,7 @@ HasTags (t ∷ tags) = Unit {0}
 
 pub without_twice : (g : ℕ) (tags : List ℕ) → without g (without g tags) ≡ without g tags
 without_twice g [] = refl
-without_twice g (t ∷ tags) =
-    elim (not (t == g)) as (λ b. not (t == g) ≡ b → without g (cond b (t ∷ without g tags) (without g tags)) ≡ cond b (t ∷ without g tags) (without g tags)) [
-      | true ↦ λ on. ap (λ b. cond b (t ∷ without g (without g tags)) (without g (without g tags))) on ∙ ap (λ ts. t ∷ ts) (without_twice g tags)
-      | false ↦ λ _. without_twice g tags
-    ] refl
+without_twice g (t ∷ tags) = grind (arith, nat_tests, without_twice g tags)
 
 module _ {V : Type 0} where
   -- no note has the tags of the one before it
@@ -28,11 +25,7 @@ module _ {V : Type 0} where
 
   pub merged_joined : (t : List ℕ) (ns : List (Note V)) → IsJoined t (merged t ns)
   merged_joined t [] = tt
-  merged_joined t (n ∷ ns) =
-      elim (same_tags n.tags t) as (λ b. same_tags n.tags t ≡ b → IsJoined t (cond b (merged t ns) (n ∷ merged n.tags ns))) [
-        | true ↦ λ _. merged_joined t ns
-        | false ↦ λ apart. (apart, merged_joined n.tags ns)
-      ] refl
+  merged_joined t (n ∷ ns) = grind (arith, nat_tests, merged_joined t ns, merged_joined n.tags ns)
 
   -- what is left out has the tags of the note before it
   pub merges : (t : List ℕ) (ns : List (Note V)) → Merges t ns (merged t ns)
@@ -87,11 +80,7 @@ module _ {V : Type 0} where
 
   free_kept : (g : ℕ) (t : List ℕ) (ns : List (Note V)) → AllFree g ns → AllFree g (merged t ns)
   free_kept g t [] all = tt
-  free_kept g t (n ∷ ns) all =
-      elim (same_tags n.tags t) as (λ b. AllFree g (cond b (merged t ns) (n ∷ merged n.tags ns))) [
-        | true ↦ free_kept g t ns all.2
-        | false ↦ (all.0, all.1, free_kept g n.tags ns all.2)
-      ]
+  free_kept g t (n ∷ ns) all = grind (arith, nat_tests, free_kept g t ns all.2, free_kept g n.tags ns all.2)
 
   noted_some : (tags : List ℕ) (v : Option V) (rest : List (Note V)) → HasTags tags → noted true tags v rest ≡ record { tags = tags; before = v } ∷ rest
   noted_some [] v rest some = absurd some

@@ -1,10 +1,11 @@
 -- One slot of all is changed.
-use Rattle.sk_slots.proofs.Names.{same_Some, ◌≡◌, ℕ, List, [], ◌∷◌, Bool, true, false, cond, ◌||◌, not, Option, Some}
-use Rattle.sk_slots.proofs.Names.{None, ◌+◌, ◌<◌, length, drop, refl, sym, ◌∙◌, ap, subst, get_or, is_none, Result, Ok}
-use Rattle.sk_slots.proofs.Names.{Err, OnOk, OnErr, eq_by_cmp, Ordering, IsTotalOrder, eq_by_cmp_equiv, Equal-is}
-use Rattle.sk_slots.proofs.Names.{FinMap, IsAntisymmetric, get, insert, remove, get-insert, get-remove, true≢false}
-use Rattle.sk_slots.proofs.Names.{is_in, Note, has, unwound, cut, drop-cons, suc-eq-add-one, and_both, SlotView}
-use Rattle.sk_slots.proofs.Names.{is_bare, is_empty, is_settled, IsPrepared, slot_in, HasPrepared}
+use Rattle.sk_slots.proofs.Names.{arith, same_Some, ◌≡◌, ℕ, List, [], ◌∷◌, Bool, true, false, cond, ◌||◌, not, Option}
+use Rattle.sk_slots.proofs.Names.{Some, None, ◌+◌, ◌<◌, length, drop, refl, sym, ◌∙◌, ap, subst, get_or, is_none}
+use Rattle.sk_slots.proofs.Names.{Result, Ok, Err, OnOk, OnErr, eq_by_cmp, Ordering, IsTotalOrder, eq_by_cmp_equiv}
+use Rattle.sk_slots.proofs.Names.{Equal-is, FinMap, IsAntisymmetric, get, insert, remove, get-insert, get-remove}
+use Rattle.sk_slots.proofs.Names.{true≢false, is_in, Note, unwound, cut, drop-cons, suc-eq-add-one, and_both}
+use Rattle.sk_slots.proofs.Names.{SlotView, is_bare, is_empty, is_settled, IsPrepared, slot_in, HasPrepared}
+use Rattle.std.proofs.lemmas.Bool.Decides.{nat_tests}
 
 empty_is : {A : Type 0} (xs : List A) → is_empty xs ≡ true → xs ≡ []
 empty_is [] is = refl
@@ -30,18 +31,12 @@ module _ {K V : Type 0} {R : K → K → Ordering} (total : IsTotalOrder R) (exa
 
   pub none_changed : {A : Type 0} (f h : SlotView V → A) (m n : FinMap R (SlotView V)) (k : K) → get m k ≡ None → n ≡ m → f (slot_in None) ≡ h (slot_in None)
       → (q : K) → f (slot_in (get n q)) ≡ cond (eq_by_cmp R q k) (h (slot_in (get m q))) (f (slot_in (get m q)))
-  none_changed f h m n k none all is q =
-      ap (λ (x : FinMap R (SlotView V)). f (slot_in (get x q))) all
-      ∙ elim (eq_by_cmp R q k) as (λ b. eq_by_cmp R q k ≡ b → f (slot_in (get m q)) ≡ cond b (h (slot_in (get m q))) (f (slot_in (get m q)))) [
-        | true ↦ λ e. let at = ap (get m) (same_by exact q k e) ∙ none in ap (λ o. f (slot_in o)) at ∙ is ∙ ap (λ o. h (slot_in o)) (sym at)
-        | false ↦ λ _. refl
-      ] refl
+  none_changed f h m n k none all is q = grind (arith, nat_tests, same_by exact q k)
 
   -- a slot that tells the same
   pub one_same : {A : Type 0} (f : SlotView V → A) (m n : FinMap R (SlotView V)) (k : K) (s w : SlotView V) → get m k ≡ Some s → n ≡ insert m k w → f w ≡ f s
       → (q : K) → f (slot_in (get n q)) ≡ f (slot_in (get m q))
-  one_same f m n k s w here all is q =
-      one_changed f f m n k s w here all is q ∙ elim (eq_by_cmp R q k) as (λ b. cond b (f (slot_in (get m q))) (f (slot_in (get m q))) ≡ f (slot_in (get m q))) [ true ↦ refl | false ↦ refl ]
+  one_same f m n k s w here all is q = grind (arith, nat_tests, one_changed f f m n k s w here all is q)
 
   -- a slot where there was none
   pub one_born : {A : Type 0} (f : SlotView V → A) (m n : FinMap R (SlotView V)) (k : K) (w : SlotView V) → get m k ≡ None → n ≡ insert m k w → f w ≡ f (slot_in None)
@@ -112,12 +107,7 @@ module _ {K V : Type 0} {R : K → K → Ordering} (total : IsTotalOrder R) (exa
       ] refl (ap (cond (eq_by_cmp R q k) None) (sym (get-insert total m k w q)) ∙ sym (get-remove total (insert m k w) k q) ∙ ap (λ (x : FinMap R (SlotView V)). get x q) (sym all) ∙ here)
 
   pub settled_none : (ks : List K) (m n : FinMap R (SlotView V)) (k : K) → n ≡ m → get m k ≡ None → Settled (k ∷ ks) m → Settled ks n
-  settled_none ks m n k all none settled q s here out =
-      let there : get m q ≡ Some s = ap (λ (x : FinMap R (SlotView V)). get x q) (sym all) ∙ here in
-      elim (eq_by_cmp R q k) as (λ b. eq_by_cmp R q k ≡ b → is_settled s ≡ true) [
-        | true ↦ λ e. let no : None ≡ Some s = sym none ∙ ap (get m) (sym (same_by exact q k e)) ∙ there in cc
-        | false ↦ λ apart. settled q s there (ap (λ b. b || is_in R ks q) apart ∙ out)
-      ] refl
+  settled_none ks m n k all none settled q s here out = grind (arith, nat_tests, same_by exact q k)
 
 -- of a slot of which there is nothing
 module _ {V : Type 0} where
@@ -130,19 +120,11 @@ module _ {V : Type 0} where
 -- ---- what is done twice
 pub cut_twice : {V : Type 0} (g : ℕ) (log : List (Note V)) → cut g (cut g log) ≡ cut g log
 cut_twice g [] = refl
-cut_twice g (n ∷ log) =
-    elim (has g n.tags) as (λ b. has g n.tags ≡ b → cut g (cond b [] (n ∷ cut g log)) ≡ cond b [] (n ∷ cut g log)) [
-      | true ↦ λ _. refl
-      | false ↦ λ off. ap (λ b. cond b [] (n ∷ cut g (cut g log))) off ∙ ap (λ ns. n ∷ ns) (cut_twice g log)
-    ] refl
+cut_twice g (n ∷ log) = grind (arith, nat_tests, cut_twice g log)
 
 pub unwound_twice : {V : Type 0} (g : ℕ) (log : List (Note V)) (now : Option V) → unwound g (cut g log) now ≡ now
 unwound_twice g [] now = refl
-unwound_twice g (n ∷ log) now =
-    elim (has g n.tags) as (λ b. has g n.tags ≡ b → unwound g (cond b [] (n ∷ cut g log)) now ≡ now) [
-      | true ↦ λ _. refl
-      | false ↦ λ off. ap (λ b. cond b n.before (unwound g (cut g log) now)) off ∙ unwound_twice g log now
-    ] refl
+unwound_twice g (n ∷ log) now = grind (arith, nat_tests, unwound_twice g log now)
 
 -- a pass over keys: those that are left give the same from here
 pub pass_more : {A : Type 0} (f : A → A) → ((x : A) → f (f x) ≡ f x) → (e rest : Bool) (x y : A) → y ≡ cond e (f x) x → cond rest (f y) y ≡ cond (e || rest) (f x) x

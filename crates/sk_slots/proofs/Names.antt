@@ -1,10 +1,10 @@
 -- What the proofs of this crate cite from outside of them, passed on from one place. Declares nothing.
-pub use Rattle.std.proofs.Common.{rules, ap, Some, ◌++◌, length, Bool, ◌||◌, ℕ, subst, inr, true, drop, ◌∷◌, sym, None}
-pub use Rattle.std.proofs.Common.{◌&&◌, suc, zero, ◌≤◌, ◌≡◌, take, ◌-◌, ◌+◌, false, Option, ◌<◌, arith, refl, List, []}
-pub use Rattle.std.proofs.Common.{◌∙◌, not, cond}
+pub use Rattle.std.proofs.Common.{rules, ap, Some, ◌++◌, length, Bool, ◌||◌, ℕ, subst, inr, true, drop, ◌∷◌, sym}
+pub use Rattle.std.proofs.Common.{None, ◌&&◌, suc, zero, ◌≤◌, ◌≡◌, take, ◌-◌, ◌+◌, false, Option, ◌<◌, arith, refl}
+pub use Rattle.std.proofs.Common.{List, [], ◌∙◌, not, cond}
 pub use Rattle.std.proofs.Math.Numerals.{suc-eq-add-one}
 pub use Rattle.std.proofs.Math.Seq.{drop-cons}
-pub use Rattle.std.proofs.lemmas.Bool.{true≢false, eqb-true, or_left, not-true, not-false}
+pub use Rattle.std.proofs.lemmas.Bool.{true≢false, or_left, not-true, not-false}
 pub use Rattle.std.specs.Cmp.{eq_by_cmp_equiv, Equal-is, IsTotalOrder}
 pub use Rattle.std.specs.FinMap.{get-remove, contains_key-keys, get-insert, FinMap, get, remove, get-empty}
 pub use Rattle.std.specs.FinMap.{IsAntisymmetric, insert}

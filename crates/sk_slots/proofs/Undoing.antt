@@ -1,8 +1,9 @@
 -- Notes as they are kept: what is seen of them where one is added, joined with another, left out or put back.
+use Rattle.std.proofs.lemmas.Bool.Decides.{nat_tests}
 use Rattle.sk_slots.proofs.Names.{◌≡◌, ℕ, zero, suc, ◌+◌, ◌-◌, ◌<◌, ◌≤◌, length, take, drop, true, false, not, cond}
 use Rattle.sk_slots.proofs.Names.{List, [], ◌∷◌, ◌++◌, Option, Some, None, refl, sym, ◌∙◌, ap, subst, arith, ◌==◌}
-use Rattle.sk_slots.proofs.Names.{is_none, is_some, slice_index_or, slice_set, prefix_len, true≢false, eqb-true, Note}
-use Rattle.sk_slots.proofs.Names.{has, without, noted, last_tags, unwound, committed, same_tags, value_before, CanJoin}
+use Rattle.sk_slots.proofs.Names.{is_none, is_some, slice_index_or, slice_set, prefix_len, true≢false, Note, has}
+use Rattle.sk_slots.proofs.Names.{without, noted, last_tags, unwound, committed, same_tags, value_before, CanJoin}
 use Rattle.sk_slots.proofs.Names.{FitsBefore, Before, Was, Changed, Kept, newest_tags, rewound, seen, CanGoBack}
 use Rattle.sk_slots.proofs.Names.{is_empty, noted_on}
 use Rattle.std.specs.List.{remove}
@@ -51,17 +52,11 @@ module _ {V U : Type 0} (undone : U → V → V) where
   -- a write that is noted
   pub noted_one : (now : Option V) (tags : List ℕ) (ks : List (Kept V U)) (k : Kept V U) → k.tags ≡ tags → same_tags tags (newest_tags [] ks) ≡ false
       → seen undone now (ks ++ k ∷ []) ≡ noted_on tags (value_before undone k.before now) (seen undone (value_before undone k.before now) ks)
-  noted_one now tags ks k own off =
-      let was = value_before undone k.before now in
-      let log = seen undone was ks in
-      seen_more now ks k ∙ ap (λ ts. log ++ record { tags = ts; before = was } ∷ []) own
-      ∙ ap (λ b. cond b log (log ++ record { tags = tags; before = was } ∷ [])) (sym (ap (same_tags tags) (seen_tags was [] ks) ∙ off))
+  noted_one now tags ks k own off = grind (arith, nat_tests, seen_more now ks k, seen_tags)
 
   -- and one that is not
   pub noted_none : (was : Option V) (tags : List ℕ) (ks : List (Kept V U)) → same_tags tags (newest_tags [] ks) ≡ true → seen undone was ks ≡ noted_on tags was (seen undone was ks)
-  noted_none was tags ks on =
-      let log = seen undone was ks in
-      ap (λ b. cond b log (log ++ record { tags = tags; before = was } ∷ [])) (sym (ap (same_tags tags) (seen_tags was [] ks) ∙ on))
+  noted_none was tags ks on = grind (arith, nat_tests, seen_tags was [] ks)
 
   -- ---- the notes up to a place, once the later ones are put back
   pub rewound_front : (now : Option V) (i : ℕ) (ks : List (Kept V U)) → rewound undone (rewound undone now (drop i ks)) (take i ks) ≡ rewound undone now ks
@@ -99,9 +94,7 @@ module _ {V U : Type 0} (undone : U → V → V) (fits : U → V → Type 0) whe
   pub can_less : (now : Option V) (ks : List (Kept V U)) (k : Kept V U) → CanGoBack undone fits now (ks ++ k ∷ [])
       → FitsBefore fits k.before now × CanGoBack undone fits (value_before undone k.before now) ks
   can_less now [] k can = (can.0, tt)
-  can_less now (x ∷ ks) k can =
-      let rest = can_less now ks k can.1 in
-      (rest.0, (subst (FitsBefore fits x.before) (rewound_more undone now ks k) can.0, rest.1))
+  can_less now (x ∷ ks) k can = grind (arith, nat_tests, can_less now ks k can.1, rewound_more undone now ks k)
 
   -- ---- two writes that are put back by one
   abbrev pub Joins : Before V U → Before V U → Before V U → Type 0
@@ -126,18 +119,11 @@ module _ {V U : Type 0} (undone : U → V → V) (fits : U → V → Type 0) whe
       → (seen undone now (slice_set ks j both) ≡ seen undone (value_before undone later now) ks) × CanGoBack undone fits now (slice_set ks j both)
       × (rewound undone now (slice_set ks j both) ≡ rewound undone (value_before undone later now) ks)
   newest_in now later j [] m both len is tags joins fit can = absurd (omega arith)
-  newest_in now later zero (x ∷ []) m both len is tags joins fit can =
-      let one = subst (λ (y : Kept V U). Joins later y.before both.before) is joins now fit can.0 in
-      let own = tags ∙ ap (λ (y : Kept V U). y.tags) is in
-      (λ i. record { tags = own i; before = one.1 i } ∷ [], (one.0, tt), one.1)
+  newest_in now later zero (x ∷ []) m both len is tags joins fit can = grind (arith, nat_tests)
   newest_in now later (suc j) (x ∷ []) m both len is tags joins fit can = absurd (omega arith)
   newest_in now later zero (x ∷ y ∷ ks) m both len is tags joins fit can = absurd (omega arith)
   newest_in now later (suc j) (x ∷ y ∷ ks) m both len is tags joins fit can =
-      let rest = newest_in now later j (y ∷ ks) m both (omega arith) is tags joins fit can.1 in (
-        λ i. record { tags = x.tags; before = value_before undone x.before (rest.2 i) } ∷ rest.0 i,
-        (subst (FitsBefore fits x.before) (sym rest.2) can.0, rest.1),
-        ap (value_before undone x.before) rest.2,
-      )
+      grind (arith, nat_tests, newest_in now later j (y ∷ ks) m both (omega arith) is tags joins fit can.1)
 
   -- a note is left out, which the one before it takes in
   pub left_can : (now : Option V) (j : ℕ) (ks : List (Kept V U)) (n m : Kept V U) → suc j < length ks → n ≡ slice_index_or ks (suc j) n → m ≡ slice_index_or (remove ks (suc j)) j m
@@ -145,8 +131,7 @@ module _ {V U : Type 0} (undone : U → V → V) (fits : U → V → Type 0) whe
   left_can now j [] n m lt is was can = absurd (omega arith)
   left_can now zero (x ∷ []) n m lt is was can = absurd (omega arith)
   left_can now zero (x ∷ y ∷ ks) n m lt is was can =
-      subst (λ (z : Kept V U). CanJoin fits z.before m.before) (sym is) (subst (λ (z : Kept V U). CanJoin fits y.before z.before) (sym was)
-      (can_join y.before x.before (rewound undone now ks) can.1.0 can.0))
+      grind (arith, nat_tests, can_join y.before x.before (rewound undone now ks) can.1.0 can.0)
   left_can now (suc j) (x ∷ ks) n m lt is was can = left_can now j ks n m (omega arith) is was can.1
 
   pub left_in : (now : Option V) (j : ℕ) (ks : List (Kept V U)) (n m both : Kept V U) → suc j < length ks → n ≡ slice_index_or ks (suc j) n → m ≡ slice_index_or (remove ks (suc j)) j m
@@ -155,17 +140,9 @@ module _ {V U : Type 0} (undone : U → V → V) (fits : U → V → Type 0) whe
       × (rewound undone now (slice_set (remove ks (suc j)) j both) ≡ rewound undone now ks)
   left_in now j [] n m both lt is was tags joins can = absurd (omega arith)
   left_in now zero (x ∷ []) n m both lt is was tags joins can = absurd (omega arith)
-  left_in now zero (x ∷ y ∷ ks) n m both lt is was tags joins can =
-      let there = subst (λ (z : Kept V U). Joins y.before z.before both.before) was (subst (λ (z : Kept V U). Joins z.before m.before both.before) is joins) in
-      let one = there (rewound undone now ks) can.1.0 can.0 in
-      let own = tags ∙ ap (λ (z : Kept V U). z.tags) was in
-      (λ i. record { tags = own i; before = one.1 i } ∷ seen undone now ks, (one.0, can.1.1), one.1)
+  left_in now zero (x ∷ y ∷ ks) n m both lt is was tags joins can = grind (arith, nat_tests)
   left_in now (suc j) (x ∷ ks) n m both lt is was tags joins can =
-      let rest = left_in now j ks n m both (omega arith) is was tags joins can.1 in (
-        λ i. record { tags = x.tags; before = value_before undone x.before (rest.2 i) } ∷ rest.0 i,
-        (subst (FitsBefore fits x.before) (sym rest.2) can.0, rest.1),
-        ap (value_before undone x.before) rest.2,
-      )
+      grind (arith, nat_tests, left_in now j ks n m both (omega arith) is was tags joins can.1)
 
   -- the first note is left out
   pub first_out : (now : Option V) (ks : List (Kept V U)) → 0 < length ks → CanGoBack undone fits now ks
@@ -185,23 +162,9 @@ module _ {V U : Type 0} (undone : U → V → V) (fits : U → V → Type 0) whe
       → CanGoBack undone fits now (slice_set ks i one) × (committed g (seen undone now (slice_set ks i one)) ≡ committed g (seen undone now ks))
       × (take i (seen undone now (slice_set ks i one)) ≡ take i (seen undone now ks)) × (rewound undone now (slice_set ks i one) ≡ rewound undone now ks)
   lighter g now i [] n one lt is of can = absurd (omega arith)
-  lighter g now zero (x ∷ ks) n one lt is of can =
-      let own : one.tags ≡ without g x.tags = ap (λ (y : Kept V U). y.tags) of ∙ ap (λ (y : Kept V U). without g y.tags) is in
-      let was : one.before ≡ x.before = ap (λ (y : Kept V U). y.before) of ∙ ap (λ (y : Kept V U). y.before) is in
-      let back = ap (λ b. value_before undone b (rewound undone now ks)) was in (
-        (subst (λ b. FitsBefore fits b (rewound undone now ks)) (sym was) can.0, can.1),
-        (λ i. noted true ((ap (without g) own ∙ without_twice g x.tags) i) (back i) (committed g (seen undone now ks))),
-        refl,
-        back,
-      )
+  lighter g now zero (x ∷ ks) n one lt is of can = grind (arith, nat_tests, without_twice g x.tags)
   lighter g now (suc i) (x ∷ ks) n one lt is of can =
-      let rest = lighter g now i ks n one (omega arith) is of can.1 in
-      let back = ap (value_before undone x.before) rest.3 in (
-        (subst (FitsBefore fits x.before) (sym rest.3) can.0, rest.0),
-        (λ i. noted true (without g x.tags) (back i) (rest.1 i)),
-        (λ i. record { tags = x.tags; before = back i } ∷ rest.2 i),
-        back,
-      )
+      grind (arith, nat_tests, lighter g now i ks n one (omega arith) is of can.1)
 
 module _ {V U : Type 0} (undone : U → V → V) where
   -- it still rests on something
@@ -216,8 +179,7 @@ module _ {V U : Type 0} (undone : U → V → V) where
       → committed g (remove (seen undone now (slice_set ks i one)) i) ≡ committed g (seen undone now (slice_set ks i one))
   bare_out g now i [] one lt none = absurd (omega arith)
   bare_out g now zero (x ∷ ks) one lt none = ap (λ ts. noted true ts (value_before undone one.before (rewound undone now ks)) (committed g (seen undone now ks))) (sym none)
-  bare_out g now (suc i) (x ∷ ks) one lt none =
-      ap (noted true (without g x.tags) (value_before undone x.before (rewound undone now (slice_set ks i one)))) (bare_out g now i ks one (omega arith) none)
+  bare_out g now (suc i) (x ∷ ks) one lt none = grind (arith, nat_tests, bare_out g now i ks one (omega arith) none)
 
 -- whether a list is empty
 pub some_tags : (tags : List ℕ) → not (is_empty tags) ≡ true → HasTags tags
@@ -289,11 +251,7 @@ module _ {V U : Type 0} (undone : U → V → V) (fits : U → V → Type 0) whe
 
 pub empty_len : {A : Type 0} (xs : List A) (n : ℕ) → n ≡ length xs → (n == 0) ≡ is_empty xs
 empty_len [] n is = ap (λ k. k == 0) is
-empty_len (x ∷ xs) n is =
-    elim (n == 0) as (λ b. (n == 0) ≡ b → (n == 0) ≡ false) [
-      | true ↦ λ e. let none : n ≡ 0 = eqb-true n 0 e in absurd (omega arith)
-      | false ↦ λ e. e
-    ] refl
+empty_len (x ∷ xs) n is = grind (arith, nat_tests)
 
 pub none_of : {A : Type 0} (o : Option A) → is_some o ≡ false → true ≡ is_none o
 none_of None is = refl

@@ -20,20 +20,33 @@ const PAYLOAD: &[u8] = b"*3\r\n$3\r\nset\r\n$1\r\na\r\n$1\r\n1\r\n\
     *1\r\n$5\r\nmulti\r\n*3\r\n$6\r\nincrby\r\n$1\r\na\r\n$1\r\n4\r\n\
     *3\r\n$3\r\nset\r\n$1\r\nb\r\n$2\r\nxy\r\n*1\r\n$4\r\nexec\r\n";
 
-#[test]
-fn works_are_carried_out_again(rt: HostRuntime) -> Result<(), Wrong> {
-    let alloc = rt.alloc();
+/// The store that this makes of an empty one.
+fn made(alloc: Global) -> Result<PlainStore, Wrong> {
     let mut store = PlainStore::new(alloc);
-    carry_out(alloc, &mut store, PAYLOAD)?;
-    are_keys(alloc, store.keys()?.as_slice(), b"a b")?;
-    has(&store, b"a", b"5")
+    match carry_out(alloc, &mut store, PAYLOAD) {
+        Ok(()) => Ok(store),
+        Err(wrong) => Err(wrong),
+    }
 }
 
-fn has(store: &PlainStore, key: &[u8], value: &[u8]) -> Result<(), Wrong> {
+fn has_both(alloc: Global, store: &PlainStore) -> Result<(), Wrong> {
+    let keys = store.keys()?;
+    are_keys(alloc, keys.as_slice(), b"a b")
+}
+
+/// Just `a` and `b` are keys, and this one has the value.
+fn has(alloc: Global, store: &PlainStore, key: &[u8], value: &[u8]) -> Result<(), Wrong> {
+    has_both(alloc, store)?;
     match store.value(key) {
         Some(found) => holds(found.as_slice() == value, Wrong::Keys),
         None => Err(Wrong::Keys),
     }
+}
+
+#[test]
+fn works_are_carried_out_again(rt: HostRuntime) -> Result<(), Wrong> {
+    let store = made(rt.alloc())?;
+    has(rt.alloc(), &store, b"a", b"5")
 }
 
 /// What is no payload, and why.
@@ -69,51 +82,62 @@ fn other_payloads_are_refused(rt: HostRuntime) -> Result<(), Wrong> {
     Ok(())
 }
 
-/// What a store of so many keys has is written in pieces with so much room, and carried out on an empty store.
-fn restore(
+/// The next piece of a snapshot, with so much room, is carried out.
+fn restore_piece(
     alloc: Global,
-    store: PlainStore,
-    keys: usize,
+    snapshot: &mut Snapshot,
     room: usize,
-) -> Result<PlainStore, Wrong> {
-    let mut restored = PlainStore::new(alloc);
-    let mut snapshot = Snapshot::new(store)?;
-    for _ in 0..keys {
-        let payload = snapshot.piece(alloc, room)?;
-        carry_out(alloc, &mut restored, payload.as_slice())?;
-    }
-    holds(snapshot.is_done(), Wrong::Payload)?;
-    Ok(restored)
+    store: &mut PlainStore,
+) -> Result<(), Wrong> {
+    let payload = snapshot.piece(alloc, room)?;
+    carry_out(alloc, store, payload.as_slice())
+}
+
+/// There are two pieces.
+fn restore_both(
+    alloc: Global,
+    snapshot: &mut Snapshot,
+    room: usize,
+    store: &mut PlainStore,
+) -> Result<(), Wrong> {
+    restore_piece(alloc, snapshot, room, store)?;
+    restore_piece(alloc, snapshot, room, store)?;
+    holds(snapshot.is_done(), Wrong::Payload)
+}
+
+/// What the store has is written in pieces with so much room, and carried out on an empty store.
+fn restore(alloc: Global, room: usize, empty: &mut PlainStore) -> Result<(), Wrong> {
+    let mut snapshot = Snapshot::new(made(alloc)?)?;
+    restore_both(alloc, &mut snapshot, room, empty)
+}
+
+fn is_restored(alloc: Global, room: usize, empty: &mut PlainStore) -> Result<(), Wrong> {
+    restore(alloc, room, empty)?;
+    has(alloc, empty, b"b", b"xy")
 }
 
 #[test]
 fn snapshots_have_it_all(rt: HostRuntime) -> Result<(), Wrong> {
-    let alloc = rt.alloc();
     for room in [0, 30, 60, 1000] {
-        let mut store = PlainStore::new(alloc);
-        carry_out(alloc, &mut store, PAYLOAD)?;
-        let restored = restore(alloc, store, 2, room)?;
-        are_keys(alloc, restored.keys()?.as_slice(), b"a b")?;
-        has(&restored, b"b", b"xy")?;
+        is_restored(rt.alloc(), room, &mut PlainStore::new(rt.alloc()))?;
     }
     Ok(())
 }
 
-/// Works that set the entries of a store are carried out on an empty one.
-fn set_again(alloc: Global, store: PlainStore) -> Result<PlainStore, Wrong> {
-    let mut again = PlainStore::new(alloc);
-    for (key, value) in store.into_entries()? {
-        again.run(set_work(key, value))?;
+/// Works that set the entries of the store are carried out on an empty one.
+fn set_again(alloc: Global, empty: &mut PlainStore) -> Result<(), Wrong> {
+    for (key, value) in made(alloc)?.into_entries()? {
+        empty.run(set_work(key, value))?;
     }
-    Ok(again)
+    Ok(())
+}
+
+fn is_set_again(alloc: Global, empty: &mut PlainStore) -> Result<(), Wrong> {
+    set_again(alloc, empty)?;
+    has(alloc, empty, b"a", b"5")
 }
 
 #[test]
 fn entries_set_again_make_the_store(rt: HostRuntime) -> Result<(), Wrong> {
-    let alloc = rt.alloc();
-    let mut store = PlainStore::new(alloc);
-    carry_out(alloc, &mut store, PAYLOAD)?;
-    let again = set_again(alloc, store)?;
-    are_keys(alloc, again.keys()?.as_slice(), b"a b")?;
-    has(&again, b"a", b"5")
+    is_set_again(rt.alloc(), &mut PlainStore::new(rt.alloc()))
 }

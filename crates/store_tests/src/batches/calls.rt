@@ -36,18 +36,6 @@ fn takes(queue: &mut Queue, room: &mut [u8], len: usize, told: Result<Taken, Ref
     }
 }
 
-/// What is seen of a queue is so.
-fn is_seen(queue: &Queue, room: &[u8], call: &Call) -> bool {
-    match call {
-        Call::Room(bytes) => room.get(..bytes.len()) == Some(*bytes),
-        Call::CutDue(cut) => queue.cut_due() == *cut,
-        Call::InFlight(count) => queue.in_flight() == *count,
-        Call::Undecided(count) => queue.undecided() == *count,
-        Call::Number(number) => queue.number() == *number,
-        _ => false,
-    }
-}
-
 /// A call is told so.
 fn is_told(queue: &mut Queue, room: &mut [u8], call: &Call) -> bool {
     match call {
@@ -57,11 +45,15 @@ fn is_told(queue: &mut Queue, room: &mut [u8], call: &Call) -> bool {
             true
         }
         Call::Takes(len, told) => takes(queue, room, *len, *told),
+        Call::Room(bytes) => room.get(..bytes.len()) == Some(*bytes),
         Call::Synced(frame, told) => queue.synced(*frame) == *told,
         Call::Failed(frame, told) => queue.failed(*frame) == *told,
         Call::Cuts(is_made, told) => queue.cut(*is_made) == *told,
+        Call::CutDue(cut) => queue.cut_due() == *cut,
         Call::Decides(decision) => queue.next_decided() == *decision,
-        _ => is_seen(queue, room, call),
+        Call::InFlight(count) => queue.in_flight() == *count,
+        Call::Undecided(count) => queue.undecided() == *count,
+        Call::Number(number) => queue.number() == *number,
     }
 }
 

@@ -223,19 +223,30 @@ impl Record {
         }
     }
 
-    /// A guess fails: the steps that depend on it are struck, with their guesses.
-    pub fn fail(&mut self, id: GuessId, reckoning: &Reckoning) -> Result<(), AllocError> {
-        let bit = self.bit(Some(id));
-        let mut left = Vec::new(self.alloc);
-        let mut struck = Vec::new(self.alloc);
+    /// Parts the steps that depend on none of these guesses from those that do, of which the guesses are told.
+    fn part(
+        &self,
+        reckoning: &Reckoning,
+        bits: u64,
+        left: &mut Vec<Taken>,
+        struck: &mut Vec<Option<GuessId>>,
+    ) -> Result<(), AllocError> {
         for (place, taken) in self.taken.iter().enumerate() {
             let rests = reckoning.steps.get(place).copied().unwrap_or(0);
-            if rests & bit == 0 {
+            if rests & bits == 0 {
                 left.push(*taken)?;
             } else {
                 struck.push(taken.guess)?;
             }
         }
+        Ok(())
+    }
+
+    /// A guess fails: the steps that depend on it are struck, with their guesses.
+    pub fn fail(&mut self, id: GuessId, reckoning: &Reckoning) -> Result<(), AllocError> {
+        let mut left = Vec::new(self.alloc);
+        let mut struck = Vec::new(self.alloc);
+        self.part(reckoning, self.bit(Some(id)), &mut left, &mut struck)?;
         self.taken = left;
         self.undecided.retain(|open| !struck.contains(&Some(*open)));
         Ok(())

@@ -98,14 +98,19 @@ impl Look for Same {
     }
 }
 
-/// So many keys.
-fn keys_of(alloc: Global, count: u32) -> Result<Keys, AllocError> {
-    let mut keys = Vec::new(alloc);
+fn add_keys(alloc: Global, keys: &mut Vec<Vec<u8>>, count: u32) -> Result<(), AllocError> {
     for number in 0..count {
         keys.reserve(1)?;
         let key = Vec::from_slice(alloc, &number.to_le_bytes())?;
         keys.push_reserved(key);
     }
+    Ok(())
+}
+
+/// So many keys.
+fn keys_of(alloc: Global, count: u32) -> Result<Keys, AllocError> {
+    let mut keys = Vec::new(alloc);
+    add_keys(alloc, &mut keys, count)?;
     Ok(Keys::new(keys))
 }
 

@@ -3,7 +3,7 @@ use sk_speculator::Refusal;
 use std::alloc::{AllocError, AllocFailed};
 
 /// Why a test does not pass.
-#[derive(Clone, Copy, Debug, PartialEq, Eq)]
+#[derive(Clone, Copy, Debug)]
 pub enum Wrong {
     /// The test itself has no memory.
     Memory,

@@ -22,6 +22,32 @@ fn times(bytes: &Bytes<Vec<u8>, Vec<u8>>, key: &[u8]) -> u8 {
     }
 }
 
+/// Puts a look at a key into a step's buffers: how often it was written.
+fn fill_look(
+    bytes: &Bytes<Vec<u8>, Vec<u8>>,
+    step: &mut ByteStep<Vec<u8>, Vec<u8>>,
+    alloc: Global,
+    number: u64,
+) -> Result<u8, AllocError> {
+    let key = key_of(alloc, number)?;
+    let times = times(bytes, key.as_slice());
+    step.looked.push(key)?;
+    Ok(times)
+}
+
+/// Puts a write of a key into them.
+fn fill_write(
+    step: &mut ByteStep<Vec<u8>, Vec<u8>>,
+    alloc: Global,
+    number: u64,
+    times: u8,
+) -> Result<(), AllocError> {
+    let key = key_of(alloc, number)?;
+    let value = Vec::from_slice(alloc, &[times; VALUE])?;
+    step.written.push((key, Some(value)))?;
+    Ok(())
+}
+
 /// Puts a look at a key and a write of it into a step's buffers.
 fn fill(
     bytes: &Bytes<Vec<u8>, Vec<u8>>,
@@ -29,12 +55,8 @@ fn fill(
     alloc: Global,
     number: u64,
 ) -> Result<(), AllocError> {
-    let (key, written) = (key_of(alloc, number)?, key_of(alloc, number)?);
-    let times = times(bytes, key.as_slice()).saturating_add(1);
-    step.looked.push(key)?;
-    let value = Vec::from_slice(alloc, &[times; VALUE])?;
-    step.written.push((written, Some(value)))?;
-    Ok(())
+    let times = fill_look(bytes, step, alloc, number)?;
+    fill_write(step, alloc, number, times.saturating_add(1))
 }
 
 /// So many steps, of one key after another.

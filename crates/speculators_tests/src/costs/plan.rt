@@ -7,7 +7,7 @@ use std::env::Env;
 pub const KEYS: u64 = 100;
 
 /// What is asked for.
-#[derive(Clone, Copy, Debug)]
+#[derive(Clone, Copy)]
 pub struct Plan {
     /// How many keys there are at the start.
     pub present: u64,

@@ -2,7 +2,7 @@
 use crate::call::Call;
 use crate::wrong::{Wrong, holds};
 use sk_durable::{End, Limits, Next, Refusal, Store};
-use std::alloc::{AllocError, Global};
+use std::alloc::Global;
 use std::num::NonZeroU16;
 
 /// How long the room for frames and replies is.
@@ -22,15 +22,6 @@ pub fn limits(undecided: u32, commands: u32) -> Option<Limits> {
         commands,
         segment: 1_000_000,
     })
-}
-
-/// So many of these bytes.
-pub fn bytes_of(alloc: Global, byte: u8, len: usize) -> Result<Vec<u8>, AllocError> {
-    let mut bytes = Vec::new(alloc);
-    for _ in 0..len {
-        bytes.push(byte)?;
-    }
-    Ok(bytes)
 }
 
 /// Feeds all bytes, one request after another.
@@ -117,32 +108,6 @@ fn rests_on(store: &Store, key: &[u8], count: usize) -> bool {
     store.rests_on(key, count).is_none()
 }
 
-/// What is seen of a store is so.
-fn is_seen(store: &Store, call: &Call) -> bool {
-    match call {
-        Call::NoCut => store.cut_due().is_none(),
-        Call::Has(key, value) => has(store, key, value),
-        Call::Lacks(key) => store.value(key).is_none(),
-        Call::RestsOn(key, count) => rests_on(store, key, *count),
-        Call::Undecided(bytes) => store.undecided() == *bytes,
-        _ => false,
-    }
-}
-
-/// A call of the log is told so.
-fn is_logged(store: &mut Store, room: &mut [u8], call: &Call) -> bool {
-    match call {
-        Call::Takes(frame, segment, offset) => takes(store, room, *frame, *segment, *offset),
-        Call::TakesNone(why) => takes_none(store, room, *why),
-        Call::Synced(frame) => store.synced(*frame).is_ok(),
-        Call::Failed(frame) => store.failed(*frame).is_ok(),
-        Call::Cuts(frame, segment) => cuts(store, room, *frame, *segment),
-        Call::Stops => store.cut(false).is_ok(),
-        Call::Decides(outcome) => store.decide() == *outcome,
-        _ => is_seen(store, call),
-    }
-}
-
 /// A call is told so.
 pub fn is_told(store: &mut Store, room: &mut [u8], call: &Call) -> bool {
     match call {
@@ -159,7 +124,18 @@ pub fn is_told(store: &mut Store, room: &mut [u8], call: &Call) -> bool {
         Call::Waits(channel) => store.output(*channel, room) == Ok(0),
         Call::Ready(channel) => store.next_ready() == *channel,
         Call::Closed(channel) => store.is_closed(*channel),
-        _ => is_logged(store, room, call),
+        Call::Takes(frame, segment, offset) => takes(store, room, *frame, *segment, *offset),
+        Call::TakesNone(why) => takes_none(store, room, *why),
+        Call::Synced(frame) => store.synced(*frame).is_ok(),
+        Call::Failed(frame) => store.failed(*frame).is_ok(),
+        Call::NoCut => store.cut_due().is_none(),
+        Call::Cuts(frame, segment) => cuts(store, room, *frame, *segment),
+        Call::Stops => store.cut(false).is_ok(),
+        Call::Decides(outcome) => store.decide() == *outcome,
+        Call::Has(key, value) => has(store, key, value),
+        Call::Lacks(key) => store.value(key).is_none(),
+        Call::RestsOn(key, count) => rests_on(store, key, *count),
+        Call::Undecided(bytes) => store.undecided() == *bytes,
     }
 }
 
@@ -171,8 +147,9 @@ pub fn play(store: &mut Store, room: &mut [u8], calls: &[Call]) -> Result<(), Wr
     Ok(())
 }
 
-/// A new store.
-fn store(alloc: Global, limits: Limits) -> Option<Store> {
+/// A new store, where so many bytes may be undecided, and so many commands wait.
+fn store(alloc: Global, undecided: u32, commands: u32) -> Option<Store> {
+    let limits = limits(undecided, commands)?;
     if !limits.are_sound() {
         return None;
     }
@@ -184,16 +161,22 @@ fn store(alloc: Global, limits: Limits) -> Option<Store> {
     Some(Store::new(alloc, limits, 1, next, 7))
 }
 
+/// The same is told so, with a room of letters.
+fn play_new(
+    alloc: Global,
+    undecided: u32,
+    commands: u32,
+    room: &mut [u8],
+    calls: &[Call],
+) -> Result<(), Wrong> {
+    match store(alloc, undecided, commands) {
+        Some(mut store) => play(&mut store, room, calls),
+        None => Err(Wrong::Limits),
+    }
+}
+
 /// A new store, where so many bytes may be undecided, and so many commands wait, is told so.
 pub fn plays(alloc: Global, undecided: u32, commands: u32, calls: &[Call]) -> Result<(), Wrong> {
-    let mut room = bytes_of(alloc, b'k', ROOM)?;
-    let Some(limits) = limits(undecided, commands) else {
-        return Err(Wrong::Limits);
-    };
-    let Some(mut store) = store(alloc, limits) else {
-        return Err(Wrong::Limits);
-    };
-    let played = play(&mut store, room.as_mut_slice(), calls);
-    drop(store);
-    played
+    let mut room = Vec::from_elem(alloc, b'k', ROOM)?;
+    play_new(alloc, undecided, commands, room.as_mut_slice(), calls)
 }

@@ -1,22 +1,27 @@
 //! A store that goes on behind what was read of its log.
-use crate::bench::{bytes_of, limits, play};
+use crate::bench::{limits, play};
 use crate::call::Call::{self, Connects, Has, Lacks, RestsOn, Sends, Takes};
 use crate::wrong::{Wrong, holds};
-use sk_commands::ByteString;
+use sk_commands::{ByteString, Work};
 use sk_plain_store::PlainStore;
 use sk_reopened::{Last, Refusal, Reopened, reopen};
 use sk_replay::set_work;
-use std::alloc::Global;
+use std::alloc::{AllocError, Global};
 
 const LAST: Last = Last {
     frame: 5,
     segment: 3,
 };
 
-/// Each key has the value `12`.
-fn set(alloc: Global, plain: &mut PlainStore, key: &[u8]) -> Result<(), Wrong> {
+/// Work that sets a key to `12`.
+fn set_of(alloc: Global, key: &[u8]) -> Result<Work, AllocError> {
+    let key = ByteString::copy_of(alloc, key)?;
     let value = ByteString::copy_of(alloc, b"12")?;
-    let _answer = plain.run(set_work(ByteString::copy_of(alloc, key)?, value))?;
+    Ok(set_work(key, value))
+}
+
+fn set(alloc: Global, plain: &mut PlainStore, key: &[u8]) -> Result<(), Wrong> {
+    let _answer = plain.run(set_of(alloc, key)?)?;
     Ok(())
 }
 
@@ -27,7 +32,16 @@ fn set_all(alloc: Global, plain: &mut PlainStore, keys: &[&[u8]]) -> Result<(), 
     Ok(())
 }
 
-/// A store of these keys.
+/// A plain store in which each of these keys has the value `12`.
+fn plain_of(alloc: Global, keys: &[&[u8]]) -> Result<PlainStore, Wrong> {
+    let mut plain = PlainStore::new(alloc);
+    match set_all(alloc, &mut plain, keys) {
+        Ok(()) => Ok(plain),
+        Err(wrong) => Err(wrong),
+    }
+}
+
+/// A store that goes on from a plain store.
 fn reopened(
     alloc: Global,
     plain: PlainStore,
@@ -36,10 +50,22 @@ fn reopened(
     room: &mut [u8],
 ) -> Result<Reopened, Refusal> {
     let entries = plain.into_entries()?;
-    let Some(limits) = limits(undecided, 1000) else {
-        return Err(Refusal::Limits);
-    };
-    reopen(alloc, limits, 7, entries.as_slice(), last, room)
+    match limits(undecided, 1000) {
+        Some(limits) => reopen(alloc, limits, 7, entries.as_slice(), last, room),
+        None => Err(Refusal::Limits),
+    }
+}
+
+/// The same of these keys.
+fn reopened_of(
+    alloc: Global,
+    keys: &[&[u8]],
+    undecided: u32,
+    last: Last,
+    room: &mut [u8],
+) -> Result<Result<Reopened, Refusal>, Wrong> {
+    let plain = plain_of(alloc, keys)?;
+    Ok(reopened(alloc, plain, undecided, last, room))
 }
 
 const GOES_ON: &[Call] = &[
@@ -65,13 +91,13 @@ fn goes_on(opened: Result<Reopened, Refusal>, room: &mut [u8]) -> Result<(), Wro
     played
 }
 
+const KEYS: &[&[u8]] = &[b"b", b"a"];
+
 #[test]
 fn goes_on_in_a_new_segment(rt: HostRuntime) -> Result<(), Wrong> {
-    let mut room = bytes_of(rt.alloc(), 0, 100)?;
-    let mut plain = PlainStore::new(rt.alloc());
-    set_all(rt.alloc(), &mut plain, &[b"b".as_slice(), b"a".as_slice()])?;
-    let opened = reopened(rt.alloc(), plain, 500, LAST, room.as_mut_slice());
-    goes_on(opened, room.as_mut_slice())
+    let mut room = [0; 100];
+    let opened = reopened_of(rt.alloc(), KEYS, 500, LAST, &mut room)?;
+    goes_on(opened, &mut room)
 }
 
 /// A store of a key is refused for this reason, and the room is as it was.
@@ -83,13 +109,11 @@ fn is_refused(
     len: usize,
     why: Refusal,
 ) -> Result<(), Wrong> {
-    let mut room = bytes_of(alloc, 1, len)?;
-    let mut plain = PlainStore::new(alloc);
-    set(alloc, &mut plain, key)?;
-    let refusal = reopened(alloc, plain, undecided, last, room.as_mut_slice()).err();
+    let mut bytes = [1u8; 24];
+    let room = bytes.get_mut(..len).ok_or(Wrong::Limits)?;
+    let refusal = reopened_of(alloc, &[key], undecided, last, room)?.err();
     holds(refusal == Some(why), 0)?;
-    let as_it_was = bytes_of(alloc, 1, len)?;
-    holds(room.as_slice() == as_it_was.as_slice(), 1)
+    holds(bytes == [1u8; 24], 1)
 }
 
 #[test]

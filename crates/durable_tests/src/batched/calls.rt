@@ -37,6 +37,23 @@ pub(crate) enum Call {
 
 type Store = Batched<u32, u32>;
 
+fn add_look(step: &mut ByteStep<u32, u32>, alloc: Global, key: &[u8]) -> Result<(), AllocError> {
+    let key = Vec::from_slice(alloc, key)?;
+    step.looked.push(key)?;
+    Ok(())
+}
+
+fn add_write(
+    step: &mut ByteStep<u32, u32>,
+    alloc: Global,
+    key: &[u8],
+    value: u32,
+) -> Result<(), AllocError> {
+    let key = Vec::from_slice(alloc, key)?;
+    step.written.push((key, Some(value)))?;
+    Ok(())
+}
+
 /// What is written in a step that copies from one key to another.
 fn fill(
     store: &Store,
@@ -49,9 +66,8 @@ fn fill(
         Some(value) => value.saturating_add(1),
         None => 1,
     };
-    step.looked.push(Vec::from_slice(alloc, from)?)?;
-    step.written
-        .push((Vec::from_slice(alloc, to)?, Some(value)))?;
+    add_look(step, alloc, from)?;
+    add_write(step, alloc, to, value)?;
     step.said = Some((3, value));
     Ok(())
 }
@@ -73,7 +89,7 @@ fn look(
     key: &[u8],
 ) -> Result<(), AllocError> {
     let value = store.kernel().value(key).copied().unwrap_or(0);
-    step.looked.push(Vec::from_slice(alloc, key)?)?;
+    add_look(step, alloc, key)?;
     step.said = Some((4, value));
     Ok(())
 }
@@ -95,29 +111,6 @@ fn sends(told: Result<Sealed, sk_batches::Refusal>, frame: u64, len: usize) -> b
     }
 }
 
-/// What is seen of a store is so.
-fn is_seen(store: &Store, call: &Call) -> bool {
-    match call {
-        Call::IsDue(is_due) => store.cut_due().is_some() == *is_due,
-        Call::Has(key, value) => store.kernel().value(key).copied() == *value,
-        Call::Undecided(count) => store.kernel().undecided() == *count,
-        Call::Keys(count) => store.kernel().len() == *count,
-        _ => false,
-    }
-}
-
-/// A word of the disk is taken, or a batch decided so.
-fn is_decided(store: &mut Store, call: &Call) -> bool {
-    match call {
-        Call::Synced(frame) => store.synced(*frame).is_ok(),
-        Call::Failed(frame) => store.failed(*frame).is_ok(),
-        Call::Cuts(is_made) => store.cut(*is_made).is_ok(),
-        Call::Decides(outcome) => store.decide() == *outcome,
-        Call::Says(channel, said) => store.released(*channel) == *said,
-        _ => is_seen(store, call),
-    }
-}
-
 /// A call is told so.
 fn is_told(
     store: &mut Store,
@@ -131,7 +124,15 @@ fn is_told(
         Call::Looks(key, told) => looks(store, alloc, key) == *told,
         Call::Sends(frame, len) => sends(store.take_frame(places, room), *frame, *len),
         Call::SendsNone(why) => store.take_frame(places, room) == Err(*why),
-        _ => is_decided(store, call),
+        Call::Synced(frame) => store.synced(*frame).is_ok(),
+        Call::Failed(frame) => store.failed(*frame).is_ok(),
+        Call::Cuts(is_made) => store.cut(*is_made).is_ok(),
+        Call::IsDue(is_due) => store.cut_due().is_some() == *is_due,
+        Call::Decides(outcome) => store.decide() == *outcome,
+        Call::Says(channel, said) => store.released(*channel) == *said,
+        Call::Has(key, value) => store.kernel().value(key).copied() == *value,
+        Call::Undecided(count) => store.kernel().undecided() == *count,
+        Call::Keys(count) => store.kernel().len() == *count,
     }
 }
 

@@ -65,11 +65,7 @@ impl Left {
 
 /// So many zeros.
 pub(crate) fn zeros(alloc: Global, len: usize) -> Result<Vec<u8>, Wrong> {
-    let mut bytes = Vec::new(alloc);
-    for _ in 0..len {
-        bytes.push(0)?;
-    }
-    Ok(bytes)
+    Ok(Vec::from_elem(alloc, 0, len)?)
 }
 
 /// Writes those bytes that are left over some, from a place on.
@@ -113,16 +109,29 @@ impl Disk {
         self.segments.clear();
     }
 
-    /// The place of a segment, which is made where it is not there.
-    fn place_of(&mut self, number: u64) -> Result<usize, Wrong> {
+    fn find(&self, number: u64) -> Option<usize> {
         for (place, segment) in self.segments.iter().enumerate() {
             if segment.number == number {
-                return Ok(place);
+                return Some(place);
             }
         }
+        None
+    }
+
+    /// The place of a segment, which is made where it is not there.
+    fn place_of(&mut self, number: u64) -> Result<usize, Wrong> {
+        match self.find(number) {
+            Some(place) => Ok(place),
+            None => self.add(number),
+        }
+    }
+
+    /// One segment more: its place.
+    fn add(&mut self, number: u64) -> Result<usize, Wrong> {
+        let place = self.segments.len();
         let bytes = zeros(self.alloc, self.len)?;
         self.segments.push(Segment { number, bytes })?;
-        Ok(self.segments.len().saturating_sub(1))
+        Ok(place)
     }
 
     /// Writes what is left of a write.
@@ -191,8 +200,10 @@ impl Disk {
             return Err(Wrong::Place);
         }
         let write = self.writes.remove(at);
-        self.leave(chance, &write, Left::All)?;
-        Ok(write.sealed.frame)
+        match self.leave(chance, &write, Left::All) {
+            Ok(()) => Ok(write.sealed.frame),
+            Err(wrong) => Err(wrong),
+        }
     }
 
     /// The write at a place among those under way fails: its frame. What of it is on the disk stays open until a crash.

@@ -47,10 +47,14 @@ impl Frames {
 
     /// A cut takes the place of a frame, of these batches, and of all behind it.
     pub(crate) fn cut(&mut self, frame: u64, first: u64, last: u64) -> Result<(), Wrong> {
-        let sent = replace(&mut self.sent, Vec::new(self.alloc));
-        self.part(sent.as_slice(), frame, first, last)?;
+        self.cut_sent(frame, first, last)?;
         self.synced.retain(|at| *at < frame);
         self.sync(frame)
+    }
+
+    fn cut_sent(&mut self, frame: u64, first: u64, last: u64) -> Result<(), Wrong> {
+        let sent = replace(&mut self.sent, Vec::new(self.alloc));
+        self.part(sent.as_slice(), frame, first, last)
     }
 
     /// Of what was sent that before a frame stays so, and all else but these batches is to be sent again.

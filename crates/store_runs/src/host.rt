@@ -14,7 +14,7 @@ use crate::wrong::{Wrong, holds};
 use sk_batched::Outcome;
 use sk_batches::{Cut, Sealed};
 use sk_channels::{Ask, Asked, Channel};
-use sk_commands::{ByteString, Reply, Work};
+use sk_commands::Work;
 use sk_durable::{End, Fed, Limits, Next, Refusal};
 use sk_log::HEAD;
 use sk_plain_store::PlainStore;
@@ -93,6 +93,20 @@ fn read(link: &mut Link, taken: &[u8], count: usize) -> Result<Option<Asked>, Wr
     }
 }
 
+/// What a channel asked of the host is told, which gives its ticket.
+fn give(link: &mut Link) -> Result<(), Wrong> {
+    let ticket = link.reader.next_given();
+    if !link.reader.is_posed() {
+        return Err(Wrong::Asked);
+    }
+    if ticket == u64::MAX {
+        return Err(Wrong::Asked);
+    }
+    link.reader.tell();
+    link.given = ticket;
+    Ok(())
+}
+
 /// Nothing is asked for, or only the host is.
 fn judge_unasked(is_posed: bool, end: End) -> Result<(), Wrong> {
     match end {
@@ -143,26 +157,27 @@ impl Host {
 
     /// One thing that a host does.
     pub(crate) fn turn(&mut self) -> Result<(), Wrong> {
-        match self.chance.below(40) {
-            0 | 1 => self.connect()?,
-            2 => self.hang_up()?,
-            3..=19 => self.feed()?,
-            20..=23 => self.take()?,
-            24..=28 => self.word()?,
-            29..=32 => self.settle()?,
-            33 | 34 => self.cut()?,
-            35..=37 => self.pump_any()?,
-            38 => self.drain()?,
-            _ => {
-                if self.chance.once_in(3) {
-                    self.crash()?;
-                }
-            }
-        }
+        self.happen()?;
         if self.model.batches() >= BATCHES {
             self.crash()?;
         }
         self.judge()
+    }
+
+    fn happen(&mut self) -> Result<(), Wrong> {
+        match self.chance.below(40) {
+            0 | 1 => self.connect(),
+            2 => self.hang_up(),
+            3..=19 => self.feed(),
+            20..=23 => self.take(),
+            24..=28 => self.word(),
+            29..=32 => self.settle(),
+            33 | 34 => self.cut(),
+            35..=37 => self.pump_any(),
+            38 => self.drain(),
+            _ if self.chance.once_in(3) => self.crash(),
+            _ => Ok(()),
+        }
     }
 
     /// Each key has what it has in the plain store.
@@ -181,42 +196,67 @@ impl Host {
             return Ok(());
         }
         let channel = self.store.connect()?;
+        self.add_link(channel)
+    }
+
+    /// A channel that is connected next.
+    fn new_link(&self, channel: u16) -> Result<Link, Wrong> {
         let requests = self.limits.requests;
         if requests.line < 16 {
             return Err(Wrong::Refused("connect"));
         }
-        self.links.push(Link {
+        Ok(Link {
             channel,
             order: self.connected,
             reader: Channel::new(self.alloc, requests, self.limits.waiting),
             given: 0,
             left: Vec::new(self.alloc),
             received: Vec::new(self.alloc),
-        })?;
+        })
+    }
+
+    fn add_link(&mut self, channel: u16) -> Result<(), Wrong> {
+        let link = self.new_link(channel)?;
+        self.links.push(link)?;
         self.connected = self.connected.saturating_add(1);
         Ok(())
     }
 
     fn hang_up(&mut self) -> Result<(), Wrong> {
         let place = self.chance.place(self.links.len());
-        if place < self.links.len() {
-            let link = self.links.remove(place);
-            self.store.hang_up(link.channel)?;
+        if place >= self.links.len() {
+            return Ok(());
         }
-        Ok(())
+        let link = self.links.remove(place);
+        self.store.hang_up(link.channel)
     }
 
     /// Some bytes come on a channel: what was left behind on it, or others.
     fn feed(&mut self) -> Result<(), Wrong> {
         let place = self.chance.place(self.links.len());
-        let Some(link) = self.links.get_mut(place) else {
+        if place >= self.links.len() {
             return Ok(());
-        };
-        let mut bytes = replace(&mut link.left, Vec::new(self.alloc));
-        if bytes.is_empty() {
-            bytes = any_bytes(self.alloc, &mut self.chance)?;
         }
+        let bytes = self.next_bytes(place)?;
         self.feed_some(place, bytes.as_slice())
+    }
+
+    /// What was left behind on the channel at a place, or others where nothing was.
+    fn next_bytes(&mut self, place: usize) -> Result<Vec<u8>, Wrong> {
+        let left = self.take_left(place);
+        if left.is_empty() {
+            any_bytes(self.alloc, &mut self.chance)
+        } else {
+            Ok(left)
+        }
+    }
+
+    fn take_left(&mut self, place: usize) -> Vec<u8> {
+        let none = Vec::new(self.alloc);
+        match self.links.get_mut(place) {
+            Some(link) => replace(&mut link.left, none),
+            None => none,
+        }
     }
 
     /// Bytes come on a channel, all or the first of them. What is not taken is left behind.
@@ -260,25 +300,39 @@ impl Host {
         let channel = link.channel;
         match self.store.feed(channel, piece)? {
             Ok(fed) => {
-                let taken = piece.get(..fed.count).ok_or(Wrong::Asked)?;
-                self.came(place, taken, fed)?;
-                if fed.end == End::Asked {
-                    self.tell(place)?;
-                }
+                self.was_fed(place, piece, fed)?;
                 Ok(Some(fed.count))
             }
-            Err(Refusal::DecisionDue) => {
-                holds(self.model.is_due(), Wrong::Refused("feed_piece"))?;
+            Err(why) => {
+                holds(self.may_refuse(why), Wrong::Refused("feed_piece"))?;
                 Ok(None)
             }
-            Err(Refusal::Full) => {
-                let bytes = self.store.store().undecided() >= self.limits.undecided as usize;
-                let commands = self.model.standing() >= self.limits.commands as usize;
-                holds(bytes || commands, Wrong::Refused("feed_piece"))?;
-                Ok(None)
-            }
-            Err(_) => Err(Wrong::Refused("feed_piece")),
         }
+    }
+
+    /// Of a piece so much was taken.
+    fn was_fed(&mut self, place: usize, piece: &[u8], fed: Fed) -> Result<(), Wrong> {
+        let taken = piece.get(..fed.count).ok_or(Wrong::Asked)?;
+        self.came(place, taken, fed)?;
+        if fed.end == End::Asked {
+            self.tell(place)?;
+        }
+        Ok(())
+    }
+
+    /// Whether bytes may be refused for this.
+    fn may_refuse(&mut self, why: Refusal) -> bool {
+        match why {
+            Refusal::DecisionDue => self.model.is_due(),
+            Refusal::Full => self.is_full(),
+            _ => false,
+        }
+    }
+
+    /// Whether as many bytes or commands are undecided as may be.
+    fn is_full(&mut self) -> bool {
+        let bytes = self.store.store().undecided() >= self.limits.undecided as usize;
+        bytes || self.model.standing() >= self.limits.commands as usize
     }
 
     /// These bytes were taken.
@@ -325,22 +379,15 @@ impl Host {
         if self.chance.once_in(3) {
             return Ok(());
         }
-        let ticket = link.reader.next_given();
-        if !link.reader.is_posed() {
-            return Err(Wrong::Asked);
+        give(link)?;
+        let (channel, order, ticket) = (link.channel, link.order, link.given);
+        if self.chance.once_in(2) {
+            self.store.tell(channel, Some(TOLD))?;
+            self.model.say(order, ticket, TOLD)
+        } else {
+            self.store.tell(channel, None)?;
+            self.model.say(order, ticket, UNKNOWN)
         }
-        if ticket == u64::MAX {
-            return Err(Wrong::Asked);
-        }
-        link.reader.tell();
-        link.given = ticket;
-        let known = self.chance.once_in(2);
-        let reply = if known { TOLD } else { UNKNOWN };
-        let text = ByteString::copy_of(self.alloc, reply)?;
-        self.store
-            .tell(link.channel, if known { Some(reply) } else { None })?;
-        self.model
-            .carry(link.order, ticket, Work::Say(Reply::Text(text)))
     }
 
     /// Takes what may go out of the channel at a place.
@@ -379,17 +426,23 @@ impl Host {
             let Some(channel) = self.store.next_ready()? else {
                 break;
             };
-            let mut found = None;
-            for (place, link) in self.links.iter().enumerate() {
-                if link.channel == channel {
-                    found = Some(place);
-                }
-            }
-            let Some(place) = found else {
-                return Err(Wrong::Replies);
-            };
+            let place = self.place_of(channel).ok_or(Wrong::Replies)?;
             self.pump(place)?;
         }
+        self.are_all()
+    }
+
+    fn place_of(&self, channel: u16) -> Option<usize> {
+        for (place, link) in self.links.iter().enumerate() {
+            if link.channel == channel {
+                return Some(place);
+            }
+        }
+        None
+    }
+
+    /// The same on each channel.
+    fn are_all(&self) -> Result<(), Wrong> {
         for place in 0..self.links.len() {
             self.is_all(place)?;
         }
@@ -568,14 +621,8 @@ impl Host {
 
     /// A snapshot is written, which stands for all segments from then on, unless the start crashes.
     fn keep(&mut self, store: PlainStore, last: Last) -> Result<(), Wrong> {
-        let mut pieces = Vec::new(self.alloc);
-        write(
-            self.alloc,
-            &mut self.chance,
-            store,
-            &mut pieces,
-            self.store.script(),
-        )?;
+        let script = self.store.script();
+        let pieces = write(self.alloc, &mut self.chance, store, script)?;
         if !self.chance.once_in(4) {
             self.base.stand(pieces, last.frame, last.segment);
             self.disk.let_go();

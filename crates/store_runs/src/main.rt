@@ -15,7 +15,7 @@ mod script;
 mod snapshot;
 mod wrong;
 
-use crate::commands::{Deed, deed_of, plan_of};
+use crate::commands::{Deed, deed_of, number, plan_of};
 use crate::host::Host;
 use crate::script::Script;
 use crate::wrong::Wrong;
@@ -23,7 +23,7 @@ use sk_durable::Limits;
 use std::alloc::Global;
 use std::env;
 use std::io::Write;
-use std::num::NonZeroU16;
+use std::num::{NonZeroU16, ParseIntError};
 
 /// How many bytes a segment has, and how many may be undecided.
 const SEGMENT: usize = 700;
@@ -34,7 +34,7 @@ const UNDECIDED: u32 = 400;
 const COMMANDS: u32 = 60;
 
 /// How many things happen in a run, where it is not said.
-const TURNS: u32 = 120;
+const TURNS: u64 = 120;
 
 fn limits(in_flight: NonZeroU16) -> Limits {
     Limits {
@@ -52,7 +52,7 @@ fn limits(in_flight: NonZeroU16) -> Limits {
 }
 
 /// A start, and so many things that happen.
-fn play(host: &mut Host, turns: u32) -> Result<(), Wrong> {
+fn play(host: &mut Host, turns: u64) -> Result<(), Wrong> {
     host.crash()?;
     for _ in 0..turns {
         host.turn()?;
@@ -74,10 +74,21 @@ fn new_host(alloc: Global, number: u64, wanted: bool) -> Result<Host, Wrong> {
     )
 }
 
-/// A run, and its script where that is wanted.
-fn run(alloc: Global, number: u64, turns: u32, wanted: bool) -> Result<Script, Wrong> {
-    let mut host = new_host(alloc, number, wanted)?;
-    let played = play(&mut host, turns);
+/// Which runs are asked for.
+#[derive(Clone, Copy)]
+struct Runs {
+    count: u64,
+    first: u64,
+    /// How many things happen in each.
+    turns: u64,
+    /// Whether their scripts are wanted.
+    wanted: bool,
+}
+
+/// The run of a number, and its script where that is wanted.
+fn run(alloc: Global, number: u64, runs: &Runs) -> Result<Script, Wrong> {
+    let mut host = new_host(alloc, number, runs.wanted)?;
+    let played = play(&mut host, runs.turns);
     let script = host.into_script();
     match played {
         Ok(()) => Ok(script),
@@ -85,24 +96,25 @@ fn run(alloc: Global, number: u64, turns: u32, wanted: bool) -> Result<Script, W
     }
 }
 
-/// Makes a run, and tells its calls, or what is wrong.
-fn tell(rt: &HostRuntime, number: u64, turns: u32, wanted: bool) -> anyhow::Result<()> {
-    match run(rt.alloc(), number, turns, wanted) {
-        Ok(script) => rt.stdout().write_all(script.text())?,
-        Err(wrong) => {
-            println!(rt; "run {number}: {wrong}")?;
-            return Err(wrong.into());
-        }
-    }
-    Ok(())
+/// Tells what is wrong in a run.
+fn tell_wrong(rt: &HostRuntime, number: u64, wrong: Wrong) -> anyhow::Result<()> {
+    println!(rt; "run {number}: {wrong}")?;
+    Err(wrong.into())
 }
 
-/// The number that a word says, or another where there is no word.
-fn number(word: Option<&String>, other: u64) -> anyhow::Result<u64> {
-    match word {
-        Some(word) => Ok(word.parse::<u64>()?),
-        None => Ok(other),
+/// Makes a run, and tells its calls, or what is wrong.
+fn tell(rt: &HostRuntime, number: u64, runs: &Runs) -> anyhow::Result<()> {
+    match run(rt.alloc(), number, runs) {
+        Ok(script) => Ok(rt.stdout().write_all(script.text())?),
+        Err(wrong) => tell_wrong(rt, number, wrong),
     }
+}
+
+fn tell_all(rt: &HostRuntime, runs: &Runs) -> anyhow::Result<()> {
+    for number in runs.first..runs.first.saturating_add(runs.count) {
+        tell(rt, number, runs)?;
+    }
+    Ok(())
 }
 
 /// `store_runs COUNT [FIRST [TURNS [script]]]`: so many runs from the first on, of so many things that happen; or the calls and answers
@@ -123,11 +135,11 @@ fn carry_out_all(rt: &HostRuntime, words: &[String]) -> anyhow::Result<()> {
 /// What the words ask for.
 fn carry_out(rt: &HostRuntime, words: &[String]) -> anyhow::Result<()> {
     let Some(word) = words.first() else {
-        return runs(rt, words);
+        return make_runs(rt, words);
     };
     match deed_of(word.as_str()) {
         Some(deed) => tell_commands(rt, deed, words),
-        None => runs(rt, words),
+        None => make_runs(rt, words),
     }
 }
 
@@ -140,16 +152,21 @@ fn tell_commands(rt: &HostRuntime, deed: Deed, words: &[String]) -> anyhow::Resu
 }
 
 /// The runs that the words say.
-fn runs(rt: &HostRuntime, words: &[String]) -> anyhow::Result<()> {
-    let count = number(words.first(), 0)?;
-    let first = number(words.get(1), 0)?;
-    let turns = u32::try_from(number(words.get(2), u64::from(TURNS))?)?;
-    let wanted = words.get(3).is_some();
-    for turn in first..first.saturating_add(count) {
-        tell(rt, turn, turns, wanted)?;
-    }
-    if !wanted {
-        println!(rt; "{count} runs")?;
+fn runs_of(words: &[String]) -> Result<Runs, ParseIntError> {
+    Ok(Runs {
+        count: number(words.first(), 0)?,
+        first: number(words.get(1), 0)?,
+        turns: number(words.get(2), TURNS)?,
+        wanted: words.get(3).is_some(),
+    })
+}
+
+/// Makes the runs that the words say.
+fn make_runs(rt: &HostRuntime, words: &[String]) -> anyhow::Result<()> {
+    let runs = runs_of(words)?;
+    tell_all(rt, &runs)?;
+    if !runs.wanted {
+        println!(rt; "{} runs", runs.count)?;
     }
     Ok(())
 }

@@ -1,7 +1,7 @@
 //! What a store has to be, by a plain store and the list of the commands that came.
 
 use crate::wrong::{Wrong, holds};
-use sk_commands::{Answer, Look, Work, Writes};
+use sk_commands::{Answer, ByteString, Look, Reply, Work, Writes};
 use sk_plain_store::PlainStore;
 use sk_replay::works_of;
 use std::alloc::Global;
@@ -110,13 +110,24 @@ fn written_keys(writes: &Writes) -> u8 {
 /// Carries out works of a log in a plain store, and answers what the last says.
 fn run_text(alloc: Global, plain: &mut PlainStore, text: &[u8]) -> Result<Vec<u8>, Wrong> {
     let mut said = Vec::new(alloc);
+    run_works(alloc, plain, text, &mut said)?;
+    Ok(said)
+}
+
+/// Carries out works of a log, and keeps what the last says.
+fn run_works(
+    alloc: Global,
+    plain: &mut PlainStore,
+    text: &[u8],
+    said: &mut Vec<u8>,
+) -> Result<(), Wrong> {
     let Ok(works) = works_of(alloc, text) else {
         return Err(Wrong::Answer);
     };
     for work in works {
-        say(alloc, plain, work, &mut said)?;
+        say(alloc, plain, work, said)?;
     }
-    Ok(said)
+    Ok(())
 }
 
 /// Carries out work, and keeps what it says.
@@ -126,19 +137,22 @@ fn say(alloc: Global, plain: &mut PlainStore, work: Work, said: &mut Vec<u8>) ->
     Ok(())
 }
 
+/// Whether a key has something, and the same in both.
+fn has_same(plain: &PlainStore, read: &PlainStore, key: &[u8]) -> bool {
+    match (plain.value(key), read.value(key)) {
+        (Some(one), Some(other)) => one.as_slice() == other.as_slice(),
+        _ => false,
+    }
+}
+
 /// Whether these keys have the same in both, and there are no others.
-fn have_same(plain: &PlainStore, keys: &[Vec<u8>], read: &PlainStore, others: &[Vec<u8>]) -> bool {
+fn has_keys(plain: &PlainStore, keys: &[Vec<u8>], read: &PlainStore) -> Result<bool, Wrong> {
     for key in keys {
-        let (one, other) = (plain.value(key.as_slice()), read.value(key.as_slice()));
-        let same = match (one, other) {
-            (Some(one), Some(other)) => one.as_slice() == other.as_slice(),
-            _ => false,
-        };
-        if !same {
-            return false;
+        if !has_same(plain, read, key.as_slice()) {
+            return Ok(false);
         }
     }
-    keys.len() == others.len()
+    Ok(keys.len() == read.keys()?.len())
 }
 
 impl Model {
@@ -220,10 +234,17 @@ impl Model {
     /// Notes what work says, and what it writes.
     fn run(&self, work: Work, known: &[Vec<u8>], command: &mut Command) -> Result<(), Wrong> {
         let mut writes = Vec::new(self.alloc);
-        let answer: Answer = work.run(self.alloc, &self.plain, known, &mut writes)?;
+        let answer = self.answer(work, known, &mut writes);
         command.wrote = written_keys(&writes);
-        command.answer = answer.text(self.alloc)?;
+        drop(writes);
+        command.answer = answer?;
         Ok(())
+    }
+
+    /// The text of what work says.
+    fn answer(&self, work: Work, known: &[Vec<u8>], writes: &mut Writes) -> Result<Vec<u8>, Wrong> {
+        let answer: Answer = work.run(self.alloc, &self.plain, known, writes)?;
+        Ok(answer.text(self.alloc)?)
     }
 
     /// Carries it out, and notes what it rests on.
@@ -245,6 +266,12 @@ impl Model {
         };
         command.rests = self.rests_of(looked | command.wrote) | own;
         Ok(())
+    }
+
+    /// A ticket of a channel is told what the host says.
+    pub(crate) fn say(&mut self, link: usize, ticket: u64, reply: &[u8]) -> Result<(), Wrong> {
+        let text = ByteString::copy_of(self.alloc, reply)?;
+        self.carry(link, ticket, Work::Say(Reply::Text(text)))
     }
 
     /// The answer to the command that was carried out last, as bytes.
@@ -348,20 +375,24 @@ impl Model {
     /// All that a channel which has given so many tickets has to be told by now.
     pub(crate) fn due(&self, link: usize, given: u64) -> Result<Vec<u8>, Wrong> {
         let mut due = Vec::new(self.alloc);
+        self.add_due(link, given, &mut due)?;
+        Ok(due)
+    }
+
+    fn add_due(&self, link: usize, given: u64, due: &mut Vec<u8>) -> Result<(), Wrong> {
         for before in 0..given {
             match self.told(link, before.saturating_add(1)) {
                 Some(text) => due.extend_from_slice(text)?,
                 None => break,
             }
         }
-        Ok(due)
+        Ok(())
     }
 
     /// Whether a plain store is what another has.
     fn is_same(&self, plain: &PlainStore, read: &PlainStore) -> Result<bool, Wrong> {
         let keys = plain.keys()?;
-        let others = read.keys()?;
-        Ok(have_same(plain, keys.as_slice(), read, others.as_slice()))
+        has_keys(plain, keys.as_slice(), read)
     }
 
     /// What was read after a crash is a plain store after the first of the logged commands, with all that was told as logged. It goes

@@ -60,22 +60,33 @@ fn add(text: &mut Vec<u8>, byte: u8) -> Result<(), Wrong> {
     Ok(())
 }
 
+/// Adds so many keys and words, in pairs first.
+fn add_words(chance: &mut Chance, text: &mut Vec<u8>, keys: u8, values: u8) -> Result<(), Wrong> {
+    for turn in 0..keys {
+        add(text, any_key(chance))?;
+        if turn < values {
+            add(text, any_value(chance))?;
+        }
+    }
+    Ok(())
+}
+
+fn any_option(chance: &mut Chance) -> &'static [u8] {
+    match OPTIONS.get(chance.place(OPTIONS.len())) {
+        Some(option) => option,
+        None => &[],
+    }
+}
+
 /// Adds a request, as a typed line.
 fn add_request(chance: &mut Chance, text: &mut Vec<u8>) -> Result<(), Wrong> {
     let Some((word, keys, values)) = FORMS.get(chance.place(FORMS.len())) else {
         return Ok(());
     };
     text.extend_from_slice(word)?;
-    for turn in 0..*keys {
-        add(text, any_key(chance))?;
-        if turn < *values {
-            add(text, any_value(chance))?;
-        }
-    }
+    add_words(chance, text, *keys, *values)?;
     if *word == b"SET".as_slice() {
-        if let Some(option) = OPTIONS.get(chance.place(OPTIONS.len())) {
-            text.extend_from_slice(option)?;
-        }
+        text.extend_from_slice(any_option(chance))?;
     }
     text.extend_from_slice(b"\r\n")?;
     Ok(())
@@ -84,8 +95,13 @@ fn add_request(chance: &mut Chance, text: &mut Vec<u8>) -> Result<(), Wrong> {
 /// The bytes of one to three requests, of which the last may lack some.
 pub(crate) fn any_bytes(alloc: Global, chance: &mut Chance) -> Result<Vec<u8>, Wrong> {
     let mut text = Vec::new(alloc);
-    for _ in 0..chance.below(3).saturating_add(1) {
-        add_request(chance, &mut text)?;
-    }
+    add_requests(chance, &mut text)?;
     Ok(text)
+}
+
+fn add_requests(chance: &mut Chance, text: &mut Vec<u8>) -> Result<(), Wrong> {
+    for _ in 0..chance.below(3).saturating_add(1) {
+        add_request(chance, text)?;
+    }
+    Ok(())
 }

@@ -8,7 +8,7 @@ use crate::wrong::{Wrong, holds};
 use sk_commands::ByteString;
 use sk_log::{HEAD, append};
 use sk_plain_store::PlainStore;
-use sk_recovered::{Heads, Recovered};
+use sk_recovered::{Found, Heads, Recovered};
 use sk_replay::Snapshot;
 use std::alloc::Global;
 
@@ -99,30 +99,44 @@ fn write_all(
     Err(Wrong::Refused("a snapshot"))
 }
 
-/// Adds the pieces of what a store has.
+/// The pieces of what a snapshot has, in a room that the longest entry fits.
+fn write_pieces(
+    alloc: Global,
+    chance: &mut Chance,
+    snapshot: &mut Snapshot,
+    script: &mut Script,
+) -> Result<Vec<u8>, Wrong> {
+    let room = ENTRY
+        .saturating_add(longest(snapshot.left()))
+        .saturating_add(chance.below(60) as usize);
+    let mut pieces = Vec::new(alloc);
+    write_all(alloc, snapshot, room, &mut pieces, script)?;
+    Ok(pieces)
+}
+
+/// The pieces of what a store has.
 pub(crate) fn write(
     alloc: Global,
     chance: &mut Chance,
     store: PlainStore,
-    pieces: &mut Vec<u8>,
     script: &mut Script,
-) -> Result<(), Wrong> {
+) -> Result<Vec<u8>, Wrong> {
     let mut snapshot = Snapshot::new(store)?;
-    let room = ENTRY
-        .saturating_add(longest(snapshot.left()))
-        .saturating_add(chance.below(60) as usize);
-    let written = write_all(alloc, &mut snapshot, room, pieces, script);
-    drop(snapshot);
-    written
+    write_pieces(alloc, chance, &mut snapshot, script)
+}
+
+fn add_head(heads: &mut Heads, pieces: &[u8]) -> Result<(), Wrong> {
+    let front = pieces.get(..HEAD).ok_or(Wrong::Place)?;
+    holds(heads.add(PIECES, front)?, Wrong::Snapshot)
 }
 
 /// The head of the first piece.
 fn head(alloc: Global, pieces: &[u8]) -> Result<Heads, Wrong> {
     let mut heads = Heads::new(alloc);
-    let front = pieces.get(..HEAD).ok_or(Wrong::Place)?;
-    let added = heads.add(PIECES, front)?;
-    holds(added, Wrong::Snapshot)?;
-    Ok(heads)
+    match add_head(&mut heads, pieces) {
+        Ok(()) => Ok(heads),
+        Err(wrong) => Err(wrong),
+    }
 }
 
 /// What is set by the pieces, which are read in two parts.
@@ -134,11 +148,16 @@ fn read_pieces(
 ) -> Result<PlainStore, Wrong> {
     let heads = head(alloc, pieces.bytes.as_slice())?;
     let empty = Recovered::new(alloc, PlainStore::new(alloc), 1, heads, 0);
-    let found = read_whole(empty, chance, pieces, script)?.end();
+    store_of(read_whole(empty, chance, pieces, script)?.end())
+}
+
+/// What was found where nothing is damaged.
+fn store_of(found: Found) -> Result<PlainStore, Wrong> {
     if found.is_damaged {
-        return Err(Wrong::Snapshot);
+        Err(Wrong::Snapshot)
+    } else {
+        Ok(found.store)
     }
-    Ok(found.store)
 }
 
 /// What a snapshot sets, if there is one.

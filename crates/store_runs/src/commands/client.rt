@@ -3,10 +3,11 @@ ghost use Rattle.std.specs.Prelude.{◌≡◌, true};
 ghost use Rattle.sk_durable.specs.Limits.{are_sound};
 
 use crate::commands::stop::RunStop;
+use sk_batches::Sealed;
 use sk_channels::table::CHANNEL_LIMIT;
 use sk_durable::{End, Limits, Next, Store};
 use sk_plain_store::PlainStore;
-use sk_recovered::{Heads, Recovered};
+use sk_recovered::{Heads, Recovered, Segment};
 use std::alloc::Global;
 use std::num::NonZeroU16;
 
@@ -76,40 +77,46 @@ fn add_key(request: &mut Vec<u8>, number: u64) -> Result<(), RunStop> {
 
 /// Room for the bytes of a frame.
 fn frame_room(alloc: Global) -> Result<Vec<u8>, RunStop> {
-    let mut room = Vec::new(alloc);
-    for _ in 0..ROOM {
-        room.push(0)?;
+    Ok(Vec::from_elem(alloc, 0, ROOM)?)
+}
+
+/// An empty store.
+fn new_store(alloc: Global) -> Result<Store, RunStop> {
+    let Some(in_flight) = NonZeroU16::new(4) else {
+        return Err(RunStop::Silent);
+    };
+    let limits = limits(in_flight);
+    if !limits.are_sound() {
+        return Err(RunStop::Silent);
     }
-    Ok(room)
+    let next = Next {
+        frame: 1,
+        segment: 1,
+        offset: 0,
+    };
+    Ok(Store::new(alloc, limits, 1, next, 7))
 }
 
 impl Client {
-    /// A client of an empty store, whose log is kept or dropped.
+    /// A client of an empty store, without a channel, whose log is kept or dropped.
     pub(crate) fn new(alloc: Global, keeps: bool) -> Result<Client, RunStop> {
-        let limits = match NonZeroU16::new(4) {
-            Some(in_flight) => limits(in_flight),
-            None => return Err(RunStop::Silent),
-        };
-        if !limits.are_sound() {
-            return Err(RunStop::Silent);
-        }
-        let next = Next {
-            frame: 1,
-            segment: 1,
-            offset: 0,
-        };
         let room = frame_room(alloc)?;
-        let mut store = Store::new(alloc, limits, 1, next, 7);
-        let channel = store.connect()?;
+        let store = new_store(alloc)?;
         Ok(Client {
             store,
-            channel,
+            channel: 0,
             room,
             request: Vec::new(alloc),
             replied: 0,
             others: Vec::new(alloc),
             log: if keeps { Some(Vec::new(alloc)) } else { None },
         })
+    }
+
+    /// It has a channel from then on.
+    pub(crate) fn connect(&mut self) -> Result<(), RunStop> {
+        self.channel = self.store.connect()?;
+        Ok(())
     }
 
     /// The request is carried out.
@@ -167,21 +174,35 @@ impl Client {
 
     /// What is logged is on the disk, and its replies are taken.
     pub(crate) fn sync(&mut self) -> Result<(), RunStop> {
-        let sealed = match self.store.take_frame(self.room.as_mut_slice()) {
-            Ok(sealed) => sealed,
-            Err(sk_batches::Refusal::Nothing) => return Ok(()),
-            Err(sk_batches::Refusal::Full) => {
-                self.store.turn()?;
-                self.store.take_frame(self.room.as_mut_slice())?
-            }
-            Err(why) => return Err(why.into()),
-        };
-        if let Some(log) = self.log.as_mut() {
-            log.extend_from_slice(&self.room[..sealed.len])?;
+        match self.store.take_frame(self.room.as_mut_slice()) {
+            Ok(sealed) => self.write(sealed),
+            Err(sk_batches::Refusal::Nothing) => Ok(()),
+            Err(sk_batches::Refusal::Full) => self.sync_next(),
+            Err(why) => Err(why.into()),
         }
+    }
+
+    /// The same, in the next segment.
+    fn sync_next(&mut self) -> Result<(), RunStop> {
+        self.store.turn()?;
+        let sealed = self.store.take_frame(self.room.as_mut_slice())?;
+        self.write(sealed)
+    }
+
+    /// The frame in the room is on the disk.
+    fn write(&mut self, sealed: Sealed) -> Result<(), RunStop> {
+        self.log_frame(sealed.len)?;
         self.store.synced(sealed.frame)?;
         self.decide();
         self.take_out()
+    }
+
+    fn log_frame(&mut self, len: usize) -> Result<(), RunStop> {
+        let bytes = self.room.as_slice().get(..len).ok_or(RunStop::Silent)?;
+        if let Some(log) = self.log.as_mut() {
+            log.extend_from_slice(bytes)?;
+        }
+        Ok(())
     }
 
     /// Channels come, as many as may be beside the one that there is, and go, so many in all.
@@ -212,18 +233,34 @@ impl Client {
 /// A log of one segment is read again. It stays a function of its own, so that what it takes can be counted alone.
 #[inline(never)]
 fn recover(alloc: Global, log: &[u8]) -> Result<u64, RunStop> {
-    let mut heads = Heads::new(alloc);
-    if !heads.add(1, log)? {
-        return Err(RunStop::Silent);
-    }
+    let heads = head(alloc, log)?;
     let recovered = Recovered::new(alloc, PlainStore::new(alloc), 1, heads, 0);
-    let Ok(mut segment) = recovered.open() else {
-        return Err(RunStop::Silent);
-    };
+    match recovered.open() {
+        Ok(segment) => works_of(feed_all(segment, log)?.close()?),
+        Err(_recovered) => Err(RunStop::Silent),
+    }
+}
+
+/// The head of a log of one segment.
+fn head(alloc: Global, log: &[u8]) -> Result<Heads, RunStop> {
+    let mut heads = Heads::new(alloc);
+    match heads.add(1, log) {
+        Ok(true) => Ok(heads),
+        Ok(false) => Err(RunStop::Silent),
+        Err(_) => Err(RunStop::Memory),
+    }
+}
+
+fn feed_all(mut segment: Segment, log: &[u8]) -> Result<Segment, RunStop> {
     for piece in log.chunks(PIECE) {
         segment = segment.feed(piece)?;
     }
-    let found = segment.close()?.end();
+    Ok(segment)
+}
+
+/// How many commands were found.
+fn works_of(recovered: Recovered) -> Result<u64, RunStop> {
+    let found = recovered.end();
     if found.is_damaged {
         Err(RunStop::Silent)
     } else {

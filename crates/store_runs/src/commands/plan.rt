@@ -1,6 +1,9 @@
 //! What the words of the command line ask for.
+
+use std::num::ParseIntError;
+
 /// What each command is.
-#[derive(Clone, Copy, Debug, PartialEq, Eq)]
+#[derive(Clone, Copy, PartialEq, Eq)]
 pub(crate) enum Deed {
     Set,
     Get,
@@ -11,7 +14,7 @@ pub(crate) enum Deed {
 }
 
 /// What is asked for.
-#[derive(Clone, Copy, Debug)]
+#[derive(Clone, Copy)]
 pub(crate) struct CommandPlan {
     pub(crate) deed: Deed,
     /// How many commands there are.
@@ -35,21 +38,21 @@ pub(crate) fn deed_of(word: &str) -> Option<Deed> {
     }
 }
 
-/// The number that a word says; 0 where there is no word.
-fn number(word: Option<&String>) -> anyhow::Result<u64> {
+/// The number that a word says, or another where there is no word.
+pub(crate) fn number(word: Option<&String>, other: u64) -> Result<u64, ParseIntError> {
     match word {
-        Some(word) => Ok(word.parse::<u64>()?),
-        None => Ok(0),
+        Some(word) => word.parse::<u64>(),
+        None => Ok(other),
     }
 }
 
 /// How many commands, over how many keys, how many of which are set first, and how many commands a batch has.
-pub(crate) fn plan_of(deed: Deed, words: &[String]) -> anyhow::Result<CommandPlan> {
+pub(crate) fn plan_of(deed: Deed, words: &[String]) -> Result<CommandPlan, ParseIntError> {
     Ok(CommandPlan {
         deed,
-        count: number(words.get(1))?,
-        keys: number(words.get(2))?,
-        present: number(words.get(3))?,
-        batch: number(words.get(4))?,
+        count: number(words.get(1), 0)?,
+        keys: number(words.get(2), 0)?,
+        present: number(words.get(3), 0)?,
+        batch: number(words.get(4), 0)?,
     })
 }

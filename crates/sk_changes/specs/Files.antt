@@ -1,13 +1,7 @@
 -- Changes of files.
 use Rattle.std.specs.Prelude.{ℕ, Bool, true, false, ◌&&◌, ◌+◌, ◌≤◌, nat_le, nat_lt, List, length, take, if◌then◌else◌}
-use Rattle.sk_ids.specs.declared.text.TheConstants.{TEXT_LIMIT}
-use Rattle.sk_objects.specs.File.{written, cut}
-use Rattle.sk_objects.specs.Slots.{IsZeroFrom}
-use Rattle.sk_objects.specs.declared.file.TheConstants.{FILE_LIMIT}
-use Rattle.sk_changes.specs.declared.change.Change.{Change}
-use Rattle.sk_changes.specs.declared.change.Change.TheVariants.{WriteAt, CutTo}
-use Rattle.sk_changes.specs.declared.change.Undo.{Undo}
-use Rattle.sk_changes.specs.declared.change.Undo.TheVariants.{Restore, Unput}
+use Rattle.sk_changes.specs.Base.{TEXT_LIMIT, written, cut, IsZeroFrom, FILE_LIMIT, Change, WriteAt, CutTo, Undo}
+use Rattle.sk_changes.specs.Base.{Restore, Unput}
 
 -- a write of some bytes, at most a text's, that ends within the limit, or a length within it
 abbrev pub file_fits : List ℕ → Change → Bool

@@ -1,3 +1,4 @@
+pub mod Base
 pub mod Files
 pub mod FilesLaw
 pub mod Pipes

@@ -1,12 +1,7 @@
 -- Changes of pipes.
 use Rattle.std.specs.Prelude.{Bool, true, false, not, ◌&&◌, ◌≤◌, ◌+◌, nat_le, ◌++◌, length, take, drop}
-use Rattle.sk_objects.specs.Pipe.{PipeView}
-use Rattle.sk_ids.specs.declared.text.TheConstants.{TEXT_LIMIT}
-use Rattle.sk_objects.specs.declared.pipe.TheConstants.{PIPE_LIMIT}
-use Rattle.sk_changes.specs.declared.change.Change.{Change}
-use Rattle.sk_changes.specs.declared.change.Change.TheVariants.{Put, Take, Shut}
-use Rattle.sk_changes.specs.declared.change.Undo.{Undo}
-use Rattle.sk_changes.specs.declared.change.Undo.TheVariants.{Unput, Untake, Reopen}
+use Rattle.sk_changes.specs.Base.{PipeView, TEXT_LIMIT, PIPE_LIMIT, Change, Put, Take, Shut, Undo, Unput, Untake}
+use Rattle.sk_changes.specs.Base.{Reopen}
 
 -- some bytes, at most a text's, with room for them where it is not shut; so many of those held; or not yet shut
 abbrev pub pipe_fits : PipeView → Change → Bool

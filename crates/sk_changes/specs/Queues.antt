@@ -1,11 +1,7 @@
 -- Changes of queues of signals.
 use Rattle.std.specs.Prelude.{ℕ, Bool, false, ◌&&◌, ◌<◌, ◌-◌, nat_le, nat_lt, List, [], ◌∷◌, ◌++◌, length, take, drop, slice_index}
-use Rattle.sk_objects.specs.Signals.{IsSignal}
-use Rattle.sk_objects.specs.declared.signals.TheConstants.{SIGNALS_LIMIT, LAST_SIGNAL}
-use Rattle.sk_changes.specs.declared.change.Change.{Change}
-use Rattle.sk_changes.specs.declared.change.Change.TheVariants.{PushSignal, TakeSignal}
-use Rattle.sk_changes.specs.declared.change.Undo.{Undo}
-use Rattle.sk_changes.specs.declared.change.Undo.TheVariants.{Unpush, Requeue, Reopen}
+use Rattle.sk_changes.specs.Base.{IsSignal, SIGNALS_LIMIT, LAST_SIGNAL, Change, PushSignal, TakeSignal, Undo, Unpush}
+use Rattle.sk_changes.specs.Base.{Requeue, Reopen}
 
 -- a signal's number while there is room for one more, or a queue that is not empty
 abbrev pub queue_fits : List ℕ → Change → Bool

@@ -1,9 +1,6 @@
 //! Changes of files.
 ghost use Rattle.std.specs.Prelude.{◌<◌, ◌^◌, ◌&&◌, nat_le, nat_lt, ◌≡◌, ◌≤◌, ◌+◌, length, true, IfOk, OnOk, OnErr};
-ghost use Rattle.sk_ids.specs.declared.text.TheConstants.{TEXT_LIMIT};
-ghost use Rattle.sk_objects.specs.File.{cut};
-ghost use Rattle.sk_objects.specs.declared.file.TheConstants.{FILE_LIMIT};
-ghost use Rattle.sk_changes.specs.declared.change.Change.TheVariants.{CutTo};
+ghost use Rattle.sk_changes.specs.Base.{TEXT_LIMIT, cut, FILE_LIMIT, CutTo};
 ghost use Rattle.sk_changes.specs.Files.{file_fits, file_grows, file_after, file_undo, CanUndoFile, file_undone};
 
 use crate::{Change, Invertible, NotApplied, Undo};

@@ -1,7 +1,6 @@
 //! Changes of pipes.
 ghost use Rattle.std.specs.Prelude.{false, ◌≡◌, ◌≤◌, ◌+◌, ◌&&◌, not, nat_le, length};
-ghost use Rattle.sk_ids.specs.declared.text.TheConstants.{TEXT_LIMIT};
-ghost use Rattle.sk_objects.specs.declared.pipe.TheConstants.{PIPE_LIMIT};
+ghost use Rattle.sk_changes.specs.Base.{TEXT_LIMIT, PIPE_LIMIT};
 ghost use Rattle.sk_changes.specs.Pipes.{pipe_fits, pipe_grows, pipe_after, pipe_undo, CanUndoPipe, pipe_undone};
 
 use crate::{Change, HeldBytes, Invertible, NotApplied, Undo};

@@ -1,7 +1,7 @@
 //! Changes made in turn, and taken back.
-ghost use Rattle.std.specs.Prelude.{◌≡◌, true, false, [], Err, OnOk};
+ghost use Rattle.std.specs.Prelude.{◌≡◌, true, false, [], Err, OnOk, fold};
 ghost use Rattle.sk_changes.specs.Back.{back, CanGoBack};
-ghost use Rattle.sk_changes.specs.InTurn.{all_fit, after_all};
+ghost use Rattle.sk_changes.specs.InTurn.{all_fit};
 
 use crate::{Change, Invertible, NotApplied, Undo};
 use std::alloc::Global;
@@ -13,7 +13,7 @@ pub fn apply_all<V: Invertible>(
     undos: &mut Vec<Undo>,
 ) -> Result<(), NotApplied>
     ensures fit { OnOk result (all_fit V.fits V.applied value.old changes.now ≡ true) }
-    ensures ok { OnOk result (value.new ≡ after_all V.applied value.old changes.now) }
+    ensures ok { OnOk result (value.new ≡ fold V.applied value.old changes.now) }
     ensures unfit { result ≡ Err NotApplied.Unfit
         → all_fit V.fits V.applied value.old changes.now ≡ false }
     ensures back { back V.undone value.new undos.new.items

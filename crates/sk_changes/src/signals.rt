@@ -1,7 +1,6 @@
 //! Changes of queues of signals.
 ghost use Rattle.std.specs.Prelude.{false, ◌≡◌, ◌≤◌, length, All};
-ghost use Rattle.sk_objects.specs.Signals.{IsSignal};
-ghost use Rattle.sk_objects.specs.declared.signals.TheConstants.{SIGNALS_LIMIT};
+ghost use Rattle.sk_changes.specs.Base.{IsSignal, SIGNALS_LIMIT};
 ghost use Rattle.sk_changes.specs.Queues.{queue_fits, queue_after, queue_undo, CanUndoQueue, queue_undone};
 
 use crate::{Change, Invertible, NotApplied, Undo};

@@ -1,7 +1,7 @@
 //! Changes of exit slots and of cached copies.
 ghost use Rattle.std.specs.Prelude.{false, ◌≡◌};
-ghost use Rattle.sk_objects.specs.Value.{IsStatus, IsContent};
-ghost use Rattle.sk_changes.specs.Slots.{exit_fits, exit_after, exit_undo, CanUndoExit, exit_undone, copy_fits, copy_grows, copy_after, copy_undo, CanUndoCopy, copy_undone};
+ghost use Rattle.sk_changes.specs.Base.{IsStatus, IsContent, ClearExit, Recopy};
+ghost use Rattle.sk_changes.specs.Slots.{exit_fits, exit_after, exit_undone, copy_fits, copy_after, copy_undone};
 
 use crate::{Change, Invertible, NotApplied, Undo};
 use sk_objects::HeldContent;
@@ -24,9 +24,9 @@ impl Invertible for Option<u8> {
 
     ghost applied = { exit_after };
 
-    ghost undo_of = { exit_undo };
+    ghost undo_of = { λ v c. ClearExit };
 
-    ghost can_undo = { CanUndoExit };
+    ghost can_undo = { λ v u. Unit {0} };
 
     ghost undone = { exit_undone };
 
@@ -59,13 +59,13 @@ impl Invertible for HeldContent {
 
     ghost fits = { copy_fits };
 
-    ghost grows = { copy_grows };
+    ghost grows = { copy_fits };
 
     ghost applied = { copy_after };
 
-    ghost undo_of = { copy_undo };
+    ghost undo_of = { λ v c. Recopy v };
 
-    ghost can_undo = { CanUndoCopy };
+    ghost can_undo = { λ v u. Unit {0} };
 
     ghost undone = { copy_undone };
 

@@ -1,18 +1,10 @@
 -- What a kernel starts from.
 use Rattle.std.specs.Prelude.{◌≡◌, ◌≢◌, ◌<◌, ◌≤◌, ℕ, Bool, true, List, length, All, AllPairs, [], ◌∷◌, ◌++◌, Option, Some, None, is_some, Result, Ok, Err, refl, ◌==◌, bytes_eq, if◌then◌else◌}
-use Rattle.std.specs.List.{list_any}
+use Rattle.sk_script.specs.Base.{list_any, Coded, code_by, coded×, coded_ℕ, coded_list, nat_cmp, name_order}
+use Rattle.sk_script.specs.Base.{ContentView, content_code, Instruction, ObjectKind, BootObject, BootProcess}
+use Rattle.sk_script.specs.Base.{BootFault, Duplicate, NoScript, Memory}
 use Rattle.std.specs.FinMap as map
-use Rattle.std.specs.Coded.{Coded, code_by, coded×, coded_ℕ, coded_list}
-use Rattle.std.specs.Ordering.{nat_cmp}
-use Rattle.sk_ids.specs.Name.{name_order}
-use Rattle.sk_objects.specs.Content.{ContentView, content_code}
 use Rattle.sk_script.specs.Scripts.{ScriptMap, script_map_code}
-use Rattle.sk_script.specs.declared.instruction.Instruction.{Instruction}
-use Rattle.sk_script.specs.declared.boot.ObjectKind.{ObjectKind}
-use Rattle.sk_script.specs.declared.boot.BootObject.{BootObject}
-use Rattle.sk_script.specs.declared.boot.BootProcess.{BootProcess}
-use Rattle.sk_script.specs.declared.boot.BootFault.{BootFault}
-use Rattle.sk_script.specs.declared.boot.BootFault.TheVariants.{Duplicate, NoScript, Memory}
 use Rattle.sk_script.specs.contracts.boot.BootObject as boot_object
 use Rattle.sk_script.specs.contracts.boot.BootProcess as boot_process
 
@@ -106,6 +98,5 @@ process_fault b number script = if has_process b number then Some Duplicate else
 -- can be wanting only where there is no other fault.
 abbrev pub Declares : Result (Unit {0}) BootFault → Option BootFault → BootView → BootView → BootView → Type 0
 Declares (Ok u) fault old made new = (fault ≡ None) × (new ≡ made)
-Declares (Err Duplicate) fault old made new = (fault ≡ Some Duplicate) × (new ≡ old)
-Declares (Err NoScript) fault old made new = (fault ≡ Some NoScript) × (new ≡ old)
 Declares (Err Memory) fault old made new = (fault ≡ None) × (new ≡ old)
+Declares (Err told) fault old made new = (fault ≡ Some told) × (new ≡ old)

@@ -1,11 +1,7 @@
 -- What a word has to be: the readings of operands, as they are defined for scripts and sections.
 use Rattle.std.specs.Prelude.{ℕ, Bool, true, false, List, ◌||◌, Result, Ok, Err, codes, bytes_eq}
-use Rattle.sk_words.specs.declared.fault.FaultKind.{FaultKind}
-use Rattle.sk_words.specs.Operands.{integer, natural, positive, index, short, name, label, pid}
-use Rattle.sk_words.specs.Literals.{literal}
+use Rattle.sk_script.specs.Base.{FaultKind, integer, natural, positive, index, short, name, label, pid, literal, Form}
 use Rattle.sk_script.specs.Registers.{register}
-use Rattle.sk_script.specs.declared.form.Form.{Form}
-use Rattle.sk_script.specs.declared.form.Form.TheVariants as forms
 
 -- whether a word says something
 abbrev pub is_said : {A : Type 0} → Result A FaultKind → Bool
@@ -22,14 +18,14 @@ is_input word = (bytes_eq (codes "none") word || bytes_eq (codes "good") word) |
 
 -- whether a word has a form
 abbrev pub fits : Form → List ℕ → Bool
-fits forms.Register word = is_said (register word)
-fits forms.Number word = is_said (integer word)
-fits forms.Label word = is_said (label word)
-fits forms.Literal word = is_said (literal word)
-fits forms.Name word = is_said (name word)
-fits forms.Index word = is_said (index word)
-fits forms.Natural word = is_said (natural word)
-fits forms.Short word = is_said (short word)
-fits forms.Guess word = is_said (positive word)
-fits forms.Process word = is_said (pid word)
-fits forms.Input word = is_input word
+fits Form.Register word = is_said (register word)
+fits Form.Number word = is_said (integer word)
+fits Form.Label word = is_said (label word)
+fits Form.Literal word = is_said (literal word)
+fits Form.Name word = is_said (name word)
+fits Form.Index word = is_said (index word)
+fits Form.Natural word = is_said (natural word)
+fits Form.Short word = is_said (short word)
+fits Form.Guess word = is_said (positive word)
+fits Form.Process word = is_said (pid word)
+fits Form.Input word = is_input word

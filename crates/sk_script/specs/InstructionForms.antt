@@ -1,7 +1,6 @@
 -- What forms the words behind the first word of an instruction have to have.
 use Rattle.std.specs.Prelude.{ℕ, List, [], ◌∷◌, Option, Some, None, codes, bytes_eq, if◌then◌else◌}
-use Rattle.sk_script.specs.declared.form.Form.{Form}
-use Rattle.sk_script.specs.declared.form.Form.TheVariants.{Register, Number, Label, Literal, Name, Index}
+use Rattle.sk_script.specs.Base.{Form, Register, Number, Label, Literal, Name, Index}
 
 -- the forms behind first words
 abbrev pub Table : Type 0

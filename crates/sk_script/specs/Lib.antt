@@ -1,3 +1,4 @@
+pub mod Base
 pub mod Registers
 pub mod Process
 pub mod Private

@@ -1,12 +1,8 @@
 -- The private instructions: those that read and write nothing but the process.
 use Rattle.std.specs.Prelude.{◌≡◌, ℕ, ◌+◌, ◌^◌, ◌==◌, nat_lt, ℤ, pos, negsuc, neg_ℤ, ◌+ℤ◌, Bool, true, false, List, length, Option, Some, None, option_and_then, slice_get, slice_set, if◌then◌else◌}
-use Rattle.sk_ids.specs.Pid.{boot_pid}
-use Rattle.sk_script.specs.declared.register.Val.{Val}
-use Rattle.sk_script.specs.declared.register.Val.TheVariants.{Num, Obj, Who}
+use Rattle.sk_script.specs.Base.{boot_pid, Val, Num, Who, Process, Instruction, Set, Move, Add, Text, Len}
+use Rattle.sk_script.specs.Base.{SelfPid, BootPid, Jump, Zero, Negative}
 use Rattle.sk_script.specs.Registers.{held}
-use Rattle.sk_script.specs.declared.process.Process.{Process}
-use Rattle.sk_script.specs.declared.instruction.Instruction.{Instruction}
-use Rattle.sk_script.specs.declared.instruction.Instruction.TheVariants.{Set, Move, Add, Text, Len, SelfPid, BootPid, Jump, Zero, Negative}
 
 -- ---- what becomes of the process
 
@@ -38,15 +34,11 @@ at_place_if holds p place = if holds then at_place p place else moved p
 
 abbrev pub is_zero : Val → Bool
 is_zero (Num (pos n)) = n == 0
-is_zero (Num (negsuc n)) = false
-is_zero (Obj o) = false
-is_zero (Who q) = false
+is_zero _ = false
 
 abbrev pub is_negative : Val → Bool
-is_negative (Num (pos n)) = false
 is_negative (Num (negsuc n)) = true
-is_negative (Obj o) = false
-is_negative (Who q) = false
+is_negative _ = false
 
 -- whether 64 bits with sign hold a number
 abbrev pub fits : ℤ → Bool
@@ -60,14 +52,12 @@ fitting n = if fits n then Some n else None
 -- the number that a value is
 abbrev pub integer_in : Val → Option ℤ
 integer_in (Num n) = Some n
-integer_in (Obj o) = None
-integer_in (Who q) = None
+integer_in _ = None
 
 -- the sum of two numbers, where it fits
 abbrev pub sum_of : Option ℤ → Option ℤ → Option ℤ
 sum_of (Some a) (Some b) = fitting (a +ℤ b)
-sum_of (Some a) None = None
-sum_of None b = None
+sum_of _ _ = None
 
 -- a number in a register, or the error 22 where there is none
 abbrev pub number_given : Process → ℕ → Option ℤ → Process

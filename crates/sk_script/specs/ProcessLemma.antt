@@ -1,13 +1,7 @@
 -- The test that processes derive is exact.
-use Rattle.std.proofs.Common.{ap}
-use Rattle.std.specs.Cmp.{unsigned_Decides, signed_Decides, booleans_Decides, first_so, second_so}
-use Rattle.std.specs.Cmp.Lexicographic.{pointwise_decides}
-use Rattle.sk_ids.specs.Same.{IsExact}
-use Rattle.sk_ids.specs.Exact.{exact_from, exact_option}
-use Rattle.sk_ids.specs.SameLemma.{exact_bytes, exact_text, exact_object}
-use Rattle.sk_script.specs.declared.register.Val.{Val}
-use Rattle.sk_script.specs.declared.register.Val.TheVariants.{Num, Obj, Who}
-use Rattle.sk_script.specs.declared.process.Process.{Process}
+use Rattle.sk_script.specs.Base.{ap, unsigned_Decides, signed_Decides, booleans_Decides, first_so, second_so}
+use Rattle.sk_script.specs.Base.{pointwise_decides, IsExact, exact_from, exact_option, exact_bytes, exact_text}
+use Rattle.sk_script.specs.Base.{exact_object, Val, Num, Obj, Who, Process}
 use Rattle.sk_script.specs.contracts.register.ValEq.TheImpl.Laws.{laws-law as val_laws}
 use Rattle.sk_script.specs.contracts.process.ProcessEq.TheImpl.Laws.{laws-law as process_laws}
 use Rattle.std.specs.Prelude.{◌≡◌, true}

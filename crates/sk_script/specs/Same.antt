@@ -1,9 +1,7 @@
 -- When two scripts are the same, and two maps of scripts.
 use Rattle.std.specs.Prelude.{Bool, List, nat_eq}
-use Rattle.std.specs.Cmp.Lexicographic.{pointwise}
-use Rattle.sk_ids.specs.Same.{same_map}
+use Rattle.sk_script.specs.Base.{pointwise, same_map, Instruction}
 use Rattle.sk_script.specs.Scripts.{ScriptMap}
-use Rattle.sk_script.specs.declared.instruction.Instruction.{Instruction}
 use Rattle.sk_script.specs.contracts.instruction.InstructionPartialEq.TheImpl as instruction
 
 abbrev pub same_script : List Instruction → List Instruction → Bool

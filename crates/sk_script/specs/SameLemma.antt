@@ -1,14 +1,11 @@
 -- The tests of instructions and scripts are exact.
 use Rattle.std.specs.Prelude.{◌≡◌, Bool, true, ◌&&◌, refl}
-use Rattle.std.proofs.Common.{ap}
-use Rattle.std.specs.Cmp.{unsigned_Decides, signed_Decides, first_so, second_so}
-use Rattle.std.specs.Cmp.Lexicographic.{pointwise_decides}
-use Rattle.sk_ids.specs.Same.{IsExact, exact_map}
-use Rattle.sk_ids.specs.Exact.{exact_from}
-use Rattle.sk_ids.specs.SameLemma.{exact_bytes, exact_text}
+use Rattle.sk_script.specs.Base.{ap, unsigned_Decides, signed_Decides, first_so, second_so, pointwise_decides, IsExact}
+use Rattle.sk_script.specs.Base.{exact_map, exact_from, exact_bytes, exact_text, Instruction, Set, Move, Add, Text}
+use Rattle.sk_script.specs.Base.{Len, SelfPid, BootPid, Jump, Zero, Negative, Handler, Return, Say, MakeFile, MakeDir}
+use Rattle.sk_script.specs.Base.{MakePipe, Look, Link, Unlink, Size, Write, Read, Cut, Put, Take, Shut, Fork, Wait}
+use Rattle.sk_script.specs.Base.{Kill, Exit, Fetch, Store}
 use Rattle.sk_script.specs.Same.{same_script, same_scripts}
-use Rattle.sk_script.specs.declared.instruction.Instruction.{Instruction}
-use Rattle.sk_script.specs.declared.instruction.Instruction.TheVariants.{Set, Move, Add, Text, Len, SelfPid, BootPid, Jump, Zero, Negative, Handler, Return, Say, MakeFile, MakeDir, MakePipe, Look, Link, Unlink, Size, Write, Read, Cut, Put, Take, Shut, Fork, Wait, Kill, Exit, Fetch, Store}
 use Rattle.sk_script.specs.contracts.instruction.InstructionPartialEq.TheImpl as instruction
 use Rattle.sk_script.specs.contracts.instruction.InstructionEq.TheImpl.Laws.{laws-law}
 

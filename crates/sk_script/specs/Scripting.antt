@@ -1,28 +1,15 @@
 -- What a script says: its instructions in order, or its first fault and the line where it stands.
-use Rattle.std.specs.Prelude.{◌≡◌, ◌<◌, ◌≤◌, ◌⊎◌, ℕ, ◌+◌, ◌-◌, min, List, [], ◌∷◌, ◌++◌, Option, Some, None, Result, Ok, Err, length, take, slice_index, ◌==◌, if◌then◌else◌, refl}
+use Rattle.std.specs.Prelude.{◌≡◌, ◌<◌, ◌≤◌, ◌⊎◌, ℕ, ◌+◌, ◌-◌, min, List, [], ◌∷◌, ◌++◌, Option, Some, None, Result, Ok, Err, is_ok, length, take, slice_index, ◌==◌, if◌then◌else◌}
+use Rattle.sk_script.specs.Base.{FaultKind, Fault, Instruction, ◌>>=◌, words, label, none_of, read_from, result_ok}
 use Rattle.std.specs.Str.Lines as text
-use Rattle.std.specs.Coded.{Coded, code_by, coded×, coded_ℕ, coded_list}
-use Rattle.sk_words.specs.declared.fault.FaultKind.{FaultKind}
-use Rattle.sk_words.specs.declared.fault.FaultKind.TheVariants as kinds
-use Rattle.sk_words.specs.declared.fault.Fault.{Fault}
-use Rattle.sk_script.specs.declared.instruction.Instruction.{Instruction}
-use Rattle.sk_script.specs.contracts.instruction.Instruction as instruction_impl
 use Rattle.sk_script.specs.declared.parse.Line as code
 use Rattle.sk_script.specs.declared.parse.Line.TheVariants as cases
-use Rattle.sk_words.specs.Faults.{◌>>=◌}
-use Rattle.sk_words.specs.Words.{words}
-use Rattle.sk_words.specs.Operands.{label, none_of}
 use Rattle.sk_script.specs.Instructions.{Labels, place_of, instruction}
-use Rattle.sk_words.specs.Reading.{read_from}
 use Rattle.sk_script.specs.Script.{INSTRUCTIONS}
 
 -- the label of a word that is a label and a colon
-abbrev pub valid : Result (List ℕ) FaultKind → Option (List ℕ)
-valid (Ok name) = Some name
-valid (Err e) = None
-
 abbrev pub label_in : List ℕ → Option (List ℕ)
-label_in word = if slice_index word (length word - 1) == 58 then valid (label (take (length word - 1) word)) else None
+label_in word = if slice_index word (length word - 1) == 58 then result_ok (label (take (length word - 1) word)) else None
 
 -- A line is ignored, declares a label, or is to be an instruction.
 pub data Line : Type 0 where
@@ -42,20 +29,14 @@ line_of (w ∷ ws) = if slice_index w 0 == 35 then Ignored else declares_or_does
 -- ---- the labels of all lines
 
 -- a line of a label alone declares it
-abbrev pub if_alone : Result (Unit {0}) FaultKind → Labels → Labels
-if_alone (Ok u) ls = ls
-if_alone (Err e) ls = []
-
 abbrev pub labels_of : ℕ → Line → Labels
-labels_of place Ignored = []
-labels_of place (Declares name ws) = if_alone (none_of ws) ((name, place) ∷ [])
-labels_of place (Does word ws) = []
+labels_of place (Declares name ws) = if is_ok (none_of ws) then (name, place) ∷ [] else []
+labels_of place _ = []
 
 -- the place behind a line; beyond a script's greatest length it does not matter
 abbrev pub next_place : ℕ → Line → ℕ
-next_place place Ignored = place
-next_place place (Declares name ws) = place
 next_place place (Does word ws) = min (place + 1) (INSTRUCTIONS + 1)
+next_place place _ = place
 
 unfoldable pub labels_from : ℕ → List (List ℕ) → Labels
 labels_from place [] = []
@@ -69,24 +50,14 @@ pub record ScriptState : Type 0 where
   pub declared : Labels
   pub instructions : List Instruction
 
-abbrev pub labels_code : Coded Labels
-labels_code = coded_list (coded× (coded_list coded_ℕ) coded_ℕ)
-
-abbrev pub state_code : Coded ScriptState
-state_code = code_by (Labels × (Labels × List Instruction))
-    (coded× labels_code (coded× labels_code (coded_list instruction_impl.the_row.coded)))
-    (λ s. (s.all, (s.declared, s.instructions)))
-    (λ p. record { all = p.0; declared = p.1.0; instructions = p.1.1 })
-    (λ _. refl)
-
 -- a label must not be declared already
 abbrev pub undeclared : Result ℕ FaultKind → Result (Unit {0}) FaultKind
-undeclared (Ok place) = Err kinds.Label
+undeclared (Ok place) = Err FaultKind.Label
 undeclared (Err e) = Ok tt
 
 -- there must be room for one instruction more
 abbrev pub room_for : List Instruction → Result (Unit {0}) FaultKind
-room_for is = if length is == INSTRUCTIONS then Err kinds.TooLong else Ok tt
+room_for is = if length is == INSTRUCTIONS then Err FaultKind.TooLong else Ok tt
 
 unfoldable pub added : ScriptState → Line → Result ScriptState FaultKind
 added s Ignored = Ok s
@@ -129,8 +100,8 @@ ComesFirst first f g = (f.line ≡ first) ⊎ ((first ≤ f.line) × (f.line < g
 -- The fault that is told of a script of which this is said, whose first and last lines have these numbers: the first
 -- fault, or want of memory before it.
 abbrev pub TellsScript : {S : Type 0} → ℕ → ℕ → Fault → Result S Fault → Type 0
-TellsScript first last f (Ok s) = (f.kind ≡ kinds.Memory) × (first ≤ f.line) × (f.line ≤ last)
-TellsScript first last f (Err g) = (f ≡ g) ⊎ ((f.kind ≡ kinds.Memory) × ComesFirst first f g)
+TellsScript first last f (Ok s) = (f.kind ≡ FaultKind.Memory) × (first ≤ f.line) × (f.line ≤ last)
+TellsScript first last f (Err g) = (f ≡ g) ⊎ ((f.kind ≡ FaultKind.Memory) × ComesFirst first f g)
 
 -- the script, or the fault that is told of it
 abbrev pub Parses : Result (List Instruction) Fault → Result (List Instruction) Fault → ℕ → ℕ → Type 0

@@ -1,9 +1,7 @@
 -- Scripts by name.
 use Rattle.std.specs.Prelude.{ℕ, List, [], unwrap_or}
+use Rattle.sk_script.specs.Base.{Coded, coded_ℕ, coded_list, name_order, Instruction}
 use Rattle.std.specs.FinMap as map
-use Rattle.std.specs.Coded.{Coded, coded_ℕ, coded_list}
-use Rattle.sk_ids.specs.Name.{name_order}
-use Rattle.sk_script.specs.declared.instruction.Instruction.{Instruction}
 use Rattle.sk_script.specs.contracts.instruction.Instruction as instruction
 
 -- the instructions of each script

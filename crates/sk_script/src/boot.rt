@@ -1,10 +1,8 @@
 //! What a kernel starts from.
 ghost use Rattle.std.specs.Prelude.{◌≡◌, ◌≤◌, ◌<◌, length, []};
+ghost use Rattle.sk_script.specs.Base.{BootObject, BootProcess, Dir};
 ghost use Rattle.std.specs.FinMap as map;
 ghost use Rattle.sk_script.specs.Boot.{BootView, Declares, with_script, with_object, with_copy, with_process, script_fault, object_fault, copy_fault, process_fault, has_object, has_copy, has_process, BOOT_OBJECTS, IsBoot};
-ghost use Rattle.sk_script.specs.declared.boot.BootObject.{BootObject};
-ghost use Rattle.sk_script.specs.declared.boot.BootProcess.{BootProcess};
-ghost use Rattle.sk_script.specs.declared.boot.ObjectKind.TheVariants.{Dir};
 
 use crate::{Script, Scripts};
 use sk_ids::{Name, Text};

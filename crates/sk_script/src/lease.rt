@@ -19,11 +19,9 @@ pub struct Lease {
 impl Model for Lease {
     ghost use Rattle.std.specs.Prelude.{◌≡◌, Some};
     ghost use Rattle.std.specs.Arc.{arc_value};
-    ghost use Rattle.sk_script.specs.Lease.{LeaseView, lease_code, after_private};
+    ghost use Rattle.sk_script.specs.Lease.{LeaseView, after_private};
 
     ghost Value = { LeaseView };
-
-    ghost coded = { lease_code };
 
     ghost view = { λ l. record
         { lent = l.lent; script = arc_value l.script; count = l.count; now = l.current } };

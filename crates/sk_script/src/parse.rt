@@ -1,11 +1,8 @@
 //! Reading a script.
 ghost use Rattle.std.specs.Prelude.{◌≡◌, ◌≤◌, ◌<◌, ◌+◌, ◌^◌, length, IfOk, OnErr};
-ghost use Rattle.std.specs.Str.Lines.{lines};
-ghost use Rattle.sk_words.specs.Words.{words};
-ghost use Rattle.sk_words.specs.Lines.{last_line};
+ghost use Rattle.sk_script.specs.Base.{lines, words, last_line, Leaves};
 ghost use Rattle.sk_script.specs.Instructions.{instruction};
 ghost use Rattle.sk_script.specs.Script.{INSTRUCTIONS};
-ghost use Rattle.sk_words.specs.Reading.{Leaves};
 ghost use Rattle.sk_script.specs.Scripting.{ScriptState, line_of, label_in, labels_of, labels_from, next_place, added, script_line, script_from, script_of, Parses, Marks, seen};
 
 pub mod forms;
@@ -106,11 +103,9 @@ struct Reading {
 impl Model for Reading {
     ghost use Rattle.std.specs.Prelude.{◌≤◌, length};
     ghost use Rattle.sk_script.specs.Script.{INSTRUCTIONS};
-    ghost use Rattle.sk_script.specs.Scripting.{ScriptState, state_code};
+    ghost use Rattle.sk_script.specs.Scripting.{ScriptState};
 
     ghost Value = { ScriptState };
-
-    ghost coded = { state_code };
 
     ghost view = { λ r. record
         { all = r.all; declared = r.declared; instructions = r.instructions.items } };

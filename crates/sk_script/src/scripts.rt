@@ -1,8 +1,7 @@
 //! Scripts by name.
 ghost use Rattle.std.specs.Prelude.{◌≡◌, ◌↔◌, IsTrue, IfOk, OnOk, OnErr, None};
-ghost use Rattle.std.specs.Option.{option_copied};
+ghost use Rattle.sk_script.specs.Base.{option_copied, arc_value};
 ghost use Rattle.std.specs.FinMap as map;
-ghost use Rattle.std.specs.Arc.{arc_value};
 ghost use Rattle.sk_script.specs.Scripts.{script_at};
 
 use crate::Script;

@@ -4,7 +4,7 @@ use Rattle.sk_store.proofs.Names.{refl, sym, ◌∙◌, ap, Ordering, Less, Equa
 use Rattle.sk_store.proofs.Names.{list_any, IsTotalOrder, nat_list_cmp_total, len, from_list, contains-insert}
 use Rattle.sk_store.proofs.Names.{contains-remove, contains-from_list, len-insert, len-remove, same_set, exact_bytes}
 use Rattle.sk_store.proofs.Names.{name_order, entity_cmp, object_cmp, ObjId, Entity, Proc, Sig, Exit, Obj, Link, Copy}
-use Rattle.sk_store.proofs.Names.{State, IsCount, name_there, with_name, names_among, names_in}
+use Rattle.sk_store.proofs.Names.{State, IsCount, name_there, name_of, names_in, cons_option, filter_map}
 use Rattle.std.specs.FinMap as map
 use Rattle.std.specs.FinSet.{insert, remove}
 
@@ -38,26 +38,26 @@ as_many there after d n same a = record { names = a.names; all = λ q. a.all q �
 
 -- ---- in a state
 at_link : (d o : ObjId) (q name : List ℕ) (rest : List (List ℕ)) (more : Bool) → list_any (eq_by_cmp name_order q) rest ≡ more
-    → list_any (eq_by_cmp name_order q) (with_name (cond (eq_by_cmp object_cmp d o) (Some name) None) rest) ≡ (eq_by_cmp entity_cmp (Link d q) (Link o name) || more)
+    → list_any (eq_by_cmp name_order q) (cons_option (cond (eq_by_cmp object_cmp d o) (Some name) None) rest) ≡ (eq_by_cmp entity_cmp (Link d q) (Link o name) || more)
 at_link d o q name rest more same =
-    elim (object_cmp d o) as (λ (r : Ordering). list_any (eq_by_cmp name_order q) (with_name (cond (is_eq r) (Some name) None) rest) ≡ (is_eq (ordering_then r (name_order q name)) || more)) [
+    elim (object_cmp d o) as (λ (r : Ordering). list_any (eq_by_cmp name_order q) (cons_option (cond (is_eq r) (Some name) None) rest) ≡ (is_eq (ordering_then r (name_order q name)) || more)) [
       | Less ↦ same
       | Equal ↦ ap (λ b. eq_by_cmp name_order q name || b) same
       | Greater ↦ same
     ]
 
-among_is : (d : ObjId) (q : List ℕ) (es : List Entity) → list_any (eq_by_cmp name_order q) (names_among d es) ≡ list_any (eq_by_cmp entity_cmp (Link d q)) es
+among_is : (d : ObjId) (q : List ℕ) (es : List Entity) → list_any (eq_by_cmp name_order q) (filter_map (name_of d) es) ≡ list_any (eq_by_cmp entity_cmp (Link d q)) es
 among_is d q [] = refl
 among_is d q (Proc p ∷ es) = among_is d q es
 among_is d q (Sig p ∷ es) = among_is d q es
 among_is d q (Exit p ∷ es) = among_is d q es
 among_is d q (Obj o ∷ es) = among_is d q es
-among_is d q (Link o name ∷ es) = at_link d o q name (names_among d es) (list_any (eq_by_cmp entity_cmp (Link d q)) es) (among_is d q es)
+among_is d q (Link o name ∷ es) = at_link d o q name (filter_map (name_of d) es) (list_any (eq_by_cmp entity_cmp (Link d q)) es) (among_is d q es)
 among_is d q (Copy n ∷ es) = among_is d q es
 
 pub names_counted : (s : State) (d : ObjId) → IsCount (name_there (map.get s)) d (names_in s d)
 names_counted s d = record {
-  names = from_list (names_among d (map.keys s));
-  all = λ q. contains-from_list total (names_among d (map.keys s)) q ∙ among_is d q (map.keys s) ∙ sym (map.contains_key-keys s (Link d q));
+  names = from_list (filter_map (name_of d) (map.keys s));
+  all = λ q. contains-from_list total (filter_map (name_of d) (map.keys s)) q ∙ among_is d q (map.keys s) ∙ sym (map.contains_key-keys s (Link d q));
   count = refl;
 }

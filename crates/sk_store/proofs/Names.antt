@@ -9,7 +9,7 @@ pub use Rattle.std.specs.Cmp.Lexicographic.{nat_list_cmp_total}
 pub use Rattle.std.specs.FinMap.{remove, get, get-remove, same_map, get-insert, FinMap, insert}
 pub use Rattle.std.specs.FinSet.{len, contains-from_list, len-remove, same_set, contains-remove, contains-insert}
 pub use Rattle.std.specs.FinSet.{len-insert, from_list}
-pub use Rattle.std.specs.List.{list_any}
+pub use Rattle.std.specs.List.{cons_option, filter_map, list_any}
 pub use Rattle.std.specs.Ordering.{eq_by_cmp, ordering_then, is_eq}
 pub use Rattle.std.specs.Prelude.{IfOk, OnSome, is_some}
 pub use Rattle.std.specs.declared.cmp.Ordering.{Ordering}
@@ -26,7 +26,7 @@ pub use Rattle.sk_map.specs.Seen.{seen}
 pub use Rattle.sk_record.specs.Effects.{is_in}
 pub use Rattle.sk_store.specs.Back.{changed_back, CanChangeBack}
 pub use Rattle.sk_store.specs.Changed.{changed, state_undone, StateFits}
-pub use Rattle.sk_store.specs.Names.{names_in, name_there, IsCount, names_among, with_name}
+pub use Rattle.sk_store.specs.Names.{names_in, name_there, name_of, IsCount}
 pub use Rattle.sk_store.specs.OthersLaw.{put_others}
 pub use Rattle.sk_store.specs.Processes.{CanBecome, became}
 pub use Rattle.sk_store.specs.Same.{same_state}

@@ -1,15 +1,10 @@
 -- What takes a write back.
 use Rattle.std.specs.Prelude.{Option, Some, None, IsSome, refl}
-use Rattle.std.specs.Coded.{Coded, code_by, coded×}
+use Rattle.sk_store.specs.Base.{Coded, code_by, coded×, Entity, Undo, EntityState, PutBack, Was, Changed}
 use Rattle.std.specs.FinMap as map
-use Rattle.sk_ids.specs.declared.entity.Entity.{Entity}
 use Rattle.sk_ids.specs.contracts.entity.Entity as entity
-use Rattle.sk_changes.specs.declared.change.Undo.{Undo}
 use Rattle.sk_store.specs.State.{State}
 use Rattle.sk_store.specs.Changed.{StateFits, state_undone}
-use Rattle.sk_store.specs.declared.entity_state.EntityState.{EntityState}
-use Rattle.sk_store.specs.declared.back.PutBack.{PutBack}
-use Rattle.sk_store.specs.declared.back.PutBack.TheVariants.{Was, Changed}
 use Rattle.sk_store.specs.contracts.back.PutBack as put_back
 use Rattle.sk_store.specs.contracts.entity_state.EntityState as stored_row
 

@@ -1,3 +1,4 @@
+pub mod Base
 pub mod State
 pub mod Changed
 pub mod Processes

@@ -1,8 +1,6 @@
 -- Entities that are present, each with what it has and the guesses that it rests on.
 use Rattle.std.specs.Prelude.{◌≡◌, ℕ, List, [], map, Option, Some}
-use Rattle.sk_ids.specs.declared.entity.Entity.{Entity}
-use Rattle.sk_store.specs.declared.entity_state.EntityState.{EntityState}
-use Rattle.sk_store.specs.declared.present.Present.{Present}
+use Rattle.sk_store.specs.Base.{Entity, EntityState, Present}
 
 -- it has what the entity has, and rests on what the entity rests on
 abbrev pub IsPresent : (Entity → Option EntityState) → (Entity → List ℕ) → Present → Type 0

@@ -1,14 +1,9 @@
 -- The tests of what entities have are exact.
 use Rattle.std.specs.Prelude.{◌≡◌, true}
-use Rattle.std.proofs.Common.{ap}
-use Rattle.sk_ids.specs.Same.{IsExact, exact_map}
-use Rattle.sk_ids.specs.Exact.{exact_from}
-use Rattle.sk_ids.specs.SameLemma.{exact_entity}
-use Rattle.sk_objects.specs.ValueLemma.{exact_value}
-use Rattle.sk_script.specs.ProcessLemma.{exact_process}
+use Rattle.sk_store.specs.Base.{ap, IsExact, exact_map, exact_from, exact_entity, exact_value, exact_process}
+use Rattle.sk_store.specs.Base.{EntityState, Value}
 use Rattle.sk_store.specs.Same.{same_state}
-use Rattle.sk_store.specs.declared.entity_state.EntityState.{EntityState}
-use Rattle.sk_store.specs.declared.entity_state.EntityState.TheVariants.{Process, Value}
+use Rattle.sk_store.specs.declared.entity_state.EntityState.TheVariants.{Process}
 use Rattle.sk_store.specs.contracts.entity_state.EntityStatePartialEq.TheImpl as stored
 use Rattle.sk_store.specs.contracts.entity_state.EntityStateEq.TheImpl.Laws.{laws-law}
 

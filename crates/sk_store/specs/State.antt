@@ -1,9 +1,6 @@
 -- What an entity has, and all that entities have.
-use Rattle.std.specs.Coded.{Coded}
-use Rattle.std.specs.FinMap.{FinMap, code}
-use Rattle.sk_ids.specs.Entity.{entity_cmp}
+use Rattle.sk_store.specs.Base.{Coded, FinMap, code, entity_cmp, EntityState}
 use Rattle.sk_ids.specs.contracts.entity.Entity as entity
-use Rattle.sk_store.specs.declared.entity_state.EntityState.{EntityState}
 use Rattle.sk_store.specs.contracts.entity_state.EntityState as stored
 
 -- a finite map from entities to what they have

@@ -12,7 +12,6 @@ use Rattle.sk_script.specs.declared.instruction.Input.{Input}
 use Rattle.sk_script.specs.StepInput.{input}
 use Rattle.sk_trace.specs.Kept.{HasContent}
 use Rattle.sk_trace.specs.declared.event.Event.{Event}
-use Rattle.sk_trace.specs.declared.event.Event.TheVariants as events
 use Rattle.sk_trace.specs.Trace.{TraceView}
 
 -- a process and an input, whose count of words is told before a malformed process
@@ -45,10 +44,10 @@ numbered_step ws = do
 
 abbrev pub event_rules : List (List ℕ × Rule Event)
 event_rules =
-    (codes "step", λ ws. step ws >>= λ x. Ok (events.Step x.0 x.1)) ∷
-    (codes "guess", λ ws. numbered_step ws >>= λ x. Ok (events.Guess x.0 x.1 x.2)) ∷
-    (codes "commit", λ ws. one_of positive ws >>= λ x. Ok (events.Commit x)) ∷
-    (codes "fail", λ ws. one_of positive ws >>= λ x. Ok (events.Fail x)) ∷
+    (codes "step", λ ws. step ws >>= λ x. Ok (Event.Step x.0 x.1)) ∷
+    (codes "guess", λ ws. numbered_step ws >>= λ x. Ok (Event.Guess x.0 x.1 x.2)) ∷
+    (codes "commit", λ ws. one_of positive ws >>= λ x. Ok (Event.Commit x)) ∷
+    (codes "fail", λ ws. one_of positive ws >>= λ x. Ok (Event.Fail x)) ∷
     []
 
 -- what a line says whose first word this is

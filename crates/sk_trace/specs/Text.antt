@@ -3,13 +3,12 @@ use Rattle.std.specs.Prelude.{ℕ, List, [], ◌∷◌, ◌++◌, codes, decimal
 use Rattle.sk_words.specs.Spelling.{pid_word, spaced}
 use Rattle.sk_script.specs.StepInput.{input_words}
 use Rattle.sk_trace.specs.declared.event.Event.{Event}
-use Rattle.sk_trace.specs.declared.event.Event.TheVariants as events
 
 abbrev pub event_words : Event → List (List ℕ)
-event_words (events.Step pid input) = codes "step" ∷ pid_word pid ∷ input_words input
-event_words (events.Guess id pid input) = codes "guess" ∷ decimal id ∷ pid_word pid ∷ input_words input
-event_words (events.Commit id) = codes "commit" ∷ decimal id ∷ []
-event_words (events.Fail id) = codes "fail" ∷ decimal id ∷ []
+event_words (Event.Step pid input) = codes "step" ∷ pid_word pid ∷ input_words input
+event_words (Event.Guess id pid input) = codes "guess" ∷ decimal id ∷ pid_word pid ∷ input_words input
+event_words (Event.Commit id) = codes "commit" ∷ decimal id ∷ []
+event_words (Event.Fail id) = codes "fail" ∷ decimal id ∷ []
 
 -- with single spaces
 abbrev pub event_text : Event → List ℕ

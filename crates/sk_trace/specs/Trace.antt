@@ -1,6 +1,6 @@
 -- What happened, and how many more events there is room for.
-use Rattle.std.specs.Prelude.{ℕ, List, refl}
-use Rattle.std.specs.Coded.{Coded, code_by, coded×, coded_ℕ, coded_list}
+use Rattle.std.specs.Prelude.{ℕ, List}
+use Rattle.std.specs.Coded.{Coded}
 use Rattle.sk_trace.specs.declared.event.Event.{Event}
 use Rattle.sk_trace.specs.contracts.event.Event as event
 
@@ -11,6 +11,3 @@ pub record TraceView : Type 0 where
 
 abbrev pub event_code : Coded Event
 event_code = event.the_row.coded
-
-abbrev pub trace_code : Coded TraceView
-trace_code = code_by (List Event × ℕ) (coded× (coded_list event_code) coded_ℕ) (λ t. (t.events, t.room)) (λ p. record { events = p.0; room = p.1 }) (λ _. refl)

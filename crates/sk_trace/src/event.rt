@@ -16,11 +16,9 @@ pub struct Entry {
 }
 
 impl Model for Entry {
-    ghost use Rattle.sk_trace.specs.Entry.{EntryView, entry_code};
+    ghost use Rattle.sk_trace.specs.Entry.{EntryView};
 
     ghost Value = { EntryView };
-
-    ghost coded = { entry_code };
 
     ghost view = { λ e. record { pid = e.pid; input = e.input; guess = e.guess } };
 

@@ -50,11 +50,9 @@ pub struct KeptInput {
 
 impl Model for KeptInput {
     ghost use Rattle.sk_script.specs.declared.instruction.Input.{Input};
-    ghost use Rattle.sk_trace.specs.Kept.{input_of, input_code};
+    ghost use Rattle.sk_trace.specs.Kept.{input_of};
 
     ghost Value = { Input };
-
-    ghost coded = { input_code };
 
     ghost view = { λ k. input_of k.words };
 }
@@ -62,9 +60,9 @@ impl Model for KeptInput {
 impl PartialEq for KeptInput {
     ghost use Rattle.std.specs.Cmp.{partial_equiv_from_equiv};
     ghost use Rattle.sk_script.specs.contracts.instruction.InputEq.TheImpl.Laws.{laws-law as input_laws};
-    ghost use Rattle.sk_trace.specs.Kept.{same_input};
+    ghost use Rattle.sk_script.specs.contracts.instruction.InputPartialEq.TheImpl as input;
 
-    ghost eq = { same_input };
+    ghost eq = { (input.ghosts).eq };
 
     ghost laws = { partial_equiv_from_equiv input_laws };
 

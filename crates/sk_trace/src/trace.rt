@@ -23,11 +23,9 @@ pub struct Trace {
 impl Model for Trace {
     ghost use Rattle.std.specs.Prelude.{◌-◌, All, vec_len, vec_capacity};
     ghost use Rattle.sk_trace.specs.Event.{IsEvent};
-    ghost use Rattle.sk_trace.specs.Trace.{TraceView, trace_code};
+    ghost use Rattle.sk_trace.specs.Trace.{TraceView};
 
     ghost Value = { TraceView };
-
-    ghost coded = { trace_code };
 
     ghost view = { λ t. record
         { events = t.events.items; room = vec_capacity t.events - vec_len t.events } };

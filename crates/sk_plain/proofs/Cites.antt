@@ -18,7 +18,7 @@ pub use Rattle.std.proofs.lemmas.Result.{err_from_is_err_and}
 pub use Rattle.std.specs.Cmp.{eq_by_cmp_equiv, Equal-is}
 pub use Rattle.std.specs.FinMap.{get, empty, get-empty}
 pub use Rattle.std.specs.List.{filter, prefix_len, list_any, Contains, AllByRecursion}
-pub use Rattle.std.specs.Option.{option_copied}
+pub use Rattle.std.specs.Option.{option_copied, option_or}
 pub use Rattle.std.specs.Ordering.{eq_by_cmp, nat_cmp}
 pub use Rattle.std.specs.Prelude.{IsErr, unwrap_or, IfErr, slice_get, OnOk, ◌==◌, IfOk, is_some, if◌then◌else◌}
 pub use Rattle.std.specs.Prelude.{option_and_then, nat_lt, ◌⊎◌, nat_le, All}
@@ -41,32 +41,31 @@ pub use Rattle.sk_plain.specs.Act.{does, Scripts, instruction_of, act, with_inpu
 pub use Rattle.sk_plain.specs.Act.{Saying, handled, StepTree, plain, row, goes_on}
 pub use Rattle.sk_plain.specs.Adds.{adds_of, adds_in, adds_beside}
 pub use Rattle.sk_plain.specs.Files.{after_read, file_in, on_file, made}
-pub use Rattle.sk_plain.specs.Forked.{forked, CanFork}
 pub use Rattle.sk_plain.specs.Names.{no_directory, unless_error, on_directory, target_at, named, link_to, linking}
 pub use Rattle.sk_plain.specs.Names.{unlink_from}
 pub use Rattle.sk_plain.specs.Next.{is_due, is_private, waits, next_instruction, next_going, next_at, next_of}
-pub use Rattle.sk_plain.specs.Pipes.{on_pipe, put_in, take_none}
+pub use Rattle.sk_plain.specs.Pipes.{on_pipe, put_in}
 pub use Rattle.sk_plain.specs.Plain.{with_said, all_said, AllClear}
 pub use Rattle.sk_plain.specs.Plan.{PlanView, Nowhere, Birth, LooksView, BesideView, Says}
 pub use Rattle.sk_plain.specs.Planned.{said_by, writes_of, wrote_all, read_by, IsReply, CanDo, said_in, signals_read}
 pub use Rattle.sk_plain.specs.Planned.{child_of, effect_of, gone_in, IsNoProcess, written_beside, IsBeside, written_by}
-pub use Rattle.sk_plain.specs.Planned.{planned}
-pub use Rattle.sk_plain.specs.Processes.{ended_with, KILLED, KILL, LEVEL_FOUR, LAST_CHILD, next_child, parent_of, born}
+pub use Rattle.sk_plain.specs.Planned.{planned, or_refused}
+pub use Rattle.sk_plain.specs.Processes.{ended_with, KILLED, KILL, LEVEL_FOUR, LAST_CHILD, next_child, forked_by, born}
 pub use Rattle.sk_plain.specs.Processes.{fork, signalled, kill, waited, wait, returned}
-pub use Rattle.sk_plain.specs.Remaining.{AreAlike, EndsBy, remaining, depends, refusal_in, first_refusal, BeginsWell}
-pub use Rattle.sk_plain.specs.Replay.{HasTaken, StopsIn, IsFirstFault, HasCommitted, IsGreatest, StepFault, IsRefused}
-pub use Rattle.sk_plain.specs.Replay.{is_above, DecisionFault, IsTaken, newest, FaultIn, IsUnknown, Goes, HasFailed}
+pub use Rattle.sk_plain.specs.Remaining.{AreAlike, EndsBy, remaining, depends, refusal_in, BeginsWell}
+pub use Rattle.sk_plain.specs.Replay.{HasTaken, StopsIn, IsFirstFault, IsGreatest, StepFault, IsRefused}
+pub use Rattle.sk_plain.specs.Replay.{is_above, DecisionFault, IsTaken, FaultIn, IsUnknown, Goes, HasDecided}
 pub use Rattle.sk_plain.specs.Replay.{IsReplay}
 pub use Rattle.sk_plain.specs.Replies.{good, over_copy, fresh, stale, from_copy}
 pub use Rattle.sk_plain.specs.Rows.{filled, alone, object_in, number_in, number_to, who_in, failed, with_write}
 pub use Rattle.sk_plain.specs.Rows.{with_removal, on_object, on_number}
-pub use Rattle.sk_plain.specs.Same.{same_plain}
-pub use Rattle.sk_plain.specs.SameLemma.{exact_plain}
-pub use Rattle.sk_plain.specs.Seen.{text_at, beside_of, seen_with, result_seen, written_in, changed_by, Fits, all_seen}
+pub use Rattle.sk_plain.specs.Same.{same_plain, exact_plain}
+pub use Rattle.sk_plain.specs.Seen.{text_at, beside_of, seen_with, written_in, changed_by, Fits}
 pub use Rattle.sk_plain.specs.Seen.{written_row, PlansStep, looks_of, CanPerform, told, PlansAfter, looked, written_of}
-pub use Rattle.sk_plain.specs.Seen.{plan_of, PlansRow}
+pub use Rattle.sk_plain.specs.Seen.{PlansRow}
 pub use Rattle.sk_plain.specs.Standing.{Settles, is_made, seen, GoesOn, is_other, image, is_settled, Stands}
 pub use Rattle.sk_plain.specs.TidyState.{IsTidyState, HasNumber, IsNumbered, IsPlaced, IsCopy}
+pub use Rattle.sk_plain.specs.Writing.{forked, CanFork}
 pub use Rattle.sk_plain.specs.declared.next.Next.{Next}
 pub use Rattle.sk_plain.specs.declared.next.Next.TheVariants.{Signal, Fetch, Waits, Other}
 pub use Rattle.sk_plain.specs.declared.plan.Beside.{Beside}

@@ -3,7 +3,7 @@ use Rattle.sk_plain.proofs.Cites.{◌≡◌, ℕ, ◌+◌, ◌<◌, ◌^◌, tru
 use Rattle.sk_plain.proofs.Cites.{sym, subst, is_some, unwrap_or, true≢false, perform, Entity, Proc, Process}
 use Rattle.sk_plain.proofs.Cites.{Instruction, Input, private_step, process_in, EntityState, Scripts, StepTree, does}
 use Rattle.sk_plain.proofs.Cites.{private_or, row, Nowhere, planned, said_in, written_by, PlansAfter, PlansRow}
-use Rattle.sk_plain.proofs.Cites.{beside_of, plan_of, seen_with, written_in, written_row, Refusal, Plan, Private}
+use Rattle.sk_plain.proofs.Cites.{beside_of, or_refused, seen_with, written_in, written_row, Refusal, Plan, Private}
 use Rattle.sk_plain.proofs.Cites.{Acts, Row, Beside, Nothing}
 use Rattle.sk_script.specs.declared.instruction.Input.TheVariants as inputs
 use Rattle.sk_plain.specs.Plan as views
@@ -50,7 +50,7 @@ row_done look pid p i r is h = subst (λ step. PlansAfter look (Some i) inputs.N
 
 -- the plan of a row
 pub rows_after : (look : Entity → Option EntityState) (i : Option Instruction) (input : Input) (p : Process) (pid : ℕ) (step : StepTree) (r : Result Row Refusal)
-    → PlansRow look p pid step r → PlansAfter look i input p [] pid step (plan_of r)
+    → PlansRow look p pid step r → PlansAfter look i input p [] pid step (or_refused Acts r)
 rows_after look i input p pid step (Ok r) h = record { plans = h.plans; can = h.can; apart = h.apart; fits = h.fits; named = h.named }
 rows_after look i input p pid step (Err why) h = record { plans = h.plans; can = h.can; apart = h.apart; fits = h.fits; named = h.named }
 

@@ -8,10 +8,11 @@ use Rattle.sk_plain.proofs.Cites.{IsAllowed, IsSound, StatusIs, Record, marks, r
 use Rattle.sk_plain.proofs.Cites.{no_record, Undecided, sound_first, sound_taken, sound_commit, sound_fail, entries_are}
 use Rattle.sk_plain.proofs.Cites.{undecided_is, drawn_more, is_drawn, tests, recorded_more, entity_total, entity_exact}
 use Rattle.sk_plain.proofs.Cites.{State, EntryView, Scripts, plain, Event, Replay, EventFault, TraceFault, Refused}
-use Rattle.sk_plain.proofs.Cites.{UnknownGuess, NoStart, Memory, image, is_made, seen, is_above, newest, IsGreatest}
-use Rattle.sk_plain.proofs.Cites.{IsReplay, HasTaken, StepFault, HasCommitted, HasFailed, DecisionFault, Goes}
+use Rattle.sk_plain.proofs.Cites.{UnknownGuess, NoStart, Memory, image, is_made, seen, is_above, option_or, IsGreatest}
+use Rattle.sk_plain.proofs.Cites.{IsReplay, HasTaken, StepFault, HasDecided, DecisionFault, Goes}
 use Rattle.sk_plain.proofs.Cites.{IsFirstFault, IsRefused, IsTaken, FaultIn, StopsIn}
 use Rattle.sk_plain.specs.declared.replay.EventFault.TheVariants as faults
+use Rattle.sk_trace.specs.declared.event.Event.TheVariants as events
 use Rattle.sk_plain.proofs.Settled.{adds}
 
 abbrev Events : Type 0
@@ -54,7 +55,7 @@ module _ (scripts : Scripts) (start : State) where
   none_drawn : (n m : EntryView) (g : ℕ) → n.guess ≡ None → Taken n ≡ Taken m → m.guess ≡ Some g → ⊥
   none_drawn n m g none same mark = let is : None ≡ Some g = sym none ∙ ap (λ (e : EntryView). e.guess) (same_entry n m same) ∙ mark in cc
 
-  newest_is : (es : Events) (n : EntryView) (o m : Option ℕ) → n.guess ≡ m → IsGreatest scripts es o → is_above o m ≡ true → IsGreatest scripts (es ++ Taken n ∷ []) (newest o m)
+  newest_is : (es : Events) (n : EntryView) (o m : Option ℕ) → n.guess ≡ m → IsGreatest scripts es o → is_above o m ≡ true → IsGreatest scripts (es ++ Taken n ∷ []) (option_or m o)
   newest_is es n o None mark is above = greatest_stays es (Taken n) (λ m g same some. none_drawn n m g mark same some) o is
   newest_is es n o (Some g) mark is above = (
     (n, Contains-push es (Taken n), mark),
@@ -132,7 +133,7 @@ module _ (scripts : Scripts) (start : State) (es : Events) (old new : Replay) (r
   is_open : (g : ℕ) → has g old.standing.undecided.items ≡ true → StatusIs (plain scripts) start es g Undecided
   is_open g known = (undecided_is (plain scripts) start es r.sound g).0 (ap (has g) (sym open_is) ∙ known)
 
-  committed : (g : ℕ) → HasCommitted scripts old g new → IsReplay scripts start (es ++ Commit g ∷ []) new
+  committed : (g : ℕ) → HasDecided scripts old g (events.Commit g) old.now new → IsReplay scripts start (es ++ Commit g ∷ []) new
   committed g c =
       let K = plain scripts in
       let went = c.goes start r.stands tt in
@@ -144,7 +145,7 @@ module _ (scripts : Scripts) (start : State) (es : Events) (old new : Replay) (r
         greatest = subst (IsGreatest scripts (es ++ Commit g ∷ [])) (sym c.greatest) (greatest_stays scripts start es (Commit g) (λ n h same mark. cc) old.greatest r.greatest);
       }
 
-  failed : (g : ℕ) → HasFailed scripts old g new → IsReplay scripts start (es ++ Fail g ∷ []) new
+  failed : (g : ℕ) → HasDecided scripts old g (events.Fail g) (run (plain scripts) new.standing.after new.standing.behind.items) new → IsReplay scripts start (es ++ Fail g ∷ []) new
   failed g f =
       let K = plain scripts in
       let went = f.goes start r.stands f.known in
@@ -175,13 +176,13 @@ module _ (scripts : Scripts) (start : State) (es : Events) (old new : Replay) (r
   not_open : (g : ℕ) → has g old.standing.undecided.items ≡ false → StatusIs (plain scripts) start es g Undecided → ⊥
   not_open g unknown is = true≢false (sym ((undecided_is (plain scripts) start es r.sound g).1 is) ∙ ap (has g) (sym open_is) ∙ unknown)
 
-  pub commit_goes : (g : ℕ) (result : Result (Unit {0}) EventFault) → OnOk result (HasCommitted scripts old g new) → IfErr result (DecisionFault old g) → Goes scripts start es (Commit g) new result
+  pub commit_goes : (g : ℕ) (result : Result (Unit {0}) EventFault) → OnOk result (HasDecided scripts old g (events.Commit g) old.now new) → IfErr result (DecisionFault old g) → Goes scripts start es (Commit g) new result
   commit_goes g (Ok u) c fault = committed g c
   commit_goes g (Err faults.Refused) c fault = absurd fault
   commit_goes g (Err faults.Unknown) c fault = (λ refused. refused, λ allowed. not_open g fault allowed)
   commit_goes g (Err faults.Memory) c fault = (λ refused. refused, is_open g fault)
 
-  pub fail_goes : (g : ℕ) (result : Result (Unit {0}) EventFault) → OnOk result (HasFailed scripts old g new) → IfErr result (DecisionFault old g) → Goes scripts start es (Fail g) new result
+  pub fail_goes : (g : ℕ) (result : Result (Unit {0}) EventFault) → OnOk result (HasDecided scripts old g (events.Fail g) (run (plain scripts) new.standing.after new.standing.behind.items) new) → IfErr result (DecisionFault old g) → Goes scripts start es (Fail g) new result
   fail_goes g (Ok u) f fault = failed g f
   fail_goes g (Err faults.Refused) f fault = absurd fault
   fail_goes g (Err faults.Unknown) f fault = (λ refused. refused, λ allowed. not_open g fault allowed)

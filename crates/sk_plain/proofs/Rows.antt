@@ -9,7 +9,7 @@ use Rattle.sk_plain.proofs.Cites.{Input, held, private_step, State, EntityState,
 use Rattle.sk_plain.proofs.Cites.{number_in, number_to, who_in, failed, alone, with_write, with_removal, on_object}
 use Rattle.sk_plain.proofs.Cites.{after_read, file_in, on_number, on_file, made, no_directory, unless_error}
 use Rattle.sk_plain.proofs.Cites.{on_directory, target_at, named, link_to, linking, unlink_from, on_pipe, put_in}
-use Rattle.sk_plain.proofs.Cites.{take_none, LEVEL_FOUR, LAST_CHILD, next_child, parent_of, born, fork, signalled, kill}
+use Rattle.sk_plain.proofs.Cites.{LEVEL_FOUR, LAST_CHILD, next_child, forked_by, born, fork, signalled, kill}
 use Rattle.sk_plain.proofs.Cites.{waited, wait, returned, from_copy, over_copy, good, fresh, stale, row, private_or}
 use Rattle.sk_plain.proofs.Cites.{does, handled, with_signals, with_input, IsTidyState, cons_cases, no_member, Ask}
 use Rattle.sk_plain.specs.declared.refusal.Errno.{Errno}
@@ -203,10 +203,6 @@ module _ (can : List ℕ → Type 0) (pid : ℕ) (p : Process) where
       if_fine _ _ held.shut (alone_fine _ refl) (if_fine _ _ (length p.buffer == 0) (alone_fine _ refl)
       (if_fine _ _ (nat_le (length held.bytes + length p.buffer) PIPE_LIMIT) (write_fine (Obj o) _ _ tt refl) (refuse_fine _)))
 
-  take_none_fine : (shut : Bool) → Fine (take_none pid p shut)
-  take_none_fine true = alone_fine _ refl
-  take_none_fine false = refuse_fine _
-
   -- ---- processes
 
   signalled_fine : (who n : ℕ) (v : Option EntityState) → Fine (signalled pid p who n v)
@@ -219,8 +215,8 @@ module _ (can : List ℕ → Type 0) (pid : ℕ) (p : Process) where
 
   fork_fine : (r place : ℕ) → Fine (fork pid p r place)
   fork_fine r place =
-      elim (nat_lt pid LEVEL_FOUR && nat_lt p.children LAST_CHILD) as (λ t. (nat_lt pid LEVEL_FOUR && nat_lt p.children LAST_CHILD) ≡ t → Fine (cond t (born pid (forked p (next_child pid p) place) (parent_of pid p r)) (alone pid (failed p Again)))) [
-        | true ↦ λ is. born_fine (forked p (next_child pid p) place) (parent_of pid p r) (refl, leb-true (suc p.children) LAST_CHILD (and_both (nat_lt pid LEVEL_FOUR) (nat_lt p.children LAST_CHILD) is).1) refl
+      elim (nat_lt pid LEVEL_FOUR && nat_lt p.children LAST_CHILD) as (λ t. (nat_lt pid LEVEL_FOUR && nat_lt p.children LAST_CHILD) ≡ t → Fine (cond t (born pid (forked p (next_child pid p) place) (forked_by p r (next_child pid p))) (alone pid (failed p Again)))) [
+        | true ↦ λ is. born_fine (forked p (next_child pid p) place) (forked_by p r (next_child pid p)) (refl, leb-true (suc p.children) LAST_CHILD (and_both (nat_lt pid LEVEL_FOUR) (nat_lt p.children LAST_CHILD) is).1) refl
         | false ↦ λ _. alone_fine _ refl
       ] refl
 
@@ -254,7 +250,7 @@ module _ (can : List ℕ → Type 0) (pid : ℕ) (p : Process) where
   row_fine (does_.Put q) = object_fine _ _ (λ o v. pipe_fine _ v (λ held. put_in_fine o held))
   row_fine (does_.Take q n) =
       object_fine _ _ (λ o v. pipe_fine _ v (λ pipe. number_fine _ (number_to TEXT_LIMIT (held p.registers n)) (λ n.
-      if_fine _ _ _ (take_none_fine pipe.shut) (write_fine _ _ _ tt refl))))
+      if_fine _ _ _ (if_fine _ _ _ (alone_fine _ refl) (refuse_fine _)) (write_fine _ _ _ tt refl))))
   row_fine (does_.Shut q) = object_fine _ _ (λ o v. pipe_fine _ v (λ held. if_fine _ _ _ (alone_fine _ refl) (write_fine _ _ _ tt refl)))
   row_fine (does_.Fork r place) = fork_fine r place
   row_fine (does_.Wait r w) = wait_fine r (who_in (held p.registers w))

@@ -1,14 +1,8 @@
 -- One step of a process, as a tree: what each instruction does, and what a process does next.
 use Rattle.std.specs.Prelude.{ℕ, ◌==◌, Bool, true, false, List, [], ◌∷◌, Option, Some, None, slice_get, if◌then◌else◌}
-use Rattle.std.specs.FinMap.{get}
 use Rattle.sk_plain.specs.Base.{list_any, Ask, Refuse, Done, System, Entity, Proc, Sig, entity_cmp, TEXT_LIMIT}
 use Rattle.sk_plain.specs.Base.{LAST_SIGNAL, TakeSignal, value_after, held, Process, moved, private_step, Instruction}
-use Rattle.sk_plain.specs.Base.{Input, ScriptMap, EntityState, Refusal, NoProcess, Ended, NeedsReply}
-use Rattle.sk_objects.specs.declared.value.Kind.TheVariants as kinds
-use Rattle.sk_objects.specs.declared.value.Value.TheVariants as values
-use Rattle.sk_script.specs.declared.instruction.Instruction.TheVariants as does_
-use Rattle.sk_script.specs.declared.instruction.Input.TheVariants as inputs
-use Rattle.sk_store.specs.declared.entity_state.EntityState.TheVariants as stored
+use Rattle.sk_plain.specs.Base.{get, Input, ScriptMap, EntityState, Refusal, NoProcess, Ended, NeedsReply, Kind, Value}
 use Rattle.sk_trace.specs.declared.event.Entry.{Entry}
 use Rattle.sk_plain.specs.Rows.{object_in, number_in, number_to, who_in, alone, with_write}
 use Rattle.sk_plain.specs.Files.{made, size, read, write, cut}
@@ -24,45 +18,41 @@ Scripts = ScriptMap
 
 -- ---- the table
 
--- the process says its buffer
-abbrev pub said : ℕ → Process → StepTree
-said pid p = Done ((Proc pid, Some (stored.Process (moved p))) ∷ []) (Some (record { to = p.terminal; text = p.buffer }))
-
 -- what an instruction does that is not private, without input
 abbrev pub row : ℕ → Process → Instruction → StepTree
-row pid p (does_.Handler place) = alone pid (with_handler p place)
-row pid p does_.Return = alone pid (returned p p.saved)
-row pid p does_.Say = said pid p
-row pid p (does_.MakeFile r) = made pid p r kinds.File
-row pid p (does_.MakeDir r) = made pid p r kinds.Dir
-row pid p (does_.MakePipe r) = made pid p r kinds.Pipe
-row pid p (does_.Look r d name) = look pid p r (object_in (held p.registers d)) name
-row pid p (does_.Link d name r) = link pid p (object_in (held p.registers d)) name (object_in (held p.registers r))
-row pid p (does_.Unlink d name) = unlink pid p (object_in (held p.registers d)) name
-row pid p (does_.Size f) = size pid p (object_in (held p.registers f))
-row pid p (does_.Write f at) = write pid p (object_in (held p.registers f)) (number_in (held p.registers at))
-row pid p (does_.Read f at) = read pid p (object_in (held p.registers f)) (number_in (held p.registers at))
-row pid p (does_.Cut f n) = cut pid p (object_in (held p.registers f)) (number_in (held p.registers n))
-row pid p (does_.Put q) = put pid p (object_in (held p.registers q))
-row pid p (does_.Take q n) = take_out pid p (object_in (held p.registers q)) (number_to TEXT_LIMIT (held p.registers n))
-row pid p (does_.Shut q) = shut pid p (object_in (held p.registers q))
-row pid p (does_.Fork r place) = fork pid p r place
-row pid p (does_.Wait r w) = wait pid p r (who_in (held p.registers w))
-row pid p (does_.Kill w n) = kill pid p (who_in (held p.registers w)) (number_to LAST_SIGNAL (held p.registers n))
-row pid p (does_.Exit r) = ended_with pid p (status_of (held p.registers r))
-row pid p (does_.Fetch name) = Refuse NeedsReply
-row pid p (does_.Store name) = Refuse NeedsReply
+row pid p (Instruction.Handler place) = alone pid (with_handler p place)
+row pid p Instruction.Return = alone pid (returned p p.saved)
+row pid p Instruction.Say = Done ((Proc pid, Some (EntityState.Process (moved p))) ∷ []) (Some (record { to = p.terminal; text = p.buffer }))
+row pid p (Instruction.MakeFile r) = made pid p r Kind.File
+row pid p (Instruction.MakeDir r) = made pid p r Kind.Dir
+row pid p (Instruction.MakePipe r) = made pid p r Kind.Pipe
+row pid p (Instruction.Look r d name) = look pid p r (object_in (held p.registers d)) name
+row pid p (Instruction.Link d name r) = link pid p (object_in (held p.registers d)) name (object_in (held p.registers r))
+row pid p (Instruction.Unlink d name) = unlink pid p (object_in (held p.registers d)) name
+row pid p (Instruction.Size f) = size pid p (object_in (held p.registers f))
+row pid p (Instruction.Write f at) = write pid p (object_in (held p.registers f)) (number_in (held p.registers at))
+row pid p (Instruction.Read f at) = read pid p (object_in (held p.registers f)) (number_in (held p.registers at))
+row pid p (Instruction.Cut f n) = cut pid p (object_in (held p.registers f)) (number_in (held p.registers n))
+row pid p (Instruction.Put q) = put pid p (object_in (held p.registers q))
+row pid p (Instruction.Take q n) = take_out pid p (object_in (held p.registers q)) (number_to TEXT_LIMIT (held p.registers n))
+row pid p (Instruction.Shut q) = shut pid p (object_in (held p.registers q))
+row pid p (Instruction.Fork r place) = fork pid p r place
+row pid p (Instruction.Wait r w) = wait pid p r (who_in (held p.registers w))
+row pid p (Instruction.Kill w n) = kill pid p (who_in (held p.registers w)) (number_to LAST_SIGNAL (held p.registers n))
+row pid p (Instruction.Exit r) = ended_with pid p (status_of (held p.registers r))
+row pid p (Instruction.Fetch name) = Refuse NeedsReply
+row pid p (Instruction.Store name) = Refuse NeedsReply
 row pid p private = alone pid p
 
 -- the frequent instructions that are not private
 abbrev pub is_frequent : Instruction → Bool
-is_frequent (does_.Read f at) = true
-is_frequent (does_.Write f at) = true
-is_frequent does_.Say = true
-is_frequent (does_.MakeFile r) = true
-is_frequent (does_.Look r d name) = true
-is_frequent (does_.Link d name r) = true
-is_frequent (does_.Unlink d name) = true
+is_frequent (Instruction.Read f at) = true
+is_frequent (Instruction.Write f at) = true
+is_frequent Instruction.Say = true
+is_frequent (Instruction.MakeFile r) = true
+is_frequent (Instruction.Look r d name) = true
+is_frequent (Instruction.Link d name r) = true
+is_frequent (Instruction.Unlink d name) = true
 is_frequent other = false
 
 -- a private instruction writes nothing but the process
@@ -88,7 +78,7 @@ next_in scripts p = instruction_of (get scripts p.script) p.place
 -- the front signal goes to the handler, where one is set and no place is saved
 abbrev pub handled : ℕ → Process → Option Instruction → List ℕ → Option ℕ → Option ℕ → StepTree
 handled pid p i (n ∷ ns) (Some handler) None =
-    with_write pid (Sig pid) (value_after (values.Signals (n ∷ ns)) TakeSignal) (handling p n handler)
+    with_write pid (Sig pid) (value_after (Value.Signals (n ∷ ns)) TakeSignal) (handling p n handler)
 handled pid p i queue handler saved = does pid p i
 
 -- signal 9 ends a process, and stays in its queue
@@ -98,18 +88,18 @@ due pid p i queue =
 
 -- what a process with these signals does next
 abbrev pub with_signals : ℕ → Process → Option Instruction → Option EntityState → StepTree
-with_signals pid p i (Some (stored.Value (values.Signals queue))) = due pid p i queue
+with_signals pid p i (Some (EntityState.Value (Value.Signals queue))) = due pid p i queue
 with_signals pid p i _ = does pid p i
 
 -- a step without input looks at the process's signals first
 abbrev pub with_input : ℕ → Process → Option Instruction → Input → StepTree
-with_input pid p i inputs.None = Ask (Sig pid) (with_signals pid p i)
-with_input pid p i inputs.Good = good pid p i
-with_input pid p i (inputs.Fresh content) = fresh pid p content i
-with_input pid p i (inputs.Stale content) = stale pid p content i
+with_input pid p i Input.None = Ask (Sig pid) (with_signals pid p i)
+with_input pid p i Input.Good = good pid p i
+with_input pid p i (Input.Fresh content) = fresh pid p content i
+with_input pid p i (Input.Stale content) = stale pid p content i
 
 abbrev pub goes_on : Scripts → ℕ → Input → Option EntityState → StepTree
-goes_on scripts pid input (Some (stored.Process p)) =
+goes_on scripts pid input (Some (EntityState.Process p)) =
     if p.ended then Refuse Ended else with_input pid p (next_in scripts p) input
 goes_on scripts pid input _ = Refuse NoProcess
 

@@ -1,18 +1,10 @@
 -- The rows of the table on new objects and on files.
 use Rattle.std.specs.Prelude.{ℕ, ◌+◌, ◌==◌, nat_lt, nat_le, List, length, Option, Some, None, Result, Ok, Err, slice_set, if◌then◌else◌}
 use Rattle.sk_plain.specs.Base.{ObjId, Obj, TEXT_LIMIT, empty_of, WriteAt, CutTo, value_after, Process, EntityState}
-use Rattle.sk_plain.specs.Base.{Errno, BadObject, IsDirectory, Invalid, TooBig, NoSpace}
+use Rattle.sk_plain.specs.Base.{Errno, BadObject, IsDirectory, Invalid, TooBig, NoSpace, Kind, Val, Value}
 use Rattle.sk_objects.specs.File.{part}
 use Rattle.sk_objects.specs.declared.file.TheConstants.{FILE_LIMIT}
-use Rattle.sk_objects.specs.declared.value.Kind.{Kind}
-use Rattle.sk_objects.specs.declared.value.Value.TheVariants as values
-use Rattle.sk_script.specs.declared.register.Val.TheVariants as vals
-use Rattle.sk_store.specs.declared.entity_state.EntityState.TheVariants as stored
 use Rattle.sk_plain.specs.Rows.{StepTree, answered, failed, filled, alone, with_write, on_object, or_failed, on_number}
-
--- the last value of the counter of objects
-abbrev pub LAST_OBJECT : ℕ
-LAST_OBJECT = 4294967295
 
 -- ---- `mkfile rA`, `mkdir rA`, `mkpipe rA`
 
@@ -20,28 +12,24 @@ LAST_OBJECT = 4294967295
 abbrev pub next_object : ℕ → Process → ObjId
 next_object pid p = record { maker = Some pid; count = p.objects + 1 }
 
--- the process after it made that object
-abbrev pub maker_of : ℕ → Process → ℕ → Process
-maker_of pid p r = record p {
-  place = p.place + 1;
-  objects = p.objects + 1;
-  registers = slice_set p.registers r (vals.Obj (next_object pid p));
-}
+-- the process after it made an object, which is in a register
+abbrev pub maker_of : Process → ℕ → ObjId → Process
+maker_of p r o = record p { place = p.place + 1; objects = p.objects + 1; registers = slice_set p.registers r (Val.Obj o) }
 
 -- a new object of a kind, unless the counter of objects is at its last value
 abbrev pub made : ℕ → Process → ℕ → Kind → StepTree
 made pid p r kind =
-    if nat_lt p.objects LAST_OBJECT
-    then with_write pid (Obj (next_object pid p)) (empty_of kind) (maker_of pid p r)
+    if nat_lt p.objects 4294967295
+    then with_write pid (Obj (next_object pid p)) (empty_of kind) (maker_of p r (next_object pid p))
     else alone pid (failed p NoSpace)
 
 -- ---- files
 
 -- the bytes of the file that is there: the error 9 where there is no object, 21 at a directory, 22 at a pipe
 abbrev pub file_in : Option EntityState → Result (List ℕ) Errno
-file_in (Some (stored.Value (values.File bytes))) = Ok bytes
-file_in (Some (stored.Value values.Dir)) = Err IsDirectory
-file_in (Some (stored.Value (values.Pipe held))) = Err Invalid
+file_in (Some (EntityState.Value (Value.File bytes))) = Ok bytes
+file_in (Some (EntityState.Value Value.Dir)) = Err IsDirectory
+file_in (Some (EntityState.Value (Value.Pipe held))) = Err Invalid
 file_in _ = Err BadObject
 
 -- a row about the bytes of a file
@@ -52,13 +40,9 @@ on_file pid p row there = or_failed pid p row (file_in there)
 abbrev pub size : ℕ → Process → Option ObjId → StepTree
 size pid p file = on_object pid p (λ o. on_file pid p (λ bytes. alone pid (answered p (length bytes)))) file
 
--- the bytes of a file from a place on, as many as a text holds
-abbrev pub bytes_read : Process → List ℕ → ℕ → Process
-bytes_read p bytes at = filled p (part bytes at TEXT_LIMIT) (length (part bytes at TEXT_LIMIT))
-
--- the process after it read a file from a place on, or its error
+-- the process after it read a file from a place on, as many bytes as a text holds, or its error
 abbrev pub after_read : Process → Result (List ℕ) Errno → Option ℕ → Process
-after_read p (Ok bytes) (Some n) = bytes_read p bytes n
+after_read p (Ok bytes) (Some n) = filled p (part bytes n TEXT_LIMIT) (length (part bytes n TEXT_LIMIT))
 after_read p (Ok bytes) None = failed p Invalid
 after_read p (Err error) at = failed p error
 
@@ -71,7 +55,7 @@ abbrev pub written_at : ℕ → Process → ObjId → List ℕ → ℕ → StepT
 written_at pid p o bytes at =
     if nat_le (at + length p.buffer) FILE_LIMIT
     then (if length p.buffer == 0 then alone pid (answered p 0)
-    else with_write pid (Obj o) (value_after (values.File bytes) (WriteAt at p.buffer)) (answered p (length p.buffer)))
+    else with_write pid (Obj o) (value_after (Value.File bytes) (WriteAt at p.buffer)) (answered p (length p.buffer)))
     else alone pid (failed p TooBig)
 
 -- `write rF rO`
@@ -83,7 +67,7 @@ abbrev pub cut_to : ℕ → Process → ObjId → List ℕ → ℕ → StepTree
 cut_to pid p o bytes n =
     if nat_le n FILE_LIMIT
     then (if n == length bytes then alone pid (answered p 0)
-    else with_write pid (Obj o) (value_after (values.File bytes) (CutTo n)) (answered p 0))
+    else with_write pid (Obj o) (value_after (Value.File bytes) (CutTo n)) (answered p 0))
     else alone pid (failed p TooBig)
 
 -- `cut rF rN`

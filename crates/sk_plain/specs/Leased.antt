@@ -2,19 +2,18 @@
 use Rattle.std.specs.Prelude.{◌≡◌, ℕ, false, List, [], ◌∷◌, Option, Some, Result, Ok, Err, if◌then◌else◌}
 use Rattle.sk_plain.specs.Base.{Entity, Proc, Sig, script_at, EntityState, Refusal, NoProcess, Ended, Memory}
 use Rattle.sk_script.specs.Lease.{LeaseView, leased}
-use Rattle.sk_store.specs.declared.entity_state.EntityState.TheVariants as stored
 use Rattle.sk_plain.specs.Act.{Scripts}
 use Rattle.sk_plain.specs.Next.{is_due}
 
 -- the process at its place is the one that was lent, its script is the lease's, and no signal is due
 pub record IsAsLent (look : Entity → Option EntityState) (scripts : Scripts) (l : LeaseView) : Type 0 where
-  pub process : look (Proc l.lent.pid) ≡ Some (stored.Process l.lent)
+  pub process : look (Proc l.lent.pid) ≡ Some (EntityState.Process l.lent)
   pub script : script_at scripts l.lent.script ≡ l.script
   pub undisturbed : is_due l.lent (look (Sig l.lent.pid)) ≡ false
 
 -- the lease of what stands at a process's place, with its script and no instruction done; or why there is none to lend
 abbrev pub lent_at : Scripts → Option EntityState → Result LeaseView Refusal
-lent_at scripts (Some (stored.Process p)) = if p.ended then Err Ended else Ok (leased p (script_at scripts p.script))
+lent_at scripts (Some (EntityState.Process p)) = if p.ended then Err Ended else Ok (leased p (script_at scripts p.script))
 lent_at scripts _ = Err NoProcess
 
 -- the lease of a process, by what each entity has, or why there is none

@@ -1,17 +1,14 @@
 -- The rows of the table on names of directories. Each name is an entity, which is looked at after its directory.
 use Rattle.std.specs.Prelude.{ℕ, List, Option, Some, None}
 use Rattle.sk_plain.specs.Base.{Ask, ObjId, Link, target_of, Process, given, EntityState, Errno, BadObject, NotLinked}
-use Rattle.sk_plain.specs.Base.{Exists, NotDirectory}
-use Rattle.sk_objects.specs.declared.value.Value.TheVariants as values
-use Rattle.sk_script.specs.declared.register.Val.TheVariants as vals
-use Rattle.sk_store.specs.declared.entity_state.EntityState.TheVariants as stored
+use Rattle.sk_plain.specs.Base.{Exists, NotDirectory, Val, Value}
 use Rattle.sk_plain.specs.Rows.{StepTree, answered, failed, alone, with_write, with_removal, on_object}
 
 -- why what is there is no directory: the error 9 where there is no object, 20 at another object
 abbrev pub no_directory : Option EntityState → Option Errno
-no_directory (Some (stored.Value values.Dir)) = None
-no_directory (Some (stored.Value (values.File bytes))) = Some NotDirectory
-no_directory (Some (stored.Value (values.Pipe held))) = Some NotDirectory
+no_directory (Some (EntityState.Value Value.Dir)) = None
+no_directory (Some (EntityState.Value (Value.File bytes))) = Some NotDirectory
+no_directory (Some (EntityState.Value (Value.Pipe held))) = Some NotDirectory
 no_directory _ = Some BadObject
 
 -- a row that goes on where there is no error
@@ -25,12 +22,12 @@ on_directory pid p row there = unless_error pid p row (no_directory there)
 
 -- the object that a name is linked to, where it is there
 abbrev pub target_at : Option EntityState → Option ObjId
-target_at (Some (stored.Value v)) = target_of v
+target_at (Some (EntityState.Value v)) = target_of v
 target_at _ = None
 
 -- the object of a name, in a register
 abbrev pub named : ℕ → Process → ℕ → Option ObjId → StepTree
-named pid p r (Some object) = alone pid (given p r (vals.Obj object))
+named pid p r (Some object) = alone pid (given p r (Val.Obj object))
 named pid p r None = alone pid (failed p NotLinked)
 
 -- `look rA rD NAME`
@@ -40,7 +37,7 @@ look pid p r directory name =
 
 -- a name linked to an object, where it is not there
 abbrev pub link_to : ℕ → Process → ObjId → List ℕ → ObjId → Option EntityState → StepTree
-link_to pid p d name object None = with_write pid (Link d name) (values.Link object) (answered p 0)
+link_to pid p d name object None = with_write pid (Link d name) (Value.Link object) (answered p 0)
 link_to pid p d name object (Some there) = alone pid (failed p Exists)
 
 -- an object that is to be linked, of which there has to be one in the register

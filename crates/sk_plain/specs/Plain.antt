@@ -2,11 +2,10 @@
 use Rattle.std.specs.Prelude.{◌≡◌, ℕ, List, [], map, Option, Result, Ok, Err, refl}
 use Rattle.sk_plain.specs.Base.{AllByRecursion, option_map, Effect, perform, put_all, Entity, TerminalMap}
 use Rattle.sk_plain.specs.Base.{terminals_code, texts_at, ScriptMap, script_map_code, Input, State, state_code}
-use Rattle.sk_plain.specs.Base.{EntityState, Refusal}
+use Rattle.sk_plain.specs.Base.{BootView, EntityState, Refusal}
 use Rattle.std.specs.Coded.{Coded, code_by, coded×}
 use Rattle.std.specs.FinMap as maps
 use Rattle.sk_record.specs.Machine.{released}
-use Rattle.sk_script.specs.Boot.{BootView}
 use Rattle.sk_store.specs.Start.{start_of}
 use Rattle.sk_plain.specs.Refusal.{cause}
 use Rattle.sk_plain.specs.Act.{act, Saying}

@@ -1,8 +1,6 @@
 -- What a step will do, seen with the process that it is for: the process as it becomes, what else is looked at, and what else is done.
 use Rattle.std.specs.Prelude.{ℕ, List}
-use Rattle.sk_plain.specs.Base.{Entity, ObjId, ContentView, Val, Process}
-use Rattle.sk_objects.specs.declared.value.Kind.{Kind}
-use Rattle.sk_changes.specs.declared.change.Change.{Change}
+use Rattle.sk_plain.specs.Base.{Entity, ObjId, ContentView, Val, Process, Change, Kind}
 
 -- the entities beside the process that a step looks at, in their order
 pub data LooksView : Type 0 where

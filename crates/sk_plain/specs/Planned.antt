@@ -1,13 +1,9 @@
 -- What a plan stands for: the step's reads, writes and text.
 use Rattle.std.specs.Prelude.{◌≢◌, ◌<◌, ℕ, List, [], ◌∷◌, ◌++◌, map, false, Option, Some, None, Result, Ok, Err}
 use Rattle.sk_plain.specs.Base.{Effect, Entity, Proc, Sig, Exit, empty_of, Process, Input, TerminalMap, said_to}
-use Rattle.sk_plain.specs.Base.{EntityState, Refusal, NoRoom, TooMany, TraceFull, Memory}
-use Rattle.sk_objects.specs.declared.value.Kind.TheVariants as kinds
-use Rattle.sk_objects.specs.declared.value.Value.TheVariants as values
-use Rattle.sk_script.specs.declared.instruction.Input.TheVariants as inputs
+use Rattle.sk_plain.specs.Base.{EntityState, Refusal, NoRoom, TooMany, TraceFull, Memory, Kind, Value}
 use Rattle.sk_plain.specs.Act.{Saying}
 use Rattle.sk_store.specs.Changed.{changed, FitsAt}
-use Rattle.sk_store.specs.declared.entity_state.EntityState.TheVariants as stored
 use Rattle.sk_plain.specs.Plan.{PlanView, LooksView, Nowhere, At, AtBoth, BecomesView, Empty, Exited, Linked, Cached, Changed, BesideView, Says, One, Birth, Gone, Child}
 
 -- the entities that are looked at, in their order
@@ -18,10 +14,10 @@ looked_at (AtBoth d e) = d ∷ e ∷ []
 
 -- what an entity has after it became that
 abbrev pub value_of : Option EntityState → BecomesView → EntityState
-value_of now (Empty kind) = stored.Value (empty_of kind)
-value_of now (Exited status) = stored.Value (values.Exit (Some status))
-value_of now (Linked object) = stored.Value (values.Link object)
-value_of now (Cached content) = stored.Value (values.Copy content)
+value_of now (Empty kind) = EntityState.Value (empty_of kind)
+value_of now (Exited status) = EntityState.Value (Value.Exit (Some status))
+value_of now (Linked object) = EntityState.Value (Value.Link object)
+value_of now (Cached content) = EntityState.Value (Value.Copy content)
 value_of now (Changed change) = changed now change
 
 -- a child of a process
@@ -32,7 +28,7 @@ child_of p c = record p { pid = c.pid; place = c.place; registers = c.registers;
 abbrev pub written_beside : (Entity → Option EntityState) → Process → BesideView → List (Entity × Option EntityState)
 written_beside look p (One e becomes) = (e, Some (value_of (look e) becomes)) ∷ []
 written_beside look p (Birth c) =
-    (Proc c.pid, Some (stored.Process (child_of p c))) ∷ (Sig c.pid, Some (stored.Value (values.Signals []))) ∷ (Exit c.pid, Some (stored.Value (values.Exit None))) ∷ []
+    (Proc c.pid, Some (EntityState.Process (child_of p c))) ∷ (Sig c.pid, Some (EntityState.Value (Value.Signals []))) ∷ (Exit c.pid, Some (EntityState.Value (Value.Exit None))) ∷ []
 written_beside look p _ = []
 
 -- what is made absent, after the process is written
@@ -56,7 +52,7 @@ texts_after texts tags (Some s) = said_to texts s.to (s.text, tags)
 
 -- all that a plan writes
 abbrev pub writes_of : (Entity → Option EntityState) → ℕ → PlanView → List (Entity × Option EntityState)
-writes_of look pid plan = written_beside look plan.process plan.beside ++ (Proc pid, Some (stored.Process plan.process)) ∷ map (λ e. (e, None)) (gone_in plan.beside)
+writes_of look pid plan = written_beside look plan.process plan.beside ++ (Proc pid, Some (EntityState.Process plan.process)) ∷ map (λ e. (e, None)) (gone_in plan.beside)
 
 -- what a plan does after these reads
 abbrev pub effect_after : List Entity → (Entity → Option EntityState) → ℕ → PlanView → Effect Entity EntityState Saying
@@ -68,21 +64,25 @@ effect_after reads look pid plan = record {
 
 -- the signals of the process are read by a step without input
 abbrev pub signals_read : ℕ → Input → List Entity
-signals_read pid inputs.None = Sig pid ∷ []
+signals_read pid Input.None = Sig pid ∷ []
 signals_read pid _ = []
 
 -- the whole step
 abbrev pub effect_of : (Entity → Option EntityState) → ℕ → Input → PlanView → Effect Entity EntityState Saying
 effect_of look pid input plan = effect_after (Proc pid ∷ signals_read pid input) look pid plan
 
+-- what this makes of what there is, or the refusal
+abbrev pub or_refused : {A B : Type 0} → (A → B) → Result A Refusal → Result B Refusal
+or_refused f (Ok x) = Ok (f x)
+or_refused f (Err why) = Err why
+
 -- what a plan or a refusal stands for, after these reads
 abbrev pub planned : List Entity → (Entity → Option EntityState) → ℕ → Result PlanView Refusal → Result (Effect Entity EntityState Saying) Refusal
-planned reads look pid (Ok plan) = Ok (effect_after reads look pid plan)
-planned reads look pid (Err why) = Err why
+planned reads look pid result = or_refused (effect_after reads look pid) result
 
 -- a change that is planned fits what is there, and a link is not made empty
 abbrev pub CanBecome : Option EntityState → BecomesView → Type 0
-CanBecome now (Empty kind) = kind ≢ kinds.Link
+CanBecome now (Empty kind) = kind ≢ Kind.Link
 CanBecome now (Changed change) = FitsAt now change
 CanBecome now _ = Unit {0}
 
@@ -111,7 +111,7 @@ IsPlainRefusal _ = Unit {0}
 
 -- an input that is a reply
 abbrev pub IsReply : Input → Type 0
-IsReply inputs.None = ⊥
+IsReply Input.None = ⊥
 IsReply _ = Unit {0}
 
 -- the refusals that a step of the plain kernel has
@@ -123,15 +123,12 @@ refusal_of (Err why) = Some why
 abbrev pub read_by : ℕ → Input → LooksView → List Entity
 read_by pid input looks = (Proc pid ∷ signals_read pid input) ++ looked_at looks
 
--- the entities beside the process that are written
-abbrev pub also_changed : BesideView → List Entity
-also_changed (One e becomes) = e ∷ []
-also_changed (Birth c) = Proc c.pid ∷ Sig c.pid ∷ Exit c.pid ∷ []
-also_changed _ = []
-
 -- the entities that a plan writes
 abbrev pub written_by : ℕ → BesideView → List Entity
-written_by pid beside = also_changed beside ++ Proc pid ∷ gone_in beside
+written_by pid (One e becomes) = e ∷ Proc pid ∷ []
+written_by pid (Birth c) = Proc c.pid ∷ Sig c.pid ∷ Exit c.pid ∷ Proc pid ∷ []
+written_by pid (Gone e) = Proc pid ∷ e ∷ []
+written_by pid _ = Proc pid ∷ []
 
 -- a state after these writes, in their order
 abbrev pub wrote_all : {S : Type 0} → (S → Entity → Option EntityState → S) → List (Entity × Option EntityState) → S → S

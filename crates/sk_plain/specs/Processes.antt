@@ -1,11 +1,8 @@
 -- The rows of the table on processes and signals.
 use Rattle.std.specs.Prelude.{ℕ, ◌+◌, ◌*◌, ◌/◌, ◌==◌, ◌&&◌, pos, nat_lt, nat_le, true, false, [], ◌∷◌, length, Option, Some, None, slice_set, if◌then◌else◌}
 use Rattle.sk_plain.specs.Base.{Ask, Refuse, Done, Proc, Sig, Exit, SIGNALS_LIMIT, PushSignal, value_after, Val}
-use Rattle.sk_plain.specs.Base.{Process, given, EntityState, Blocked, NoSuchProcess, NoChild, Again, Invalid}
+use Rattle.sk_plain.specs.Base.{Process, given, EntityState, Blocked, NoSuchProcess, NoChild, Again, Invalid, Value}
 use Rattle.sk_objects.specs.declared.value.TheConstants.{LAST_STATUS}
-use Rattle.sk_objects.specs.declared.value.Value.TheVariants as values
-use Rattle.sk_script.specs.declared.register.Val.TheVariants as vals
-use Rattle.sk_store.specs.declared.entity_state.EntityState.TheVariants as stored
 use Rattle.sk_plain.specs.Rows.{StepTree, answered, failed, alone, with_write, on_number}
 
 -- the signal that ends a process, and the status that it leaves
@@ -23,10 +20,6 @@ LAST_CHILD = 65535
 abbrev pub LEVEL_FOUR : ℕ
 LEVEL_FOUR = 281474976710656
 
--- the register that holds the signal at a handler
-abbrev pub SIGNAL_REGISTER : ℕ
-SIGNAL_REGISTER = 6
-
 -- ---- handlers
 
 -- `handler L`
@@ -43,27 +36,27 @@ abbrev pub handling : Process → ℕ → ℕ → Process
 handling p signal handler = record p {
   place = handler;
   saved = Some p.place;
-  registers = slice_set p.registers SIGNAL_REGISTER (vals.Num (pos signal));
+  registers = slice_set p.registers 6 (Val.Num (pos signal));
 }
 
 -- ---- `exit rA`
 
 -- the status that a value stands for: the last one for all that is no status
 abbrev pub status_of : Val → ℕ
-status_of (vals.Num (pos n)) = if nat_le n LAST_STATUS then n else LAST_STATUS
+status_of (Val.Num (pos n)) = if nat_le n LAST_STATUS then n else LAST_STATUS
 status_of _ = LAST_STATUS
 
 -- the process ends, and its place stays
 abbrev pub ended_with : ℕ → Process → ℕ → StepTree
-ended_with pid p status = with_write pid (Exit pid) (values.Exit (Some status)) (record p { ended = true })
+ended_with pid p status = with_write pid (Exit pid) (Value.Exit (Some status)) (record p { ended = true })
 
 -- ---- `kill rW rN`
 
 -- a signal at the back of a process's queue
 abbrev pub signalled : ℕ → Process → ℕ → ℕ → Option EntityState → StepTree
-signalled pid p who n (Some (stored.Value (values.Signals queue))) =
+signalled pid p who n (Some (EntityState.Value (Value.Signals queue))) =
     if nat_lt (length queue) SIGNALS_LIMIT
-    then with_write pid (Sig who) (value_after (values.Signals queue) (PushSignal n)) (answered p 0)
+    then with_write pid (Sig who) (value_after (Value.Signals queue) (PushSignal n)) (answered p 0)
     else alone pid (failed p Again)
 signalled pid p who n _ = alone pid (failed p NoSuchProcess)
 
@@ -77,13 +70,9 @@ kill pid p None n = alone pid (failed p Invalid)
 abbrev pub next_child : ℕ → Process → ℕ
 next_child pid p = pid * 65536 + (p.children + 1)
 
--- the process after it made that child
-abbrev pub parent_of : ℕ → Process → ℕ → Process
-parent_of pid p r = record p {
-  place = p.place + 1;
-  children = p.children + 1;
-  registers = slice_set p.registers r (vals.Who (next_child pid p));
-}
+-- the process after it made a child, which is in a register
+abbrev pub forked_by : Process → ℕ → ℕ → Process
+forked_by p r child = record p { place = p.place + 1; children = p.children + 1; registers = slice_set p.registers r (Val.Who child) }
 
 -- the child: at a place of its own, it has saved no place and made nothing
 abbrev pub forked : Process → ℕ → ℕ → Process
@@ -92,24 +81,24 @@ forked p child place = record p { pid = child; place = place; children = 0; obje
 -- the child with an empty queue of signals and an exit slot that is not set, and its parent
 abbrev pub born : ℕ → Process → Process → StepTree
 born pid child parent =
-    Done ((Proc child.pid, Some (stored.Process child))
-    ∷ (Sig child.pid, Some (stored.Value (values.Signals [])))
-    ∷ (Exit child.pid, Some (stored.Value (values.Exit None)))
-    ∷ (Proc pid, Some (stored.Process parent)) ∷ []) None
+    Done ((Proc child.pid, Some (EntityState.Process child))
+    ∷ (Sig child.pid, Some (EntityState.Value (Value.Signals [])))
+    ∷ (Exit child.pid, Some (EntityState.Value (Value.Exit None)))
+    ∷ (Proc pid, Some (EntityState.Process parent)) ∷ []) None
 
 -- at level four, or after the last child, there is none
 abbrev pub fork : ℕ → Process → ℕ → ℕ → StepTree
 fork pid p r place =
     if nat_lt pid LEVEL_FOUR && nat_lt p.children LAST_CHILD
-    then born pid (forked p (next_child pid p) place) (parent_of pid p r)
+    then born pid (forked p (next_child pid p) place) (forked_by p r (next_child pid p))
     else alone pid (failed p Again)
 
 -- ---- `wait rA rB`
 
 -- the status of a child, in a register; it waits where the slot is not set
 abbrev pub waited : ℕ → Process → ℕ → Option EntityState → StepTree
-waited pid p r (Some (stored.Value (values.Exit (Some status)))) = alone pid (given p r (vals.Num (pos status)))
-waited pid p r (Some (stored.Value (values.Exit None))) = Refuse Blocked
+waited pid p r (Some (EntityState.Value (Value.Exit (Some status)))) = alone pid (given p r (Val.Num (pos status)))
+waited pid p r (Some (EntityState.Value (Value.Exit None))) = Refuse Blocked
 waited pid p r _ = alone pid (failed p NoChild)
 
 abbrev pub wait : ℕ → Process → ℕ → Option ℕ → StepTree

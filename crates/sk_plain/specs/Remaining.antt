@@ -1,9 +1,9 @@
 -- What is left of a record when a guess fails, read from left to right.
-use Rattle.std.specs.Prelude.{◌≡◌, ℕ, Bool, ◌||◌, List, [], ◌∷◌, Option, Some, None, Result, Ok, Err, IsOk}
-use Rattle.sk_plain.specs.Base.{list_any, is_in, is_marked, hits, keep, Effect, after, outcome, effects, Entity}
-use Rattle.sk_plain.specs.Base.{entity_cmp, State, EntryView, Plan, EntityState, Refusal, Memory}
-use Rattle.sk_plain.specs.Act.{Scripts, Saying, plain}
-use Rattle.sk_plain.specs.Planned.{read_by}
+use Rattle.std.specs.Prelude.{◌≡◌, ℕ, Bool, ◌||◌, List, [], ◌∷◌, Option, Some, None, IsOk}
+use Rattle.sk_plain.specs.Base.{list_any, option_or, is_in, is_marked, hits, keep, after, outcome, effects, Entity}
+use Rattle.sk_plain.specs.Base.{entity_cmp, State, EntryView, Plan, Refusal, Memory}
+use Rattle.sk_plain.specs.Act.{Scripts, plain}
+use Rattle.sk_plain.specs.Planned.{read_by, refusal_of}
 use Rattle.sk_plain.specs.Seen.{looked, looks_of, written_in}
 
 -- the same entities are in both
@@ -19,15 +19,10 @@ depends g dirty n plan =
 abbrev pub remaining : Scripts → ℕ → List Entity → State → List EntryView → List EntryView
 remaining scripts g dirty s ns = keep (hits entity_cmp g dirty (effects (plain scripts) s ns)) ns
 
--- the refusal of a step, or the first of those after it
-abbrev pub first_refusal : Result (Effect Entity EntityState Saying) Refusal → Option Refusal → Option Refusal
-first_refusal (Ok f) later = later
-first_refusal (Err why) later = Some why
-
 -- the first refusal of a record's steps
 abbrev pub refusal_in : Scripts → State → List EntryView → Option Refusal
 refusal_in scripts s [] = None
-refusal_in scripts s (n ∷ ns) = first_refusal (outcome (plain scripts) s n) (refusal_in scripts (after (plain scripts) (outcome (plain scripts) s n) s) ns)
+refusal_in scripts s (n ∷ ns) = option_or (refusal_of (outcome (plain scripts) s n)) (refusal_in scripts (after (plain scripts) (outcome (plain scripts) s n) s) ns)
 
 -- the first step of a record is not refused
 abbrev pub BeginsWell : Scripts → State → List EntryView → Type 0

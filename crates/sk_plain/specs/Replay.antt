@@ -1,17 +1,13 @@
 -- What is left of a whole trace, and the first fault of one that is not sound.
 use Rattle.std.specs.Prelude.{◌≡◌, ℕ, ◌+◌, ◌≤◌, nat_lt, Bool, true, false, List, [], ◌∷◌, ◌++◌, length, Option, Some, None, Result, Ok, Err, IsOk, IsErr}
-use Rattle.sk_plain.specs.Base.{run, outcome, after, has, Taken, Commit, Fail, IsDrawn, IsAllowed, IsSound}
-use Rattle.sk_plain.specs.Base.{all_recorded, marks, no_record, record_of, State, EntryView}
-use Rattle.sk_record.specs.Trace.{Event as Happens}
+use Rattle.sk_plain.specs.Base.{option_or, run, outcome, after, has, Taken, IsDrawn, IsAllowed, IsSound, all_recorded}
+use Rattle.sk_plain.specs.Base.{marks, no_record, record_of, State, EntryView, Event, Happens}
 use Rattle.sk_plain.specs.Act.{Scripts, plain}
-use Rattle.sk_trace.specs.declared.event.Event.TheVariants as events
 pub use Rattle.sk_plain.specs.Standing.{image, is_made}
 use Rattle.sk_plain.specs.Standing.{seen, Stands, GoesOn}
 use Rattle.sk_plain.specs.declared.replay.Replay.{Replay}
 use Rattle.sk_plain.specs.declared.replay.EventFault.{EventFault}
-use Rattle.sk_plain.specs.declared.replay.EventFault.TheVariants as faults
 use Rattle.sk_plain.specs.declared.replay.TraceFault.{TraceFault}
-use Rattle.sk_plain.specs.declared.replay.TraceFault.TheVariants.{Refused, UnknownGuess, NoStart, Memory}
 
 module _ (scripts : Scripts) (start : State) where
   -- the plain kernel refuses the event's step after these events
@@ -40,14 +36,14 @@ module _ (scripts : Scripts) (start : State) where
 
   -- what a fault among the events tells: want of memory is told at one that has no fault, nor one before it
   abbrev pub StopsIn : List (Happens EntryView) → TraceFault → Type 0
-  StopsIn es (Refused at) = IsFirstFault es at IsRefused
-  StopsIn es (UnknownGuess at) = IsFirstFault es at IsUnknown
-  StopsIn es NoStart = ⊥
-  StopsIn es Memory = (at : ℕ) × IsFirstFault es at IsTaken
+  StopsIn es (TraceFault.Refused at) = IsFirstFault es at IsRefused
+  StopsIn es (TraceFault.UnknownGuess at) = IsFirstFault es at IsUnknown
+  StopsIn es TraceFault.NoStart = ⊥
+  StopsIn es TraceFault.Memory = (at : ℕ) × IsFirstFault es at IsTaken
 
   -- what a fault tells of a start and these events: there was no memory for the start, or one among them
   abbrev pub FaultIn : List (Happens EntryView) → TraceFault → Type 0
-  FaultIn es NoStart = Unit {0}
+  FaultIn es TraceFault.NoStart = Unit {0}
   FaultIn es fault = StopsIn es fault
 
 -- ---- a replay, event by event
@@ -57,11 +53,6 @@ abbrev pub is_above : Option ℕ → Option ℕ → Bool
 is_above (Some g) (Some h) = nat_lt g h
 is_above (Some g) None = true
 is_above None h = true
-
--- the greatest number after a new guess
-abbrev pub newest : Option ℕ → Option ℕ → Option ℕ
-newest before (Some h) = Some h
-newest before None = before
 
 -- the greatest number of a guess that was made, where one was
 abbrev pub IsGreatest : Scripts → List (Happens EntryView) → Option ℕ → Type 0
@@ -85,39 +76,33 @@ pub record HasTaken (scripts : Scripts) (old : Replay) (n : EntryView) (new : Re
   pub base : new.standing.after ≡ old.standing.after
   pub behind : new.standing.behind.items ≡ old.standing.behind.items ++ n ∷ []
   pub undecided : new.standing.undecided.items ≡ old.standing.undecided.items ++ marks n.guess
-  pub greatest : new.greatest ≡ newest old.greatest n.guess
+  pub greatest : new.greatest ≡ option_or n.guess old.greatest
 
 -- or why not; memory is wanted only where nothing else is wrong
 abbrev pub StepFault : Scripts → Replay → EntryView → EventFault → Type 0
-StepFault scripts old n faults.Refused = IsErr (outcome (plain scripts) old.now n)
-StepFault scripts old n faults.Unknown = IsOk (outcome (plain scripts) old.now n) × (is_above old.greatest n.guess ≡ false)
-StepFault scripts old n faults.Memory = IsOk (outcome (plain scripts) old.now n) × (is_above old.greatest n.guess ≡ true)
+StepFault scripts old n EventFault.Refused = IsErr (outcome (plain scripts) old.now n)
+StepFault scripts old n EventFault.Unknown = IsOk (outcome (plain scripts) old.now n) × (is_above old.greatest n.guess ≡ false)
+StepFault scripts old n EventFault.Memory = IsOk (outcome (plain scripts) old.now n) × (is_above old.greatest n.guess ≡ true)
 
--- a guess was decided, which was undecided
-pub record HasCommitted (scripts : Scripts) (old : Replay) (g : ℕ) (new : Replay) : Type 0 where
+-- a guess was decided by an event, which was undecided, and entities have this then
+pub record HasDecided (scripts : Scripts) (old : Replay) (g : ℕ) (event : Event) (s : State) (new : Replay) : Type 0 where
   pub known : has g old.standing.undecided.items ≡ true
-  pub goes : GoesOn scripts (events.Commit g) old.standing new.standing
-  pub now : new.now ≡ old.now
-  pub greatest : new.greatest ≡ old.greatest
-
-pub record HasFailed (scripts : Scripts) (old : Replay) (g : ℕ) (new : Replay) : Type 0 where
-  pub known : has g old.standing.undecided.items ≡ true
-  pub goes : GoesOn scripts (events.Fail g) old.standing new.standing
-  pub now : new.now ≡ run (plain scripts) new.standing.after new.standing.behind.items
+  pub goes : GoesOn scripts event old.standing new.standing
+  pub now : new.now ≡ s
   pub greatest : new.greatest ≡ old.greatest
 
 -- or why not
 abbrev pub DecisionFault : Replay → ℕ → EventFault → Type 0
-DecisionFault old g faults.Refused = ⊥
-DecisionFault old g faults.Unknown = has g old.standing.undecided.items ≡ false
-DecisionFault old g faults.Memory = has g old.standing.undecided.items ≡ true
+DecisionFault old g EventFault.Refused = ⊥
+DecisionFault old g EventFault.Unknown = has g old.standing.undecided.items ≡ false
+DecisionFault old g EventFault.Memory = has g old.standing.undecided.items ≡ true
 
 -- the replay goes on with an event, or tells its fault
 abbrev pub Goes : Scripts → State → List (Happens EntryView) → Happens EntryView → Replay → Result (Unit {0}) EventFault → Type 0
 Goes scripts start es e new (Ok u) = IsReplay scripts start (es ++ e ∷ []) new
-Goes scripts start es e new (Err faults.Refused) = IsRefused scripts start es e
-Goes scripts start es e new (Err faults.Unknown) = IsUnknown scripts start es e
-Goes scripts start es e new (Err faults.Memory) = IsTaken scripts start es e
+Goes scripts start es e new (Err EventFault.Refused) = IsRefused scripts start es e
+Goes scripts start es e new (Err EventFault.Unknown) = IsUnknown scripts start es e
+Goes scripts start es e new (Err EventFault.Memory) = IsTaken scripts start es e
 
 -- after all these events, or the first fault among them
 abbrev pub Replays : Scripts → State → List (Happens EntryView) → Replay → Result (Unit {0}) TraceFault → Type 0

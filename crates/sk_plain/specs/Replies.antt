@@ -1,10 +1,7 @@
 -- The rows of the table on replies of the server.
 use Rattle.std.specs.Prelude.{ℕ, ◌+◌, nat_lt, List, Option, Some, None, if◌then◌else◌}
 use Rattle.sk_plain.specs.Base.{Ask, Refuse, Copy, ContentView, LAST_VERSION, SetCopy, value_after, Process}
-use Rattle.sk_plain.specs.Base.{Instruction, EntityState, Mismatch, StaleCopy}
-use Rattle.sk_objects.specs.declared.value.Value.TheVariants as values
-use Rattle.sk_script.specs.declared.instruction.Instruction.TheVariants.{Fetch, Store}
-use Rattle.sk_store.specs.declared.entity_state.EntityState.TheVariants as stored
+use Rattle.sk_plain.specs.Base.{Instruction, EntityState, Mismatch, StaleCopy, Value}
 use Rattle.sk_plain.specs.Rows.{StepTree, answered, failed, filled, alone, with_write}
 
 -- the process after a fetch of this content
@@ -13,32 +10,32 @@ fetched p c = filled p c.bytes c.version
 
 -- `fetch NAME` with Good: from the cached copy, which has to be there
 abbrev pub from_copy : ℕ → Process → Option EntityState → StepTree
-from_copy pid p (Some (stored.Value (values.Copy content))) = alone pid (fetched p content)
+from_copy pid p (Some (EntityState.Value (Value.Copy content))) = alone pid (fetched p content)
 from_copy pid p _ = Refuse Mismatch
 
 -- `store NAME` with Good: over the cached copy, whose version is not the last, or over none
 abbrev pub over_copy : ℕ → Process → List ℕ → Option EntityState → StepTree
-over_copy pid p name None = with_write pid (Copy name) (values.Copy (record { version = 1; bytes = p.buffer })) (answered p 1)
-over_copy pid p name (Some (stored.Value (values.Copy content))) =
+over_copy pid p name None = with_write pid (Copy name) (Value.Copy (record { version = 1; bytes = p.buffer })) (answered p 1)
+over_copy pid p name (Some (EntityState.Value (Value.Copy content))) =
     if nat_lt content.version LAST_VERSION
     then with_write pid (Copy name)
-    (value_after (values.Copy content) (SetCopy (record { version = content.version + 1; bytes = p.buffer })))
+    (value_after (Value.Copy content) (SetCopy (record { version = content.version + 1; bytes = p.buffer })))
     (answered p (content.version + 1))
     else Refuse Mismatch
 over_copy pid p name _ = Refuse Mismatch
 
 -- with Good
 abbrev pub good : ℕ → Process → Option Instruction → StepTree
-good pid p (Some (Fetch name)) = Ask (Copy name) (from_copy pid p)
-good pid p (Some (Store name)) = Ask (Copy name) (over_copy pid p name)
+good pid p (Some (Instruction.Fetch name)) = Ask (Copy name) (from_copy pid p)
+good pid p (Some (Instruction.Store name)) = Ask (Copy name) (over_copy pid p name)
 good pid p _ = Refuse Mismatch
 
 -- with Fresh: the copy becomes the server's content
 abbrev pub fresh : ℕ → Process → ContentView → Option Instruction → StepTree
-fresh pid p content (Some (Fetch name)) = with_write pid (Copy name) (values.Copy content) (fetched p content)
+fresh pid p content (Some (Instruction.Fetch name)) = with_write pid (Copy name) (Value.Copy content) (fetched p content)
 fresh pid p content _ = Refuse Mismatch
 
 -- with Stale: the copy becomes the server's content, and the buffer stays
 abbrev pub stale : ℕ → Process → ContentView → Option Instruction → StepTree
-stale pid p content (Some (Store name)) = with_write pid (Copy name) (values.Copy content) (failed p StaleCopy)
+stale pid p content (Some (Instruction.Store name)) = with_write pid (Copy name) (Value.Copy content) (failed p StaleCopy)
 stale pid p content _ = Refuse Mismatch

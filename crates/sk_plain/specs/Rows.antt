@@ -1,10 +1,7 @@
 -- What the rows of the table of instructions are made of: what becomes of a process, what a register's value stands for, and what is written.
 use Rattle.std.specs.Prelude.{ℕ, ◌+◌, ◌&&◌, pos, neg_ℤ, nat_le, List, [], ◌∷◌, Option, Some, None, Result, Ok, Err, slice_set, if◌then◌else◌}
 use Rattle.sk_plain.specs.Base.{Step, Ask, Done, ObjId, Entity, Proc, Obj, Val, Process, given, EntityState, Refusal}
-use Rattle.sk_plain.specs.Base.{Errno, BadObject, Invalid}
-use Rattle.sk_objects.specs.declared.value.Value.{Value}
-use Rattle.sk_script.specs.declared.register.Val.TheVariants as vals
-use Rattle.sk_store.specs.declared.entity_state.EntityState.TheVariants as stored
+use Rattle.sk_plain.specs.Base.{Errno, BadObject, Invalid, Value}
 use Rattle.sk_plain.specs.Refusal.{error_number}
 
 -- a text that is said, and the terminal that it goes to
@@ -19,51 +16,51 @@ StepTree = Step Entity EntityState Saying Refusal
 
 -- it moves on to the next instruction and has a number in r0
 abbrev pub answered : Process → ℕ → Process
-answered p n = given p 0 (vals.Num (pos n))
+answered p n = given p 0 (Val.Num (pos n))
 
 -- and has an error in r0
 abbrev pub failed : Process → Errno → Process
-failed p e = given p 0 (vals.Num (neg_ℤ (pos (error_number e))))
+failed p e = given p 0 (Val.Num (neg_ℤ (pos (error_number e))))
 
 -- and has a text in its buffer and a number in r0
 abbrev pub filled : Process → List ℕ → ℕ → Process
-filled p text n = record p { place = p.place + 1; buffer = text; registers = slice_set p.registers 0 (vals.Num (pos n)) }
+filled p text n = record p { place = p.place + 1; buffer = text; registers = slice_set p.registers 0 (Val.Num (pos n)) }
 
 -- ---- what a register's value stands for
 
 -- an object
 abbrev pub object_in : Val → Option ObjId
-object_in (vals.Obj o) = Some o
+object_in (Val.Obj o) = Some o
 object_in _ = None
 
 -- a number from 0 on
 abbrev pub number_in : Val → Option ℕ
-number_in (vals.Num (pos n)) = Some n
+number_in (Val.Num (pos n)) = Some n
 number_in _ = None
 
 -- a number from 1 up to a greatest one
 abbrev pub number_to : ℕ → Val → Option ℕ
-number_to greatest (vals.Num (pos n)) = if nat_le 1 n && nat_le n greatest then Some n else None
+number_to greatest (Val.Num (pos n)) = if nat_le 1 n && nat_le n greatest then Some n else None
 number_to greatest _ = None
 
 -- a process
 abbrev pub who_in : Val → Option ℕ
-who_in (vals.Who q) = Some q
+who_in (Val.Who q) = Some q
 who_in _ = None
 
 -- ---- what is written
 
 -- nothing but the process is written
 abbrev pub alone : ℕ → Process → StepTree
-alone pid p = Done ((Proc pid, Some (stored.Process p)) ∷ []) None
+alone pid p = Done ((Proc pid, Some (EntityState.Process p)) ∷ []) None
 
 -- one entity is written beside it
 abbrev pub with_write : ℕ → Entity → Value → Process → StepTree
-with_write pid e v p = Done ((e, Some (stored.Value v)) ∷ (Proc pid, Some (stored.Process p)) ∷ []) None
+with_write pid e v p = Done ((e, Some (EntityState.Value v)) ∷ (Proc pid, Some (EntityState.Process p)) ∷ []) None
 
 -- another entity is made absent after it
 abbrev pub with_removal : ℕ → Entity → Process → StepTree
-with_removal pid e p = Done ((Proc pid, Some (stored.Process p)) ∷ (e, None) ∷ []) None
+with_removal pid e p = Done ((Proc pid, Some (EntityState.Process p)) ∷ (e, None) ∷ []) None
 
 -- ---- what a row asks first
 

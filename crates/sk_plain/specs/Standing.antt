@@ -1,18 +1,16 @@
 -- Where the reading of a trace stands: the record so far, of which no failure reaches what is settled.
 use Rattle.std.specs.Prelude.{◌≡◌, ℕ, Bool, true, false, not, List, ◌++◌, Option, Some, None}
 use Rattle.sk_plain.specs.Base.{run, has, list_any, is_marked, Taken, Commit, Fail, Record, recorded, State, EntryView}
-use Rattle.sk_record.specs.Trace.{Event as Happens}
-use Rattle.sk_trace.specs.declared.event.Event.{Event}
-use Rattle.sk_trace.specs.declared.event.Event.TheVariants as events
+use Rattle.sk_plain.specs.Base.{Event, Happens}
 use Rattle.sk_plain.specs.Act.{Scripts, plain}
 use Rattle.sk_plain.specs.declared.standing.Standing.{Standing}
 
 -- an event as the laws of traces have it: steps and guesses take an entry
 abbrev pub image : Event → Happens EntryView
-image (events.Step pid input) = Taken (record { pid = pid; input = input; guess = None })
-image (events.Guess id pid input) = Taken (record { pid = pid; input = input; guess = Some id })
-image (events.Commit id) = Commit id
-image (events.Fail id) = Fail id
+image (Event.Step pid input) = Taken (record { pid = pid; input = input; guess = None })
+image (Event.Guess id pid input) = Taken (record { pid = pid; input = input; guess = Some id })
+image (Event.Commit id) = Commit id
+image (Event.Fail id) = Fail id
 
 -- whether one of these entries made the guess
 abbrev pub is_made : List EntryView → ℕ → Bool
@@ -38,10 +36,9 @@ pub record Stands (scripts : Scripts) (start : State) (s : Standing) : Type 0 wh
 
 -- an event may come next: a guess is new, and one that fails is undecided
 abbrev pub Fits : Standing → Event → Type 0
-Fits s (events.Step pid input) = Unit {0}
-Fits s (events.Guess id pid input) = is_made (seen s).entries id ≡ false
-Fits s (events.Commit id) = Unit {0}
-Fits s (events.Fail id) = has id s.undecided.items ≡ true
+Fits s (Event.Guess id pid input) = is_made (seen s).entries id ≡ false
+Fits s (Event.Fail id) = has id s.undecided.items ≡ true
+Fits s _ = Unit {0}
 
 -- the record with one event more
 abbrev pub GoesOn : Scripts → Event → Standing → Standing → Type 0

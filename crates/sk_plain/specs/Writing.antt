@@ -2,17 +2,20 @@
 use Rattle.std.specs.Prelude.{◌≡◌, ◌+◌, ◌<◌, ◌^◌, ℕ, List, Option, Some, Result, OnOk, OnErr, IfOk}
 use Rattle.std.specs.declared.alloc.AllocError.{AllocError}
 use Rattle.sk_plain.specs.Base.{Entity, Proc, Process, moved, IsProcess, process_in, EntityState, TerminalMap, said_to}
-use Rattle.sk_plain.specs.Base.{Beside}
+use Rattle.sk_plain.specs.Base.{Row, Beside, Writes}
 use Rattle.sk_store.specs.Processes.{CanBecome as CanBecomeThere}
-use Rattle.sk_store.specs.declared.entity_state.EntityState.TheVariants as stored
 use Rattle.sk_plain.specs.Plan.{Nowhere, Birth}
 use Rattle.sk_plain.specs.Planned.{CanBecome, CanDo, IsBeside, value_of, writes_of, wrote_all}
+use Rattle.sk_plain.specs.Processes.{forked_by}
 use Rattle.sk_plain.specs.Seen.{CanChange, IsWritable, beside_of, row_seen, written}
-use Rattle.sk_plain.specs.Forked.{forked}
 use Rattle.sk_plain.specs.declared.becomes.Forking.{Forking}
-use Rattle.sk_plain.specs.declared.plan.Beside.TheVariants.{One}
-use Rattle.sk_plain.specs.declared.plan.Row.{Row}
-use Rattle.sk_plain.specs.declared.plan.Writes.{Writes}
+
+-- a parent with one more child
+abbrev pub forked : Forking → Process → Process
+forked f p = forked_by p f.register f.child
+
+abbrev pub CanFork : Forking → Process → Type 0
+CanFork f p = (p.place + 1 < 2 ^ 32) × (p.children + 1 < 2 ^ 16)
 
 -- a state has become this; without memory it is as it was
 pub record HasBecome {A S : Type 0} (result : Result A AllocError) (old new after : S) : Type 0 where
@@ -41,7 +44,7 @@ pub record CanWrite (look : Entity → Option EntityState) (pid : ℕ) (may : Pr
 pub record CanWriteOne (look : Entity → Option EntityState) (pid : ℕ) (e : Entity) (writes : Writes) : Type 0 where
   pub there : IsProcess (look (Proc pid))
   pub can : CanBecome (look e) (written (process_in (look (Proc pid))) writes)
-  pub version : IsWritable (One e writes)
+  pub version : IsWritable (Beside.One e writes)
 
 -- a process is there that can go on to its next instruction
 pub record CanMove (look : Entity → Option EntityState) (pid : ℕ) : Type 0 where
@@ -73,5 +76,5 @@ module _ {S : Type 0} (wrote : S → Entity → Option EntityState → S) (look 
 
   -- a process has gone on, and its buffer was said to its terminal with these tags; without memory nothing has changed
   pub record HasSpoken {A : Type 0} (tags : List ℕ) (result : Result A AllocError) (old new : S) (texts texts_now : TerminalMap) : Type 0 where
-    pub writes : HasBecome result old new (wrote old (Proc pid) (Some (stored.Process (moved (process_in (look old (Proc pid)))))))
+    pub writes : HasBecome result old new (wrote old (Proc pid) (Some (EntityState.Process (moved (process_in (look old (Proc pid)))))))
     pub says : HasBecome result texts texts_now (let p = process_in (look old (Proc pid)) in said_to texts p.terminal (p.buffer, tags))

@@ -11,8 +11,7 @@ ghost use Rattle.sk_plain.specs.Files.{after_read, file_in};
 ghost use Rattle.sk_plain.specs.Rows.{answered};
 ghost use Rattle.sk_plain.specs.Planned.{child_of, said_by, texts_after, writes_of, wrote_all};
 ghost use Rattle.sk_plain.specs.Seen.{CanPerform, HasContent, content_in, process_given, text_in, seen_with};
-ghost use Rattle.sk_plain.specs.Forked.{CanFork, forked};
-ghost use Rattle.sk_plain.specs.Writing.{CanAct, CanMove, CanWrite, CanWriteOne, HasBecome, HasDone, HasSpoken, HasWritten, acted, wrote_birth, wrote_both, wrote_one};
+ghost use Rattle.sk_plain.specs.Writing.{CanAct, CanFork, CanMove, CanWrite, CanWriteOne, HasBecome, HasDone, HasSpoken, HasWritten, acted, forked, wrote_birth, wrote_both, wrote_one};
 
 use crate::becomes::{Doing, FileReading, Filling, Forking, Measuring, Reading, read_there};
 use crate::{Becomes, Beside, Errno, InputRef, Looks, Plan, ProcessChange, Row, Writes};

@@ -153,14 +153,14 @@ pub(crate) struct Reading {
 }
 
 impl BecomingBy for Reading {
-    ghost use Rattle.std.specs.Prelude.{◌+◌, ◌<◌, ◌^◌, []};
+    ghost use Rattle.std.specs.Prelude.{◌+◌, ◌<◌, ◌^◌, length, unwrap_or};
     ghost use Rattle.sk_plain.specs.Rows.{filled};
-    ghost use Rattle.sk_plain.specs.Seen.{number_of, text_at};
+    ghost use Rattle.sk_plain.specs.Seen.{text_at};
 
-    ghost can = { λ r _ p. (p.place + 1 < 2 ^ 32) × (number_of r.number [] < 2 ^ 63) };
+    ghost can = { λ r _ p. (p.place + 1 < 2 ^ 32) × (unwrap_or r.number 0 < 2 ^ 63) };
 
     ghost after = { λ r there p. filled p (text_at there r.from r.count)
-        (number_of r.number (text_at there r.from r.count)) };
+        (unwrap_or r.number (length (text_at there r.from r.count))) };
 
     fn change(&self, there: Option<&EntityState>, process: &mut Process) {
         read_there(there, self.from, self.count, &mut process.buffer);
@@ -246,7 +246,7 @@ pub(crate) struct Forking {
 }
 
 impl Becoming for Forking {
-    ghost use Rattle.sk_plain.specs.Forked.{CanFork, forked};
+    ghost use Rattle.sk_plain.specs.Writing.{CanFork, forked};
 
     ghost can = { CanFork };
 

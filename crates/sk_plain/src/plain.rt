@@ -39,8 +39,7 @@ impl Model for Plain {
 
 impl PartialEq for Plain {
     ghost use Rattle.std.specs.Cmp.{decided, partial_equiv_from_equiv};
-    ghost use Rattle.sk_plain.specs.Same.{same_plain};
-    ghost use Rattle.sk_plain.specs.SameLemma.{exact_plain};
+    ghost use Rattle.sk_plain.specs.Same.{exact_plain, same_plain};
 
     ghost eq = { same_plain };
 
@@ -63,8 +62,7 @@ impl PartialEq for Plain {
 
 impl Eq for Plain {
     ghost use Rattle.std.specs.Cmp.{decided};
-    ghost use Rattle.sk_plain.specs.Same.{same_plain};
-    ghost use Rattle.sk_plain.specs.SameLemma.{exact_plain};
+    ghost use Rattle.sk_plain.specs.Same.{exact_plain, same_plain};
 
     ghost laws = { decided same_plain exact_plain };
 }

@@ -1,11 +1,11 @@
 //! A whole trace, replayed by the plain kernel.
 ghost use Rattle.std.specs.Prelude.{◌≡◌, [], List, map, OnOk, IfOk, IfErr};
 ghost use Rattle.sk_record.specs.Trace.{Event as Happens};
-ghost use Rattle.sk_plain.specs.Base.{IsSound, record_of, EntryView, State};
+ghost use Rattle.sk_plain.specs.Base.{IsSound, record_of, run, EntryView, State};
 ghost use Rattle.sk_store.specs.Start.{start_of};
 ghost use Rattle.sk_plain.specs.Act.{Scripts, plain};
 ghost use Rattle.sk_plain.specs.Standing.{image};
-ghost use Rattle.sk_plain.specs.Replay.{is_above, IsReplay, HasTaken, StepFault, HasCommitted, HasFailed, DecisionFault, Goes, FaultIn, Replays};
+ghost use Rattle.sk_plain.specs.Replay.{is_above, IsReplay, HasTaken, StepFault, HasDecided, DecisionFault, Goes, FaultIn, Replays};
 
 use crate::standing::{add, commit as commit_in, fail as fail_in, is_among};
 use crate::{Entry, Event, InputRef, Plain, Standing, Trace, apply_plan, plan_step};
@@ -111,8 +111,8 @@ fn take_entry(replay: &mut Replay, scripts: &Scripts, entry: &Entry) -> Result<(
 
 /// Commits a guess.
 fn commit(replay: &mut Replay, guess: GuessId) -> Result<(), EventFault>
-    ensures ok { (scripts : Scripts)
-        → OnOk result (HasCommitted scripts replay.old guess replay.new) }
+    ensures ok { (scripts : Scripts) → OnOk result (HasDecided scripts replay.old guess
+        (Event.Commit guess) replay.old.now replay.new) }
     ensures err { IfErr result (DecisionFault replay.old guess) }
 {
     if !is_among(&replay.standing.undecided, guess) {
@@ -129,7 +129,9 @@ fn fail(
     scripts: &Scripts,
     guess: GuessId,
 ) -> Result<(), EventFault>
-    ensures ok { OnOk result (HasFailed scripts.now replay.old guess replay.new) }
+    ensures ok { OnOk result (HasDecided scripts.now replay.old guess (Event.Fail guess)
+        (run (plain scripts.now) replay.new.standing.after replay.new.standing.behind.items)
+        replay.new) }
     ensures err { IfErr result (DecisionFault replay.old guess) }
 {
     if !is_among(&replay.standing.undecided, guess) {

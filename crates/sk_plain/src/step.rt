@@ -5,10 +5,10 @@ ghost use Rattle.sk_objects.specs.declared.value.Value.TheVariants as values;
 ghost use Rattle.sk_store.specs.declared.entity_state.EntityState.TheVariants as stored;
 ghost use Rattle.sk_script.specs.declared.instruction.Input.TheVariants as Input;
 ghost use Rattle.sk_plain.specs.Act.{row, does, next_in, is_frequent, due, handled as handled_row, with_signals, with_input};
-ghost use Rattle.sk_plain.specs.Planned.{signals_read, IsReply, said_by};
+ghost use Rattle.sk_plain.specs.Planned.{signals_read, IsReply, or_refused, said_by};
 ghost use Rattle.sk_plain.specs.declared.plan.Beside.TheVariants as Beside;
 ghost use Rattle.sk_plain.specs.declared.plan.Looks.TheVariants as Looks;
-ghost use Rattle.sk_plain.specs.Seen.{DoesNext, IsNext, IsQuiet, PlansAfter, PlansReply, PlansStep, plan_of, row_of, seen_with, told};
+ghost use Rattle.sk_plain.specs.Seen.{DoesNext, IsNext, IsQuiet, PlansAfter, PlansReply, PlansStep, row_of, seen_with, told};
 
 use crate::processes::{ends, fork, is_killed, kill, status_of, wait};
 use crate::shapes::{alone, wrote};
@@ -33,7 +33,7 @@ fn alone_does(becomes: Becomes) -> Plan
 
 /// The plan that is a row's.
 fn plan_of(row: Result<Row, Refusal>) -> Result<Plan, Refusal>
-    ensures { result ≡ plan_of row }
+    ensures { result ≡ or_refused Plan.Acts row }
 {
     Ok(Plan::Acts(row?))
 }

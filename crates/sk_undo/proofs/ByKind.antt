@@ -15,7 +15,7 @@ use Rattle.std.specs.FinMap.{entries-from_sorted, entries_sorted, keys, values}
 use Rattle.sk_map.specs.KeyLemma.{object_same}
 use Rattle.sk_ids.specs.contracts.pid.ObjIdOrd.TheImpl.Laws as object_laws
 use Rattle.sk_undo.specs.contracts.keys.LinkKeyOrd.TheImpl.Laws as link_laws
-use Rattle.sk_undo.specs.Kinds.{link_cmp, link_of, lifted, all_entries, joined}
+use Rattle.sk_undo.specs.Kinds.{link_cmp, link_of, lifted, joined}
 use Rattle.sk_undo.specs.KindsLemma.{link_same}
 use Rattle.sk_undo.proofs.Maps.{get_put}
 use Rattle.sk_undo.specs.declared.entity_map.EntityMap.TheInside.{Inside}
@@ -105,7 +105,9 @@ module _ {V : Type 0} (k : Kinds V) where
   whole = lifted Proc (entries k.processes) ++ from_signals
 
   abbrev listed : List (Entity × V)
-  listed = all_entries k.processes k.signals k.exits k.objects k.links k.copies
+  listed =
+      lifted Proc (entries k.processes) ++ (lifted Sig (entries k.signals) ++ (lifted Exit (entries k.exits)
+      ++ (lifted Obj (entries k.objects) ++ (lifted link_of (entries k.links) ++ lifted Copy (entries k.copies)))))
 
   whole_is : listed ≡ whole
   whole_is = ap (λ es. lifted Proc (entries k.processes) ++ (lifted Sig (entries k.signals) ++ (lifted Exit (entries k.exits) ++ (lifted Obj (entries k.objects) ++ (lifted link_of (entries k.links) ++ es))))) (sym (append-nil (lifted Copy (entries k.copies))))
@@ -265,9 +267,17 @@ module _ {V : Type 0} (a : Inside V) {m : FinMap entity_cmp V} (whole : together
   pub set_copy : (o : Option V) {j p : List ℕ} {n : FinMap name_order V} → j ≡ p → e ≡ Copy p → n ≡ put (seen name_order a.copies) j o → together (record (kinds_of a) { copies = n }) ≡ put m e o
   set_copy o {j} key is made = (λ i. together (record (kinds_of a) { copies = made i })) ∙ after (Copy j) o (ap Copy key ∙ sym is)
 
--- lists that were added one after another
-pub one_by_one : {A : Type 0} (a b c d e f : List A) → ((((([] ++ a) ++ b) ++ c) ++ d) ++ e) ++ f ≡ a ++ (b ++ (c ++ (d ++ (e ++ f))))
-one_by_one a b c d e f = simp append_assoc
+-- a list to which another was added, of which nothing is left
+pub all_added : {A : Type 0} (xs left all : List A) → left ≡ [] → xs ++ left ≡ all → xs ≡ all
+all_added {A} xs left all none is = sym (append-nil xs) ∙ ap (λ (ys : List A). xs ++ ys) (sym none) ∙ is
+
+-- six lists added one after another
+pub one_by_one : {A : Type 0} (a b c d e f : List A) {start p s x o l n : List A} → start ≡ [] → p ≡ start ++ a → s ≡ p ++ b → x ≡ s ++ c → o ≡ x ++ d → l ≡ o ++ e → n ≡ l ++ f
+    → n ≡ a ++ (b ++ (c ++ (d ++ (e ++ f))))
+one_by_one {A} a b c d e f none at_p at_s at_x at_o at_l at_n =
+    at_n ∙ ap (λ (xs : List A). xs ++ f) (at_l ∙ ap (λ (xs : List A). xs ++ e) (at_o ∙ ap (λ (xs : List A). xs ++ d) (at_x
+    ∙ ap (λ (xs : List A). xs ++ c) (at_s ∙ ap (λ (xs : List A). xs ++ b) (at_p ∙ ap (λ (xs : List A). xs ++ a) none)))))
+    ∙ simp append_assoc
 
 -- what follows from what is got, or done
 pub on_some : {A P Q : Type 0} (r : Option A) → (P → Q) → OnSome r P → OnSome r Q

@@ -51,7 +51,7 @@ pub use Rattle.sk_record.specs.Run.{put}
 pub use Rattle.sk_record.specs.UndoState.{IsGrowing}
 pub use Rattle.sk_script.specs.declared.process.Process.{Process}
 pub use Rattle.sk_store.proofs.CountedNames.{one_more, as_many, one_less}
-pub use Rattle.sk_store.specs.Changed.{state_undone, changed, StateFits, FitsAt}
+pub use Rattle.sk_store.specs.Changed.{state_undone, changed, FitsAt}
 pub use Rattle.sk_store.specs.Names.{name_there, IsCount}
 pub use Rattle.sk_store.specs.Processes.{became, CanBecome}
 pub use Rattle.sk_store.specs.State.{State}
@@ -59,14 +59,13 @@ pub use Rattle.sk_store.specs.declared.back.PutBack.{PutBack}
 pub use Rattle.sk_store.specs.declared.back.PutBack.TheVariants.{Was, Changed}
 pub use Rattle.sk_store.specs.declared.entity_state.EntityState.{EntityState}
 pub use Rattle.sk_undo.specs.Count.{notes_in, AreUnnoted, note_count}
-pub use Rattle.sk_undo.specs.Decisions.{AllGrow, SlotUnwound, SlotCommitted, IsWithin, Unwound, NoneBare, ChangedAt}
+pub use Rattle.sk_undo.specs.Decisions.{AllGrow, SlotUnwound, SlotCommitted, Unwound, NoneBare, ChangedAt}
 pub use Rattle.sk_undo.specs.Decisions.{Lightened, AllRest, AreListed}
-pub use Rattle.sk_undo.specs.Kept.{AllSet, is_process_whole, object_undone, runs_of, run_of, process_changed_back}
-pub use Rattle.sk_undo.specs.Kept.{ProcessFits, was, is_apart}
+pub use Rattle.sk_undo.specs.Kept.{AllSet, is_process_whole, object_undone, runs_of, run_of, was, is_apart}
 pub use Rattle.sk_undo.specs.Laws.{all_wrote, AllRestOn, Write, GivesBack}
-pub use Rattle.sk_undo.specs.Log.{EachRests, CanGoBack, newest_tags, lightened, FitsBy, less, is_covered, Grows}
-pub use Rattle.sk_undo.specs.Log.{rests_last, dropped, HasNote, joined_from, stands_for, Covers, seen, undone_by}
-pub use Rattle.sk_undo.specs.Log.{is_empty, goes_unnoted_raw, restores, goes_on_raw, repeats, carries, before_last}
+pub use Rattle.sk_undo.specs.Log.{EachRests, CanGoBack, newest_tags, lightened, FitsBy, is_covered, Grows}
+pub use Rattle.sk_undo.specs.Log.{dropped, joined_from, stands_for, Covers, seen, undone_by}
+pub use Rattle.sk_undo.specs.Log.{is_empty, goes_unnoted_raw, restores, repeats, carries, before_last}
 pub use Rattle.sk_undo.specs.Log.{from_first, log_of}
 pub use Rattle.sk_undo.specs.Logs.{CanTakeBack, LogsView, look_at, moved, log_at, CanUndoLast, slots_wrote, SlotMap}
 pub use Rattle.sk_undo.specs.Logs.{slot_in, slots_back, placed}

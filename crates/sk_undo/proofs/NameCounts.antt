@@ -5,19 +5,20 @@ use Rattle.sk_undo.proofs.Cites.{OnOk, OnErr, unwrap_or, Ordering, Less, Equal, 
 use Rattle.sk_undo.proofs.Cites.{ordering_then, IsTotalOrder, Equal-is, eq_by_cmp_equiv, tied_itself}
 use Rattle.sk_undo.proofs.Cites.{len, empty}
 use Rattle.sk_undo.proofs.Cites.{contains-empty, len-empty, true≢false}
-use Rattle.sk_undo.proofs.Cites.{name_order, entity_cmp, object_cmp, ObjId, total-law, Entity, Proc, Sig, Exit, Obj}
-use Rattle.sk_undo.proofs.Cites.{Link, Copy, entity_total, entity_exact, object_same, object_exact, IsCount, name_there}
-use Rattle.sk_undo.proofs.Cites.{one_more, one_less, as_many, EntityState, Change, FitsAt, changed, PutBack, TakeBack}
+use Rattle.sk_undo.proofs.Cites.{name_order, entity_cmp, object_cmp, ObjId, total-law, Entity, Proc, Obj}
+use Rattle.sk_undo.proofs.Cites.{Link, entity_total, entity_exact, object_same, object_exact, IsCount, name_there}
+use Rattle.sk_undo.proofs.Cites.{one_more, one_less, as_many, EntityState, Change, FitsAt, PutBack, TakeBack}
 use Rattle.sk_undo.proofs.Cites.{DropSlot, UndoLast, SlotView, slot_wrote, slot_back, SlotMap, slot_in}
 use Rattle.sk_undo.proofs.Cites.{look_at, slots_wrote, slots_back, CanTakeBack, CanUndoLast, ChangedAt}
-use Rattle.sk_undo.proofs.Cites.{SlotUnwound, IsWithin, NameMap, IsCounted, count_in, count_for, with_count, with_place}
+use Rattle.sk_undo.proofs.Cites.{SlotUnwound, NameMap, IsCounted, count_in, count_for, with_count, with_place}
 use Rattle.sk_undo.proofs.Cites.{made_for, recounted, recounted_at, link_there}
 use Rattle.std.specs.FinMap as map
 use Rattle.std.proofs.lemmas.Map.Lookups.{exact_bytes}
 use Rattle.sk_undo.specs.Kinds.{HasAtMost}
-use Rattle.sk_undo.proofs.Maps.{placed_untouched}
+use Rattle.sk_undo.proofs.Maps.{placed_untouched, put_same, put_twice}
+use Rattle.sk_undo.proofs.Notes.{absent_is}
 use Rattle.sk_undo.proofs.Cites.{is_empty}
-use Rattle.sk_undo.proofs.Passes.{placed_at, same_elsewhere, wrote_get}
+use Rattle.sk_undo.proofs.Passes.{IsWithin, placed_at, same_elsewhere, wrote_get}
 
 -- ---- directories in their order
 object_itself : (d : ObjId) → object_cmp d d ≡ Equal
@@ -50,15 +51,11 @@ has_slot : (m : SlotMap) (e : Entity) → is_some (look_at m e) ≡ true → map
 has_slot m e h = seen_there (map.get m e) h
 
 few_for : (m : SlotMap) (names : NameMap) (e : Entity) (most : ℕ) → IsCounted m names → HasAtMost m most → count_for names e ≤ most
-few_for m names (Proc p) most so is = omega arith
-few_for m names (Sig p) most so is = omega arith
-few_for m names (Exit p) most so is = omega arith
-few_for m names (Obj o) most so is = omega arith
 few_for m names (Link d n) most so few =
     let a = so.count d in
     let under : len a.names ≤ most = few d a.names (λ q inside. has_slot m (Link d q) (sym (a.all q) ∙ inside)) in
     omega (arith, a.count, under)
-few_for m names (Copy n) most so is = omega arith
+few_for m names _ most so is = omega arith
 
 pub few_fit : (m : SlotMap) (names : NameMap) (e : Entity) (most : ℕ) → IsCounted m names → HasAtMost m most → most < 2 ^ 63 → count_for names e < 2 ^ 63
 few_fit m names e most so is small =
@@ -76,10 +73,6 @@ made_place names d =
       | true ↦ λ there. there
       | false ↦ λ _. ap is_some (map.get-insert object_total names d 0 d) ∙ ap (λ b. is_some (cond b (Some 0) (map.get names d))) ((eq_by_cmp_equiv object_total).refl d)
     ] refl
-
-absent_is : (o : Option ℕ) → is_some o ≡ false → o ≡ None
-absent_is None h = refl
-absent_is (Some n) h = absurd (true≢false h)
 
 -- a number made changes no count
 made_counts : (names : NameMap) (d q : ObjId) → count_in (with_place names d) q ≡ count_in names q
@@ -121,23 +114,11 @@ set_keeps names d q n there =
       | false ↦ there
     ]
 
--- a number set twice
-overwritten : (b : Bool) (k n : ℕ) (o : Option ℕ) → cond b (Some n) (cond b (Some k) o) ≡ cond b (Some n) o
-overwritten true k n o = refl
-overwritten false k n o = refl
-
-set_twice : (names : NameMap) (d : ObjId) (k n : ℕ) → map.insert (map.insert names d k) d n ≡ map.insert names d n
-set_twice names d k n = map.same_map object_total object_exact _ _ (λ q.
-    map.get-insert object_total (map.insert names d k) d n q
-    ∙ ap (cond (eq_by_cmp object_cmp q d) (Some n)) (map.get-insert object_total names d k q)
-    ∙ overwritten (eq_by_cmp object_cmp q d) k n (map.get names q)
-    ∙ sym (map.get-insert object_total names d n q))
-
 set_made : (names : NameMap) (d : ObjId) (n : ℕ) → map.insert (with_place names d) d n ≡ map.insert names d n
 set_made names d n =
     elim (is_some (map.get names d)) as (λ b. map.insert (cond b names (map.insert names d 0)) d n ≡ map.insert names d n) [
       | true ↦ refl
-      | false ↦ set_twice names d 0 n
+      | false ↦ put_twice object_total object_exact names d (Some n) (Some 0)
     ]
 
 -- one more, by one look at the numbers
@@ -153,14 +134,6 @@ number_is : (o : Option ℕ) → is_some o ≡ true → o ≡ Some (unwrap_or o 
 number_is None h = absurd (true≢false (sym h))
 number_is (Some n) h = refl
 
-same_there : (names : NameMap) (d q : ObjId) (b : Bool) → eq_by_cmp object_cmp q d ≡ b → is_some (map.get names d) ≡ true → cond b (Some (count_in names d)) (map.get names q) ≡ map.get names q
-same_there names d q true is there = sym (ap (map.get names) (object_is q d is) ∙ number_is (map.get names d) there)
-same_there names d q false is there = refl
-
-set_same : (names : NameMap) (d : ObjId) → is_some (map.get names d) ≡ true → map.insert names d (count_in names d) ≡ names
-set_same names d there = map.same_map object_total object_exact _ _ (λ q.
-    map.get-insert object_total names d (count_in names d) q ∙ same_there names d q (eq_by_cmp object_cmp q d) refl there)
-
 less_one : (k : ℕ) → k + 1 - 1 ≡ k
 less_one k = omega arith
 
@@ -173,29 +146,21 @@ more_and_less names d there =
     ∙ ap (with_count more d) (less_one k)
     ∙ ap (λ b. cond b (map.insert more d k) more) (set_keeps names d d (k + 1) there)
     ∙ ap (λ b. map.insert (cond b (map.insert names d (k + 1)) names) d k) there
-    ∙ set_twice names d (k + 1) k
-    ∙ set_same names d there
+    ∙ put_twice object_total object_exact names d (Some k) (Some (k + 1))
+    ∙ put_same object_total object_exact names d (Some k) (number_is (map.get names d) there)
 
 counted_still : (names : NameMap) (e : Entity) → recounted names e true true ≡ names
-counted_still names (Proc p) = refl
-counted_still names (Sig p) = refl
-counted_still names (Exit p) = refl
-counted_still names (Obj o) = refl
 counted_still names (Link d n) = refl
-counted_still names (Copy n) = refl
+counted_still names _ = refl
 
 put_and_taken : (names : NameMap) (e : Entity) → recounted (recounted (made_for names e) e false true) e true false ≡ made_for names e
-put_and_taken names (Proc p) = refl
-put_and_taken names (Sig p) = refl
-put_and_taken names (Exit p) = refl
-put_and_taken names (Obj o) = refl
 put_and_taken names (Link d n) = more_and_less (with_place names d) d (made_place names d)
-put_and_taken names (Copy n) = refl
+put_and_taken names _ = refl
 
 recount_keeps : (names : NameMap) (d q : ObjId) (was is : Bool) → is_some (map.get names q) ≡ true → is_some (map.get (recounted_at names d was is) q) ≡ true
-recount_keeps names d q true true there = there
 recount_keeps names d q true false there = set_keeps names d q (count_in names d - 1) there
 recount_keeps names d q false true there = set_keeps names d q (count_in names d + 1) there
+recount_keeps names d q true true there = there
 recount_keeps names d q false false there = there
 
 recount_apart : (names : NameMap) (d q : ObjId) (was is : Bool) → eq_by_cmp object_cmp q d ≡ false → count_in (recounted_at names d was is) q ≡ count_in names q
@@ -206,40 +171,24 @@ recount_apart names d q false false apart = refl
 
 -- numbers made for a name count what they counted
 pub counted_made : (m : SlotMap) (names : NameMap) (e : Entity) → IsCounted m names → IsCounted m (made_for names e)
-counted_made m names (Proc p) so = so
-counted_made m names (Sig p) so = so
-counted_made m names (Exit p) so = so
-counted_made m names (Obj o) so = so
 counted_made m names (Link d n) so = record {
   count = λ q. subst (IsCount (name_there (look_at m)) q) (sym (made_counts names d q)) (so.count q);
   places = λ q name there. made_keeps names d q (so.places q name there);
 }
-counted_made m names (Copy n) so = so
+counted_made m names _ so = so
 
 -- whether the directory of a name has a number
 abbrev pub HasNumber : NameMap → Entity → Type 0
-HasNumber names (Proc p) = Unit {0}
-HasNumber names (Sig p) = Unit {0}
-HasNumber names (Exit p) = Unit {0}
-HasNumber names (Obj o) = Unit {0}
 HasNumber names (Link d name) = is_some (map.get names d) ≡ true
-HasNumber names (Copy n) = Unit {0}
+HasNumber names _ = Unit {0}
 
 number_made : (names : NameMap) (e : Entity) → HasNumber (made_for names e) e
-number_made names (Proc p) = tt
-number_made names (Sig p) = tt
-number_made names (Exit p) = tt
-number_made names (Obj o) = tt
 number_made names (Link d n) = made_place names d
-number_made names (Copy n) = tt
+number_made names _ = tt
 
 number_there : (m : SlotMap) (names : NameMap) (e : Entity) → IsCounted m names → map.contains_key m e ≡ true → HasNumber names e
-number_there m names (Proc p) so there = tt
-number_there m names (Sig p) so there = tt
-number_there m names (Exit p) so there = tt
-number_there m names (Obj o) so there = tt
 number_there m names (Link d n) so there = so.places d n there
-number_there m names (Copy n) so there = tt
+number_there m names _ so there = tt
 
 or_is : (a b : Bool) → cond a true b ≡ (a || b)
 or_is true b = refl
@@ -250,12 +199,8 @@ and_is true b = refl
 and_is false b = refl
 
 abbrev directory_of : ObjId → Entity → ObjId
-directory_of d (Proc p) = d
-directory_of d (Sig p) = d
-directory_of d (Exit p) = d
-directory_of d (Obj u) = d
 directory_of d (Link u n) = u
-directory_of d (Copy n) = d
+directory_of d _ = d
 
 -- ---- after one entity was written, all others being as they were
 module _ (old new : SlotMap) (names : NameMap) where
@@ -322,31 +267,15 @@ module _ (old new : SlotMap) (names : NameMap) where
 
   pub counted_on : (e : Entity) → ((q : Entity) → eq_by_cmp entity_cmp q e ≡ false → map.get new q ≡ map.get old q) → (map.contains_key new e ≡ true → HasNumber names e) → IsCounted old names
       → IsCounted new (recounted names e (link_there old e) (link_there new e))
-  counted_on (Proc p) others number so = elsewhere (Proc p) others (λ d n. refl) so
-  counted_on (Sig p) others number so = elsewhere (Sig p) others (λ d n. refl) so
-  counted_on (Exit p) others number so = elsewhere (Exit p) others (λ d n. refl) so
-  counted_on (Obj o) others number so = elsewhere (Obj o) others (λ d n. refl) so
   counted_on (Link d name) others number so = at_name d name others so number
-  counted_on (Copy n) others number so = elsewhere (Copy n) others (λ d n. refl) so
+  counted_on e others number so = elsewhere e others (λ d n. refl) so
 
 -- ---- after each call of the slots; the numbers are as the code sets them
 module _ (m n : SlotMap) (e : Entity) (names : NameMap) (so : IsCounted m names) where
-  -- a write
-  set_counted : (tags : List ℕ) (v : Option EntityState) (made after : NameMap) (had : Bool) → made ≡ made_for names e → had ≡ link_there m e → n ≡ slots_wrote tags m e v
-      → after ≡ recounted made e had (link_there n e) → IsCounted n after
-  set_counted tags v made after had is_made is_had is_new is_after =
-      subst (IsCounted n) (sym (is_after ∙ (λ i. recounted (is_made i) e (is_had i) (link_there n e))))
-      (counted_on m n (made_for names e) e
-      (λ q. wrote_get tags m n e q v is_new) (λ _. number_made names e) (counted_made m names e so))
-
   -- what is told of the write is what the slots tell
   told : (made : NameMap) (q : Entity) (a b : Bool) → a ≡ is_some (look_at m q) → b ≡ is_some (look_at n q) → recounted made q a b ≡ recounted made q (link_there m q) (link_there n q)
-  told made (Proc p) a b had has = refl
-  told made (Sig p) a b had has = refl
-  told made (Exit p) a b had has = refl
-  told made (Obj o) a b had has = refl
   told made (Link d name) a b had has = (λ i. recounted_at made d (had i) (has i))
-  told made (Copy c) a b had has = refl
+  told made _ a b had has = refl
 
   wrote_now : (tags : List ℕ) (v : Option EntityState) → n ≡ slots_wrote tags m e v → look_at n e ≡ v
   wrote_now tags v is_new =
@@ -358,7 +287,9 @@ module _ (m n : SlotMap) (e : Entity) (names : NameMap) (so : IsCounted m names)
   pub wrote_counted : (tags : List ℕ) (v : Option EntityState) (made after : NameMap) (had : Bool) → made ≡ made_for names e → had ≡ is_some (look_at m e) → n ≡ slots_wrote tags m e v
       → after ≡ recounted made e had (is_some v) → IsCounted n after
   wrote_counted tags v made after had is_made is_had is_new is_after =
-      set_counted tags v made after (link_there m e) is_made refl is_new (is_after ∙ told made e had (is_some v) is_had (sym (ap is_some (wrote_now tags v is_new))))
+      let told_so = told (made_for names e) e had (is_some v) is_had (sym (ap is_some (wrote_now tags v is_new))) in
+      subst (IsCounted n) (sym (is_after ∙ (λ i. recounted (is_made i) e had (is_some v)) ∙ told_so))
+      (counted_on m n (made_for names e) e (λ q. wrote_get tags m n e q v is_new) (λ _. number_made names e) (counted_made m names e so))
 
   -- what had a slot where it has one then
   kept_counted : (after : NameMap) (had has : Bool) → ((q : Entity) → eq_by_cmp entity_cmp q e ≡ false → map.get n q ≡ map.get m q) → (map.contains_key n e ≡ true → map.contains_key m e ≡ true)
@@ -436,12 +367,8 @@ module _ {m : SlotMap} (n : SlotMap) {names : NameMap} (so : IsCounted m names) 
   process_counted pid is = elsewhere m n names e others_stay (λ d name. ap (eq_by_cmp entity_cmp (Link d name)) is) so
 
   still_there : (x : Entity) → is_some (look_at m x) ≡ true → is_some (look_at n x) ≡ true → recounted names x (link_there m x) (link_there n x) ≡ names
-  still_there (Proc p) had has = refl
-  still_there (Sig p) had has = refl
-  still_there (Exit p) had has = refl
-  still_there (Obj o) had has = refl
   still_there (Link d name) had has = (λ i. recounted_at names d (had i) (has i))
-  still_there (Copy c) had has = refl
+  still_there _ had has = refl
 
   -- of what was there and is there
   pub still_counted : is_some (look_at m e) ≡ true → is_some s.now ≡ true → IsCounted n names

@@ -2,7 +2,7 @@
 use Rattle.sk_undo.proofs.Cites.{◌≡◌, ℕ, zero, suc, ◌<◌, ◌≤◌, ◌+◌, length, take, drop, true, false, cond, not, ◌&&◌}
 use Rattle.sk_undo.proofs.Cites.{List, [], ◌∷◌, ◌++◌, Option, refl, sym, ◌∙◌, ap, subst, arith, reverse, slice_index_or}
 use Rattle.sk_undo.proofs.Cites.{slice_set, list_all, prefix_len, true≢false, reverse-append, take-append-drop, has}
-use Rattle.sk_undo.proofs.Cites.{without, and_both, RawNote, is_empty, CanGoBack, rests_last, newest_tags, lightened}
+use Rattle.sk_undo.proofs.Cites.{without, and_both, RawNote, is_empty, CanGoBack, newest_tags, lightened}
 use Rattle.sk_undo.proofs.Cites.{dropped, from_first, Grows}
 use Rattle.sk_undo.proofs.Commits.{without_free, light_append, light_reverse, dropped_can}
 use Rattle.sk_undo.proofs.SeenNotes.{all_front}
@@ -39,18 +39,14 @@ module _ {U : Type 0} where
     go tags zero (x ∷ ns) n lt is = ap (λ (y : RawNote U). has g y.tags) (sym is)
     go tags (suc j) (x ∷ ns) n lt is = go x.tags j ns n (omega arith) is
 
-  rests_newest : (g : ℕ) (ns : List (RawNote U)) → rests_last g ns ≡ has g (newest_tags ns)
-  rests_newest g [] = refl
-  rests_newest g (n ∷ ns) = refl
-
-  rests_on_last : (g : ℕ) (ns : List (RawNote U)) → rests_last g (reverse ns) ≡ has g (last_on [] ns)
-  rests_on_last g ns = rests_newest g (reverse ns) ∙ ap (has g) (newest_is (reverse ns) ∙ newest_last [] ns)
+  rests_on_last : (g : ℕ) (ns : List (RawNote U)) → has g (newest_tags (reverse ns)) ≡ has g (last_on [] ns)
+  rests_on_last g ns = ap (has g) (newest_is (reverse ns) ∙ newest_last [] ns)
 
   pub stops_there : (g i j : ℕ) (ns items : List (RawNote U)) (n : RawNote U) → i ≡ suc j → j < length ns → items ≡ lightened_from g i ns → n ≡ slice_index_or items j n → has g n.tags ≡ false
-      → rests_last g (reverse (take i ns)) ≡ false
+      → has g (newest_tags (reverse (take i ns))) ≡ false
   stops_there g i j ns items n next lt whole is none =
       let all = whole ∙ ap (λ k. lightened_from g k ns) next in
-      ap (λ k. rests_last g (reverse (take k ns))) next ∙ rests_on_last g (take (suc j) ns) ∙ at_place i j g ns n lt (is ∙ ap (λ ys. slice_index_or ys j n) all) ∙ none
+      ap (λ k. has g (newest_tags (reverse (take k ns)))) next ∙ rests_on_last g (take (suc j) ns) ∙ at_place i j g ns n lt (is ∙ ap (λ ys. slice_index_or ys j n) all) ∙ none
 
   -- the notes gone over rest on the guess
   pub none_gone_over : (g : ℕ) (ns : List (RawNote U)) → AllRest g (drop (length ns) ns)
@@ -101,12 +97,12 @@ module _ {U : Type 0} where
       one ∙ sym (ap (λ b. cond b (1 + prefix_len (λ n. not (has g n.tags)) ns) 0) both.0)
 
   -- and the place where a pass ends is that of the first that does
-  pub first_place : (g i : ℕ) (ns : List (RawNote U)) → rests_last g (reverse (take i ns)) ≡ false → AllRest g (drop i ns) → i ≤ length ns → Grows ns → i ≡ prefix_len (λ n. not (has g n.tags)) ns
+  pub first_place : (g i : ℕ) (ns : List (RawNote U)) → has g (newest_tags (reverse (take i ns))) ≡ false → AllRest g (drop i ns) → i ≤ length ns → Grows ns → i ≡ prefix_len (λ n. not (has g n.tags)) ns
   first_place g i ns none all within grows =
       let parts = take-append-drop i ns in
       place_is g i ns (none_front g [] (take i ns) (drop i ns) (subst (λ ms. AllRest g (from_first g ms)) (sym parts) (grows g)) (sym (rests_on_last g (take i ns)) ∙ none)) all within
 
-  pub whole_pass : (g i : ℕ) (ns : List (RawNote U)) → rests_last g (reverse (take i ns)) ≡ false → Grows ns → lightened_from g i ns ≡ lightened g ns
+  pub whole_pass : (g i : ℕ) (ns : List (RawNote U)) → has g (newest_tags (reverse (take i ns))) ≡ false → Grows ns → lightened_from g i ns ≡ lightened g ns
   whole_pass g i ns none grows =
       let parts = take-append-drop i ns in
       let free = free_front g [] (take i ns) (drop i ns) (subst (λ ms. AllRest g (from_first g ms)) (sym parts) (grows g)) (sym (rests_on_last g (take i ns)) ∙ none) in

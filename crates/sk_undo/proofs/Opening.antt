@@ -6,6 +6,8 @@ use Rattle.sk_undo.proofs.Cites.{or_right, sorted_head, sorted_tail, drop_all, e
 use Rattle.sk_undo.proofs.Cites.{entity_exact, is_in, State, EntityState, SlotView, slot_of, slot_wrote, is_bare}
 use Rattle.sk_undo.proofs.Cites.{SlotMap, slot_in, look_at, log_at, placed, moved, NoneBare}
 use Rattle.std.specs.FinMap as map
+use Rattle.sk_undo.proofs.Notes.{absent_is}
+use Rattle.sk_undo.proofs.Passes.{by_place}
 
 -- a slot of which nothing is noted
 abbrev pub holding : EntityState → SlotView
@@ -18,10 +20,6 @@ pub record Opening (start : State) (rest : List Entity) (store : State) (slots :
   pub left : (q : Entity) → is_in entity_cmp rest q ≡ true → map.get store q ≡ map.get start q
   pub free : (q : Entity) → is_in entity_cmp rest q ≡ true → map.get slots q ≡ None
   pub done : (q : Entity) → is_in entity_cmp rest q ≡ false → map.get slots q ≡ option_map holding (map.get start q)
-
-absent_is : (o : Option EntityState) → is_some o ≡ false → o ≡ None
-absent_is None h = refl
-absent_is (Some x) h = absurd (true≢false h)
 
 pub opening_from : (start : State) (es : List Entity) → IsStrictlySortedBy entity_cmp es → ((q : Entity) → is_in entity_cmp es q ≡ is_some (map.get start q)) → Opening start es start map.empty
 opening_from start es rising all = record {
@@ -42,9 +40,6 @@ self_in e = (eq_by_cmp_equiv entity_total).refl e
 held : (o : Option EntityState) → IsSome o → Some (slot_of o) ≡ option_map holding o
 held (Some v) h = refl
 held None h = absurd (true≢false (sym h))
-
-by_place : (q e : Entity) (P : Type 0) → (eq_by_cmp entity_cmp q e ≡ true → P) → (eq_by_cmp entity_cmp q e ≡ false → P) → P
-by_place q e P here apart = elim (eq_by_cmp entity_cmp q e) as (λ b. eq_by_cmp entity_cmp q e ≡ b → P) [ true ↦ here | false ↦ apart ] refl
 
 moved_some : (m : SlotMap) (e : Entity) (o : Option EntityState) → map.get m e ≡ None → IsSome o → moved m e o ≡ map.insert m e (slot_of o)
 moved_some m e (Some v) none h = ap (λ (s : Option SlotView). placed m e (slot_wrote [] (slot_in s) (Some v))) none

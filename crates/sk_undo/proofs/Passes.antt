@@ -5,7 +5,7 @@ use Rattle.sk_undo.proofs.Cites.{list_all, and_parts, eq_by_cmp, Equal-is, true�
 use Rattle.sk_undo.proofs.Cites.{Entity, entity_total, entity_exact, is_in, Note, has, cut, unwound, committed, Merges}
 use Rattle.sk_undo.proofs.Cites.{IsGrowing, all_kept, in_turn, both_committed, grow_in, EntityState, is_empty, carries}
 use Rattle.sk_undo.proofs.Cites.{EachRests, SlotView, slot_of, slot_wrote, is_bare, committed_joined, SlotMap, slot_in}
-use Rattle.sk_undo.proofs.Cites.{slots_wrote, placed, look_at, log_at, SlotUnwound, SlotCommitted, ChangedAt, IsWithin}
+use Rattle.sk_undo.proofs.Cites.{slots_wrote, placed, look_at, log_at, SlotUnwound, SlotCommitted, ChangedAt}
 use Rattle.sk_undo.proofs.Cites.{Unwound, Lightened, AreListed, AllRest, AllGrow, NoneBare}
 use Rattle.std.specs.FinMap as map
 use Rattle.sk_undo.proofs.Joined.{joined_free, settled_rests, settled_none}
@@ -80,6 +80,10 @@ module _ {C : SlotView → SlotView → Type 0} {old new : SlotMap} {e : Entity}
 -- a proof for an entity, where it is the changed one and where it is not
 pub by_place : (q e : Entity) (P : Type 0) → (eq_by_cmp entity_cmp q e ≡ true → P) → (eq_by_cmp entity_cmp q e ≡ false → P) → P
 by_place q e P here apart = elim (eq_by_cmp entity_cmp q e) as (λ b. eq_by_cmp entity_cmp q e ≡ b → P) [ true ↦ here | false ↦ apart ] refl
+
+-- each entity that has a slot there has one here
+abbrev pub IsWithin : SlotMap → SlotMap → Type 0
+IsWithin there here = (e : Entity) → map.contains_key there e ≡ true → map.contains_key here e ≡ true
 
 -- an entity that has a slot then had one
 pub kept_at : {C : SlotView → SlotView → Type 0} {old new : SlotMap} {e : Entity} → ChangedAt C old e new → IsWithin new old

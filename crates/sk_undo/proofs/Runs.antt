@@ -5,7 +5,7 @@ use Rattle.sk_undo.proofs.Cites.{Process, PutBack, Was, Changed, Note, has, last
 use Rattle.sk_undo.proofs.Cites.{Merges, same_tags, merged, past, same_last, grow_in, committed_some, AllSome, and_both}
 use Rattle.sk_undo.proofs.Cites.{RawNote, is_empty, log_of, CanGoBack, undone_by, FitsBy, restores, newest_tags}
 use Rattle.sk_undo.proofs.Cites.{lightened, dropped, Grows, goes_unnoted_raw, joined_from, is_process_whole}
-use Rattle.sk_undo.proofs.Cites.{process_changed_back, ProcessFits, was, run_of, runs_of, AllSet, is_apart}
+use Rattle.sk_undo.proofs.Cites.{was, run_of, runs_of, AllSet, is_apart, Undo}
 use Rattle.sk_undo.proofs.SeenNotes.{tags_seen, all_more, all_reverse, grow_cut, last_onto}
 use Rattle.sk_undo.proofs.Commits.{value_before, in_order, order_is, commit_seen, grow_commit, not_true}
 use Rattle.std.proofs.lemmas.List.{map-append}
@@ -62,8 +62,14 @@ module _ {V : Type 0} where
   newest_noted ns n = sym (same_last [] (ns ++ n ∷ []) (merged [] (ns ++ n ∷ [])) (merges_merged [] (ns ++ n ∷ []))) ∙ last_onto [] ns n
 
 -- ---- notes that only set
+abbrev unchanged : Process → Undo → Process
+unchanged p undo = p
+
+abbrev Fits : Process → Undo → Type 0
+Fits p undo = Unit {0}
+
 abbrev back : PutBack Process → Option Process → Option Process
-back = undone_by process_changed_back
+back = undone_by unchanged
 
 was_is : (undo : PutBack Process) (now : Option Process) → restores is_process_whole undo ≡ true → back undo now ≡ was undo
 was_is (Was v) now h = refl
@@ -78,13 +84,13 @@ order_runs now (n ∷ ns) all =
 pub log_runs : (now : Option Process) (ns : List (RawNote (PutBack Process))) → AllSet ns → log_of back now ns ≡ runs_of ns
 log_runs now ns all = order_is back now ns ∙ order_runs now ns all
 
-can_set : (now : Option Process) (rs : List (RawNote (PutBack Process))) → AllSet rs → CanGoBack (FitsBy ProcessFits) back now rs
+can_set : (now : Option Process) (rs : List (RawNote (PutBack Process))) → AllSet rs → CanGoBack (FitsBy Fits) back now rs
 can_set now [] all = tt
 can_set now (r ∷ rs) all =
     let both = and_both _ _ all in
-    (fits_any is_process_whole process_changed_back ProcessFits r.undo now both.0, can_set (back r.undo now) rs both.1)
+    (fits_any is_process_whole unchanged Fits r.undo now both.0, can_set (back r.undo now) rs both.1)
 
-pub runs_can : (now : Option Process) (ns : List (RawNote (PutBack Process))) → AllSet ns → CanGoBack (FitsBy ProcessFits) back now (reverse ns)
+pub runs_can : (now : Option Process) (ns : List (RawNote (PutBack Process))) → AllSet ns → CanGoBack (FitsBy Fits) back now (reverse ns)
 runs_can now ns all = can_set now (reverse ns) (all_reverse (λ n. restores is_process_whole n.undo) ns all)
 
 -- the tags of the newest

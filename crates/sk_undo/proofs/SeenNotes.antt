@@ -1,8 +1,8 @@
 -- Notes that are there, notes that are seen, and logs that grow.
-use Rattle.sk_undo.proofs.Cites.{◌≡◌, ℕ, Bool, true, false, cond, ◌&&◌, ◌||◌, List, [], ◌∷◌, ◌++◌, Option, refl, ◌∙◌}
+use Rattle.sk_undo.proofs.Cites.{◌≡◌, ℕ, Bool, true, false, cond, drop, ◌&&◌, ◌||◌, List, [], ◌∷◌, ◌++◌, Option, refl, ◌∙◌}
 use Rattle.sk_undo.proofs.Cites.{sym, ap, subst, reverse, list_all, true≢false, or_parts, reverse_onto, Note, has}
 use Rattle.sk_undo.proofs.Cites.{last_tags, cut, carried, unwound, IsGrowing, and_both, RawNote, is_empty, seen}
-use Rattle.sk_undo.proofs.Cites.{CanGoBack, less, before_last, newest_tags, rests_last, carries, nat_cmp}
+use Rattle.sk_undo.proofs.Cites.{CanGoBack, before_last, newest_tags, carries, nat_cmp}
 use Rattle.std.specs.List.Sorted.{IsStrictlySortedBy}
 
 -- ---- no notes
@@ -31,7 +31,7 @@ module _ {U V : Type 0} (undone : U → Option V → Option V) where
   none_there now ns h = none_is ns (sym (notes_none now ns) ∙ ap is_empty h)
 
 -- ---- what holds of all notes
-pub all_less : {A : Type 0} (p : A → Bool) (xs : List A) → list_all p xs ≡ true → list_all p (less xs) ≡ true
+pub all_less : {A : Type 0} (p : A → Bool) (xs : List A) → list_all p xs ≡ true → list_all p (drop 1 xs) ≡ true
 all_less p [] all = refl
 all_less p (x ∷ xs) all = (and_both _ _ all).1
 
@@ -147,12 +147,12 @@ module _ {U V : Type 0} (undone : U → Option V → Option V) where
   abbrev log : Option V → List (RawNote U) → List (Note V)
   log now rs = reverse (seen undone now rs)
 
-  seen_less : (now : Option V) (rs : List (RawNote U)) → seen undone (before_last now (seen undone now rs)) (less rs) ≡ less (seen undone now rs)
+  seen_less : (now : Option V) (rs : List (RawNote U)) → seen undone (before_last now (seen undone now rs)) (drop 1 rs) ≡ drop 1 (seen undone now rs)
   seen_less now [] = refl
   seen_less now (r ∷ rs) = refl
 
-  less_off : (g : ℕ) (now : Option V) (rs : List (RawNote U)) → rests_last g rs ≡ true
-      → (unwound g (reverse (less (seen undone now rs))) (before_last now (seen undone now rs)) ≡ unwound g (log now rs) now) × (cut g (reverse (less (seen undone now rs))) ≡ cut g (log now rs))
+  less_off : (g : ℕ) (now : Option V) (rs : List (RawNote U)) → has g (newest_tags rs) ≡ true
+      → (unwound g (reverse (drop 1 (seen undone now rs))) (before_last now (seen undone now rs)) ≡ unwound g (log now rs) now) × (cut g (reverse (drop 1 (seen undone now rs))) ≡ cut g (log now rs))
   less_off g now [] here = absurd (true≢false (sym here))
   less_off g now (r ∷ rs) here =
       let n : Note V = record { tags = r.tags; before = undone r.undo now } in
@@ -161,7 +161,7 @@ module _ {U V : Type 0} (undone : U → Option V → Option V) where
       let off = one_off g (reverse ns) n now here in
       (off.0 ∙ ap (λ log. unwound g log now) (sym whole), off.1 ∙ ap (cut g) (sym whole))
 
-  less_grows : (now : Option V) (rs : List (RawNote U)) → IsGrowing (log now rs) → IsGrowing (reverse (less (seen undone now rs)))
+  less_grows : (now : Option V) (rs : List (RawNote U)) → IsGrowing (log now rs) → IsGrowing (reverse (drop 1 (seen undone now rs)))
   less_grows now [] grows = grows
   less_grows now (r ∷ rs) grows =
       let ns = seen undone (undone r.undo now) rs in
@@ -169,7 +169,7 @@ module _ {U V : Type 0} (undone : U → Option V → Option V) where
       grow_front (reverse ns) (n ∷ []) (subst IsGrowing (reverse_onto ns n []) grows)
 
   -- and where the newest does not rest on the guess
-  pub at_end : (g : ℕ) (now : Option V) (rs : List (RawNote U)) → rests_last g rs ≡ false → IsGrowing (log now rs) → (unwound g (log now rs) now ≡ now) × (cut g (log now rs) ≡ log now rs)
+  pub at_end : (g : ℕ) (now : Option V) (rs : List (RawNote U)) → has g (newest_tags rs) ≡ false → IsGrowing (log now rs) → (unwound g (log now rs) now ≡ now) × (cut g (log now rs) ≡ log now rs)
   at_end g now [] none grows = (refl, refl)
   at_end g now (r ∷ rs) none grows =
       let ns = seen undone (undone r.undo now) rs in
@@ -190,11 +190,11 @@ module _ {U V : Type 0} (fits : U → Option V → Type 0) (undone : U → Optio
   pub all_left : (g : ℕ) (now : Option V) (rs : List (RawNote U)) → CanGoBack fits undone now rs → Left g now now rs rs
   all_left g now rs can = record { can = can; value = refl; cuts = refl; grows = λ h. h; left = λ p h. h }
 
-  pub one_less : (g : ℕ) (old now now' : Option V) (olds rs rs' : List (RawNote U)) → Left g old now olds rs → rests_last g rs ≡ true
-      → now' ≡ before_last now (seen undone now rs) → rs' ≡ less rs → CanGoBack fits undone now' rs' → Left g old now' olds rs'
+  pub one_less : (g : ℕ) (old now now' : Option V) (olds rs rs' : List (RawNote U)) → Left g old now olds rs → has g (newest_tags rs) ≡ true
+      → now' ≡ before_last now (seen undone now rs) → rs' ≡ drop 1 rs → CanGoBack fits undone now' rs' → Left g old now' olds rs'
   one_less g old now now' olds rs rs' so here value notes can =
       let off = less_off undone g now rs here in
-      let view : seen undone now' rs' ≡ less (seen undone now rs) = (λ i. seen undone (value i) (notes i)) ∙ seen_less undone now rs in
+      let view : seen undone now' rs' ≡ drop 1 (seen undone now rs) = (λ i. seen undone (value i) (notes i)) ∙ seen_less undone now rs in
       record {
         can = can;
         value = (λ i. unwound g (reverse (view i)) (value i)) ∙ off.0 ∙ so.value;
@@ -204,7 +204,7 @@ module _ {U V : Type 0} (fits : U → Option V → Type 0) (undone : U → Optio
       }
 
   -- where the newest of what is left does not rest on the guess
-  pub all_off : (g : ℕ) (old now : Option V) (olds rs : List (RawNote U)) → Left g old now olds rs → rests_last g rs ≡ false → IsGrowing (reverse (seen undone old olds))
+  pub all_off : (g : ℕ) (old now : Option V) (olds rs : List (RawNote U)) → Left g old now olds rs → has g (newest_tags rs) ≡ false → IsGrowing (reverse (seen undone old olds))
       → (now ≡ unwound g (reverse (seen undone old olds)) old) × (reverse (seen undone now rs) ≡ cut g (reverse (seen undone old olds)))
   all_off g old now olds rs so none grows =
       let off = at_end undone g now rs none (so.grows grows) in

@@ -1,8 +1,7 @@
 -- How many notes slots hold.
 use Rattle.std.specs.Prelude.{◌≡◌, ℕ, [], length}
-use Rattle.std.specs.List.{sum_by}
+use Rattle.sk_undo.specs.Base.{sum_by, Entity}
 use Rattle.std.specs.FinMap as map
-use Rattle.sk_ids.specs.declared.entity.Entity.{Entity}
 use Rattle.sk_undo.specs.Slot.{SlotView}
 use Rattle.sk_undo.specs.Logs.{SlotMap, log_at}
 

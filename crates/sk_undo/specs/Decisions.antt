@@ -1,13 +1,8 @@
 -- What a decision leaves, entity by entity.
 use Rattle.std.specs.Prelude.{◌≡◌, ℕ, true, false, List, [], Some, None, reverse}
+use Rattle.sk_undo.specs.Base.{entity_cmp, Entity, is_in, cut, unwound, committed, Merges, Open, UndoState, IsGrowing}
+use Rattle.sk_undo.specs.Base.{EntityState}
 use Rattle.std.specs.FinMap as map
-use Rattle.sk_ids.specs.Entity.{entity_cmp}
-use Rattle.sk_ids.specs.declared.entity.Entity.{Entity}
-use Rattle.sk_record.specs.Effects.{is_in}
-use Rattle.sk_record.specs.Notes.{cut, unwound, committed}
-use Rattle.sk_record.specs.Merged.{Merges}
-use Rattle.sk_record.specs.UndoState.{Open, UndoState, IsGrowing}
-use Rattle.sk_store.specs.declared.entity_state.EntityState.{EntityState}
 use Rattle.sk_undo.specs.Log.{EachRests, carries}
 use Rattle.sk_undo.specs.Slot.{SlotView, is_bare, committed_joined}
 use Rattle.sk_undo.specs.Logs.{SlotMap, slot_in, placed, look_at, log_at}
@@ -22,10 +17,6 @@ pub record SlotCommitted (g : ℕ) (old new : SlotView) : Type 0 where
   pub now : new.now ≡ old.now
   pub log : IsGrowing (reverse old.log) → Merges [] (committed g (reverse old.log)) (reverse new.log)
   pub joined : IsGrowing (reverse old.log) → EachRests (reverse old.log) → reverse new.log ≡ committed_joined g None (reverse old.log)
-
--- each entity that has a slot there has one here
-abbrev pub IsWithin : SlotMap → SlotMap → Type 0
-IsWithin there here = (e : Entity) → map.contains_key there e ≡ true → map.contains_key here e ≡ true
 
 -- the slot of one entity is changed so; it had one where it has one then
 pub record ChangedAt (Changed : SlotView → SlotView → Type 0) (old : SlotMap) (e : Entity) (new : SlotMap) : Type 0 where

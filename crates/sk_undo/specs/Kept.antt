@@ -1,20 +1,8 @@
 -- Objects and processes as what is kept with a log of its writes, and the runs of a process.
-use Rattle.std.specs.Prelude.{◌≡◌, ℕ, Bool, true, false, not, ◌&&◌, List, [], ◌∷◌, map, Option, None}
-use Rattle.std.specs.List.{list_all}
-use Rattle.sk_objects.specs.declared.value.Value.{Value}
-use Rattle.sk_script.specs.declared.process.Process.{Process}
-use Rattle.sk_changes.specs.declared.change.Undo.{Undo}
-use Rattle.sk_changes.specs.Changes.{CanUndo, value_undone}
-use Rattle.sk_store.specs.declared.back.PutBack.{PutBack}
-use Rattle.sk_store.specs.declared.back.PutBack.TheVariants.{Was, Changed}
-use Rattle.sk_record.specs.Notes.{Note}
-use Rattle.sk_record.specs.Merged.{same_tags}
-use Rattle.sk_undo.specs.declared.log.Note.{Note as RawNote}
+use Rattle.std.specs.Prelude.{◌≡◌, ℕ, Bool, true, not, ◌&&◌, List, [], ◌∷◌, map, Option, None}
+use Rattle.sk_undo.specs.Base.{list_all, Value, Process, CanUndo, value_undone, PutBack, Was, Changed, Note}
+use Rattle.sk_undo.specs.Base.{same_tags, RawNote}
 use Rattle.sk_undo.specs.Log.{undone_by, FitsBy, restores}
-
--- an object is changed in place
-abbrev pub is_object_whole : Value → Bool
-is_object_whole v = false
 
 -- an object before a write
 abbrev pub object_undone : PutBack Value → Option Value → Option Value
@@ -26,13 +14,6 @@ ObjectFits = FitsBy CanUndo
 -- a process is only ever set
 abbrev pub is_process_whole : Process → Bool
 is_process_whole p = true
-
--- so no change of it is ever noted, and undoing one would leave it
-abbrev pub process_changed_back : Process → Undo → Process
-process_changed_back p undo = p
-
-abbrev pub ProcessFits : Process → Undo → Type 0
-ProcessFits p undo = Unit {0}
 
 -- what was there before a write that set it
 abbrev pub was : PutBack Process → Option Process

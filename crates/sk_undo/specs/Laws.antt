@@ -1,13 +1,7 @@
 -- What notes are for: a guess that is taken back gives each entity what it had before the first write that rests on it.
 use Rattle.std.specs.Prelude.{◌≡◌, ℕ, true, false, not, ◌||◌, List, [], ◌∷◌, Option, None}
-use Rattle.std.specs.List.{list_all}
-use Rattle.std.specs.Ordering.{eq_by_cmp}
-use Rattle.sk_ids.specs.Entity.{entity_cmp}
-use Rattle.sk_ids.specs.declared.entity.Entity.{Entity}
-use Rattle.sk_record.specs.Notes.{Note, has, committed}
-use Rattle.sk_record.specs.Merged.{merged}
-use Rattle.sk_record.specs.UndoState.{IsGrowing}
-use Rattle.sk_store.specs.declared.entity_state.EntityState.{EntityState}
+use Rattle.sk_undo.specs.Base.{list_all, eq_by_cmp, entity_cmp, Entity, Note, has, committed, merged, IsGrowing}
+use Rattle.sk_undo.specs.Base.{EntityState}
 use Rattle.sk_undo.specs.Log.{EachRests, carries}
 use Rattle.sk_undo.specs.Slot.{is_whole, committed_joined}
 use Rattle.sk_undo.specs.Kept.{is_apart}
@@ -37,13 +31,10 @@ GivesBack =
     → carries g (log_at old e) ≡ false → AllRestOn g e ws → Unwound (all_wrote old ws) g new
     → (look_at new e ≡ look_at old e) × (log_at new e ≡ log_at old e)
 
--- each note puts back a whole value: a process, or none
-abbrev pub AllWhole : List (Note EntityState) → Type 0
-AllWhole log = list_all (λ n. is_whole n.before) log ≡ true
-
--- where all notes of a log put back a whole value, and no two neighbours rest on the same, what a commit leaves is the log with the guess out
--- of it, and of neighbours that then rest on the same the first alone
+-- where all notes of a log put back a whole value (a process, a file, or none), and no two neighbours rest on the same, what a commit leaves is
+-- the log with the guess out of it, and of neighbours that then rest on the same the first alone
 abbrev pub JoinsRuns : Type 0
 JoinsRuns =
     (g : ℕ) (log : List (Note EntityState))
-    → IsGrowing log → EachRests log → is_apart [] log ≡ true → AllWhole log → committed_joined g None log ≡ merged [] (committed g log)
+    → IsGrowing log → EachRests log → is_apart [] log ≡ true → list_all (λ n. is_whole n.before) log ≡ true
+    → committed_joined g None log ≡ merged [] (committed g log)

@@ -1,24 +1,12 @@
 -- The writes of one value, seen as the value before each.
 use Rattle.std.specs.Prelude.{◌≡◌, ◌<◌, ◌==◌, ◌&&◌, ℕ, zero, suc, Bool, true, false, not, nat_le, List, [], ◌∷◌, length, reverse, Option, Some, None, if◌then◌else◌}
-use Rattle.std.specs.List.{list_any, list_all}
-use Rattle.std.specs.declared.vec.Vec.{Vec}
-use Rattle.std.specs.Vec.{vec_len, vec_capacity}
-use Rattle.sk_record.specs.Notes.{Note, has, without}
-use Rattle.sk_record.specs.Merged.{same_tags}
-use Rattle.sk_changes.specs.declared.change.Undo.{Undo}
-use Rattle.sk_store.specs.declared.back.PutBack.{PutBack}
-use Rattle.sk_store.specs.declared.back.PutBack.TheVariants.{Was, Changed}
-use Rattle.sk_undo.specs.declared.log.Note.{Note as RawNote}
+use Rattle.sk_undo.specs.Base.{list_any, list_all, Vec, vec_len, vec_capacity, Note, has, without, same_tags, Undo}
+use Rattle.sk_undo.specs.Base.{PutBack, Was, Changed, RawNote}
 
 -- whether nothing is in the list
 abbrev pub is_empty : {A : Type 0} → List A → Bool
 is_empty [] = true
 is_empty (x ∷ xs) = false
-
--- without the newest, which is the first
-abbrev pub less : {A : Type 0} → List A → List A
-less [] = []
-less (n ∷ ns) = ns
 
 abbrev pub HasNote : {A : Type 0} → List A → Type 0
 HasNote [] = ⊥
@@ -87,12 +75,7 @@ module _ {V : Type 0} where
   before_last now (n ∷ ns) = n.before
 
 module _ {U : Type 0} where
-  -- whether the newest note rests on the guess
-  abbrev pub rests_last : ℕ → List (RawNote U) → Bool
-  rests_last g [] = false
-  rests_last g (n ∷ ns) = has g n.tags
-
-  -- its tags
+  -- the tags of the newest note
   abbrev pub newest_tags : List (RawNote U) → List ℕ
   newest_tags [] = []
   newest_tags (n ∷ ns) = n.tags

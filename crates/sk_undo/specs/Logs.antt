@@ -1,17 +1,11 @@
 -- All entities with their undo logs, entity by entity.
 use Rattle.std.specs.Prelude.{ℕ, Bool, List, [], reverse, Option, Some, None, refl, if◌then◌else◌}
-use Rattle.std.specs.Coded.{Coded, code_by, coded×, coded_ℕ, coded_list}
+use Rattle.sk_undo.specs.Base.{Coded, code_by, coded×, coded_ℕ, coded_list, entity_cmp, Entity, Note, EntityState}
+use Rattle.sk_undo.specs.Base.{PutBack, TakeBack, DropSlot, UndoLast}
 use Rattle.std.specs.FinMap as map
-use Rattle.sk_ids.specs.Entity.{entity_cmp}
-use Rattle.sk_ids.specs.declared.entity.Entity.{Entity}
 use Rattle.sk_ids.specs.contracts.entity.Entity as entity
-use Rattle.sk_record.specs.Notes.{Note}
-use Rattle.sk_store.specs.declared.entity_state.EntityState.{EntityState}
-use Rattle.sk_store.specs.declared.back.PutBack.{PutBack}
-use Rattle.sk_undo.specs.declared.slots.TakeBack.{TakeBack}
-use Rattle.sk_undo.specs.declared.slots.TakeBack.TheVariants.{DropSlot, UndoLast}
 use Rattle.sk_undo.specs.contracts.slots.TakeBack as how_row
-use Rattle.sk_undo.specs.Slot.{SlotView, slot_code, slot_of, is_bare, goes_on, goes_unnoted, slot_wrote, slot_back, CanGoBackOnce}
+use Rattle.sk_undo.specs.Slot.{SlotView, slot_code, slot_of, is_bare, goes_unnoted, slot_wrote, slot_back, CanGoBackOnce}
 
 abbrev pub SlotMap : Type 0
 SlotMap = map.FinMap entity_cmp SlotView
@@ -42,10 +36,6 @@ slots_wrote tags m e v = placed m e (slot_wrote tags (slot_in (map.get m e)) v)
 -- whether a write of an entity with these tags is not noted
 abbrev pub is_unnoted : List ℕ → SlotMap → Entity → Bool
 is_unnoted tags m e = goes_unnoted tags (slot_in (map.get m e)).log
-
--- whether a write of an entity with the tags that it has is not noted, which are at least so many
-abbrev pub goes_on_at : ℕ → SlotMap → Entity → Bool
-goes_on_at least m e = goes_on least (slot_in (map.get m e)).log
 
 -- what an entity had in a store, written without tags
 abbrev pub moved : SlotMap → Entity → Option EntityState → SlotMap
@@ -83,9 +73,6 @@ logs_code = code_by (SlotMap × List ℕ) (coded× slot_map_code (coded_list cod
 
 abbrev pub wrote : LogsView → Entity → Option EntityState → LogsView
 wrote l e v = record { slots = slots_wrote l.tags l.slots e v; tags = l.tags }
-
-abbrev pub can_take_back : LogsView → BackView → Type 0
-can_take_back l b = CanTakeBack l.slots b.entity b.how
 
 abbrev pub taken_back : LogsView → BackView → LogsView
 taken_back l b = record { slots = slots_back l.slots b.entity b.how; tags = l.tags }

@@ -1,21 +1,11 @@
 -- How many names of each directory are there, kept beside the slots.
 use Rattle.std.specs.Prelude.{◌≡◌, ℕ, ◌+◌, ◌-◌, Bool, true, false, List, is_some, if◌then◌else◌}
-use Rattle.std.specs.Option.{unwrap_or}
-use Rattle.std.specs.Coded.{Coded, coded_ℕ}
+use Rattle.sk_undo.specs.Base.{unwrap_or, object_cmp, ObjId, Entity, Link, name_there, IsCount}
 use Rattle.std.specs.FinMap as map
-use Rattle.sk_ids.specs.Entity.{object_cmp}
-use Rattle.sk_ids.specs.declared.pid.ObjId.{ObjId}
-use Rattle.sk_ids.specs.contracts.pid.ObjId as object
-use Rattle.sk_ids.specs.declared.entity.Entity.{Entity}
-use Rattle.sk_ids.specs.declared.entity.Entity.TheVariants.{Proc, Sig, Exit, Obj, Link, Copy}
-use Rattle.sk_store.specs.Names.{name_there, IsCount}
 use Rattle.sk_undo.specs.Logs.{SlotMap, look_at}
 
 abbrev pub NameMap : Type 0
 NameMap = map.FinMap object_cmp ℕ
-
-abbrev pub name_map_code : Coded NameMap
-name_map_code = map.code object.the_row.coded coded_ℕ
 
 -- the number of a directory, 0 where it has none
 abbrev pub count_in : NameMap → ObjId → ℕ
@@ -31,45 +21,28 @@ with_place names d = if is_some (map.get names d) then names else map.insert nam
 
 -- with a number for the directory of a name
 abbrev pub made_for : NameMap → Entity → NameMap
-made_for names (Proc p) = names
-made_for names (Sig p) = names
-made_for names (Exit p) = names
-made_for names (Obj o) = names
 made_for names (Link d name) = with_place names d
-made_for names (Copy n) = names
+made_for names _ = names
 
 -- after a name was there or not, and is there or not
 abbrev pub recounted_at : NameMap → ObjId → Bool → Bool → NameMap
-recounted_at names d true true = names
 recounted_at names d true false = with_count names d (count_in names d - 1)
 recounted_at names d false true = with_count names d (count_in names d + 1)
-recounted_at names d false false = names
+recounted_at names d _ _ = names
 
 abbrev pub recounted : NameMap → Entity → Bool → Bool → NameMap
-recounted names (Proc p) was is = names
-recounted names (Sig p) was is = names
-recounted names (Exit p) was is = names
-recounted names (Obj o) was is = names
 recounted names (Link d name) was is = recounted_at names d was is
-recounted names (Copy n) was is = names
+recounted names _ was is = names
 
 -- the number of the directory of a name
 abbrev pub count_for : NameMap → Entity → ℕ
-count_for names (Proc p) = 0
-count_for names (Sig p) = 0
-count_for names (Exit p) = 0
-count_for names (Obj o) = 0
 count_for names (Link d name) = count_in names d
-count_for names (Copy n) = 0
+count_for names _ = 0
 
 -- whether an entity is a name that is there
 abbrev pub link_there : SlotMap → Entity → Bool
-link_there m (Proc p) = false
-link_there m (Sig p) = false
-link_there m (Exit p) = false
-link_there m (Obj o) = false
 link_there m (Link d name) = is_some (look_at m (Link d name))
-link_there m (Copy n) = false
+link_there m _ = false
 
 -- each directory's number is how many names it has, and where a name has a slot its directory has a number
 pub record IsCounted (m : SlotMap) (names : NameMap) : Type 0 where

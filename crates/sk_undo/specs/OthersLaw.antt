@@ -1,12 +1,7 @@
 -- A write leaves all other entities as they are.
 use Rattle.std.specs.Prelude.{◌≡◌, Bool, true, false, Option, Some, None}
-use Rattle.std.proofs.Common.{cond, ◌∙◌, ap}
-use Rattle.std.specs.Ordering.{eq_by_cmp}
-use Rattle.std.specs.FinMap.{get, insert, remove, get-insert, get-remove}
-use Rattle.sk_ids.specs.declared.entity.Entity.{Entity}
-use Rattle.sk_ids.specs.Entity.{entity_cmp}
-use Rattle.sk_ids.specs.EntityLemma.{entity_total}
-use Rattle.sk_store.specs.declared.entity_state.EntityState.{EntityState}
+use Rattle.sk_undo.specs.Base.{cond, ◌∙◌, ap, eq_by_cmp, get, insert, remove, get-insert, get-remove, Entity}
+use Rattle.sk_undo.specs.Base.{entity_cmp, entity_total, EntityState}
 use Rattle.sk_undo.specs.Slot.{SlotView, is_bare, slot_wrote}
 use Rattle.sk_undo.specs.Logs.{SlotMap, LogsView, slot_in, look_at, wrote}
 

@@ -1,23 +1,16 @@
 -- What an entity has with its undo log, seen as the value now and the value before each note, the newest first.
-use Rattle.std.specs.Prelude.{◌≡◌, ◌==◌, ℕ, Bool, true, false, ◌&&◌, nat_le, List, [], ◌∷◌, length, reverse, Option, Some, None, is_none, refl, if◌then◌else◌}
-use Rattle.std.specs.Coded.{Coded, code_by, coded×, coded_ℕ, coded_list, coded_option}
-use Rattle.sk_record.specs.Notes.{Note, has, last_tags, committed}
-use Rattle.sk_record.specs.Merged.{same_tags}
-use Rattle.sk_objects.specs.declared.value.Value.TheVariants as values
-use Rattle.sk_changes.specs.declared.change.Undo.{Undo}
-use Rattle.sk_store.specs.declared.entity_state.EntityState.{EntityState}
-use Rattle.sk_store.specs.declared.entity_state.EntityState.TheVariants as stored
+use Rattle.std.specs.Prelude.{◌≡◌, ◌==◌, ℕ, Bool, true, false, ◌&&◌, nat_le, List, [], ◌∷◌, length, reverse, drop, Option, Some, None, is_none, refl, if◌then◌else◌}
+use Rattle.sk_undo.specs.Base.{Coded, code_by, coded×, coded_ℕ, coded_list, coded_option, Note, has, last_tags}
+use Rattle.sk_undo.specs.Base.{committed, same_tags, Undo, EntityState, StateFits, state_undone, PutBack, RawNote}
+use Rattle.sk_undo.specs.Base.{Value}
 use Rattle.sk_store.specs.contracts.entity_state.EntityState as stored_row
-use Rattle.sk_store.specs.Changed.{StateFits, state_undone}
-use Rattle.sk_store.specs.declared.back.PutBack.{PutBack}
-use Rattle.sk_undo.specs.declared.log.Note.{Note as RawNote}
-use Rattle.sk_undo.specs.Log.{is_empty, before_last, less, HasNote, undone_by, FitsBy, is_whole_at, restores}
+use Rattle.sk_undo.specs.Log.{is_empty, before_last, HasNote, undone_by, FitsBy, is_whole_at, restores}
 
 -- whether a note holds it whole: a process, and a file
 abbrev pub is_held_whole : EntityState → Bool
-is_held_whole (stored.Process p) = true
-is_held_whole (stored.Value (values.File f)) = true
-is_held_whole (stored.Value v) = false
+is_held_whole (EntityState.Process p) = true
+is_held_whole (EntityState.Value (Value.File f)) = true
+is_held_whole (EntityState.Value v) = false
 
 -- what was there before a write
 abbrev pub undone : PutBack EntityState → Option EntityState → Option EntityState
@@ -102,7 +95,7 @@ slot_wrote tags s v = record { now = v; log = noted_on tags s.now s.log }
 
 -- the newest write taken back: that of the newest note, or one that was not noted
 abbrev pub slot_back : SlotView → Option (PutBack EntityState) → SlotView
-slot_back s None = record { now = before_last s.now s.log; log = less s.log }
+slot_back s None = record { now = before_last s.now s.log; log = drop 1 s.log }
 slot_back s (Some undo) = record { now = undone undo s.now; log = s.log }
 
 abbrev pub CanGoBackOnce : SlotView → Option (PutBack EntityState) → Type 0

@@ -1,10 +1,8 @@
 //! The undo logs of kernel objects and of processes.
-ghost use Rattle.std.specs.Prelude.{◌≡◌, ◌++◌, ◌∷◌, [], true, length, OnOk, OnErr, IsOk, Option, Some, None, reverse};
-ghost use Rattle.sk_record.specs.Notes.{unwound, cut, committed, last_tags};
-ghost use Rattle.sk_record.specs.Merged.{merged};
+ghost use Rattle.std.specs.Prelude.{◌≡◌, ◌++◌, ◌∷◌, [], true, false, length, OnOk, OnErr, IsOk, Option, Some, None, reverse};
+ghost use Rattle.sk_undo.specs.Base.{unwound, cut, committed, last_tags, merged, Value};
 ghost use Rattle.sk_undo.specs.Log.{log_of, CanGoBack, HasRoom, newest_tags, Grows, Covers};
 ghost use Rattle.sk_undo.specs.Kept.{ObjectFits, object_undone, runs_of, AllSet, is_apart};
-ghost use Rattle.sk_objects.specs.declared.value.Value.{Value};
 ghost use Rattle.sk_store.specs.declared.back.PutBack.TheVariants as PutBack;
 
 use crate::{Log, Logged};
@@ -17,13 +15,12 @@ use std::alloc::{AllocError, Global};
 
 impl Logged for Value {
     ghost use Rattle.sk_changes.specs.Changes.{CanUndo, value_undone};
-    ghost use Rattle.sk_undo.specs.Kept.{is_object_whole};
 
     ghost fits = { CanUndo };
 
     ghost undone = { value_undone };
 
-    ghost is_whole = { is_object_whole };
+    ghost is_whole = { λ _. false };
 
     fn change_back(&mut self, undo: Undo) {
         self.undo(undo);
@@ -35,11 +32,11 @@ impl Logged for Value {
 }
 
 impl Logged for Process {
-    ghost use Rattle.sk_undo.specs.Kept.{ProcessFits, process_changed_back, is_process_whole};
+    ghost use Rattle.sk_undo.specs.Kept.{is_process_whole};
 
-    ghost fits = { ProcessFits };
+    ghost fits = { λ _ _. Unit {0} };
 
-    ghost undone = { process_changed_back };
+    ghost undone = { λ process _. process };
 
     ghost is_whole = { is_process_whole };
 

@@ -1,17 +1,10 @@
 //! A finite map by entities.
-ghost use Rattle.std.specs.Prelude.{◌≡◌, ◌<◌, ◌^◌, ◌++◌, OnOk, OnErr, OnSome, IfOk, Some, map as each};
-ghost use Rattle.std.specs.Option.{option_copied, option_copied_mut};
-ghost use Rattle.std.specs.Borrow.{LendsSo, sem};
-ghost use Rattle.std.specs.List.Sorted.{IsStrictlySortedBy};
-ghost use Rattle.std.specs.Ordering.{nat_cmp};
+ghost use Rattle.std.specs.Prelude.{◌≡◌, ◌<◌, ◌^◌, ◌++◌, OnOk, OnErr, OnSome, IfOk, Some};
+ghost use Rattle.sk_undo.specs.Base.{option_copied, option_copied_mut, LendsSo, sem, IsStrictlySortedBy, nat_cmp};
+ghost use Rattle.sk_undo.specs.Base.{entity_cmp, object_cmp, Proc, Sig, Exit, Obj, Copy, seen, FitsAt, changed};
+ghost use Rattle.sk_undo.specs.Base.{CanBecome, IsReadable, became, process_in, name_order};
 ghost use Rattle.std.specs.FinMap as map;
-ghost use Rattle.sk_ids.specs.Entity.{entity_cmp, object_cmp};
-ghost use Rattle.sk_ids.specs.declared.entity.Entity.TheVariants.{Proc, Sig, Exit, Obj, Copy};
-ghost use Rattle.sk_map.specs.Seen.{seen};
 ghost use Rattle.sk_changes.specs.declared.change.Change.TheVariants as changes;
-ghost use Rattle.sk_store.specs.Changed.{FitsAt, changed};
-ghost use Rattle.sk_store.specs.Processes.{CanBecome, IsReadable, became, process_in};
-ghost use Rattle.sk_ids.specs.Name.{name_order};
 ghost use Rattle.sk_undo.specs.Kinds.{joined, link_cmp, link_of, lifted, HasAtMost};
 ghost use Rattle.sk_undo.specs.Logs.{look_at, slot_in, slots_wrote};
 ghost use Rattle.sk_undo.specs.Slot.{SlotView};
@@ -23,7 +16,7 @@ use sk_ids::{Entity, Name, ObjId, Pid, TagSet};
 use sk_map::{Key, Map};
 use sk_store::{Becoming, BecomingBy, EntityState, Seeing};
 use std::alloc::{AllocError, Global};
-use std::collections::btree_map::{Iter, Keys, Values};
+use std::collections::btree_map::{Iter, Values};
 use std::marker::Model;
 
 /// Values by entities: a map for each kind. Contracts see one finite map.
@@ -141,66 +134,6 @@ fn remove<K: Key, V: Drop>(values: &mut Map<K, V>, key: &K)
     ensures { seen K.order values.new ≡ map.remove (seen K.order values.old) key.now }
 {
     let _gone = values.remove(key);
-}
-
-/// Adds processes to entities.
-fn add_processes<V>(all: &mut Vec<Entity>, keys: Keys<'_, ProcessKey, V>) -> Result<(), AllocError>
-    ensures { OnOk result (all.new.items ≡ all.old.items ++ each Proc keys.entry) }
-{
-    for key in keys {
-        all.push(Entity::Proc(key.pid))?;
-    }
-    Ok(())
-}
-
-/// Adds signal queues to entities.
-fn add_signals<V>(all: &mut Vec<Entity>, keys: Keys<'_, ProcessKey, V>) -> Result<(), AllocError>
-    ensures { OnOk result (all.new.items ≡ all.old.items ++ each Sig keys.entry) }
-{
-    for key in keys {
-        all.push(Entity::Sig(key.pid))?;
-    }
-    Ok(())
-}
-
-/// Adds exit slots to entities.
-fn add_exits<V>(all: &mut Vec<Entity>, keys: Keys<'_, ProcessKey, V>) -> Result<(), AllocError>
-    ensures { OnOk result (all.new.items ≡ all.old.items ++ each Exit keys.entry) }
-{
-    for key in keys {
-        all.push(Entity::Exit(key.pid))?;
-    }
-    Ok(())
-}
-
-/// Adds objects to entities.
-fn add_objects<V>(all: &mut Vec<Entity>, keys: Keys<'_, ObjectKey, V>) -> Result<(), AllocError>
-    ensures { OnOk result (all.new.items ≡ all.old.items ++ each Obj keys.entry) }
-{
-    for key in keys {
-        all.push(Entity::Obj(key.id))?;
-    }
-    Ok(())
-}
-
-/// Adds names of directories to entities.
-fn add_links<V>(all: &mut Vec<Entity>, keys: Keys<'_, LinkKey, V>) -> Result<(), AllocError>
-    ensures { OnOk result (all.new.items ≡ all.old.items ++ each link_of keys.entry) }
-{
-    for key in keys {
-        all.push(Entity::Link(key.directory.id, key.name))?;
-    }
-    Ok(())
-}
-
-/// Adds copies to entities.
-fn add_copies<V>(all: &mut Vec<Entity>, keys: Keys<'_, Name, V>) -> Result<(), AllocError>
-    ensures { OnOk result (all.new.items ≡ all.old.items ++ each Copy keys.entry) }
-{
-    for key in keys {
-        all.push(Entity::Copy(*key))?;
-    }
-    Ok(())
 }
 
 impl<V> EntityMap<V> {
@@ -330,12 +263,24 @@ impl<V> EntityMap<V> {
         ensures rising { IfOk result (λ all. IsStrictlySortedBy entity_cmp all.items) }
     {
         let mut all = Vec::with_capacity(self.alloc(), self.len())?;
-        add_processes(&mut all, self.processes.keys())?;
-        add_signals(&mut all, self.signals.keys())?;
-        add_exits(&mut all, self.exits.keys())?;
-        add_objects(&mut all, self.objects.keys())?;
-        add_links(&mut all, self.links.keys())?;
-        add_copies(&mut all, self.copies.keys())?;
+        for process in self.processes.keys() {
+            all.push(Entity::Proc(process.pid))?;
+        }
+        for signals in self.signals.keys() {
+            all.push(Entity::Sig(signals.pid))?;
+        }
+        for exit in self.exits.keys() {
+            all.push(Entity::Exit(exit.pid))?;
+        }
+        for object in self.objects.keys() {
+            all.push(Entity::Obj(object.id))?;
+        }
+        for link in self.links.keys() {
+            all.push(Entity::Link(link.directory.id, link.name))?;
+        }
+        for copy in self.copies.keys() {
+            all.push(Entity::Copy(*copy))?;
+        }
         Ok(all)
     }
 

@@ -1,8 +1,6 @@
 //! What entities of one kind are found by.
 ghost use Rattle.std.specs.Prelude.{◌≡◌, ◌<◌, IsSome, refl};
-ghost use Rattle.std.specs.Option.{unwrap_or};
-ghost use Rattle.std.specs.Ordering.{nat_cmp, ordering_then};
-ghost use Rattle.sk_ids.specs.Entity.{object_cmp};
+ghost use Rattle.sk_undo.specs.Base.{unwrap_or, nat_cmp, ordering_then, object_cmp};
 
 use sk_ids::{Name, ObjId, Pid};
 use sk_map::Key;

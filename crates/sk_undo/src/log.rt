@@ -1,15 +1,10 @@
 //! The writes of one value, each with the guesses that it rests on and with what puts it back.
-ghost use Rattle.std.specs.Prelude.{◌≡◌, ◌≤◌, ◌<◌, ◌+◌, ◌++◌, ◌∷◌, [], Bool, true, false, not, length, take, drop, None, OnOk, OnErr, Option, IsOk, reverse};
-ghost use Rattle.std.specs.Option.{option_copied, unwrap_or};
-ghost use Rattle.std.specs.Vec.{vec_len, vec_capacity};
-ghost use Rattle.std.specs.List.{prefix_len, list_all, remove};
-ghost use Rattle.std.specs.List.Sorted.{IsStrictlySortedBy};
-ghost use Rattle.std.specs.Ordering.{nat_cmp};
-ghost use Rattle.sk_record.specs.Notes.{has, unwound, cut};
-ghost use Rattle.sk_record.specs.UndoState.{IsGrowing};
-ghost use Rattle.sk_store.specs.declared.back.PutBack.{PutBack};
+ghost use Rattle.std.specs.Prelude.{◌≡◌, ◌≤◌, ◌<◌, ◌+◌, ◌++◌, ◌∷◌, [], Bool, true, false, not, length, take, drop, None, OnOk, Option, IsOk, reverse};
+ghost use Rattle.sk_undo.specs.Base.{option_copied, unwrap_or, vec_len, vec_capacity, prefix_len, list_all};
+ghost use Rattle.sk_undo.specs.Base.{IsStrictlySortedBy, nat_cmp, has, unwound, cut, IsGrowing, PutBack};
+ghost use Rattle.std.specs.List.{remove};
 ghost use Rattle.sk_undo.specs.declared.log.Note.{Note};
-ghost use Rattle.sk_undo.specs.Log.{is_empty, seen, log_of, CanGoBack, HasNote, HasRoom, before_last, less, rests_last, newest_tags, lightened, dropped, Grows, undone_by, FitsBy, restores, stands_for, goes_on_raw, goes_unnoted_raw, joined_from, repeats};
+ghost use Rattle.sk_undo.specs.Log.{is_empty, seen, log_of, CanGoBack, HasNote, HasRoom, before_last, newest_tags, lightened, dropped, Grows, undone_by, FitsBy, restores, stands_for, goes_on_raw, goes_unnoted_raw, joined_from, repeats};
 
 use sk_changes::Undo;
 use sk_ids::{GuessId, TagSet};
@@ -108,7 +103,7 @@ pub struct Log<V> {
 fn lighten<V: Logged>(notes: &mut Vec<Note<PutBack<V>>>, guess: GuessId) -> usize
     ensures notes { notes.new.items
         ≡ take result notes.old.items ++ lightened guess (drop result notes.old.items) }
-    ensures before { rests_last guess (reverse (take result notes.old.items)) ≡ false }
+    ensures before { has guess (newest_tags (reverse (take result notes.old.items))) ≡ false }
     ensures within { result ≤ length notes.old.items }
     ensures resting { list_all (λ n. has guess n.tags) (drop result notes.old.items) ≡ true }
     ensures len { vec_len notes.new ≡ vec_len notes.old }
@@ -303,7 +298,7 @@ impl<V: Logged> Log<V> {
         requires some { HasNote (reverse self.old.notes.items) }
         ensures value { value.new ≡ before_last value.old
             (seen (undone_by V.undone) value.old (reverse self.old.notes.items)) }
-        ensures notes { reverse self.new.notes.items ≡ less (reverse self.old.notes.items) }
+        ensures notes { reverse self.new.notes.items ≡ drop 1 (reverse self.old.notes.items) }
         ensures fewer { vec_len self.new.notes + 1 ≡ vec_len self.old.notes }
         ensures capacity { vec_capacity self.new.notes ≡ vec_capacity self.old.notes }
         ensures can { CanGoBack (FitsBy V.fits) (undone_by V.undone) value.new
@@ -317,7 +312,7 @@ impl<V: Logged> Log<V> {
 
     /// Whether the newest write rests on the guess.
     fn rests_last(&self, guess: GuessId) -> bool
-        ensures { result ≡ rests_last guess (reverse self.now.notes.items) }
+        ensures { result ≡ has guess (newest_tags (reverse self.now.notes.items)) }
     {
         match self.notes.last() {
             Some(note) => note.tags.contains(guess),

@@ -1,21 +1,13 @@
 //! What performs the writes of steps, and notes what takes them back with the guesses that they rest on.
-ghost use Rattle.std.specs.Prelude.{◌≡◌, ◌↔◌, [], min, ◌-◌, ◌^◌, true, false, not, Some, None, is_some, IfOk, OnOk, OnErr};
+ghost use Rattle.std.specs.Prelude.{◌≡◌, ◌↔◌, [], min, ◌-◌, ◌^◌, true, false, Some, None, is_some, IfOk, OnOk, OnErr};
+ghost use Rattle.sk_undo.specs.Base.{All, IsStrictlySortedBy, entity_cmp, Entity, Proc, IsPresent, entities_of};
+ghost use Rattle.sk_undo.specs.Base.{CanBecome, became, option_copied, unwrap_or, eq_by_cmp, nat_cmp, is_in, last_tags};
+ghost use Rattle.sk_undo.specs.Base.{IsCount, name_there};
 ghost use Rattle.std.specs.FinMap as map;
-ghost use Rattle.std.specs.List.{All};
-ghost use Rattle.std.specs.List.Sorted.{IsStrictlySortedBy};
-ghost use Rattle.sk_ids.specs.Entity.{entity_cmp};
-ghost use Rattle.sk_ids.specs.declared.entity.Entity.{Entity};
-ghost use Rattle.sk_ids.specs.declared.entity.Entity.TheVariants.{Proc};
-ghost use Rattle.sk_store.specs.Present.{IsPresent, entities_of};
-ghost use Rattle.sk_store.specs.Processes.{CanBecome, became};
-ghost use Rattle.sk_undo.specs.Logs.{look_at, log_at, goes_on_at, moved, slots_wrote, taken_back, wrote, CanTakeBack};
+ghost use Rattle.sk_undo.specs.Logs.{look_at, log_at, moved, slot_in, slots_wrote, taken_back, wrote, CanTakeBack};
 ghost use Rattle.sk_undo.specs.Names.{link_there};
-ghost use Rattle.std.specs.Option.{option_copied, unwrap_or};
-ghost use Rattle.std.specs.Ordering.{eq_by_cmp, nat_cmp};
-ghost use Rattle.sk_record.specs.Effects.{is_in};
-ghost use Rattle.sk_record.specs.Notes.{last_tags};
+ghost use Rattle.sk_undo.specs.Slot.{goes_on};
 ghost use Rattle.sk_undo.specs.Count.{AreUnnoted, notes_in};
-ghost use Rattle.sk_store.specs.Names.{IsCount, name_there};
 ghost use Rattle.sk_undo.specs.Log.{is_empty};
 ghost use Rattle.sk_undo.specs.Decisions.{ChangedAt, SlotUnwound, Unwound, Lightened, AreListed, AllRest, AllGrow, NoneBare};
 
@@ -213,7 +205,7 @@ impl Logs {
     /// rests on just these. Answers whether; else nothing has changed. This takes no memory.
     pub fn go_on<C: Becoming>(&mut self, pid: Pid, least: usize, by: &C) -> bool
         requires { CanBecome (C.can by.now) (look_at self.old.slots (Proc pid)) }
-        ensures exact { result ≡ goes_on_at least self.old.slots (Proc pid) }
+        ensures exact { result ≡ goes_on least (slot_in (map.get self.old.slots (Proc pid))).log }
         ensures wrote { result ≡ true
             → self.new.slots
             ≡ slots_wrote (last_tags [] (log_at self.old.slots (Proc pid))) self.old.slots (Proc pid)
@@ -356,13 +348,13 @@ impl Look for Logs {
 
 impl Keeper for Logs {
     ghost use Rattle.sk_ids.specs.declared.entity.Entity.TheVariants.{Proc};
-    ghost use Rattle.sk_undo.specs.Logs.{wrote, is_unnoted, can_take_back, taken_back};
+    ghost use Rattle.sk_undo.specs.Logs.{wrote, is_unnoted, CanTakeBack, taken_back};
 
     type Back = EntityUndo;
 
     ghost wrote = { wrote };
 
-    ghost can_take_back = { can_take_back };
+    ghost can_take_back = { λ l b. CanTakeBack l.slots b.entity b.how };
 
     ghost taken_back = { taken_back };
 

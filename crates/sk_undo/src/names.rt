@@ -16,13 +16,16 @@ pub struct Names {
 }
 
 impl Model for Names {
+    ghost use Rattle.std.specs.Coded.{coded_ℕ};
+    ghost use Rattle.std.specs.FinMap as map;
     ghost use Rattle.sk_ids.specs.Entity.{object_cmp};
+    ghost use Rattle.sk_ids.specs.contracts.pid.ObjId as object;
     ghost use Rattle.sk_map.specs.Seen.{seen};
-    ghost use Rattle.sk_undo.specs.Names.{NameMap, name_map_code};
+    ghost use Rattle.sk_undo.specs.Names.{NameMap};
 
     ghost Value = { NameMap };
 
-    ghost coded = { name_map_code };
+    ghost coded = { map.code object.the_row.coded coded_ℕ };
 
     ghost view = { λ a. seen object_cmp a.counts };
 }

@@ -1,14 +1,9 @@
 //! What an entity has, with its undo log.
-ghost use Rattle.std.specs.Prelude.{◌≡◌, [], OnOk, OnErr, IfOk, IfSome, Some, None, is_none, is_some, true, false, not, ◌&&◌, length, reverse};
-ghost use Rattle.std.specs.List.Sorted.{IsStrictlySortedBy};
-ghost use Rattle.std.specs.Option.{option_copied, unwrap_or};
-ghost use Rattle.std.specs.Ordering.{nat_cmp};
-ghost use Rattle.sk_record.specs.Notes.{last_tags, unwound, cut, committed};
-ghost use Rattle.sk_record.specs.Merged.{Merges};
-ghost use Rattle.sk_record.specs.UndoState.{IsGrowing};
+ghost use Rattle.std.specs.Prelude.{◌≡◌, [], OnOk, OnErr, IfOk, IfSome, Some, None, is_some, true, false, reverse};
+ghost use Rattle.sk_undo.specs.Base.{IsStrictlySortedBy, option_copied, unwrap_or, nat_cmp, last_tags, unwound, cut};
+ghost use Rattle.sk_undo.specs.Base.{committed, Merges, IsGrowing, FitsAt, StateFits, changed, CanBecome, IsProcess};
+ghost use Rattle.sk_undo.specs.Base.{became, process_in};
 ghost use Rattle.sk_changes.specs.declared.change.Change.TheVariants as changes;
-ghost use Rattle.sk_store.specs.Changed.{FitsAt, StateFits, changed};
-ghost use Rattle.sk_store.specs.Processes.{CanBecome, IsProcess, became, process_in};
 ghost use Rattle.sk_store.specs.declared.back.PutBack.TheVariants as PutBack;
 ghost use Rattle.sk_undo.specs.Count.{note_count};
 ghost use Rattle.sk_undo.specs.Log.{is_empty, seen, CanGoBack, EachRests, FitsBy};
@@ -44,14 +39,6 @@ impl Model for Slot {
     ghost invariant = { λ s. CanGoBack Fits undone s.value (reverse s.log.notes.items) };
 }
 
-/// Whether nothing is noted.
-fn is_unnoted(value: &Option<EntityState>, log: &Log<EntityState>) -> bool
-    ensures seen { result ≡ is_empty (seen undone value.now (reverse log.now.notes.items)) }
-    ensures none { result ≡ true → log.now.notes.items ≡ [] }
-{
-    log.is_empty()
-}
-
 /// Whether a write is not noted.
 #[inline(always)]
 fn goes_unnoted(tags: &TagSet, value: &Option<EntityState>, log: &Log<EntityState>) -> bool
@@ -81,14 +68,6 @@ fn goes_on(least: usize, value: &Option<EntityState>, log: &Log<EntityState>) ->
         (last_tags [] (reverse (seen undone value.now (reverse log.now.notes.items)))) }
 {
     log.goes_on(least)
-}
-
-/// Whether there is neither a value nor a note.
-fn is_bare(value: &Option<EntityState>, log: &Log<EntityState>) -> bool
-    ensures { result ≡ (is_none value.now
-        && is_empty (seen undone value.now (reverse log.now.notes.items))) }
-{
-    value.is_none() && is_unnoted(value, log)
 }
 
 /// Changes a value where it stands. Without memory nothing has changed.
@@ -247,23 +226,6 @@ fn process_in(value: &Option<EntityState>) -> &Process
         Some(EntityState::Process(held)) => held.process(),
         _ => unreachable!(),
     }
-}
-
-/// The tags of the newest note; `None` is as none.
-#[tactic(auto, using(crate::proofs::SeenNotes::tags_seen))]
-fn tags_in<'a>(value: &Option<EntityState>, log: &'a Log<EntityState>) -> Option<&'a TagSet>
-    ensures { unwrap_or (option_copied result) []
-        ≡ last_tags [] (reverse (seen undone value.now (reverse log.now.notes.items))) }
-{
-    log.tags()
-}
-
-/// How many notes there are.
-#[tactic(auto, using(crate::proofs::Counted::as_many_seen))]
-fn count(value: &Option<EntityState>, log: &Log<EntityState>) -> usize
-    ensures { result ≡ length (seen undone value.now (reverse log.now.notes.items)) }
-{
-    log.len()
 }
 
 impl Slot {
@@ -575,28 +537,28 @@ impl Slot {
     pub fn tags(&self) -> Option<&TagSet>
         ensures { unwrap_or (option_copied result) [] ≡ last_tags [] (reverse self.now.log) }
     {
-        tags_in(&self.value, &self.log)
+        self.log.tags()
     }
 
     /// How many notes there are.
     pub fn notes(&self) -> usize
         ensures { result ≡ note_count self.now }
     {
-        count(&self.value, &self.log)
+        self.log.len()
     }
 
     /// Whether nothing is noted.
     pub fn is_unnoted(&self) -> bool
         ensures { result ≡ is_empty self.now.log }
     {
-        is_unnoted(&self.value, &self.log)
+        self.log.is_empty()
     }
 
     /// Whether there is neither a value nor a note.
     pub fn is_bare(&self) -> bool
         ensures { result ≡ is_bare self.now }
     {
-        is_bare(&self.value, &self.log)
+        self.value.is_none() && self.is_unnoted()
     }
 
     /// Takes back what rests on the guess, in place and without memory.

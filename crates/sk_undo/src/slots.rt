@@ -1,27 +1,17 @@
 //! All entities with their undo logs, in one map.
 ghost use Rattle.std.specs.Prelude.{◌≡◌, ◌<◌, ◌+◌, ◌&&◌, [], min, ◌-◌, ◌^◌, true, false, OnOk, OnErr, IfOk, IfSome, OnSome, Some, None, is_some};
-ghost use Rattle.std.specs.Option.{option_copied, option_copied_mut, unwrap_or};
+ghost use Rattle.sk_undo.specs.Base.{option_copied, option_copied_mut, unwrap_or, IsStrictlySortedBy, LendsSo, sem};
+ghost use Rattle.sk_undo.specs.Base.{eq_by_cmp, nat_cmp, entity_cmp, Entity, Proc, Obj, is_in, put, last_tags, FitsAt};
+ghost use Rattle.sk_undo.specs.Base.{changed, CanBecome, IsProcess, IsReadable, became, process_in, IsPresent};
+ghost use Rattle.sk_undo.specs.Base.{entities_of, All, list_all, sum_by};
 ghost use Rattle.std.specs.FinMap as map;
-ghost use Rattle.std.specs.List.Sorted.{IsStrictlySortedBy};
-ghost use Rattle.std.specs.Borrow.{LendsSo, sem};
-ghost use Rattle.std.specs.Ordering.{eq_by_cmp, nat_cmp};
-ghost use Rattle.sk_ids.specs.Entity.{entity_cmp};
-ghost use Rattle.sk_ids.specs.declared.entity.Entity.{Entity};
-ghost use Rattle.sk_ids.specs.declared.entity.Entity.TheVariants.{Proc, Obj};
 ghost use Rattle.sk_changes.specs.declared.change.Change.TheVariants as changes;
-ghost use Rattle.sk_record.specs.Effects.{is_in};
-ghost use Rattle.sk_record.specs.Run.{put};
-ghost use Rattle.sk_record.specs.Notes.{last_tags};
-ghost use Rattle.sk_store.specs.Changed.{FitsAt, changed};
-ghost use Rattle.sk_store.specs.Processes.{CanBecome, IsProcess, IsReadable, became, process_in};
-ghost use Rattle.sk_store.specs.Present.{IsPresent, entities_of};
-ghost use Rattle.std.specs.List.{All, list_all, sum_by};
 ghost use Rattle.sk_undo.specs.Count.{note_count, notes_in};
 ghost use Rattle.sk_undo.specs.Kinds.{HasAtMost};
 ghost use Rattle.sk_undo.specs.Log.{is_empty};
-ghost use Rattle.sk_undo.specs.Slot.{is_bare, slot_of, slot_wrote};
-ghost use Rattle.sk_undo.specs.Logs.{look_at, log_at, slot_in, goes_on_at, is_unnoted, slots_wrote, slots_back, CanTakeBack};
-ghost use Rattle.sk_undo.specs.Decisions.{ChangedAt, SlotUnwound, SlotCommitted, IsWithin, Lightened, AreListed, AllRest, AllGrow, NoneBare};
+ghost use Rattle.sk_undo.specs.Slot.{is_bare, slot_of, slot_wrote, goes_on};
+ghost use Rattle.sk_undo.specs.Logs.{look_at, log_at, slot_in, is_unnoted, slots_wrote, slots_back, CanTakeBack};
+ghost use Rattle.sk_undo.specs.Decisions.{ChangedAt, SlotUnwound, SlotCommitted, Lightened, AreListed, AllRest, AllGrow, NoneBare};
 ghost use Rattle.sk_undo.specs.contracts.slots.Slots.{the_row as slots_row};
 ghost use Rattle.sk_undo.specs.contracts.slot.Slot.{the_row as slot_row};
 
@@ -572,7 +562,7 @@ impl Slots {
     /// rests on just these. Answers whether; else nothing has changed. This takes no memory.
     pub fn go_on<C: Becoming>(&mut self, pid: Pid, least: usize, by: &C) -> bool
         requires { CanBecome (C.can by.now) (look_at self.old (Proc pid)) }
-        ensures exact { result ≡ goes_on_at least self.old (Proc pid) }
+        ensures exact { result ≡ goes_on least (slot_in (map.get self.old (Proc pid))).log }
         ensures wrote { result ≡ true
             → self.new ≡ slots_wrote (last_tags [] (log_at self.old (Proc pid))) self.old
             (Proc pid) (Some (became (C.after by.now) (look_at self.old (Proc pid)))) }
@@ -633,7 +623,8 @@ impl Slots {
         requires grow { AllGrow self.old }
         ensures slots { Lightened self.old guess self.new }
         ensures bare { NoneBare self.old → NoneBare self.new }
-        ensures kept { IsWithin self.new self.old }
+        ensures kept { (e : Entity) → map.contains_key self.new e ≡ true
+            → map.contains_key self.old e ≡ true }
     {
         for entity in entities {
             self.commit_at(entity, guess);

@@ -1,21 +1,32 @@
 -- The entities are the keys of one map after another.
-use Rattle.sk_undo.proofs.Cites.{◌++◌, List, ap, sym, subst, ◌∙◌, each, IsStrictlySortedBy, entity_cmp, Entity, Proc, Sig, Exit, Obj, Copy}
+use Rattle.sk_undo.proofs.Cites.{◌≡◌, [], ◌++◌, ap, arith, sym, subst, ◌∙◌, each, IsStrictlySortedBy, entity_cmp, Proc, Sig, Exit, Obj, Copy}
+use Rattle.std.proofs.lemmas.Grind.{common_steps}
 use Rattle.std.specs.FinMap as map
 use Rattle.sk_undo.specs.Kinds.{link_of}
-use Rattle.sk_undo.proofs.ByKind.{kinds_of, joined_keys, keys_rise, one_by_one}
+use Rattle.sk_undo.proofs.ByKind.{kinds_of, joined_keys, keys_rise, all_added, one_by_one}
 use Rattle.sk_undo.proofs.entity_map.EntityMap.entities.Goals as goal
 
 pub returns-clause-rest : goal.returns-clause-rest
 returns-clause-rest g c =
-    c.in_ok-add_copies.ensures
-    ∙ ap (λ (es : List Entity). es ++ each Copy c.keys-6.result) (c.in_ok-add_links.ensures
-    ∙ ap (λ (es : List Entity). es ++ each link_of c.keys-5.result) (c.in_ok-add_objects.ensures
-    ∙ ap (λ (es : List Entity). es ++ each Obj c.keys-4.result) (c.in_ok-add_exits.ensures
-    ∙ ap (λ (es : List Entity). es ++ each Exit c.keys-3.result) (c.in_ok-add_signals.ensures
-    ∙ ap (λ (es : List Entity). es ++ each Sig c.keys-2.result) (c.in_ok-add_processes.ensures
-    ∙ ap (λ (es : List Entity). es ++ each Proc c.keys.result) (c.in_ok-all.ensures.items))))))
-    ∙ one_by_one (each Proc c.keys.result) (each Sig c.keys-2.result) (each Exit c.keys-3.result) (each Obj c.keys-4.result) (each link_of c.keys-5.result) (each Copy c.keys-6.result)
-    ∙ (λ i. each Proc (c.keys.ensures.rest i) ++ (each Sig (c.keys-2.ensures.rest i) ++ (each Exit (c.keys-3.ensures.rest i) ++ (each Obj (c.keys-4.ensures.rest i) ++ (each link_of (c.keys-5.ensures.rest i) ++ (each Copy (c.keys-6.ensures.rest i)))))))
+    let p : c.loop-process.process-iterator ≡ [] = grind (arith, common_steps) in
+    let s : c.loop-signals.signals-iterator ≡ [] = grind (arith, common_steps) in
+    let x : c.loop-exit.exit-iterator ≡ [] = grind (arith, common_steps) in
+    let o : c.loop-object.object-iterator ≡ [] = grind (arith, common_steps) in
+    let l : c.loop-link.link-iterator ≡ [] = grind (arith, common_steps) in
+    let n : c.loop-copy.copy-iterator ≡ [] = grind (arith, common_steps) in
+    let processes = c.into_iter-process-iterator.ensures.into_iter_gives ∙ c.keys-process-items.ensures.rest in
+    let signals = c.into_iter-signals-iterator.ensures.into_iter_gives ∙ c.keys-signals-items.ensures.rest in
+    let exits = c.into_iter-exit-iterator.ensures.into_iter_gives ∙ c.keys-exit-items.ensures.rest in
+    let objects = c.into_iter-object-iterator.ensures.into_iter_gives ∙ c.keys-object-items.ensures.rest in
+    let links = c.into_iter-link-iterator.ensures.into_iter_gives ∙ c.keys-link-items.ensures.rest in
+    let copies = c.into_iter-copy-iterator.ensures.into_iter_gives ∙ c.keys-copy-items.ensures.rest in
+    one_by_one (each Proc c.into_iter-process-iterator.result) (each Sig c.into_iter-signals-iterator.result)
+    (each Exit c.into_iter-exit-iterator.result) (each Obj c.into_iter-object-iterator.result)
+    (each link_of c.into_iter-link-iterator.result) (each Copy c.into_iter-copy-iterator.result) c.in_ok-all.ensures.items
+    (all_added _ _ _ (ap (each Proc) p) c.loop-process.invariant) (all_added _ _ _ (ap (each Sig) s) c.loop-signals.invariant)
+    (all_added _ _ _ (ap (each Exit) x) c.loop-exit.invariant) (all_added _ _ _ (ap (each Obj) o) c.loop-object.invariant)
+    (all_added _ _ _ (ap (each link_of) l) c.loop-link.invariant) (all_added _ _ _ (ap (each Copy) n) c.loop-copy.invariant)
+    ∙ (λ i. each Proc (processes i) ++ (each Sig (signals i) ++ (each Exit (exits i) ++ (each Obj (objects i) ++ (each link_of (links i) ++ each Copy (copies i))))))
     ∙ sym (joined_keys (kinds_of c.self.inside))
     ∙ ap map.keys c.self.view_is
 

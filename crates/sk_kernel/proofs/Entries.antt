@@ -5,10 +5,11 @@ use Rattle.sk_kernel.proofs.Names.{append-nil, fold-append, noted, Taken, record
 use Rattle.sk_kernel.proofs.Names.{machine_after, MergedStands, HandsIn, alone_tags, with_value, machine_stands}
 use Rattle.sk_kernel.proofs.Names.{all_kept, merged_run, entity_cmp, Entity, Proc, entity_total, entity_exact, Process}
 use Rattle.sk_kernel.proofs.Names.{LeaseView, after_private, EntityState, EntryView, plain, Saying, alone_reads}
-use Rattle.sk_kernel.proofs.Names.{KernelView, events_of, record_at, state_at, IsAsLent, alone_step, alone_entry}
-use Rattle.sk_kernel.proofs.Names.{with_steps, HasSoundTrace, AreEntries}
+use Rattle.sk_kernel.proofs.Names.{KernelView, events_of, record_at, state_at, IsAsLent, alone_step, entry}
+use Rattle.sk_kernel.proofs.Names.{with_steps, HasSoundTrace, AreEntries, None}
 use Rattle.std.specs.FinMap as map
 use Rattle.sk_record.specs.Trace.{Event}
+use Rattle.sk_script.specs.declared.instruction.Input.TheVariants as inputs
 use Rattle.sk_store.specs.declared.entity_state.EntityState.TheVariants as stored
 use Rattle.sk_kernel.proofs.HandedIn.{images_more, no_step, stands_handed}
 
@@ -25,8 +26,8 @@ module _ (k : KernelView) (n : EntryView) where
       ∙ ap (λ ns. ns ++ replicate count n) (one_more es)
       ∙ append_assoc (record_of (plain k.scripts) k.start es) (n ∷ []) (replicate count n)
 
-entries_are : (k : KernelView) (pid n : ℕ) → record_at (with_steps k pid n) ≡ record_at k ++ replicate n (alone_entry pid)
-entries_are k pid n = ap (record_of (plain k.scripts) k.start) (images_more k.trace n (alone_step pid)) ∙ record_more k (alone_entry pid) n (events_of k)
+entries_are : (k : KernelView) (pid n : ℕ) → record_at (with_steps k pid n) ≡ record_at k ++ replicate n (entry pid inputs.None None)
+entries_are k pid n = ap (record_of (plain k.scripts) k.start) (images_more k.trace n (alone_step pid)) ∙ record_more k (entry pid inputs.None None) n (events_of k)
 
 -- ---- the state
 module _ (k : KernelView) (sound : HasSoundTrace k) (pid : ℕ) (p : Process) where

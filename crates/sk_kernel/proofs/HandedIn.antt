@@ -6,9 +6,10 @@ use Rattle.sk_kernel.proofs.Names.{Proc, Sig, entity_total, entity_exact, Proces
 use Rattle.sk_kernel.proofs.Names.{EntityState, EntryView, Event, Scripts, plain, Saying, is_due, alone_reads, image}
 use Rattle.sk_kernel.proofs.Names.{GoesOn, alone_run, runs_same, Parts, machine_of, KernelView, events_of, state_at}
 use Rattle.sk_kernel.proofs.Names.{undecided_at, room, number_after, last_guess, append-nil, IsAsLent, alone_step}
-use Rattle.sk_kernel.proofs.Names.{alone_entry, with_steps, IsWhole, Stands}
+use Rattle.sk_kernel.proofs.Names.{with_steps, IsWhole, Stands, None}
 use Rattle.std.specs.FinMap as map
 use Rattle.sk_record.specs.Merged.{each}
+use Rattle.sk_script.specs.declared.instruction.Input.TheVariants as inputs
 use Rattle.sk_store.specs.declared.entity_state.EntityState.TheVariants as stored
 use Rattle.sk_kernel.proofs.Whole.{after_event, open_count}
 
@@ -42,7 +43,7 @@ module _ (k : KernelView) (a : Kernels) (stands : MergedStands (plain k.scripts)
   look_is e = (merged_run (plain k.scripts) entity_total entity_exact k.start (events_of k) a stands).values e
 
   abbrev entry : EntryView
-  entry = alone_entry l.lent.pid
+  entry = record { pid = l.lent.pid; input = inputs.None; guess = None }
 
   abbrev Hands : EntityState → Type 0
   Hands v = HandsIn (plain k.scripts) a (Proc l.lent.pid) (alone_reads l.lent.pid) v b

@@ -36,14 +36,14 @@ module _ (k : KernelView) where
 
   module _ (sound : HasSoundTrace k) where
     keeps : (n : EntryView) (e : Event) → image e ≡ Taken n → IsAllowed (plain k.scripts) k.start (events_of k) (Taken n) → KeepsUnwritten k n (with_event k e)
-    keeps n e is allowed f q accepted out = record {
-      value = more e (λ es. map.get (run (plain k.scripts) k.start (record_of (plain k.scripts) k.start es)) q ≡ map.get (state_at k) q)
+    keeps n e is allowed f q accepted out = (
+      more e (λ es. map.get (run (plain k.scripts) k.start (record_of (plain k.scripts) k.start es)) q ≡ map.get (state_at k) q)
           (subst (λ (x : Happens EntryView). map.get (run (plain k.scripts) k.start (record_of (plain k.scripts) k.start (events_of k ++ x ∷ []))) q ≡ map.get (state_at k) q) (sym is)
-          (value_stays (plain k.scripts) entity_total entity_exact k.start (events_of k) n f sound.sound allowed accepted q out));
-      tags = more e (λ es. deps (plain k.scripts) k.start (all_recorded (plain k.scripts) k.start no_record es) q ≡ tags_at k q)
+          (value_stays (plain k.scripts) entity_total entity_exact k.start (events_of k) n f sound.sound allowed accepted q out)),
+      more e (λ es. deps (plain k.scripts) k.start (all_recorded (plain k.scripts) k.start no_record es) q ≡ tags_at k q)
           (subst (λ (x : Happens EntryView). deps (plain k.scripts) k.start (all_recorded (plain k.scripts) k.start no_record (events_of k ++ x ∷ [])) q ≡ tags_at k q) (sym is)
-          (tags_stay (plain k.scripts) entity_total entity_exact k.start (events_of k) n f sound.sound allowed accepted q out));
-    }
+          (tags_stay (plain k.scripts) entity_total entity_exact k.start (events_of k) n f sound.sound allowed accepted q out)),
+    )
 
     pub step_keeps : (pid : ℕ) (input : Input) → KeepsUnwritten k (record { pid = pid; input = input; guess = None }) (with_event k (events.Step pid input))
     step_keeps pid input = keeps (record { pid = pid; input = input; guess = None }) (events.Step pid input) refl (λ g h mark drawn. absurd (no_guess g mark))

@@ -38,27 +38,26 @@ pub use Rattle.sk_ids.specs.declared.entity.Entity.{Entity}
 pub use Rattle.sk_ids.specs.declared.entity.Entity.TheVariants.{Proc, Sig}
 pub use Rattle.sk_ids.specs.declared.guess.TheConstants.{LAST_GUESS}
 pub use Rattle.sk_ids.specs.declared.pid.ObjId.{ObjId}
-pub use Rattle.sk_kernel.specs.Calls.{DecisionPost, ShowsTerminal, SaysNothing, IsNextEpoch, LeavesTexts, IsNew}
+pub use Rattle.sk_kernel.specs.Calls.{DecisionPost, ShowsTerminal, IsNextEpoch, LeavesTexts, IsNew}
 pub use Rattle.sk_kernel.specs.Calls.{IsStranger}
-pub use Rattle.sk_kernel.specs.Footprint.{appended, footprint_of, IsForeseen}
-pub use Rattle.sk_kernel.specs.HandIn.{with_steps, IsAsLent, alone_step, alone_entry}
+pub use Rattle.sk_kernel.specs.Footprint.{appended, footprint_of}
+pub use Rattle.sk_kernel.specs.HandIn.{with_steps, IsAsLent, alone_step}
 pub use Rattle.sk_kernel.specs.Invariant.{IsWhole, Stands}
-pub use Rattle.sk_kernel.specs.Kernel.{HasStatus, booted, said_by_record, next_guess, effect_at, state_at, room}
+pub use Rattle.sk_kernel.specs.Kernel.{HasStatus, booted, said_by_record, next_guess, entry, effect_at, state_at, room}
 pub use Rattle.sk_kernel.specs.Kernel.{number_after, last_guess, no_room, or_full, with_event, undecided_at, step_refused}
 pub use Rattle.sk_kernel.specs.Kernel.{KernelView, crowded, step_misfit, trace_full, RestsOn, too_many, or_else}
 pub use Rattle.sk_kernel.specs.Kernel.{guess_misfits, record_at, events_of, texts_at, tags_at, guess_refused}
 pub use Rattle.sk_kernel.specs.Laws.{KeepsUnwritten, HasSoundTrace, AreEntries, AnswersAlike, WasDrawn, WritesAll}
 pub use Rattle.sk_kernel.specs.Laws.{with_events}
-pub use Rattle.sk_kernel.specs.Notes.{NothingRests, AreApart, rests_at, noted_at, CanHold}
+pub use Rattle.sk_kernel.specs.Notes.{rests_at, CanHold}
 pub use Rattle.sk_kernel.specs.Opening.{begun_at, opening_of, OpeningView}
-pub use Rattle.sk_kernel.specs.Room.{TellsRoom}
 pub use Rattle.sk_kernel.specs.contracts.kernel.Kernel.{the_view}
 pub use Rattle.sk_kernel.specs.declared.room.TheConstants.{DIRECTORY_LIMIT}
 pub use Rattle.sk_machine.proofs.Given.{if_ok, from_ok, from_err}
-pub use Rattle.sk_machine.specs.HandsIn.{HandsInProcess}
-pub use Rattle.sk_machine.specs.Noted.{IsAtStart}
+pub use Rattle.sk_machine.specs.Performed.{AreApart}
+pub use Rattle.sk_machine.specs.Taken.{HandsInProcess}
 pub use Rattle.sk_machine.proofs.Names.{notes_in, AreUnnoted, note_count, is_empty, look_at, log_at, SlotMap, slot_in, SlotView}
-pub use Rattle.sk_machine.specs.Parts.{Parts, machine_of, said_at, undo_state_of}
+pub use Rattle.sk_machine.specs.Parts.{IsAtStart, Parts, machine_of, said_at, undo_state_of}
 pub use Rattle.sk_plain.proofs.Adds.{adds_is}
 pub use Rattle.sk_plain.proofs.Alone.{GoesOn, alone_run, runs_same}
 pub use Rattle.sk_plain.proofs.Plans.{written_is}

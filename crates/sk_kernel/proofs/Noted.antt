@@ -3,7 +3,7 @@ use Rattle.sk_kernel.proofs.Names.{◌≡◌, ℕ, ◌≤◌, length, true, fals
 use Rattle.sk_kernel.proofs.Names.{ap, subst, arith, ◌↔◌, min, list_all, sum_by, true≢false, or_left, eq-eqb}
 use Rattle.sk_kernel.proofs.Names.{entity_cmp, Entity, is_in, Merges, log_of, entries_are, plain, Note, has, last_tags}
 use Rattle.sk_kernel.proofs.Names.{EntityState, is_empty, log_at, AreUnnoted, notes_in, Parts, KernelView, events_of}
-use Rattle.sk_kernel.proofs.Names.{undecided_at, tags_at, Stands, NothingRests, CanHold, AreApart, rests_at, noted_at}
+use Rattle.sk_kernel.proofs.Names.{undecided_at, record_at, tags_at, Stands, CanHold, AreApart, rests_at}
 use Rattle.sk_kernel.proofs.Names.{false_from_ne_true}
 use Rattle.std.specs.Prelude.{◌-◌, ◌^◌}
 use Rattle.sk_kernel.proofs.Bounds.{ones, slots_least, slots_most}
@@ -30,10 +30,10 @@ merged_within t (n ∷ ns) (m ∷ ms) (inl h) = let rest = merged_within t ns (m
 merged_within t (n ∷ ns) (m ∷ ms) (inr h) = let rest = merged_within n.tags ns ms h.1 in omega (arith, rest)
 
 module _ (k : KernelView) (m : Parts) (stands : Stands k m) where
-  unnoted_rest : AreUnnoted m.slots → NothingRests k
+  unnoted_rest : AreUnnoted m.slots → (e : Entity) → tags_at k e ≡ []
   unnoted_rest none e = sym (tags_computed k m stands e) ∙ ap (last_tags []) (none e)
 
-  resting_none : NothingRests k → AreUnnoted m.slots
+  resting_none : ((e : Entity) → tags_at k e ≡ []) → AreUnnoted m.slots
   resting_none none e = (tidy k m stands).clean e (tags_computed k m stands e ∙ none e)
 
   -- an entity has notes exactly where it rests on a guess
@@ -44,7 +44,10 @@ module _ (k : KernelView) (m : Parts) (stands : Stands k m) where
   noted_rests e some = not_empty (tags_at k e) (λ none. true≢false (sym (ap is_empty ((tidy k m stands).clean e (tags_computed k m stands e ∙ none))) ∙ some))
 
   -- and no more than by the record
-  noted_within : (e : Entity) → length (log_at m.slots e) ≤ length (noted_at k e)
+  abbrev recorded : Entity → List (Note EntityState)
+  recorded e = log_of (plain k.scripts) k.start (record_at k) (undecided_at k) e
+
+  noted_within : (e : Entity) → length (log_at m.slots e) ≤ length (recorded e)
   noted_within e =
       subst (λ (ns : List (Note EntityState)). length (log_at m.slots e) ≤ length ns)
       (stands.trace.stands.state.logs e ∙ ap (λ ns. log_of (plain k.scripts) k.start ns (undecided_at k) e) (entries_are (plain k.scripts) k.start (events_of k)))
@@ -56,9 +59,9 @@ module _ (k : KernelView) (m : Parts) (stands : Stands k m) where
       let sum = slots_least m.slots es apart in
       omega (arith, count, many, sum)
 
-  notes_most : (n : ℕ) → n ≡ min (notes_in m.slots) (2 ^ 64 - 1) → (es : List Entity) → ((e : Entity) → rests_at k e ≡ true → is_in entity_cmp es e ≡ true) → n ≤ sum_by (λ e. length (noted_at k e)) es
+  notes_most : (n : ℕ) → n ≡ min (notes_in m.slots) (2 ^ 64 - 1) → (es : List Entity) → ((e : Entity) → rests_at k e ≡ true → is_in entity_cmp es e ≡ true) → n ≤ sum_by (λ e. length (recorded e)) es
   notes_most n count es covered =
-      let sum = slots_most m.slots (λ e. length (noted_at k e)) es noted_within (λ e some. covered e (noted_rests e some)) in
+      let sum = slots_most m.slots (λ e. length (recorded e)) es noted_within (λ e some. covered e (noted_rests e some)) in
       omega (arith, count, sum)
 
   pub notes_are : (n : ℕ) → n ≡ min (notes_in m.slots) (2 ^ 64 - 1) → (n ≡ 0) ↔ AreUnnoted m.slots → CanHold k n
@@ -68,7 +71,7 @@ module _ (k : KernelView) (m : Parts) (stands : Stands k m) where
     most = notes_most n count;
   }
 
-  pub none_undecided : undecided_at k ≡ [] → NothingRests k
+  pub none_undecided : undecided_at k ≡ [] → (e : Entity) → tags_at k e ≡ []
   none_undecided none e =
       no_tags (tags_at k e) (λ g. false_from_ne_true _ (λ here.
       true≢false (sym ((tidy k m stands).known e g (ap (has g) (tags_computed k m stands e) ∙ here)) ∙ ap (has g) (opens_are k m stands ∙ none))))

@@ -5,10 +5,14 @@ use Rattle.sk_kernel.proofs.Names.{is_full, EntityState, IsCount, name_there, na
 use Rattle.sk_kernel.proofs.Names.{EntryView, act, Saying, adds_in, refusal_of, Refusal, NoRoom, TooMany, TraceFull}
 use Rattle.sk_kernel.proofs.Names.{Parts, KernelView, or_else, trace_full, room, effect_at, state_at, crowded, no_room}
 use Rattle.sk_kernel.proofs.Names.{step_misfit, step_refused, guess_misfits, too_many, guess_refused, IsWhole}
-use Rattle.sk_kernel.proofs.Names.{TellsRoom}
+use Rattle.sk_kernel.proofs.Names.{MatchOption, nat_le, DIRECTORY_LIMIT, SlotMap}
 use Rattle.std.specs.FinMap as map
 use Rattle.sk_kernel.proofs.Whole.{look_is, same_effect}
 use Rattle.sk_kernel.proofs.Tokens.{full_is}
+
+-- whether as many names of a directory are there as may be, or more, where a step adds one to it
+abbrev pub TellsRoom : SlotMap → Option ObjId → Bool → Type 0
+TellsRoom m adds full = MatchOption adds (full ≡ false) (λ d. (n : ℕ) → IsCount (name_there (look_at m)) d n → full ≡ nat_le DIRECTORY_LIMIT n)
 
 short_of_room : (k : KernelView) (n r : ℕ) → r ≡ room k → r < n → trace_full k n ≡ Some TraceFull
 short_of_room k n r is less = let small : nat_lt (room k) n ≡ true = lt-ltb (room k) n (omega (arith, is, less)) in ap (λ b. cond b (Some TraceFull) None) small

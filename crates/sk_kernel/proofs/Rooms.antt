@@ -2,8 +2,8 @@
 use Rattle.sk_kernel.proofs.Names.{◌≡◌, ℕ, ◌<◌, ◌≤◌, Bool, true, false, cond, Some, None, Ok, sym, ◌∙◌, ap, subst}
 use Rattle.sk_kernel.proofs.Names.{EntryView, look_at, perform, act, adds_of, effect_of, seen_with, Plan, PlansStep}
 use Rattle.sk_kernel.proofs.Names.{NoRoom, TraceFull, adds_is, Parts, ScriptMap, KernelView, state_at, no_room, room}
-use Rattle.sk_kernel.proofs.Names.{step_refused, IsWhole, TellsRoom}
-use Rattle.sk_kernel.proofs.Refusals.{step_room, step_crowded, step_without_room, step_free}
+use Rattle.sk_kernel.proofs.Names.{step_refused, IsWhole}
+use Rattle.sk_kernel.proofs.Refusals.{TellsRoom, step_room, step_crowded, step_without_room, step_free}
 
 module _ (k : KernelView) (m : Parts) (place : ℕ) (whole : IsWhole k m place) (n : EntryView) (plan : Plan) (b : Bool) (tells : TellsRoom m.slots (adds_of plan) b) where
   pub room_of : no_room (state_at k) (Ok (effect_of (look_at m.slots) n.pid n.input (seen_with (look_at m.slots) k.scripts n.pid n.input plan))) ≡ cond b (Some NoRoom) None

@@ -14,7 +14,7 @@ use Rattle.sk_kernel.proofs.Names.{EntityState, texts_in, look_at, log_at, Input
 use Rattle.sk_kernel.proofs.Names.{image, Parts, machine_of, undo_state_of, said_at, count_of, KernelView, events_of}
 use Rattle.sk_kernel.proofs.Names.{record_at, state_at, undecided_at, tags_at, texts_at, said_by_record, HasStatus}
 use Rattle.sk_kernel.proofs.Names.{RestsOn, effect_at, number_after, last_guess, with_event, room, ShowsTerminal}
-use Rattle.sk_kernel.proofs.Names.{SaysNothing, LeavesTexts, released_at, IsWhole, Stands, opened, Machine}
+use Rattle.sk_kernel.proofs.Names.{LeavesTexts, released_at, IsWhole, Stands, opened, Machine}
 use Rattle.sk_kernel.proofs.Names.{machine_at_start, BootView, State, start_of, IsAtStart, booted, Scripts, append-nil}
 use Rattle.sk_kernel.proofs.Names.{TaggedText, waiting_of, option_copied, unwrap_or, Bool}
 use Rattle.std.specs.List.Sorted.{IsStrictlySortedBy}
@@ -241,11 +241,11 @@ module _ (k : KernelView) (m : Parts) (stands : Stands k m) where
   recorded : (t : ℕ) → map (λ x. x.0) (said_at t (texts_in m.texts t)) ≡ said_by_record k t
   recorded t = is_plain.texts t
 
-  pub terminal_shown : (t : ℕ) (r : Option (Bor (List TaggedText))) → option_copied r ≡ map.get m.texts t → MatchOption r (SaysNothing k t) (λ x. ShowsTerminal k t x.now)
-  terminal_shown t None none = record {
-    said = sym (texts_are t) ∙ ap (λ o. said_at t (unwrap_or o [])) (sym none);
-    all = sym (recorded t) ∙ ap (λ o. map (λ x. x.0) (said_at t (unwrap_or o []))) (sym none);
-  }
+  pub terminal_shown : (t : ℕ) (r : Option (Bor (List TaggedText))) → option_copied r ≡ map.get m.texts t → MatchOption r ((texts_at k t ≡ []) × (said_by_record k t ≡ [])) (λ x. ShowsTerminal k t x.now)
+  terminal_shown t None none = (
+    sym (texts_are t) ∙ ap (λ o. said_at t (unwrap_or o [])) (sym none),
+    sym (recorded t) ∙ ap (λ o. map (λ x. x.0) (said_at t (unwrap_or o []))) (sym none),
+  )
   terminal_shown t (Some x) some =
       let here : texts_in m.texts t ≡ x.now = ap (λ o. unwrap_or o []) (sym some) in
       record {

@@ -1,36 +1,10 @@
 -- What the kernel's calls answer.
 use Rattle.std.specs.Prelude.{◌≡◌, ℕ, ◌+◌, ◌<◌, ◌↔◌, List, [], length, map, Option, Some, None, Result, Ok, Err}
-use Rattle.sk_record.specs.declared.status.Status.TheVariants.{Undecided, Struck}
-use Rattle.sk_record.specs.Machine.{released}
-use Rattle.sk_record.specs.Trace.{IsDrawn}
-use Rattle.sk_record.specs.Release.{IsReleased}
-use Rattle.sk_guesses.specs.Token.{Token}
-use Rattle.sk_terminal.specs.Terminal.{TaggedText, waiting_of}
-use Rattle.sk_machine.specs.Parts.{said_at}
-use Rattle.sk_script.specs.declared.instruction.Input.{Input}
-use Rattle.sk_trace.specs.declared.event.Event.{Event}
-use Rattle.sk_trace.specs.declared.event.Event.TheVariants as events
-use Rattle.sk_record.specs.Step.{perform}
-use Rattle.sk_ids.specs.declared.entity.Entity.{Entity}
-use Rattle.sk_script.specs.Scripts.{ScriptMap}
-use Rattle.sk_store.specs.declared.entity_state.EntityState.{EntityState}
-use Rattle.sk_plain.specs.Act.{plain, act}
-use Rattle.sk_plain.specs.Planned.{effect_of, IsBeside}
-use Rattle.sk_plain.specs.Seen.{CanPerform, seen_with}
-use Rattle.sk_plain.specs.declared.plan.Plan.{Plan}
-use Rattle.sk_plain.specs.Refusal.{cause}
-use Rattle.sk_plain.specs.declared.refusal.Refusal.{Refusal}
-use Rattle.sk_record.specs.declared.status.Status.{Status}
-use Rattle.sk_trace.specs.Trace.{TraceView}
-use Rattle.sk_terminal.specs.Terminals.{TerminalMap, released_at}
+use Rattle.sk_kernel.specs.Base.{Undecided, Struck, released, IsDrawn, IsReleased, Token, TaggedText, waiting_of}
+use Rattle.sk_kernel.specs.Base.{said_at, Input, Event, perform, Entity, ScriptMap, EntityState, plain, act, effect_of}
+use Rattle.sk_kernel.specs.Base.{IsBeside, CanPerform, seen_with, Plan, cause, Refusal, Status, TraceView, TerminalMap}
+use Rattle.sk_kernel.specs.Base.{released_at, EpochRefusal, Outcome, Stranger, FailRefusal}
 use Rattle.sk_kernel.specs.Kernel.{KernelView, HasStatus, events_of, state_at, undecided_at, said_by_record, texts_at, last_guess, next_guess, with_event, guess_misfits}
-use Rattle.sk_kernel.specs.declared.kernel.EpochRefusal.{EpochRefusal}
-use Rattle.sk_kernel.specs.declared.kernel.EpochRefusal.TheVariants as epoch_refusals
-use Rattle.sk_kernel.specs.declared.kernel.Outcome.{Outcome}
-use Rattle.sk_kernel.specs.declared.kernel.Outcome.TheVariants as outcomes
-use Rattle.sk_kernel.specs.declared.kernel.Stranger.{Stranger}
-use Rattle.sk_kernel.specs.declared.kernel.FailRefusal.{FailRefusal}
-use Rattle.sk_kernel.specs.declared.kernel.FailRefusal.TheVariants as refusals
 
 -- a step is taken where no cause stands against it, and one event is appended; a refusal tells the first cause, and changes nothing
 abbrev pub StepPost : Result (Unit {0}) Refusal → Option Refusal → Event → KernelView → KernelView → Type 0
@@ -45,7 +19,7 @@ pub record IsNew (old new : KernelView) : Type 0 where
 -- the same for a guess, whose token is of this kernel and of the next number
 abbrev pub GuessPost : Result Token Refusal → Option Refusal → ℕ → Input → KernelView → KernelView → Type 0
 GuessPost (Ok token) refused pid input old new =
-    (refused ≡ None) × (token ≡ record { kernel = old.number; id = next_guess old }) × (new ≡ with_event old (events.Guess (next_guess old) pid input)) × IsNew old new
+    (refused ≡ None) × (token ≡ record { kernel = old.number; id = next_guess old }) × (new ≡ with_event old (Event.Guess (next_guess old) pid input)) × IsNew old new
 GuessPost (Err why) refused pid input old new = (refused ≡ cause why) × (new ≡ old)
 
 -- the plan of a guess with an input, or why it does not fit
@@ -61,18 +35,18 @@ IsStranger k token = token.kernel ≡ k.number → (HasStatus k token.id Undecid
 
 -- a decision of a token that is no stranger: its guess is undecided, and one event is appended, or it is struck, and nothing changes
 abbrev pub DecisionPost : Outcome → Token → Event → KernelView → KernelView → Type 0
-DecisionPost outcomes.Done token event old new = (token.kernel ≡ old.number) × HasStatus old token.id Undecided × (new ≡ with_event old event)
-DecisionPost outcomes.Gone token event old new = (token.kernel ≡ old.number) × HasStatus old token.id Struck × (new ≡ old)
+DecisionPost Outcome.Done token event old new = (token.kernel ≡ old.number) × HasStatus old token.id Undecided × (new ≡ with_event old event)
+DecisionPost Outcome.Gone token event old new = (token.kernel ≡ old.number) × HasStatus old token.id Struck × (new ≡ old)
 
 -- a commit, where a stranger comes back
 abbrev pub CommitPost : Result Outcome Stranger → Token → KernelView → KernelView → Type 0
-CommitPost (Ok outcome) token old new = DecisionPost outcome token (events.Commit token.id) old new
+CommitPost (Ok outcome) token old new = DecisionPost outcome token (Event.Commit token.id) old new
 CommitPost (Err stranger) token old new = IsStranger old token × (stranger.guess ≡ token) × (new ≡ old)
 
 -- a failure, which takes no memory
 abbrev pub FailPost : Result Outcome FailRefusal → Token → KernelView → KernelView → Type 0
-FailPost (Ok outcome) token old new = DecisionPost outcome token (events.Fail token.id) old new
-FailPost (Err (refusals.Stranger guess)) token old new = IsStranger old token × (guess ≡ token) × (new ≡ old)
+FailPost (Ok outcome) token old new = DecisionPost outcome token (Event.Fail token.id) old new
+FailPost (Err (FailRefusal.Stranger guess)) token old new = IsStranger old token × (guess ≡ token) × (new ≡ old)
 
 -- the texts of a terminal: those that the record says to it, with what they depend on, of which the longest prefix that depends on no undecided guess is released, and the others wait
 pub record ShowsTerminal (k : KernelView) (t : ℕ) (texts : List TaggedText) : Type 0 where
@@ -80,11 +54,6 @@ pub record ShowsTerminal (k : KernelView) (t : ℕ) (texts : List TaggedText) : 
   pub all : map (λ x. x.0) (said_at t texts) ≡ said_by_record k t
   pub waiting : waiting_of texts + length (released (said_at t texts)) ≡ length (said_by_record k t)
   pub released : IsReleased (plain k.scripts) k.start (events_of k) t (released (said_at t texts))
-
--- the record says nothing to a terminal
-pub record SaysNothing (k : KernelView) (t : ℕ) : Type 0 where
-  pub said : texts_at k t ≡ []
-  pub all : said_by_record k t ≡ []
 
 -- the texts that a shut kernel leaves for a terminal: all that was said to it by the steps that count, and all of it is released
 pub record LeavesTexts (k : KernelView) (t : ℕ) (texts : List (List ℕ)) : Type 0 where
@@ -101,5 +70,5 @@ pub record IsNextEpoch (old new : KernelView) : Type 0 where
 abbrev pub EpochPost : Result (TraceView × TerminalMap) EpochRefusal → KernelView → KernelView → Type 0
 EpochPost (Ok left) old new =
     (undecided_at old ≡ []) × (left.0.events ≡ old.trace) × ((t : ℕ) → LeavesTexts old t (released_at left.1 t)) × IsNextEpoch old new
-EpochPost (Err (epoch_refusals.Undecided n)) old new = (n ≡ length (undecided_at old)) × (0 < n) × (new ≡ old)
-EpochPost (Err epoch_refusals.Memory) old new = (undecided_at old ≡ []) × (new ≡ old)
+EpochPost (Err (EpochRefusal.Undecided n)) old new = (n ≡ length (undecided_at old)) × (0 < n) × (new ≡ old)
+EpochPost (Err EpochRefusal.Memory) old new = (undecided_at old ≡ []) × (new ≡ old)

@@ -1,25 +1,15 @@
 -- What a hand-in of a lease leaves, and why it is refused.
-use Rattle.std.specs.Prelude.{◌≡◌, ◌<◌, ◌≤◌, ℕ, ◌++◌, replicate, None, Result, Ok, Err}
+use Rattle.std.specs.Prelude.{◌≡◌, ◌<◌, ◌≤◌, ℕ, ◌++◌, replicate, Result, Ok, Err}
+use Rattle.sk_kernel.specs.Base.{LeaseView, Event, HandIn, Stale, TraceFull, Memory, Input}
 use Rattle.std.specs.FinMap as map
-use Rattle.sk_script.specs.Lease.{LeaseView}
-use Rattle.sk_script.specs.declared.instruction.Input.TheVariants as inputs
-use Rattle.sk_trace.specs.Entry.{EntryView}
-use Rattle.sk_trace.specs.declared.event.Event.{Event}
-use Rattle.sk_trace.specs.declared.event.Event.TheVariants as events
 use Rattle.sk_plain.specs.Leased as leased
 use Rattle.sk_kernel.specs.Kernel.{KernelView, state_at, room}
-use Rattle.sk_kernel.specs.declared.hand_in.HandIn.{HandIn}
-use Rattle.sk_kernel.specs.declared.hand_in.HandIn.TheVariants.{Stale, TraceFull, Memory}
 
 -- a step of a process without input
 abbrev pub alone_step : ℕ → Event
-alone_step pid = events.Step pid inputs.None
+alone_step pid = Event.Step pid Input.None
 
--- the same as an entry of the record
-abbrev pub alone_entry : ℕ → EntryView
-alone_entry pid = record { pid = pid; input = inputs.None; guess = None }
-
--- after so many of them
+-- a kernel after so many steps of a process without input
 abbrev pub with_steps : KernelView → ℕ → ℕ → KernelView
 with_steps k pid n = record k { trace = k.trace ++ replicate n (alone_step pid) }
 

@@ -1,23 +1,10 @@
 -- A kernel with the tokens of its guesses, as its callers see it, and what its calls answer.
 use Rattle.std.specs.Prelude.{◌≡◌, ℕ, ◌<◌, length, true, false, List, [], ◌∷◌, ◌++◌, ◌==◌, map, Option, Some, None, Result, Ok, Err, refl, if◌then◌else◌}
-use Rattle.std.specs.Coded.{Coded, code_by, coded×, coded_ℕ, coded_list}
-use Rattle.sk_record.specs.Notes.{has}
-use Rattle.sk_record.specs.declared.status.Status.TheVariants.{Undecided, Struck}
-use Rattle.sk_guesses.specs.Token.{Token}
-use Rattle.sk_script.specs.declared.instruction.Input.{Input}
-use Rattle.sk_trace.specs.declared.event.Event.{Event}
-use Rattle.sk_trace.specs.declared.event.Event.TheVariants as events
-use Rattle.sk_plain.specs.Refusal.{cause}
-use Rattle.sk_plain.specs.declared.refusal.Refusal.{Refusal}
+use Rattle.sk_kernel.specs.Base.{Coded, code_by, coded×, coded_ℕ, coded_list, has, Undecided, Struck, Token, Input}
+use Rattle.sk_kernel.specs.Base.{Event, cause, Refusal, TerminalMap, TraceView, EpochRefusal, Outcome}
 use Rattle.sk_kernel.specs.Kernel.{KernelView, HasStatus, kernel_code, next_guess, undecided_at, with_event}
-use Rattle.sk_terminal.specs.Terminals.{TerminalMap}
-use Rattle.sk_trace.specs.Trace.{TraceView}
 use Rattle.sk_kernel.specs.Calls.{EpochPost}
 use Rattle.sk_kernel.specs.Laws.{with_events}
-use Rattle.sk_kernel.specs.declared.kernel.EpochRefusal.{EpochRefusal}
-use Rattle.sk_kernel.specs.declared.kernel.EpochRefusal.TheVariants as epoch_refusals
-use Rattle.sk_kernel.specs.declared.kernel.Outcome.{Outcome}
-use Rattle.sk_kernel.specs.declared.kernel.Outcome.TheVariants as outcomes
 
 -- the kernel, and the guesses whose tokens are held, the oldest first
 pub record HolderView : Type 0 where
@@ -45,26 +32,26 @@ holding k = record { kernel = k; held = [] }
 abbrev pub GuessesPost : Result ℕ Refusal → Option Refusal → ℕ → Input → HolderView → HolderView → Type 0
 GuessesPost (Ok id) refused pid input old new =
     (refused ≡ None) × (id ≡ next_guess old.kernel)
-    × (new ≡ record { kernel = with_event old.kernel (events.Guess (next_guess old.kernel) pid input); held = old.held ++ next_guess old.kernel ∷ [] })
+    × (new ≡ record { kernel = with_event old.kernel (Event.Guess (next_guess old.kernel) pid input); held = old.held ++ next_guess old.kernel ∷ [] })
 GuessesPost (Err why) refused pid input old new = (refused ≡ cause why) × (new ≡ old)
 
 -- a guess is decided by its token: it was undecided, and the event happens, or it was struck, and the kernel stays; the token is spent
 abbrev pub DecidesPost : Option Outcome → Event → ℕ → HolderView → HolderView → Type 0
 DecidesPost None event id old new = (has id old.held ≡ false) × (new ≡ old)
-DecidesPost (Some outcomes.Done) event id old new =
+DecidesPost (Some Outcome.Done) event id old new =
     (has id old.held ≡ true) × HasStatus old.kernel id Undecided × (has id (undecided_at old.kernel) ≡ true)
     × (new ≡ record { kernel = with_event old.kernel event; held = but id old.held })
-DecidesPost (Some outcomes.Gone) event id old new =
+DecidesPost (Some Outcome.Gone) event id old new =
     (has id old.held ≡ true) × HasStatus old.kernel id Struck × (has id (undecided_at old.kernel) ≡ false)
     × (new ≡ record { kernel = old.kernel; held = but id old.held })
 
 -- only failures happened
 abbrev pub FailsSome : KernelView → KernelView → Type 0
-FailsSome old new = (failed : List ℕ) × (new ≡ with_events old (map events.Fail failed))
+FailsSome old new = (failed : List ℕ) × (new ≡ with_events old (map Event.Fail failed))
 
 -- where no guess is undecided a new epoch begins, with no token held; else nothing changes, but that where memory runs out the
 -- tokens of struck guesses are let go
 abbrev pub BeginsPost : Result (TraceView × TerminalMap) EpochRefusal → HolderView → HolderView → Type 0
 BeginsPost (Ok left) old new = EpochPost (Ok left) old.kernel new.kernel × (new.held ≡ [])
-BeginsPost (Err (epoch_refusals.Undecided n)) old new = (n ≡ length (undecided_at old.kernel)) × (0 < n) × (new ≡ old)
-BeginsPost (Err epoch_refusals.Memory) old new = (undecided_at old.kernel ≡ []) × (new ≡ holding old.kernel)
+BeginsPost (Err (EpochRefusal.Undecided n)) old new = (n ≡ length (undecided_at old.kernel)) × (0 < n) × (new ≡ old)
+BeginsPost (Err EpochRefusal.Memory) old new = (undecided_at old.kernel ≡ []) × (new ≡ holding old.kernel)

@@ -1,10 +1,6 @@
 -- What holds of the parts of a kernel between its calls.
 use Rattle.std.specs.Prelude.{◌≡◌, ℕ, ◌+◌, ◌≤◌, length, Some}
-use Rattle.sk_record.specs.Epoch.{status_in}
-use Rattle.sk_record.specs.Merged.{MergedStands}
-use Rattle.sk_record.specs.declared.status.Status.TheVariants.{Undecided}
-use Rattle.sk_machine.specs.Parts.{Parts, machine_of}
-use Rattle.sk_plain.specs.Act.{plain}
+use Rattle.sk_kernel.specs.Base.{status_in, MergedStands, Undecided, Parts, machine_of, plain}
 use Rattle.sk_kernel.specs.Kernel.{KernelView, events_of, last_guess}
 
 -- what the parts say of the trace, and of the guesses of earlier epochs

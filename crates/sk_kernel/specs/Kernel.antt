@@ -1,45 +1,15 @@
 -- The kernel as its callers see it: its number, scripts, start, trace limit, the statuses of earlier epochs, and what was done in this one. All else follows by definition.
 use Rattle.std.specs.Prelude.{ℕ, ◌+◌, ◌-◌, ◌||◌, ◌&&◌, Bool, true, false, is_some, nat_le, nat_lt, List, [], ◌∷◌, ◌++◌, map, length, get_or, Option, Some, None, Result, Ok, Err, refl, if◌then◌else◌}
-use Rattle.std.specs.Coded.{Coded, code_by, coded×, coded_ℕ, coded_list}
-use Rattle.std.specs.List.{fold}
+use Rattle.sk_kernel.specs.Base.{Coded, code_by, coded×, coded_ℕ, coded_list, fold, Effect, run, outcome, effects}
+use Rattle.sk_kernel.specs.Base.{tags_along, Happens, IsTagOf, record_of, undecided_of, all_recorded, no_record, deps}
+use Rattle.sk_kernel.specs.Base.{Tagged, StatusSince, Status, said, said_with, Entity, LAST_GUESS, ObjId}
+use Rattle.sk_kernel.specs.Base.{DIRECTORY_LIMIT, GUESS_LIMIT, ScriptMap, script_map_code, BootView, Input, State}
+use Rattle.sk_kernel.specs.Base.{names_in, start_of, EntityState, EntryView, event_code, Event, plain, Saying, adds_in}
+use Rattle.sk_kernel.specs.Base.{next_of, Next, refusal_of, image, Refusal, NoProcess, Ended, Mismatch, NoRoom}
+use Rattle.sk_kernel.specs.Base.{TooMany, state_code}
 use Rattle.std.specs.FinMap as map
-use Rattle.sk_record.specs.Step.{Effect}
-use Rattle.sk_record.specs.Run.{run, outcome, effects}
-use Rattle.sk_record.specs.Notes.{tags_along}
-use Rattle.sk_record.specs.Trace.{Event as Happens, IsTagOf, record_of, undecided_of, all_recorded, no_record, deps}
-use Rattle.sk_record.specs.Machine.{Tagged}
-use Rattle.sk_record.specs.Epoch.{StatusSince}
-use Rattle.sk_record.specs.declared.status.Status.{Status}
 use Rattle.sk_record.specs.contracts.status.Status as status
-use Rattle.sk_record.specs.Release.{said, said_with}
-use Rattle.sk_ids.specs.declared.entity.Entity.{Entity}
-use Rattle.sk_ids.specs.contracts.entity.Entity as entity
-use Rattle.sk_ids.specs.declared.guess.TheConstants.{LAST_GUESS}
-use Rattle.sk_ids.specs.declared.pid.ObjId.{ObjId}
-use Rattle.sk_kernel.specs.declared.room.TheConstants.{DIRECTORY_LIMIT}
-use Rattle.sk_guesses.specs.declared.guesses.TheConstants.{GUESS_LIMIT}
-use Rattle.sk_script.specs.Scripts.{ScriptMap, script_map_code}
-use Rattle.sk_script.specs.Boot.{BootView}
-use Rattle.sk_script.specs.declared.instruction.Input.{Input}
-use Rattle.sk_script.specs.declared.instruction.Input.TheVariants as inputs
-use Rattle.sk_store.specs.State.{State}
-use Rattle.sk_store.specs.Names.{names_in}
-use Rattle.sk_store.specs.Start.{start_of}
-use Rattle.sk_store.specs.declared.entity_state.EntityState.{EntityState}
-use Rattle.sk_store.specs.contracts.entity_state.EntityState as stored_row
-use Rattle.sk_trace.specs.Entry.{EntryView}
-use Rattle.sk_trace.specs.Trace.{event_code}
-use Rattle.sk_trace.specs.declared.event.Event.{Event}
-use Rattle.sk_trace.specs.declared.event.Event.TheVariants as events
-use Rattle.sk_plain.specs.Act.{plain, Saying}
-use Rattle.sk_plain.specs.Adds.{adds_in}
-use Rattle.sk_plain.specs.Next.{next_of}
-use Rattle.sk_plain.specs.declared.next.Next.{Next}
-use Rattle.sk_plain.specs.declared.next.Next.TheVariants as nexts
-use Rattle.sk_plain.specs.Planned.{refusal_of}
-use Rattle.sk_plain.specs.Replay.{image}
-use Rattle.sk_plain.specs.declared.refusal.Refusal.{Refusal}
-use Rattle.sk_plain.specs.declared.refusal.Refusal.TheVariants.{NoProcess, Ended, Mismatch, NoRoom, TooMany, TraceFull}
+use Rattle.sk_plain.specs.declared.refusal.Refusal.TheVariants.{TraceFull}
 
 -- a kernel as contracts see it
 pub record KernelView : Type 0 where
@@ -53,9 +23,6 @@ pub record KernelView : Type 0 where
   -- what became of the guesses of earlier epochs, which are 1, 2 and so on
   pub earlier : List Status
   pub trace : List Event
-
-abbrev pub state_code : Coded State
-state_code = map.code entity.the_row.coded stored_row.the_row.coded
 
 abbrev pub kernel_code : Coded KernelView
 kernel_code =
@@ -114,10 +81,8 @@ room k = k.limit - length k.trace - length (undecided_at k)
 
 -- the number of the last guess
 abbrev pub number_after : ℕ → Event → ℕ
-number_after last (events.Step pid input) = last
-number_after last (events.Guess id pid input) = id
-number_after last (events.Commit id) = last
-number_after last (events.Fail id) = last
+number_after last (Event.Guess id pid input) = id
+number_after last _ = last
 
 abbrev pub last_guess : KernelView → ℕ
 last_guess k = fold number_after (length k.earlier) k.trace
@@ -137,7 +102,11 @@ abbrev pub or_else : Option Refusal → Option Refusal → Option Refusal
 or_else (Some why) later = Some why
 or_else None later = later
 
--- what the plain kernel does at this entry
+-- the entry of a step of a process with this input, which this guess marks, if one does
+abbrev pub entry : ℕ → Input → Option ℕ → EntryView
+entry pid input guess = record { pid = pid; input = input; guess = guess }
+
+-- what the plain kernel does at an entry
 abbrev pub effect_at : KernelView → EntryView → Result (Effect Entity EntityState Saying) Refusal
 effect_at k n = outcome (plain k.scripts) (state_at k) n
 
@@ -152,23 +121,18 @@ no_room s (Err why) = None
 no_room s (Ok f) = crowded s (adds_in f.written)
 
 abbrev pub is_other : Next → Bool
-is_other nexts.Other = true
-is_other nexts.Signal = false
-is_other (nexts.Fetch name) = false
-is_other (nexts.Store name) = false
-is_other nexts.Private = false
-is_other nexts.Waits = false
-is_other nexts.Full = false
+is_other Next.Other = true
+is_other _ = false
 
 -- where a step without input that has no room is told apart
 abbrev pub or_full : Option Refusal → Result Next Refusal → Result Next Refusal
-or_full full (Ok next) = Ok (if is_other next && is_some full then nexts.Full else next)
+or_full full (Ok next) = Ok (if is_other next && is_some full then Next.Full else next)
 or_full full (Err why) = Err why
 
 -- what a process does next
 abbrev pub next_at : KernelView → ℕ → Result Next Refusal
 next_at k pid =
-    or_full (no_room (state_at k) (effect_at k (record { pid = pid; input = inputs.None; guess = None }))) (next_of (map.get (state_at k)) k.scripts pid)
+    or_full (no_room (state_at k) (effect_at k (entry pid Input.None None))) (next_of (map.get (state_at k)) k.scripts pid)
 
 abbrev pub trace_full : KernelView → ℕ → Option Refusal
 trace_full k places = if nat_lt (room k) places then Some TraceFull else None
@@ -189,10 +153,8 @@ misfit _ = Mismatch
 
 -- why a guess with such an input is refused, the limits of the kernel aside
 abbrev pub guess_misfits : Input → Result (Effect Entity EntityState Saying) Refusal → Option Refusal
-guess_misfits inputs.None does = Some (misfit does)
-guess_misfits inputs.Good does = refusal_of does
-guess_misfits (inputs.Fresh content) does = refusal_of does
-guess_misfits (inputs.Stale content) does = refusal_of does
+guess_misfits Input.None does = Some (misfit does)
+guess_misfits _ does = refusal_of does
 
 -- as many guesses are undecided as may be, or no number is left
 abbrev pub too_many : KernelView → Option Refusal

@@ -1,3 +1,4 @@
+pub mod Base
 pub mod Kernel
 pub mod Calls
 pub mod Footprint
@@ -7,6 +8,5 @@ pub mod Opening
 pub mod OpeningLemma
 pub mod HandIn
 pub mod Notes
-pub mod Room
 pub mod Holder
 pub mod Tokens

@@ -1,11 +1,6 @@
 -- The test of two openings is exact.
 use Rattle.std.specs.Prelude.{◌&&◌, nat_eq}
-use Rattle.std.specs.Cmp.{unsigned_Decides}
-use Rattle.std.proofs.Common.{ap}
-use Rattle.std.proofs.lemmas.Bool.Decides.{Decides-and, Decides-like}
-use Rattle.sk_ids.specs.Same.{IsExact}
-use Rattle.sk_plain.specs.Same.{same_plain}
-use Rattle.sk_plain.specs.SameLemma.{exact_plain}
+use Rattle.sk_kernel.specs.Base.{unsigned_Decides, ap, Decides-and, Decides-like, IsExact, same_plain, exact_plain}
 use Rattle.sk_kernel.specs.Opening.{same_opening}
 
 pub exact_opening : IsExact same_opening

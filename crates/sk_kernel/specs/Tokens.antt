@@ -1,9 +1,6 @@
 -- What holds of held tokens.
 use Rattle.std.specs.Prelude.{◌≡◌, ℕ, true, false, List, [], ◌∷◌}
-use Rattle.std.specs.List.{Contains}
-use Rattle.sk_record.specs.Notes.{has}
-use Rattle.sk_record.specs.Trace.{Commit, Fail}
-use Rattle.sk_guesses.specs.Token.{Token}
+use Rattle.sk_kernel.specs.Base.{Contains, has, Commit, Fail, Token}
 use Rattle.sk_kernel.specs.Kernel.{KernelView, events_of, undecided_at}
 use Rattle.sk_kernel.specs.Laws.{WasDrawn}
 use Rattle.sk_kernel.specs.Holder.{ids}

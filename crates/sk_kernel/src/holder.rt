@@ -1,13 +1,9 @@
 //! A kernel with the tokens of its guesses.
 ghost use Rattle.std.specs.Prelude.{◌≡◌, ◌<◌, ◌+◌, ℕ, [], None, Some, IfSome, IfErr, is_some, length, slice_get, slice_index_or};
-ghost use Rattle.std.specs.List.{remove};
-ghost use Rattle.sk_record.specs.Notes.{has};
-ghost use Rattle.sk_plain.specs.Refusal.{cause};
-ghost use Rattle.sk_kernel.specs.Kernel.{undecided_at, next_guess, step_refused, guess_refused};
+ghost use Rattle.sk_kernel.specs.Base.{remove, has, cause, released_at, input_in};
+ghost use Rattle.sk_kernel.specs.Kernel.{undecided_at, next_guess, entry, step_refused, guess_refused};
 ghost use Rattle.sk_kernel.specs.Calls.{StepPost, EpochPost, LeavesTexts};
 ghost use Rattle.sk_kernel.specs.HandIn.{HandInPost};
-ghost use Rattle.sk_terminal.specs.Terminals.{released_at};
-ghost use Rattle.sk_trace.specs.Kept.{input_in};
 ghost use Rattle.sk_trace.specs.declared.event.Event.TheVariants as events;
 ghost use Rattle.sk_kernel.specs.Holder.{holding, GuessesPost, DecidesPost, FailsSome, BeginsPost};
 
@@ -80,11 +76,7 @@ impl Holder {
     /// The first cause against a guess for which there is no memory.
     fn guess_refusal(&self, pid: Pid, input: InputRef<'_>) -> Refusal
         ensures { guess_refused self.now.kernel
-            (record {
-              pid = pid;
-              input = (input_in input.entry);
-              guess = Some (next_guess self.now.kernel);
-            }) ≡ cause result }
+            (entry pid (input_in input.entry) (Some (next_guess self.now.kernel))) ≡ cause result }
     {
         if let Some(why) = self.kernel.guess_refusal(pid, input) {
             return why;
@@ -129,8 +121,7 @@ impl Holder {
     /// Takes a step, as the kernel does.
     pub fn step(&mut self, pid: Pid, input: InputRef<'_>) -> Result<(), Refusal>
         ensures kernel { StepPost result
-            (step_refused self.old.kernel
-            (record { pid = pid; input = (input_in input.entry); guess = None }))
+            (step_refused self.old.kernel (entry pid (input_in input.entry) None))
             (events.Step pid (input_in input.entry)) self.old.kernel self.new.kernel }
         ensures held { self.new.held ≡ self.old.held }
     {
@@ -149,11 +140,8 @@ impl Holder {
     pub fn guess(&mut self, pid: Pid, input: InputRef<'_>) -> Result<GuessId, Refusal>
         ensures { GuessesPost result
             (guess_refused self.old.kernel
-            (record {
-              pid = pid;
-              input = (input_in input.entry);
-              guess = Some (next_guess self.old.kernel);
-            })) pid (input_in input.entry) self.old self.new }
+            (entry pid (input_in input.entry) (Some (next_guess self.old.kernel)))) pid
+            (input_in input.entry) self.old self.new }
     {
         if self.tokens.reserve(1).is_err() {
             return Err(self.guess_refusal(pid, input));

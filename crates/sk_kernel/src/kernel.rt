@@ -1,29 +1,16 @@
 //! The speculative kernel.
 ghost use Rattle.std.specs.Prelude.{◌≡◌, ◌↔◌, ℕ, true, is_some, length, IfOk, IfSome, MatchOption, None, Some, []};
+ghost use Rattle.sk_kernel.specs.Base.{All, IsStrictlySortedBy, entity_cmp, is_in, has, Entity, next_of, unplanned};
+ghost use Rattle.sk_kernel.specs.Base.{PlansStep, told, cause, Shows, names_in, IsPresent, entities_of, input_in};
+ghost use Rattle.sk_kernel.specs.Base.{Status, look_at, released_at};
 ghost use Rattle.std.specs.FinMap as map;
-ghost use Rattle.std.specs.List.{All};
-ghost use Rattle.std.specs.List.Sorted.{IsStrictlySortedBy};
-ghost use Rattle.sk_ids.specs.Entity.{entity_cmp};
-ghost use Rattle.sk_record.specs.Effects.{is_in};
-ghost use Rattle.sk_record.specs.Notes.{has};
-ghost use Rattle.sk_ids.specs.declared.entity.Entity.{Entity};
-ghost use Rattle.sk_plain.specs.Next.{next_of, unplanned};
-ghost use Rattle.sk_plain.specs.Seen.{PlansStep, told};
-ghost use Rattle.sk_plain.specs.Refusal.{cause};
-ghost use Rattle.sk_plain.specs.View.{Shows};
 ghost use Rattle.sk_script.specs.declared.instruction.Input.TheVariants as inputs;
-ghost use Rattle.sk_store.specs.Names.{names_in};
-ghost use Rattle.sk_store.specs.Present.{IsPresent, entities_of};
-ghost use Rattle.sk_trace.specs.Kept.{input_in};
 ghost use Rattle.sk_trace.specs.declared.event.Event.TheVariants as events;
-ghost use Rattle.sk_kernel.specs.Kernel.{booted, state_at, undecided_at, tags_at, room, next_guess, settled, effect_at, is_other, next_at, no_room, step_misfit, or_else, guess_misfits, too_many, step_refused, guess_refused, HasStatus, RestsOn};
+ghost use Rattle.sk_kernel.specs.Kernel.{booted, state_at, undecided_at, tags_at, texts_at, said_by_record, room, next_guess, settled, entry, effect_at, is_other, next_at, no_room, step_misfit, or_else, guess_misfits, too_many, step_refused, guess_refused, HasStatus, RestsOn};
 ghost use Rattle.sk_kernel.specs.Footprint.{footprint_of};
 ghost use Rattle.sk_kernel.specs.Opening.{opening_of};
 ghost use Rattle.sk_kernel.specs.Laws.{HasSoundTrace};
-ghost use Rattle.sk_kernel.specs.Calls.{StepPost, GuessPost, CommitPost, FailPost, EpochPost, ShowsTerminal, SaysNothing, LeavesTexts, PlansGuess};
-ghost use Rattle.sk_record.specs.declared.status.Status.{Status};
-ghost use Rattle.sk_machine.specs.Parts.{look_at};
-ghost use Rattle.sk_terminal.specs.Terminals.{released_at};
+ghost use Rattle.sk_kernel.specs.Calls.{StepPost, GuessPost, CommitPost, FailPost, EpochPost, ShowsTerminal, LeavesTexts, PlansGuess};
 
 use crate::room::is_crowded;
 use crate::{Footprint, Opening};
@@ -203,7 +190,8 @@ impl Kernel {
 
     /// The texts of a terminal; `None` where none was said that counts.
     pub fn terminal(&self, number: u16) -> Option<&Terminal>
-        ensures { MatchOption result (SaysNothing self.now number)
+        ensures { MatchOption result
+            ((texts_at self.now number ≡ []) × (said_by_record self.now number ≡ []))
             (λ terminal. ShowsTerminal self.now number terminal.now) }
     {
         self.machine.terminal(number)
@@ -261,8 +249,7 @@ impl Kernel {
 
     /// Why a step would be refused, the trace's limit and want of memory aside.
     pub fn step_refusal(&self, pid: Pid, input: InputRef<'_>) -> Option<Refusal>
-        ensures exact { result ≡ step_misfit self.now
-            (record { pid = pid; input = (input_in input.entry); guess = None }) }
+        ensures exact { result ≡ step_misfit self.now (entry pid (input_in input.entry) None) }
         ensures told { IfSome result (λ why. cause why ≡ Some why) }
     {
         match plan_at(&self.machine, &self.opening, pid, input) {
@@ -276,11 +263,7 @@ impl Kernel {
         ensures exact { result ≡ or_else
             (guess_misfits (input_in input.entry)
             (effect_at self.now
-            (record {
-              pid = pid;
-              input = (input_in input.entry);
-              guess = Some (next_guess self.now);
-            }))) (too_many self.now) }
+            (entry pid (input_in input.entry) (Some (next_guess self.now))))) (too_many self.now) }
         ensures told { IfSome result (λ why. cause why ≡ Some why) }
     {
         let mut plan = Plan::Private;
@@ -297,8 +280,7 @@ impl Kernel {
     /// limits of the trace and of directories aside. This takes no memory.
     pub fn footprint(&self, pid: Pid, input: InputRef<'_>) -> Result<Footprint, Refusal>
         ensures { result ≡ footprint_of
-            (effect_at self.now
-            (record { pid = pid; input = (input_in input.entry); guess = None })) }
+            (effect_at self.now (entry pid (input_in input.entry) None)) }
     {
         match plan_at(&self.machine, &self.opening, pid, input) {
             Ok(plan) => Ok(Footprint {
@@ -343,7 +325,7 @@ impl Kernel {
     fn lacks_room(&self, pid: Pid) -> bool
         ensures { result ≡ is_some
             (no_room (state_at self.now)
-            (effect_at self.now (record { pid = pid; input = inputs.None; guess = None }))) }
+            (effect_at self.now (entry pid inputs.None None))) }
     {
         match plan_at(&self.machine, &self.opening, pid, InputRef::None) {
             Ok(plan) => is_crowded(&self.machine, &plan),
@@ -360,8 +342,7 @@ impl Kernel {
 
     /// Takes a step of a process with an input. After a refusal the kernel is as it was.
     pub fn step(&mut self, pid: Pid, input: Input) -> Result<(), Refusal>
-        ensures { StepPost result
-            (step_refused self.old (record { pid = pid; input = input; guess = None }))
+        ensures { StepPost result (step_refused self.old (entry pid input None))
             (events.Step pid input) self.old self.new }
     {
         self.step_lent(pid, InputRef::of(&input))
@@ -371,8 +352,7 @@ impl Kernel {
     /// as it was.
     pub fn create_speculation(&mut self, pid: Pid, input: Input) -> Result<Guess, Refusal>
         ensures { GuessPost result
-            (guess_refused self.old
-            (record { pid = pid; input = input; guess = Some (next_guess self.old) })) pid input
+            (guess_refused self.old (entry pid input (Some (next_guess self.old)))) pid input
             self.old self.new }
     {
         self.speculate_lent(pid, InputRef::of(&input))
@@ -381,8 +361,7 @@ impl Kernel {
     /// Takes a step of a process with an input that is lent, as `step` does. After a refusal the kernel is as it was.
     pub fn step_lent(&mut self, pid: Pid, input: InputRef<'_>) -> Result<(), Refusal>
         ensures { StepPost result
-            (step_refused self.old
-            (record { pid = pid; input = (input_in input.entry); guess = None }))
+            (step_refused self.old (entry pid (input_in input.entry) None))
             (events.Step pid (input_in input.entry)) self.old self.new }
     {
         let room = self.room();
@@ -421,11 +400,8 @@ impl Kernel {
     pub fn speculate_lent(&mut self, pid: Pid, input: InputRef<'_>) -> Result<Guess, Refusal>
         ensures { GuessPost result
             (guess_refused self.old
-            (record {
-              pid = pid;
-              input = (input_in input.entry);
-              guess = Some (next_guess self.old);
-            })) pid (input_in input.entry) self.old self.new }
+            (entry pid (input_in input.entry) (Some (next_guess self.old)))) pid
+            (input_in input.entry) self.old self.new }
     {
         let room = self.room();
         plan_guess(&self.machine, &self.opening, pid, input, &mut self.plan)?;

@@ -1,15 +1,11 @@
 //! What the definitions of kernels come to. Each law is the contract of a function that does nothing.
 ghost use Rattle.std.specs.Prelude.{◌≡◌, ◌<◌, ◌↔◌, ℕ, false, List, [], None, Some};
-ghost use Rattle.sk_record.specs.Notes.{has};
-ghost use Rattle.sk_record.specs.declared.status.Status.TheVariants.{Undecided};
-ghost use Rattle.sk_ids.specs.declared.entity.Entity.{Entity};
-ghost use Rattle.sk_script.specs.declared.instruction.Input.{Input};
-ghost use Rattle.sk_script.specs.Lease.{LeaseView};
-ghost use Rattle.sk_trace.specs.declared.event.Event.{Event};
+ghost use Rattle.sk_kernel.specs.Base.{has, Undecided, Entity, Input, LeaseView, Event, after_private};
 ghost use Rattle.sk_trace.specs.declared.event.Event.TheVariants as events;
-ghost use Rattle.sk_kernel.specs.Kernel.{KernelView, HasStatus, RestsOn, next_guess, tags_at, undecided_at, with_event};
+ghost use Rattle.sk_kernel.specs.Kernel.{KernelView, HasStatus, RestsOn, next_guess, entry, tags_at, undecided_at, with_event};
 ghost use Rattle.sk_kernel.specs.Calls.{IsNextEpoch};
-ghost use Rattle.sk_kernel.specs.Laws.{HasSoundTrace, AnswersAlike, with_events, WasDrawn, KeepsUnwritten, WritesAll, HandsInEntries};
+ghost use Rattle.sk_kernel.specs.Laws.{HasSoundTrace, AnswersAlike, with_events, WasDrawn, KeepsUnwritten, WritesAll, AreEntries};
+ghost use Rattle.sk_kernel.specs.HandIn.{IsAsLent, with_steps};
 
 /// The number of the next guess is above that of each guess that was made.
 pub fn numbers()
@@ -30,26 +26,26 @@ pub fn epochs()
 /// What an accepted step or guess does not write keeps its value and its tags.
 pub fn unwritten()
     ensures step { (k : KernelView) (pid : ℕ) (input : Input) → HasSoundTrace k
-        → KeepsUnwritten k (record { pid = pid; input = input; guess = None })
-        (with_event k (events.Step pid input)) }
+        → KeepsUnwritten k (entry pid input None) (with_event k (events.Step pid input)) }
     ensures guess { (k : KernelView) (pid : ℕ) (input : Input) → HasSoundTrace k
-        → KeepsUnwritten k (record { pid = pid; input = input; guess = Some (next_guess k) })
+        → KeepsUnwritten k (entry pid input (Some (next_guess k)))
         (with_event k (events.Guess (next_guess k) pid input)) }
 {}
 
 /// What an accepted step or guess writes has the value that the step gives it, and rests on just what the step rests on.
 pub fn written()
     ensures step { (k : KernelView) (pid : ℕ) (input : Input) → HasSoundTrace k
-        → WritesAll k (record { pid = pid; input = input; guess = None })
-        (with_event k (events.Step pid input)) }
+        → WritesAll k (entry pid input None) (with_event k (events.Step pid input)) }
     ensures guess { (k : KernelView) (pid : ℕ) (input : Input) → HasSoundTrace k
-        → WritesAll k (record { pid = pid; input = input; guess = Some (next_guess k) })
+        → WritesAll k (entry pid input (Some (next_guess k)))
         (with_event k (events.Guess (next_guess k) pid input)) }
 {}
 
 /// A hand-in of so many private instructions is as many entries of the record, and leaves the process as they do.
 pub fn handed_in()
-    ensures { (k : KernelView) (l : LeaseView) → HasSoundTrace k → HandsInEntries k l }
+    ensures { (k : KernelView) (l : LeaseView) → HasSoundTrace k → IsAsLent k l
+        → after_private l.script l.count l.lent ≡ Some l.now
+        → AreEntries k (with_steps k l.lent.pid l.count) l.lent.pid l.count l.now }
 {}
 
 /// After the failure of a guess nothing rests on it.

@@ -172,8 +172,8 @@ alike_covers : (tags : List ℕ) (base : Entity → List ℕ) (es : List Entity)
 alike_covers tags base es alike e g there rests = ap (has g) (sym (alike e there)) ∙ rests
 
 -- ---- the lists stay as they are
-pub alike_exact : (tags : List ℕ) (es : List Entity) (base : Entity → List ℕ) → RestAlike tags es base → (os : List (OpenGuess Entity)) → AllExact base os → AllExact (with_tags tags es base) os
-alike_exact tags es base alike os all = exact_as base (with_tags tags es base) (λ e. grind (arith, alike e)) os all
+pub alike_exact : (tags : List ℕ) (es : List Entity) (base : Entity → List ℕ) → RestAlike tags es base → (os : List (OpenGuess Entity)) → AllExact base os → AllExact (with_tags entity_cmp tags es base) os
+alike_exact tags es base alike os all = exact_as base (with_tags entity_cmp tags es base) (λ e. grind (arith, alike e)) os all
 
 -- ---- a planned step of this kind
 module _ (p : Parts) (scripts : Scripts) (pid : ℕ) (input : Input) (plan : Plan) (tags : List ℕ) (can : CanTake p scripts pid input plan) (alike : RestsAsProcess p.slots tags pid input plan) where

@@ -24,7 +24,7 @@ pub exact_at : (tags : Entity → List ℕ) (g : ℕ) (os : List (OpenGuess Enti
 exact_at = lists.exact_at entity_total entity_exact
 
 pub almost_of : (tags : List ℕ) (es all : List Entity) (base : Entity → List ℕ) → Covers tags all base → ((e : Entity) → is_in entity_cmp es e ≡ true → is_in entity_cmp all e ≡ true)
-    → (os : List (OpenGuess Entity)) → AllExact (with_tags tags es base) os → AllAlmostExact base all os
+    → (os : List (OpenGuess Entity)) → AllExact (with_tags entity_cmp tags es base) os → AllAlmostExact base all os
 almost_of = lists.almost_of entity_total entity_exact
 
 pub left_more : (base : Entity → List ℕ) (x : Entity) (es : List Entity) (tags : List ℕ) → tags ≡ base x → (os : List (OpenGuess Entity)) → AllAlmostExact base (x ∷ es) os → AllAlmostExact base es (map (left_to entity_cmp tags x) os)
@@ -33,16 +33,16 @@ left_more = lists.left_more entity_total entity_exact
 pub none_left : (base : Entity → List ℕ) (os : List (OpenGuess Entity)) → AllAlmostExact base [] os → AllExact base os
 none_left = lists.none_left entity_total entity_exact
 
-pub depends_opens : (own tags : List ℕ) (x : Entity) (os new : List (OpenGuess Entity)) → Depends own tags x os new → opens_of new ≡ opens_of os
+pub depends_opens : (own tags : List ℕ) (x : Entity) (os new : List (OpenGuess Entity)) → Depends entity_cmp own tags x os new → opens_of new ≡ opens_of os
 depends_opens = lists.depends_opens entity_total entity_exact
 
 pub depends_exact : (tags : List ℕ) (es : List Entity) (x : Entity) (base : Entity → List ℕ) (own : List ℕ) → own ≡ base x → ((g : ℕ) → has g (base x) ≡ true → has g tags ≡ true)
-    → (os new : List (OpenGuess Entity)) → Depends own tags x os new → AllExact (with_tags tags es base) os → AllExact (with_tags tags (es ++ x ∷ []) base) new
+    → (os new : List (OpenGuess Entity)) → Depends entity_cmp own tags x os new → AllExact (with_tags entity_cmp tags es base) os → AllExact (with_tags entity_cmp tags (es ++ x ∷ []) base) new
 depends_exact = lists.depends_exact entity_total entity_exact
 
 -- where each guess of a set was drawn after all of these, no list of theirs changes
 pub later_exact : (tags : List ℕ) (es : List Entity) (base : Entity → List ℕ) → Covers tags es base
-    → (os : List (OpenGuess Entity)) → ((g : ℕ) → has g tags ≡ true → has g (numbers (opens_of os)) ≡ false) → AllExact base os → AllExact (with_tags tags es base) os
+    → (os : List (OpenGuess Entity)) → ((g : ℕ) → has g tags ≡ true → has g (numbers (opens_of os)) ≡ false) → AllExact base os → AllExact (with_tags entity_cmp tags es base) os
 later_exact tags es base covers [] apart all = tt
 later_exact tags es base covers (o ∷ os) apart all = (
   λ e. grind (arith, eq-eqb o.id o.id refl, apart o.id, covers e o.id, all.0 e),
@@ -71,7 +71,7 @@ in_front es i e here =
 -- ---- a step
 -- what is written rests on what the step rests on
 pub tags_written : (m n : SlotMap) (tags : List ℕ) (ws : List (Entity × Option EntityState)) → IsClean m tags (entities_of ws) → Performed m tags ws n
-    → (e : Entity) → with_tags tags (entities_of ws) (tags_in m) e ≡ tags_in n e
+    → (e : Entity) → with_tags entity_cmp tags (entities_of ws) (tags_in m) e ≡ tags_in n e
 tags_written m n tags ws clean did = lists.tags_written entity_total entity_exact (log_at m) (log_at n) (look_at m) tags (entities_of ws) clean did.logs
 
 pub any_of : (tags : Entity → List ℕ) (g : ℕ) (es : List Entity) (e : Entity) → is_in entity_cmp es e ≡ true → has g (tags e) ≡ true → list_any (λ x. has g (tags x)) es ≡ true
@@ -144,24 +144,24 @@ in_place (y ∷ es) zero x lt is = or_left _ _ (ap (λ z. eq_by_cmp entity_cmp x
 in_place (y ∷ es) (suc i) x lt is = or_right _ _ (in_place es i x (omega arith) is)
 
 -- ---- a step that was performed, and one that was not
-pub unperformed : (m n : SlotMap) (tags : List ℕ) (es : List Entity) → n ≡ m → Covers tags es (tags_in m) → (os : List (OpenGuess Entity)) → AllExact (with_tags tags es (tags_in m)) os → AllAlmostExact (tags_in n) es os
+pub unperformed : (m n : SlotMap) (tags : List ℕ) (es : List Entity) → n ≡ m → Covers tags es (tags_in m) → (os : List (OpenGuess Entity)) → AllExact (with_tags entity_cmp tags es (tags_in m)) os → AllAlmostExact (tags_in n) es os
 unperformed m n tags es same covers os all =
     subst (λ k. AllAlmostExact (tags_in k) es os) (sym same) (almost_of tags es es (tags_in m) covers (λ e here. here) os all)
 
 pub performed_exact : (m n : SlotMap) (tags : List ℕ) (es : List Entity) (ws : List (Entity × Option EntityState)) → es ≡ entities_of ws → IsClean m tags (entities_of ws) → Performed m tags ws n
-    → (os : List (OpenGuess Entity)) → AllExact (with_tags tags es (tags_in m)) os → AllExact (tags_in n) os
+    → (os : List (OpenGuess Entity)) → AllExact (with_tags entity_cmp tags es (tags_in m)) os → AllExact (tags_in n) os
 performed_exact m n tags es ws is clean did os all =
-    exact_as (with_tags tags (entities_of ws) (tags_in m)) (tags_in n) (tags_written m n tags ws clean did) os
-    (subst (λ xs. AllExact (with_tags tags xs (tags_in m)) os) is all)
+    exact_as (with_tags entity_cmp tags (entities_of ws) (tags_in m)) (tags_in n) (tags_written m n tags ws clean did) os
+    (subst (λ xs. AllExact (with_tags entity_cmp tags xs (tags_in m)) os) is all)
 
 pub guessed_exact : (m n : SlotMap) (tags : List ℕ) (es : List Entity) (ws : List (Entity × Option EntityState)) (o : OpenGuess Entity) → es ≡ entities_of ws → IsClean m tags (entities_of ws) → Performed m tags ws n
     → o.dependents ≡ with_entities entity_cmp [] es → has o.id tags ≡ true → ((e : Entity) → has o.id (tags_in m e) ≡ false)
-    → (os : List (OpenGuess Entity)) → AllExact (with_tags tags es (tags_in m)) os → AllExact (tags_in n) (os ++ o ∷ [])
+    → (os : List (OpenGuess Entity)) → AllExact (with_tags entity_cmp tags es (tags_in m)) os → AllExact (tags_in n) (os ++ o ∷ [])
 guessed_exact m n tags es ws o is clean did begins own none os all =
     lists.exact_more entity_total entity_exact (tags_in n) os o (performed_exact m n tags es ws is clean did os all)
     (λ e.
     ap (λ xs. is_in entity_cmp xs e) begins ∙ lists.begun entity_total entity_exact o.id tags es (tags_in m) own none e
-    ∙ ap (λ xs. has o.id (with_tags tags xs (tags_in m) e)) is ∙ ap (has o.id) (tags_written m n tags ws clean did e))
+    ∙ ap (λ xs. has o.id (with_tags entity_cmp tags xs (tags_in m) e)) is ∙ ap (has o.id) (tags_written m n tags ws clean did e))
 
 pub more_opens : (os : List (OpenGuess Entity)) (o : OpenGuess Entity) → opens_of (os ++ o ∷ []) ≡ opens_of os ++ (o.id, o.tags) ∷ []
 more_opens [] o = refl

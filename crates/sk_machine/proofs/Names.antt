@@ -27,14 +27,14 @@ pub use Rattle.sk_ids.specs.SameLemma.{exact_bytes}
 pub use Rattle.sk_ids.specs.Entity.{entity_cmp}
 pub use Rattle.sk_ids.specs.declared.entity.Entity.{Entity}
 pub use Rattle.sk_ids.specs.declared.entity.Entity.TheVariants.{Link, Proc, Sig, Obj, Copy, Exit}
-pub use Rattle.sk_machine.specs.Dependents.{tags_in, with_tags, Depends, AllExact, Covers, IsEnough, RestAlike}
+pub use Rattle.sk_guesses.specs.Dependents.{with_tags, Depends}
+pub use Rattle.sk_machine.specs.Dependents.{tags_in, AllExact, Covers, IsEnough, RestAlike}
 pub use Rattle.sk_machine.specs.Dependents.{AllAlmostExact, IsOrdered, RestsAsProcess}
-pub use Rattle.sk_machine.specs.HandsIn.{HandsInProcess, AreAlone}
 pub use Rattle.sk_machine.specs.Parts.{said_at, planned_effect, undo_state_of, any_rests, Parts, machine_of}
 pub use Rattle.sk_machine.specs.Parts.{IsPlanned}
 pub use Rattle.sk_machine.specs.Performed.{Performed, AreApart, IsClean, entities_of, planned_writes, CanPerformWith}
 pub use Rattle.sk_machine.specs.Performed.{HasPerformed}
-pub use Rattle.sk_machine.specs.Taken.{CanTake, HasTaken}
+pub use Rattle.sk_machine.specs.Taken.{CanTake, HasTaken, HandsInProcess}
 pub use Rattle.sk_machine.specs.contracts.machine.Machine.{the_view}
 pub use Rattle.sk_plain.proofs.Plans.{written_is}
 pub use Rattle.sk_plain.proofs.Scan.{changed_are, asked}

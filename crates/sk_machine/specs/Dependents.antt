@@ -1,23 +1,9 @@
 -- Lists of the entities that rest on each undecided guess.
 use Rattle.std.specs.Prelude.{◌≡◌, ◌≤◌, ℕ, true, List, [], ◌∷◌, length, Result, OnOk, OnErr}
-use Rattle.std.specs.declared.alloc.AllocError.{AllocError}
-use Rattle.std.specs.List.Sorted.{IsStrictlySortedBy}
-use Rattle.std.specs.Ordering.{nat_cmp}
-use Rattle.sk_record.specs.Effects.{is_in}
-use Rattle.sk_record.specs.Notes.{last_tags}
-use Rattle.sk_record.specs.UndoState.{IsTidy, UndoState, numbers}
-use Rattle.sk_ids.specs.Entity.{entity_cmp}
-use Rattle.sk_ids.specs.declared.entity.Entity.{Entity}
-use Rattle.sk_ids.specs.declared.entity.Entity.TheVariants.{Proc, Sig}
+use Rattle.sk_machine.specs.Base.{AllocError, IsStrictlySortedBy, nat_cmp, is_in, last_tags, IsTidy, UndoState}
+use Rattle.sk_machine.specs.Base.{numbers, entity_cmp, Entity, Proc, Sig, OpenGuess, opens_of, Roomy, Input}
+use Rattle.sk_machine.specs.Base.{EntityState, SlotMap, log_at, read_by, looked, looks_of, written_in, Plan}
 use Rattle.sk_guesses.specs.Dependents as lists
-use Rattle.sk_guesses.specs.Opens.{OpenGuess, opens_of}
-use Rattle.sk_guesses.specs.Room.{Roomy}
-use Rattle.sk_script.specs.declared.instruction.Input.{Input}
-use Rattle.sk_store.specs.declared.entity_state.EntityState.{EntityState}
-use Rattle.sk_undo.specs.Logs.{SlotMap, log_at}
-use Rattle.sk_plain.specs.Planned.{read_by}
-use Rattle.sk_plain.specs.Seen.{looked, looks_of, written_in}
-use Rattle.sk_plain.specs.declared.plan.Plan.{Plan}
 
 -- the guesses that an entity rests on
 abbrev pub tags_in : SlotMap → Entity → List ℕ
@@ -29,10 +15,6 @@ pub record IsOrdered (s : UndoState Entity EntityState) : Type 0 where
   pub rising : IsStrictlySortedBy nat_cmp (numbers s.opens)
 
 -- ---- the notions of sk_guesses, in the order of entities
-
--- the same, where these entities rest on these guesses
-abbrev pub with_tags : List ℕ → List Entity → (Entity → List ℕ) → Entity → List ℕ
-with_tags = lists.with_tags entity_cmp
 
 -- each list has just the entities that rest on its guess
 abbrev pub AllExact : (Entity → List ℕ) → List (OpenGuess Entity) → Type 0
@@ -46,17 +28,13 @@ AllAlmostExact = lists.AllAlmostExact entity_cmp
 abbrev pub Covers : List ℕ → List Entity → (Entity → List ℕ) → Type 0
 Covers = lists.Covers entity_cmp
 
--- an entity is added to the lists of some of these guesses, among them those that it does not rest on already
-abbrev pub Depends : List ℕ → List ℕ → Entity → List (OpenGuess Entity) → List (OpenGuess Entity) → Type 0
-Depends = lists.Depends entity_cmp
-
 -- ----
 
 -- entities that come to rest on these guesses are put in their lists; without memory the lists have what they had
 pub record HasListed (result : Result (Unit {0}) AllocError) (m : SlotMap) (tags : List ℕ) (es : List Entity) (old new : Roomy Entity) : Type 0 where
   pub view : new.view ≡ old.view
   pub opens : opens_of new.opens ≡ opens_of old.opens
-  pub ok : OnOk result (AllExact (with_tags tags es (tags_in m)) new.opens)
+  pub ok : OnOk result (AllExact (lists.with_tags entity_cmp tags es (tags_in m)) new.opens)
   pub err : OnErr result (AllExact (tags_in m) new.opens)
 
 -- these entities rest on just these guesses

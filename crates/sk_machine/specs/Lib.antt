@@ -1,6 +1,5 @@
+pub mod Base
 pub mod Parts
-pub mod Noted
 pub mod Performed
 pub mod Dependents
 pub mod Taken
-pub mod HandsIn

@@ -1,30 +1,14 @@
 -- What a kernel keeps beside its trace, and the machine of records that it is.
-use Rattle.std.specs.Prelude.{◌≡◌, ℕ, Bool, List, Ok, map, refl}
-use Rattle.std.specs.List.{list_any}
-use Rattle.sk_record.specs.Notes.{has}
-use Rattle.sk_record.specs.Step.{perform}
-use Rattle.std.specs.Coded.{Coded, code_by, coded×, coded_ℕ, coded_list}
-use Rattle.sk_record.specs.Effects.{MarkedEffect}
-use Rattle.sk_record.specs.Machine.{Machine, Tagged}
-use Rattle.sk_record.specs.UndoState.{Open, UndoState, tags_at}
-use Rattle.sk_record.specs.declared.status.Status.{Status}
+use Rattle.std.specs.Prelude.{◌≡◌, ℕ, Bool, List, [], Ok, map, refl}
+use Rattle.sk_machine.specs.Base.{list_any, has, perform, Coded, code_by, coded×, coded_ℕ, coded_list, MarkedEffect}
+use Rattle.sk_machine.specs.Base.{Machine, Tagged, Open, UndoState, tags_at, Status, Entity, GuessesView, status_since}
+use Rattle.sk_machine.specs.Base.{TaggedText, TerminalMap, terminals_code, texts_at, Input, EntityState, slot_map_code}
+use Rattle.sk_machine.specs.Base.{undo_state, EntryView, Saying, Scripts, act, effect_of, PlanView, CanPerform}
+use Rattle.sk_machine.specs.Base.{seen_with, Plan, State, log_at, opened}
+use Rattle.std.specs.FinMap as fin
 use Rattle.sk_record.specs.contracts.status.Status as status
-use Rattle.sk_ids.specs.declared.entity.Entity.{Entity}
-use Rattle.sk_guesses.specs.Guesses.{GuessesView, status_since}
-use Rattle.sk_terminal.specs.Terminal.{TaggedText}
-use Rattle.sk_terminal.specs.Terminals.{TerminalMap, terminals_code, texts_at}
-use Rattle.sk_script.specs.declared.instruction.Input.{Input}
-use Rattle.sk_store.specs.declared.entity_state.EntityState.{EntityState}
 pub use Rattle.sk_undo.specs.Log.{is_empty}
 pub use Rattle.sk_undo.specs.Logs.{SlotMap, look_at}
-use Rattle.sk_undo.specs.Logs.{slot_map_code}
-use Rattle.sk_undo.specs.Decisions.{undo_state}
-use Rattle.sk_trace.specs.Entry.{EntryView}
-use Rattle.sk_plain.specs.Act.{Saying, Scripts, act}
-use Rattle.sk_plain.specs.Planned.{effect_of}
-use Rattle.sk_plain.specs.Plan.{PlanView}
-use Rattle.sk_plain.specs.Seen.{CanPerform, seen_with}
-use Rattle.sk_plain.specs.declared.plan.Plan.{Plan}
 
 -- what each entity has with its notes, the open guesses with the tags of their own steps, the status of each guess, and
 -- each terminal's texts
@@ -34,9 +18,6 @@ pub record Parts : Type 0 where
   pub guesses : GuessesView
   pub texts : TerminalMap
 
-abbrev pub open_code : Coded Open
-open_code = coded× coded_ℕ (coded_list coded_ℕ)
-
 abbrev pub guesses_code : Coded GuessesView
 guesses_code =
     code_by (ℕ × (List Status × List Status)) (coded× coded_ℕ (coded× (coded_list status.the_row.coded) (coded_list status.the_row.coded)))
@@ -44,8 +25,16 @@ guesses_code =
 
 abbrev pub parts_code : Coded Parts
 parts_code =
-    code_by (SlotMap × (List Open × (GuessesView × TerminalMap))) (coded× slot_map_code (coded× (coded_list open_code) (coded× guesses_code terminals_code)))
+    code_by (SlotMap × (List Open × (GuessesView × TerminalMap))) (coded× slot_map_code (coded× (coded_list (coded× coded_ℕ (coded_list coded_ℕ))) (coded× guesses_code terminals_code)))
     (λ m. (m.slots, (m.opens, (m.guesses, m.texts)))) (λ p. record { slots = p.0; opens = p.1.0; guesses = p.1.1.0; texts = p.1.1.1 }) (λ _. refl)
+
+-- at the start entities have what they start with, nothing is noted, no guess is drawn, and nothing said
+pub record IsAtStart (number : ℕ) (start : State) (m : Parts) : Type 0 where
+  pub look : (e : Entity) → look_at m.slots e ≡ fin.get start e
+  pub logs : (e : Entity) → log_at m.slots e ≡ []
+  pub opens : m.opens ≡ []
+  pub guesses : m.guesses ≡ opened number
+  pub texts : m.texts ≡ fin.empty
 
 -- what entities have, their logs, and the open guesses
 abbrev pub undo_state_of : Parts → UndoState Entity EntityState

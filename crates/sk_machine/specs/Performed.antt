@@ -1,24 +1,13 @@
 -- When a plan can be performed, and what the writes of a step leave.
 use Rattle.std.specs.Prelude.{◌≡◌, ℕ, true, false, List, [], ◌∷◌, ◌++◌, map, Option, Result, OnOk, OnErr}
-use Rattle.std.specs.declared.alloc.AllocError.{AllocError}
-use Rattle.sk_record.specs.Effects.{is_in, written_value}
-use Rattle.sk_record.specs.Notes.{noted}
-use Rattle.sk_record.specs.Merged.{Merges}
-use Rattle.sk_ids.specs.Entity.{entity_cmp}
-use Rattle.sk_ids.specs.declared.entity.Entity.{Entity}
-use Rattle.sk_store.specs.declared.entity_state.EntityState.{EntityState}
-use Rattle.sk_script.specs.declared.instruction.Input.{Input}
-use Rattle.sk_terminal.specs.Terminals.{TerminalMap}
-use Rattle.sk_undo.specs.Logs.{SlotMap, look_at, log_at}
-use Rattle.sk_plain.specs.Act.{Scripts}
-use Rattle.sk_plain.specs.Planned.{said_by, texts_after, writes_of}
-use Rattle.sk_plain.specs.Seen.{CanPerform, seen_with}
-use Rattle.sk_plain.specs.declared.plan.Plan.{Plan}
+use Rattle.sk_machine.specs.Base.{AllocError, is_in, written_value, noted, Merges, entity_cmp, Entity, EntityState}
+use Rattle.sk_machine.specs.Base.{Input, TerminalMap, SlotMap, look_at, log_at, Scripts, said_by, texts_after}
+use Rattle.sk_machine.specs.Base.{writes_of, CanPerform, seen_with, Plan}
 
 abbrev pub entities_of : List (Entity × Option EntityState) → List Entity
 entities_of ws = map (λ w. w.0) ws
 
--- no entity is written twice
+-- each of these is listed once
 abbrev pub AreApart : List Entity → Type 0
 AreApart [] = Unit {0}
 AreApart (e ∷ es) = (is_in entity_cmp es e ≡ false) × AreApart es

@@ -1,10 +1,7 @@
--- What a planned step that is no guess asks of a machine, and what it makes of it.
+-- What steps that are no guess ask of a machine, and what they make of it.
 use Rattle.std.specs.Prelude.{◌≡◌, ℕ, None, Result, OnOk, OnErr}
-use Rattle.std.specs.declared.alloc.AllocError.{AllocError}
-use Rattle.sk_record.specs.Merged.{MergedTakes}
-use Rattle.sk_script.specs.declared.instruction.Input.{Input}
-use Rattle.sk_plain.specs.Act.{Scripts, plain}
-use Rattle.sk_plain.specs.declared.plan.Plan.{Plan}
+use Rattle.sk_machine.specs.Base.{AllocError, HandsIn, MergedTakes, Proc, Input, Process, Scripts, plain, alone_reads}
+use Rattle.sk_machine.specs.Base.{Plan, EntityState}
 use Rattle.sk_machine.specs.Dependents.{IsOrdered}
 use Rattle.sk_machine.specs.Parts.{IsPlanned, Parts, machine_of, undo_state_of}
 
@@ -18,3 +15,7 @@ pub record HasTaken (result : Result (Unit {0}) AllocError) (scripts : Scripts) 
   pub ok : OnOk result (MergedTakes (plain scripts) (machine_of old) (record { pid = pid; input = input; guess = None }) (machine_of new))
   pub guesses : new.guesses ≡ old.guesses
   pub err : OnErr result (new ≡ old)
+
+-- a process became this by private instructions
+abbrev pub HandsInProcess : Parts → ℕ → Process → Parts → Type 0
+HandsInProcess a pid p b = (scripts : Scripts) → HandsIn (plain scripts) (machine_of a) (Proc pid) (alone_reads pid) (EntityState.Process p) (machine_of b)

@@ -1,16 +1,9 @@
 //! Steps that rest on just what their process rests on, and write nothing that rests on other guesses: the lists of what
 //! rests on each guess stay as they are.
 ghost use Rattle.std.specs.Prelude.{◌≡◌, ◌∷◌, [], ℕ, true, IfOk};
-ghost use Rattle.std.specs.List.Sorted.{IsStrictlySortedBy};
-ghost use Rattle.std.specs.Ordering.{nat_cmp};
-ghost use Rattle.sk_record.specs.Notes.{has};
-ghost use Rattle.sk_record.specs.UndoState.{numbers};
-ghost use Rattle.sk_guesses.specs.Opens.{opens_of};
-ghost use Rattle.sk_ids.specs.declared.entity.Entity.TheVariants.{Exit, Proc, Sig};
-ghost use Rattle.sk_undo.specs.Decisions.{undo_state};
-ghost use Rattle.sk_trace.specs.Kept.{input_in};
-ghost use Rattle.sk_plain.specs.Planned.{looked_at, read_by, signals_read};
-ghost use Rattle.sk_plain.specs.Seen.{looked, looks_of, written_in, written_row};
+ghost use Rattle.sk_machine.specs.Base.{IsStrictlySortedBy, nat_cmp, has, numbers, opens_of, Exit, Proc, Sig};
+ghost use Rattle.sk_machine.specs.Base.{undo_state, input_in, looked_at, read_by, signals_read, looked, looks_of};
+ghost use Rattle.sk_machine.specs.Base.{written_in, written_row};
 ghost use Rattle.sk_machine.specs.Dependents.{Covers, IsOrdered, RestAlike, RestsAsProcess, tags_in};
 
 use crate::lists::tags_of;

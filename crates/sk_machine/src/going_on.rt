@@ -1,14 +1,10 @@
 //! Private steps of a process that rests on all that its step reads rests on: it is changed where it stands, and neither notes
 //! nor lists change.
 ghost use Rattle.std.specs.Prelude.{◌≡◌, IfSome, None, true, false};
-ghost use Rattle.sk_record.specs.Merged.{MergedTakes};
-ghost use Rattle.sk_trace.specs.Kept.{input_in};
-ghost use Rattle.sk_plain.specs.Act.{plain};
-ghost use Rattle.sk_plain.specs.Seen.{DoesNext};
+ghost use Rattle.sk_machine.specs.Base.{MergedTakes, input_in, plain, DoesNext, look_at};
 ghost use Rattle.sk_machine.specs.Dependents.{IsEnough, IsOrdered};
 ghost use Rattle.sk_machine.specs.Parts.{machine_of, undo_state_of};
 ghost use Rattle.sk_machine.specs.Taken.{CanTake};
-ghost use Rattle.sk_undo.specs.Logs.{look_at};
 
 use crate::Machine;
 use crate::lists::tags_of;

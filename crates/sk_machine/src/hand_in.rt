@@ -1,15 +1,11 @@
 //! Many private instructions of one process at once.
-ghost use Rattle.std.specs.Prelude.{◌≡◌, ◌∷◌, [], IfOk, OnOk, OnErr};
-ghost use Rattle.std.specs.List.Sorted.{IsStrictlySortedBy};
-ghost use Rattle.std.specs.Ordering.{nat_cmp};
-ghost use Rattle.sk_record.specs.UndoState.{IsTidy, numbers};
-ghost use Rattle.sk_ids.specs.declared.entity.Entity.TheVariants.{Proc};
+ghost use Rattle.std.specs.Prelude.{◌≡◌, ◌∷◌, [], IfOk, OnOk, OnErr, Some};
+ghost use Rattle.sk_machine.specs.Base.{alone_tags, Proc, IsProcess, look_at, Scripts, plain, alone_reads};
+ghost use Rattle.sk_store.specs.declared.entity_state.EntityState.TheVariants as stored;
 ghost use Rattle.sk_machine.specs.Dependents.{Covers, IsOrdered, tags_in};
-ghost use Rattle.sk_machine.specs.HandsIn.{AreAlone, SetsProcess, HandsInProcess};
-ghost use Rattle.sk_machine.specs.Parts.{undo_state_of};
-ghost use Rattle.sk_machine.specs.Performed.{IsClean};
-ghost use Rattle.sk_store.specs.Processes.{IsProcess};
-ghost use Rattle.sk_undo.specs.Logs.{look_at};
+ghost use Rattle.sk_machine.specs.Parts.{machine_of, undo_state_of};
+ghost use Rattle.sk_machine.specs.Performed.{IsClean, Performed};
+ghost use Rattle.sk_machine.specs.Taken.{HandsInProcess};
 
 use crate::Machine;
 use crate::lists::{depend_all, relieve_all};
@@ -25,7 +21,9 @@ use std::slice;
 fn set_process(logs: &mut Logs, tags: TagSet, pid: Pid, process: &Process) -> Result<(), AllocError>
     requires there { IsProcess (look_at logs.old.slots (Proc pid)) }
     requires clean { IsClean logs.old.slots tags (Proc pid ∷ []) }
-    ensures ok { OnOk result (SetsProcess logs.old.slots tags pid process.now logs.new.slots) }
+    ensures ok { OnOk result
+        (Performed logs.old.slots tags ((Proc pid, Some (stored.Process process.now)) ∷ [])
+        logs.new.slots) }
     ensures err { OnErr result (logs.new.slots ≡ logs.old.slots) }
 {
     logs.set_tags(tags);
@@ -37,7 +35,8 @@ impl Machine {
     /// are none where no guess is open.
     fn alone_tags(&self, pid: Pid) -> Result<TagSet, AllocError>
         requires { IsOrdered (undo_state_of self.now) }
-        ensures alone { IfOk result (AreAlone self.now pid) }
+        ensures alone { IfOk result (λ tags. (scripts : Scripts) → tags
+            ≡ alone_tags (plain scripts) (machine_of self.now) (Proc pid) (alone_reads pid)) }
         ensures covers { IfOk result
             (λ tags. Covers tags (Proc pid ∷ []) (tags_in self.now.slots)) }
     {
@@ -54,8 +53,7 @@ impl Machine {
     /// Without memory nothing has changed.
     pub fn hand_in(&mut self, pid: Pid, process: &Process) -> Result<(), AllocError>
         requires there { IsProcess (look_at self.old.slots (Proc pid)) }
-        requires tidy { IsTidy (undo_state_of self.old) }
-        requires rising { IsStrictlySortedBy nat_cmp (numbers self.old.opens) }
+        requires order { IsOrdered (undo_state_of self.old) }
         ensures ok { OnOk result (HandsInProcess self.old pid process.now self.new) }
         ensures guesses { self.new.guesses ≡ self.old.guesses }
         ensures err { OnErr result (self.new ≡ self.old) }

@@ -1,12 +1,9 @@
 //! The lists of what rests on each undecided guess, as steps and failures change them.
 ghost use Rattle.std.specs.Prelude.{◌≡◌, ◌∷◌, ℕ, true, OnOk, OnErr, []};
-ghost use Rattle.std.specs.List.Sorted.{IsStrictlySortedBy};
-ghost use Rattle.std.specs.Ordering.{nat_cmp};
-ghost use Rattle.sk_record.specs.Notes.{has};
-ghost use Rattle.sk_record.specs.UndoState.{numbers};
-ghost use Rattle.sk_undo.specs.Decisions.{undo_state};
-ghost use Rattle.sk_guesses.specs.Opens.{dependents_of, opens_of};
-ghost use Rattle.sk_machine.specs.Dependents.{AllAlmostExact, AllExact, Covers, Depends, HasListed, IsOrdered, tags_in};
+ghost use Rattle.sk_machine.specs.Base.{IsStrictlySortedBy, nat_cmp, has, numbers, undo_state, dependents_of, opens_of};
+ghost use Rattle.sk_machine.specs.Base.{entity_cmp};
+ghost use Rattle.sk_guesses.specs.Dependents as listing;
+ghost use Rattle.sk_machine.specs.Dependents.{AllAlmostExact, AllExact, Covers, HasListed, IsOrdered, tags_in};
 
 use crate::as_process::are_all;
 use crate::machine::is_none;
@@ -39,7 +36,8 @@ fn depend(
     requires rising { IsStrictlySortedBy nat_cmp (numbers (opens_of guesses.old.opens)) }
     ensures view { guesses.new.view ≡ guesses.old.view }
     ensures ok { OnOk result
-        (Depends own.now tags.now entity.now guesses.old.opens guesses.new.opens) }
+        (listing.Depends entity_cmp own.now tags.now entity.now guesses.old.opens
+        guesses.new.opens) }
     ensures err { OnErr result (guesses.new.opens ≡ guesses.old.opens) }
 {
     if are_all(guesses, own) {

@@ -1,35 +1,14 @@
 //! Values in place with their undo logs, the open guesses, statuses and texts.
 ghost use Rattle.std.specs.Prelude.{◌≡◌, [], ◌∷◌, ◌++◌, ◌||◌, ◌&&◌, ◌==◌, if◌then◌else◌, ℕ, length, get_or, true, false, is_some, IfOk, IfSome, OnOk, OnErr, Ok, Some, None};
-ghost use Rattle.std.specs.List.{All};
-ghost use Rattle.std.specs.List.Sorted.{IsStrictlySortedBy};
-ghost use Rattle.std.specs.Ordering.{nat_cmp};
-ghost use Rattle.sk_record.specs.Notes.{has};
-ghost use Rattle.sk_record.specs.Trace.{marks};
-ghost use Rattle.sk_record.specs.Effects.{is_in, is_marked};
-ghost use Rattle.sk_record.specs.UndoState.{IsTidy, numbers, step_tags, tags_at};
-ghost use Rattle.sk_record.specs.Machine.{Fails};
-ghost use Rattle.sk_record.specs.Merged.{MergedTakes, MergedCommits};
-ghost use Rattle.sk_record.specs.declared.status.Status.TheVariants.{Undecided, Committed};
-ghost use Rattle.std.specs.Option.{option_copied};
+ghost use Rattle.sk_machine.specs.Base.{All, IsStrictlySortedBy, nat_cmp, has, marks, is_in, is_marked, IsTidy};
+ghost use Rattle.sk_machine.specs.Base.{numbers, step_tags, tags_at, Fails, MergedTakes, MergedCommits, Undecided};
+ghost use Rattle.sk_machine.specs.Base.{Committed, option_copied, redeemed, decided, drawn, is_full, next_of, settled};
+ghost use Rattle.sk_machine.specs.Base.{status_of, status_since, undecided_of, is_empty, AllGrow, AllRest, Lightened};
+ghost use Rattle.sk_machine.specs.Base.{entity_cmp, Entity, Proc, IsCount, name_there, start_of, look_at, input_in};
+ghost use Rattle.sk_machine.specs.Base.{plain, read_by, DoesNext, looked, looks_of, seen_with, written_in, HasRoom};
 ghost use Rattle.std.specs.FinMap as map;
-ghost use Rattle.sk_guesses.specs.Calls.{redeemed};
-ghost use Rattle.sk_guesses.specs.Guesses.{decided, drawn, is_full, next_of, settled, status_of, status_since, undecided_of};
-ghost use Rattle.sk_undo.specs.Log.{is_empty};
-ghost use Rattle.sk_undo.specs.Decisions.{AllGrow, AllRest, Lightened};
-ghost use Rattle.sk_machine.specs.Noted.{IsAtStart};
-ghost use Rattle.sk_ids.specs.Entity.{entity_cmp};
-ghost use Rattle.sk_ids.specs.declared.entity.Entity.{Entity};
-ghost use Rattle.sk_ids.specs.declared.entity.Entity.TheVariants.{Proc};
-ghost use Rattle.sk_store.specs.Names.{IsCount, name_there};
 ghost use Rattle.sk_store.specs.Present as listed;
-ghost use Rattle.sk_store.specs.Start.{start_of};
-ghost use Rattle.sk_undo.specs.Logs.{look_at};
-ghost use Rattle.sk_trace.specs.Kept.{input_in};
-ghost use Rattle.sk_plain.specs.Act.{plain};
-ghost use Rattle.sk_plain.specs.Planned.{read_by};
-ghost use Rattle.sk_plain.specs.Seen.{DoesNext, looked, looks_of, seen_with, written_in};
-ghost use Rattle.sk_machine.specs.Parts.{IsPlanned, any_rests, machine_of, planned_effect, undo_state_of};
-ghost use Rattle.sk_guesses.specs.Room.{HasRoom};
+ghost use Rattle.sk_machine.specs.Parts.{IsAtStart, IsPlanned, any_rests, machine_of, planned_effect, undo_state_of};
 ghost use Rattle.sk_machine.specs.Dependents.{Covers, IsOrdered, tags_in};
 ghost use Rattle.sk_machine.specs.Performed.{CanPerformWith, HasPerformed};
 ghost use Rattle.sk_machine.specs.Taken.{CanTake, HasTaken};
@@ -309,17 +288,10 @@ impl Machine {
         plan: &Plan,
         found: Option<&Instruction>,
     ) -> Result<(), AllocError>
-        requires planned { IsPlanned self.old scripts.now pid (input_in input) plan.now }
+        requires can { CanTake self.old scripts.now pid (input_in input) plan.now }
         requires next { IfSome found
             (λ i. DoesNext (look_at self.old.slots) scripts.now pid plan.now i.now) }
-        requires tidy { IsTidy (undo_state_of self.old) }
-        requires rising { IsStrictlySortedBy nat_cmp (numbers self.old.opens) }
-        ensures ok { OnOk result
-            (MergedTakes (plain scripts.now) (machine_of self.old)
-            (record { pid = pid; input = (input_in input.entry); guess = None })
-            (machine_of self.new)) }
-        ensures guesses { self.new.guesses ≡ self.old.guesses }
-        ensures err { OnErr result (self.new ≡ self.old) }
+        ensures { HasTaken result scripts.now pid (input_in input.entry) self.old self.new }
     {
         if let Some(instruction) = found {
             if self.go_on(scripts, pid, input, plan, instruction) {

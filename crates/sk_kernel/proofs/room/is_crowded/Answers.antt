@@ -1,6 +1,7 @@
 -- A directory has one count of names.
 use Rattle.sk_kernel.proofs.Names.{Option, sym, ap, subst, ◌∙◌, nat_le, ObjId, name_there, one_count, look_at}
-use Rattle.sk_kernel.proofs.Names.{TellsRoom, DIRECTORY_LIMIT}
+use Rattle.sk_kernel.proofs.Names.{DIRECTORY_LIMIT}
+use Rattle.sk_kernel.proofs.Refusals.{TellsRoom}
 use Rattle.sk_kernel.proofs.room.is_crowded.Goals as goal
 
 pub returns-in-Some : goal.returns-in-Some

@@ -1,6 +1,6 @@
 -- One entity more is in the lists of all the guesses; without memory all are taken out again.
 use Rattle.sk_machine.proofs.Names.{IsStrictlySortedBy, nat_cmp, has, numbers, take, sym, ◌∙◌, ap, subst, opens_of}
-use Rattle.sk_machine.proofs.Names.{AllAlmostExact, AllExact, tags_in, with_tags}
+use Rattle.sk_machine.proofs.Names.{AllAlmostExact, AllExact, tags_in, with_tags, entity_cmp}
 use Rattle.sk_machine.proofs.Given.{from_ok, from_err}
 use Rattle.sk_machine.proofs.Listed.{almost_of, depends_exact, depends_opens, in_front, in_place, take_all, take_next}
 use Rattle.sk_machine.proofs.lists.depend_each.Goals as goal
@@ -39,7 +39,7 @@ loop-entity-preserved c =
     record {
       view = c.depend.ensures.view ∙ c.loop-entity.invariant.view;
       opens = depends_opens c.tags_of-own.result.now tags x c.loop-entity.guesses.opens c.depend.new.guesses.opens depends ∙ c.loop-entity.invariant.opens;
-      exact = subst (λ ys. AllExact (with_tags tags ys base) c.depend.new.guesses.opens) (sym (take_next es i x c.loop-entity-test.true c.entity-item.is))
+      exact = subst (λ ys. AllExact (with_tags entity_cmp tags ys base) c.depend.new.guesses.opens) (sym (take_next es i x c.loop-entity-test.true c.entity-item.is))
           (depends_exact tags (take i es) x base c.tags_of-own.result.now c.tags_of-own.ensures (λ g. c.requires.covers x g here) c.loop-entity.guesses.opens c.depend.new.guesses.opens depends c.loop-entity.invariant.exact);
     }
 
@@ -47,7 +47,7 @@ pub returns : goal.returns
 returns c = record {
   view = c.loop-entity.invariant.view;
   opens = c.loop-entity.invariant.opens;
-  ok = subst (λ ys. AllExact (with_tags c.args.tags.now ys (tags_in c.args.logs.now.slots)) c.loop-entity.guesses.opens)
+  ok = subst (λ ys. AllExact (with_tags entity_cmp c.args.tags.now ys (tags_in c.args.logs.now.slots)) c.loop-entity.guesses.opens)
       (take_all c.args.entities.now c.loop-entity.entity-index c.loop-entity-test.false) c.loop-entity.invariant.exact;
   err = tt;
 }

@@ -17,11 +17,12 @@ hand_in-requires-clause-there c =
     subst (λ pid. IsProcess (look_at m.slots (Proc pid))) (sym own)
     (subst IsProcess (sym (look_is k m c.self.invariant.0.stands (Proc l.lent.pid) ∙ as_lent.process)) tt)
 
-pub hand_in-requires-clause-tidy : goal.hand_in-requires-clause-tidy
-hand_in-requires-clause-tidy c = tidy (the_view c.self.inside) c.self.inside.machine c.self.invariant.0.stands
-
-pub hand_in-requires-clause-rising : goal.hand_in-requires-clause-rising
-hand_in-requires-clause-rising c = opens_rise (the_view c.self.inside) c.self.inside.machine c.self.invariant.0.stands
+pub hand_in-requires-clause-order : goal.hand_in-requires-clause-order
+hand_in-requires-clause-order c =
+    let k = the_view c.self.inside in
+    let m = c.self.inside.machine in
+    let stands = c.self.invariant.0.stands in
+    record { tidy = tidy k m stands; rising = opens_rise k m stands }
 
 pub overflow_add-places : goal.overflow_add-places
 overflow_add-places c =

@@ -54,11 +54,13 @@ returns-in-Err-keep c =
       (λ i. record (the_view c.self.inside) { trace = c.reserve.ensures.events i }) ∙ c.self.view_is,
     )
 
-pub take_found-requires-clause-tidy : goal.take_found-requires-clause-tidy
-take_found-requires-clause-tidy c = tidy (the_view c.self.inside) c.self.inside.machine c.self.invariant.0.stands
-
-pub take_found-requires-clause-rising : goal.take_found-requires-clause-rising
-take_found-requires-clause-rising c = opens_rise (the_view c.self.inside) c.self.inside.machine c.self.invariant.0.stands
+pub take_found-requires-clause-can : goal.take_found-requires-clause-can
+take_found-requires-clause-can c =
+    let k = the_view c.self.inside in
+    let m = c.self.inside.machine in
+    let stands = c.self.invariant.0.stands in
+    let step = c.in-Ok.ensures.step in
+    record { planned = record { accepted = step.plans; can = step.can }; order = record { tidy = tidy k m stands; rising = opens_rise k m stands } }
 
 pub returns-then-is_err-2 : goal.returns-then-is_err-2
 returns-then-is_err-2 c =

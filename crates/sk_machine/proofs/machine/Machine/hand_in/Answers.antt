@@ -1,7 +1,7 @@
 -- What is written is listed for the guesses that it rests on, and is what is handed in.
 use Rattle.sk_machine.proofs.Names.{◌≡◌, [], ◌∷◌, ◌∙◌, List, Some, refl, sym, subst, Entity, Proc, opens_of, IsProcess}
-use Rattle.sk_machine.proofs.Names.{look_at, Covers, tags_in, AreAlone, HandsInProcess, Parts, IsClean, entities_of}
-use Rattle.sk_machine.proofs.Names.{the_view, IsOrdered, undo_state_of}
+use Rattle.sk_machine.proofs.Names.{look_at, Covers, tags_in, HandsInProcess, Parts, IsClean, entities_of}
+use Rattle.sk_machine.proofs.Names.{the_view, IsOrdered, undo_state_of, machine_of, alone_tags, alone_reads, plain, Scripts}
 use Rattle.std.specs.FinMap as map
 use Rattle.sk_store.specs.declared.entity_state.EntityState.TheVariants as stored
 use Rattle.sk_machine.proofs.Given.{for_err, from_ok, from_err}
@@ -12,7 +12,7 @@ use Rattle.sk_machine.proofs.machine.Machine.hand_in.Goals as goal
 
 pub depend_all-requires-clause-order : goal.depend_all-requires-clause-order
 depend_all-requires-clause-order c =
-    subst (λ (m : Parts). IsOrdered (undo_state_of m)) (sym c.self.view_is) (record { tidy = c.requires.tidy; rising = c.requires.rising })
+    subst (λ (m : Parts). IsOrdered (undo_state_of m)) (sym c.self.view_is) c.requires.order
 
 pub depend_all-requires-clause-covers : goal.depend_all-requires-clause-covers
 depend_all-requires-clause-covers c =
@@ -26,7 +26,7 @@ set_process-requires-clause-there c =
 pub set_process-requires-clause-clean : goal.set_process-requires-clause-clean
 set_process-requires-clause-clean c =
     subst (λ (m : Parts). IsClean m.slots c.in_ok-tags.tags (Proc c.args.pid ∷ [])) (sym c.self.view_is)
-    (clean_alone c.args.self.now c.args.pid map.empty c.in_ok-tags.tags c.requires.tidy (c.in_ok-tags.ensures.alone map.empty))
+    (clean_alone c.args.self.now c.args.pid map.empty c.in_ok-tags.tags c.requires.order.tidy (c.in_ok-tags.ensures.alone map.empty))
 
 pub relieve_all-requires-clause-almost : goal.relieve_all-requires-clause-almost
 relieve_all-requires-clause-almost c =
@@ -41,7 +41,7 @@ invariant_of-self-else-is_err c =
     let ws = (Proc c.args.pid, Some (stored.Process c.args.process.now)) ∷ [] in
     let written : c.from_ref-entities.result.now ≡ entities_of ws = c.from_ref-entities.ensures.value in
     let clean = subst (λ (p : Parts). IsClean p.slots c.in_ok-tags.tags (Proc c.args.pid ∷ [])) (sym c.self.view_is)
-    (clean_alone c.args.self.now c.args.pid map.empty c.in_ok-tags.tags c.requires.tidy (c.in_ok-tags.ensures.alone map.empty)) in
+    (clean_alone c.args.self.now c.args.pid map.empty c.in_ok-tags.tags c.requires.order.tidy (c.in_ok-tags.ensures.alone map.empty)) in
     let did = from_ok c.set_process.result c.if-is_err.ensures.value c.set_process.ensures.ok in
     (performed_exact m c.set_process.new.logs.slots c.in_ok-tags.tags c.from_ref-entities.result.now ws written clean did c.depend_all.new.guesses.opens c.in_ok-depend_all.ensures.ok, c.self.invariant.1)
 
@@ -62,6 +62,7 @@ pub returns-clause-ok : goal.returns-clause-ok
 returns-clause-ok c =
     let a : Parts = the_view c.self.inside in
     let b : Parts = record { slots = c.set_process.new.logs.slots; opens = opens_of c.depend_all.new.guesses.opens; guesses = c.depend_all.new.guesses.view; texts = c.self.inside.terminals } in
-    let tags : AreAlone a c.args.pid c.in_ok-tags.tags = subst (λ (p : Parts). AreAlone p c.args.pid c.in_ok-tags.tags) (sym c.self.view_is) c.in_ok-tags.ensures.alone in
+    let tags : (scripts : Scripts) → c.in_ok-tags.tags ≡ alone_tags (plain scripts) (machine_of a) (Proc c.args.pid) (alone_reads c.args.pid) =
+    subst (λ (p : Parts). (scripts : Scripts) → c.in_ok-tags.tags ≡ alone_tags (plain scripts) (machine_of p) (Proc c.args.pid) (alone_reads c.args.pid)) (sym c.self.view_is) c.in_ok-tags.ensures.alone in
     subst (λ (p : Parts). HandsInProcess p c.args.pid c.args.process.now b) c.self.view_is
     (λ scripts. hands_in scripts a b c.args.pid c.args.process.now c.in_ok-tags.tags (tags scripts) (from_ok c.set_process.result c.if-is_err.ensures.value c.set_process.ensures.ok) c.depend_all.ensures.opens c.depend_all.ensures.view refl)

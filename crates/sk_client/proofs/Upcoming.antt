@@ -1,26 +1,21 @@
 -- What an event of a world appends was foreseen.
-use Rattle.sk_client.proofs.Names.{◌≡◌, ℕ, true, false, cond, List, [], ◌∷◌, Option, Some, None, Result, Ok, Err, refl}
-use Rattle.sk_client.proofs.Names.{sym, ap, subst, ◌∙◌, has, Input, Refusal, KernelView, next_guess, undecided_at}
-use Rattle.sk_client.proofs.Names.{step_refused, appended, IsForeseen, unchanged_foreseen, appended_foreseen, Request}
-use Rattle.sk_client.proofs.Names.{Reply, Answer, Yes, PendingRequest, Rule, Turn, WorldEvent, WorldAnswer, Cause}
-use Rattle.sk_client.proofs.Names.{DeskView, rule, turned, given, given_to, decided, answered, stepped, entry, input_of}
-use Rattle.sk_client.proofs.Names.{is_void, ByRule, WorldView, EventPost, Turns, Serves, Replies, taken_by, upcoming}
-use Rattle.sk_client.proofs.Names.{turn_step, reply_step, first_reply_step, option_map}
-use Rattle.sk_script.specs.declared.instruction.Input.TheVariants as inputs
-use Rattle.sk_trace.specs.declared.event.Event.TheVariants as trace
-use Rattle.sk_client.specs.Rule as rules
-use Rattle.sk_trace.specs.declared.world_event.WorldEvent.TheVariants as events
-use Rattle.sk_client.specs.declared.world.WorldAnswer.TheVariants as answers
-use Rattle.sk_client.specs.declared.world.Cause.TheVariants as causes
-use Rattle.sk_client.proofs.WorldFacts.{taken_same, edit_rest}
+use Rattle.sk_client.proofs.Names.{◌≡◌, ℕ, true, false, cond, List, [], ◌∷◌, Option, Some, None, Result, Ok, Err}
+use Rattle.sk_client.proofs.Names.{refl, sym, ap, subst, ◌∙◌, has, Input, Refusal, KernelView, next_guess}
+use Rattle.sk_client.proofs.Names.{undecided_at, step_refused, appended, IsForeseen, unchanged_foreseen}
+use Rattle.sk_client.proofs.Names.{appended_foreseen, Request, Reply, Answer, Yes, PendingRequest, Rule, Turn}
+use Rattle.sk_client.proofs.Names.{WorldEvent, WorldAnswer, Cause, DeskView, rule, turned, given, given_to, decided}
+use Rattle.sk_client.proofs.Names.{answered, stepped, entry, input_of, is_void, ByRule, WorldView, EventPost, Turns}
+use Rattle.sk_client.proofs.Names.{Serves, Replies, taken_by, upcoming, turn_step, reply_step, first_reply_step}
+use Rattle.sk_client.proofs.Names.{option_map, Logged}
+use Rattle.sk_client.proofs.Desks.{taken_same, edit_rest}
 
 -- ---- a turn
 
 ruled : (d new : DeskView) (pid : ℕ) (by : Rule) → new ≡ turned d pid by → IsForeseen (turn_step pid (Ok by)) (appended d.kernel new.kernel)
-ruled d new pid (rules.Steps input) is = appended_foreseen (Some (pid, input)) d.kernel new.kernel (trace.Step pid input) (ap (λ (x : DeskView). x.kernel) is) refl
-ruled d new pid (rules.Guesses ask) is =
-    appended_foreseen (Some (pid, inputs.Good)) d.kernel new.kernel (trace.Guess (next_guess d.kernel) pid inputs.Good) (ap (λ (x : DeskView). x.kernel) is) refl
-ruled d new pid (rules.Asks ask) is = unchanged_foreseen None d.kernel new.kernel (ap (λ (x : DeskView). x.kernel) is)
+ruled d new pid (Rule.Steps input) is = appended_foreseen (Some (pid, input)) d.kernel new.kernel (Logged.Step pid input) (ap (λ (x : DeskView). x.kernel) is) refl
+ruled d new pid (Rule.Guesses ask) is =
+    appended_foreseen (Some (pid, Input.Good)) d.kernel new.kernel (Logged.Guess (next_guess d.kernel) pid Input.Good) (ap (λ (x : DeskView). x.kernel) is) refl
+ruled d new pid (Rule.Asks ask) is = unchanged_foreseen None d.kernel new.kernel (ap (λ (x : DeskView). x.kernel) is)
 
 by_rule : (r : Result Turn Refusal) (d new : DeskView) (pid : ℕ) (by : Result Rule Refusal) → ByRule r d pid new by → IsForeseen (turn_step pid by) (appended d.kernel new.kernel)
 by_rule (Ok turn) d new pid (Ok by) h = ruled d new pid by h.2
@@ -31,8 +26,8 @@ same : (u : Option (ℕ × Input)) (w new : WorldView) → new ≡ w → IsFores
 same u w new is = unchanged_foreseen u w.desk.kernel new.desk.kernel (ap (λ (x : WorldView). x.desk.kernel) is)
 
 turn_foreseen : (r : Result WorldAnswer Cause) (w : WorldView) (pid : ℕ) (new : WorldView) → Turns r w pid new → IsForeseen (turn_step pid (rule w.desk pid)) (appended w.desk.kernel new.desk.kernel)
-turn_foreseen (Ok (answers.Turn turn)) w pid new h = by_rule (Ok turn) w.desk new.desk pid (rule w.desk pid) h.0
-turn_foreseen (Err (causes.Turn why)) w pid new h = same (turn_step pid (rule w.desk pid)) w new h.1
+turn_foreseen (Ok (WorldAnswer.Turn turn)) w pid new h = by_rule (Ok turn) w.desk new.desk pid (rule w.desk pid) h.0
+turn_foreseen (Err (Cause.Turn why)) w pid new h = same (turn_step pid (rule w.desk pid)) w new h.1
 turn_foreseen told w pid new h = absurd h
 
 -- ---- a request that is served
@@ -45,11 +40,11 @@ serve_keeps (Err why) w new (Some q) h = ap (λ (x : WorldView). x.desk.kernel) 
 -- ---- a reply
 
 decides : (u : Option (ℕ × Input)) (d : DeskView) (q : PendingRequest) (g : ℕ) (a : Answer) → IsForeseen u (appended d.kernel (decided d q g a).kernel)
-decides u d q g Yes = appended_foreseen u d.kernel (decided d q g Yes).kernel (trace.Commit g) refl tt
-decides u d q g a = appended_foreseen u d.kernel (decided d q g a).kernel (trace.Fail g) refl tt
+decides u d q g Yes = appended_foreseen u d.kernel (decided d q g Yes).kernel (Logged.Commit g) refl tt
+decides u d q g a = appended_foreseen u d.kernel (decided d q g a).kernel (Logged.Fail g) refl tt
 
 steps : (k : KernelView) (pid : ℕ) (input : Input) (refused : Option Refusal) → IsForeseen (Some (pid, input)) (appended k (stepped k pid input refused))
-steps k pid input None = appended_foreseen (Some (pid, input)) k (stepped k pid input None) (trace.Step pid input) refl refl
+steps k pid input None = appended_foreseen (Some (pid, input)) k (stepped k pid input None) (Logged.Step pid input) refl refl
 steps k pid input (Some why) = unchanged_foreseen (Some (pid, input)) k k refl
 
 answers_step : (d : DeskView) (q : PendingRequest) (input : Option Input) → IsForeseen (option_map (λ i. (q.process, i)) input) (appended d.kernel (answered d q input).kernel)
@@ -79,15 +74,15 @@ reply_foreseen d new r (q ∷ qs) is =
 replies_foreseen : (r : Result WorldAnswer Cause) (w new : WorldView) (rs : List Reply) → Replies r w new rs
     → IsForeseen (first_reply_step rs w.desk.taken) (appended w.desk.kernel new.desk.kernel)
 replies_foreseen r w new [] h = same None w new h.1
-replies_foreseen (Ok (answers.Given told)) w new (r ∷ rs) h = reply_foreseen w.desk new.desk r w.desk.taken h.0.2
+replies_foreseen (Ok (WorldAnswer.Given told)) w new (r ∷ rs) h = reply_foreseen w.desk new.desk r w.desk.taken h.0.2
 replies_foreseen (Ok told) w new (r ∷ rs) h = absurd h
 replies_foreseen (Err why) w new (r ∷ rs) h = same (reply_step r w.desk.taken) w new h.2
 
 -- ---- any event
 
 pub event_foreseen : (r : Result WorldAnswer Cause) (w : WorldView) (e : WorldEvent) (new : WorldView) → EventPost r w e new → IsForeseen (upcoming w e) (appended w.desk.kernel new.desk.kernel)
-event_foreseen r w (events.Turn pid) new h = turn_foreseen r w pid new h
-event_foreseen r w events.Serve new h =
+event_foreseen r w (WorldEvent.Turn pid) new h = turn_foreseen r w pid new h
+event_foreseen r w WorldEvent.Serve new h =
     unchanged_foreseen None w.desk.kernel new.desk.kernel (serve_keeps r (taken_by w w.back) new (taken_by w w.back).back h ∙ (taken_same w w.back).1)
-event_foreseen r w events.Reply new h = replies_foreseen r w new w.replies h
-event_foreseen r w (events.Edit name expected bytes) new h = unchanged_foreseen None w.desk.kernel new.desk.kernel (ap (λ (x : WorldView). x.desk.kernel) (edit_rest r w name expected bytes new h))
+event_foreseen r w WorldEvent.Reply new h = replies_foreseen r w new w.replies h
+event_foreseen r w (WorldEvent.Edit name expected bytes) new h = unchanged_foreseen None w.desk.kernel new.desk.kernel (ap (λ (x : WorldView). x.desk.kernel) (edit_rest r w name expected bytes new h))

@@ -1,20 +1,7 @@
 -- The steps of accepted stores.
 use Rattle.std.specs.Prelude.{◌≡◌, ℕ, ◌+◌, ◌<◌, List, [], ◌∷◌, map, Option, Some, slice_get, ◌⊎◌}
-use Rattle.std.specs.List.{Contains}
-use Rattle.sk_record.specs.Effects.{MarkedEffect}
-use Rattle.sk_record.specs.Run.{effects}
-use Rattle.sk_ids.specs.declared.entity.Entity.{Entity}
-use Rattle.sk_ids.specs.declared.entity.Entity.TheVariants.{Copy as CopyOf}
-use Rattle.sk_script.specs.declared.instruction.Input.TheVariants as inputs
-use Rattle.sk_store.specs.declared.entity_state.EntityState.{EntityState}
-use Rattle.sk_trace.specs.Entry.{EntryView}
-use Rattle.sk_plain.specs.Act.{Saying, plain}
-use Rattle.sk_kernel.specs.Kernel.{KernelView, record_at}
-use Rattle.sk_server.specs.declared.request.Request.{Request as Sent}
-use Rattle.sk_server.specs.declared.request.Ask.{Ask}
-use Rattle.sk_server.specs.declared.request.Ask.TheVariants as asks
-use Rattle.sk_server.specs.declared.reply.Answer.TheVariants as answers
-use Rattle.sk_server.specs.declared.reply.Reply.{Reply}
+use Rattle.sk_client.specs.Base.{Contains, MarkedEffect, effects, Entity, Input, EntityState, EntryView, Saying, plain}
+use Rattle.sk_client.specs.Base.{KernelView, record_at, Sent, Ask, Answer, Reply}
 use Rattle.sk_client.specs.Table.{Bytes, copy_of}
 use Rattle.sk_client.specs.Desk.{pending}
 use Rattle.sk_client.specs.Exchanges.{Exchanges}
@@ -33,9 +20,9 @@ steps_at k = paired (record_at k) (effects (plain k.scripts) k.start (record_at 
 
 -- what a step with Good does by its request: a store sets the copy, a check writes no copy at all, and no fetch gets Good
 abbrev pub DoesAsked : Ask → List (Entity × Option EntityState) → Type 0
-DoesAsked (asks.Store name version bytes) ws = Contains ws (CopyOf name, Some (copy_of (record { version = version + 1; bytes = bytes })))
-DoesAsked (asks.Check name version) ws = (any : Bytes) → Contains (map (λ w. w.0) ws) (CopyOf any) → ⊥
-DoesAsked (asks.Get name) ws = ⊥
+DoesAsked (Ask.Store name version bytes) ws = Contains ws (Entity.Copy name, Some (copy_of (record { version = version + 1; bytes = bytes })))
+DoesAsked (Ask.Check name version) ws = (any : Bytes) → Contains (map (λ w. w.0) ws) (Entity.Copy any) → ⊥
+DoesAsked (Ask.Get name) ws = ⊥
 
 -- a step at this place of the record is that of a guess, or of none, it was taken with Good, and it does what was asked
 pub record IsStepAt (k : KernelView) (place : ℕ) (mark : Option ℕ) (ask : Ask) : Type 0 where
@@ -43,12 +30,12 @@ pub record IsStepAt (k : KernelView) (place : ℕ) (mark : Option ℕ) (ask : As
   pub effect : MarkedEffect Entity EntityState Saying
   pub there : slice_get (steps_at k) place ≡ Some (entry, effect)
   pub guess : entry.guess ≡ mark
-  pub input : entry.input ≡ inputs.Good
+  pub input : entry.input ≡ Input.Good
   pub does : DoesAsked ask effect.written
 
 -- the step of a store that was made with this guess, or asked, stands in the kernel's record
 abbrev pub StandsIn : KernelView → Option ℕ → Bytes → ℕ → Bytes → Type 0
-StandsIn k mark name version bytes = (place : ℕ) × IsStepAt k place mark (asks.Store name version bytes)
+StandsIn k mark name version bytes = (place : ℕ) × IsStepAt k place mark (Ask.Store name version bytes)
 
 -- no request of this number is pending
 abbrev pub IsGiven : WorldView → Sent → Type 0
@@ -61,14 +48,14 @@ IsDue v q = ((g : ℕ) × (q.guess ≡ Some g)) ⊎ IsGiven v q
 -- the step of each store that was accepted and is due stands in the record of a later world
 abbrev pub StoresStand : Exchanges → WorldView → WorldView → Type 0
 StoresStand served v later =
-    (q : Sent) (r : Reply) (name : Bytes) (version : ℕ) (bytes : Bytes) → Contains served (q, r) → r.answer ≡ answers.Yes → q.ask ≡ asks.Store name version bytes → IsDue v q
+    (q : Sent) (r : Reply) (name : Bytes) (version : ℕ) (bytes : Bytes) → Contains served (q, r) → r.answer ≡ Answer.Yes → q.ask ≡ Ask.Store name version bytes → IsDue v q
     → StandsIn later.desk.kernel q.guess name version bytes
 
 -- the step of each store that was made with a guess by now, and that is accepted, by now or later, stands in the record of
 -- this world
 abbrev pub StoresStood : Exchanges → WorldView → Type 0
 StoresStood served v =
-    (q : Sent) (r : Reply) (name : Bytes) (version : ℕ) (bytes : Bytes) (g : ℕ) → Contains served (q, r) → r.answer ≡ answers.Yes → q.ask ≡ asks.Store name version bytes
+    (q : Sent) (r : Reply) (name : Bytes) (version : ℕ) (bytes : Bytes) (g : ℕ) → Contains served (q, r) → r.answer ≡ Answer.Yes → q.ask ≡ Ask.Store name version bytes
     → q.guess ≡ Some g → q.number < v.desk.next → StandsIn v.desk.kernel (Some g) name version bytes
 
 -- one of the exchanges is a store that was accepted and is due
@@ -80,13 +67,13 @@ pub record DueStore (served : Exchanges) (v : WorldView) : Type 0 where
   pub version : ℕ
   pub bytes : Bytes
   pub there : slice_get served at ≡ Some (request, reply)
-  pub accepted : reply.answer ≡ answers.Yes
-  pub asks : request.ask ≡ asks.Store name version bytes
+  pub accepted : reply.answer ≡ Answer.Yes
+  pub asks : request.ask ≡ Ask.Store name version bytes
   pub due : IsDue v request
 
 -- by its request's number each such store has a place of the record of a later world where its step stands, and no two
 -- of them have one place
 pub record StandApart (served : Exchanges) (v later : WorldView) : Type 0 where
   pub place_of : ℕ → ℕ
-  pub stands : (s : DueStore served v) → IsStepAt later.desk.kernel (place_of s.request.number) s.request.guess (asks.Store s.name s.version s.bytes)
+  pub stands : (s : DueStore served v) → IsStepAt later.desk.kernel (place_of s.request.number) s.request.guess (Ask.Store s.name s.version s.bytes)
   pub apart : (s t : DueStore served v) → place_of s.request.number ≡ place_of t.request.number → s.at ≡ t.at

@@ -1,16 +1,9 @@
 -- The steps of asked requests.
 use Rattle.std.specs.Prelude.{◌≡◌, ℕ, ◌∷◌, Some, None, Ok}
-use Rattle.sk_script.specs.declared.instruction.Input.{Input}
-use Rattle.sk_trace.specs.declared.event.Event.TheVariants.{Step}
-use Rattle.sk_kernel.specs.Kernel.{step_refused, with_event}
-use Rattle.sk_server.specs.declared.reply.Answer.TheVariants as answers
-use Rattle.sk_server.specs.declared.reply.Reply.{Reply}
+use Rattle.sk_client.specs.Base.{Input, Step, step_refused, with_event, Answer, Reply, Given, WorldEvent, WorldAnswer}
 use Rattle.sk_client.specs.Desk.{entry, input_of}
 use Rattle.sk_client.specs.WorldView.{WorldView, EventPost}
 use Rattle.sk_client.specs.Pending.{PendingRequest}
-use Rattle.sk_client.specs.declared.desk.Given.TheVariants as gives
-use Rattle.sk_trace.specs.declared.world_event.WorldEvent.TheVariants as events
-use Rattle.sk_client.specs.declared.world.WorldAnswer.TheVariants as told
 
 -- the oldest reply is to an asked request of this number: the kernel accepts its step with what the reply gives, and takes it
 pub record TakesStep (v : WorldView) (number : ℕ) (next : WorldView) : Type 0 where
@@ -27,10 +20,10 @@ pub record TakesStep (v : WorldView) (number : ℕ) (next : WorldView) : Type 0 
 
 -- where a reply is answered by Taken, the step was taken
 abbrev pub StepsAreTaken : WorldView → Type 0
-StepsAreTaken v = (number : ℕ) (next : WorldView) → EventPost (Ok (told.Given (gives.Taken number))) v events.Reply next → TakesStep v number next
+StepsAreTaken v = (number : ℕ) (next : WorldView) → EventPost (Ok (WorldAnswer.Given (Given.Taken number))) v WorldEvent.Reply next → TakesStep v number next
 
 -- and where by Forgotten, the server dropped the request
 abbrev pub ForgottenAreDropped : WorldView → Type 0
 ForgottenAreDropped v =
-    (number : ℕ) (next : WorldView) → EventPost (Ok (told.Given (gives.Forgotten number))) v events.Reply next
-    → (r : Reply) × (v.replies ≡ r ∷ next.replies) × (r.answer ≡ answers.Dropped)
+    (number : ℕ) (next : WorldView) → EventPost (Ok (WorldAnswer.Given (Given.Forgotten number))) v WorldEvent.Reply next
+    → (r : Reply) × (v.replies ≡ r ∷ next.replies) × (r.answer ≡ Answer.Dropped)

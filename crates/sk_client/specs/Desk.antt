@@ -1,42 +1,13 @@
 -- A desk as its callers see it, and what each of its calls does: why it is refused, what it answers, what it leaves.
 use Rattle.std.specs.Prelude.{ℕ, ◌+◌, ◌-◌, Bool, true, false, not, ◌&&◌, ◌||◌, ◌==◌, nat_lt, bytes_eq, length, List, [], ◌∷◌, ◌++◌, Option, Some, None, is_none, Result, Ok, Err, refl, if◌then◌else◌}
-use Rattle.std.specs.List.{filter, list_any}
-use Rattle.std.specs.Coded.{Coded, code_by, coded×, coded_ℕ, coded_list}
-use Rattle.std.specs.FinMap.{get}
-use Rattle.sk_record.specs.Notes.{has}
-use Rattle.sk_record.specs.declared.status.Status.{Status}
-use Rattle.sk_record.specs.declared.status.Status.TheVariants.{Undecided, Committed, Failed, Struck}
-use Rattle.sk_ids.specs.declared.entity.Entity.TheVariants.{Proc, Copy as CopyOf}
-use Rattle.sk_objects.specs.declared.content.TheConstants.{LAST_VERSION}
-use Rattle.sk_script.specs.declared.instruction.Input.{Input}
-use Rattle.sk_script.specs.declared.instruction.Input.TheVariants as inputs
-use Rattle.sk_trace.specs.Entry.{EntryView}
-use Rattle.sk_trace.specs.declared.event.Event.{Event}
-use Rattle.sk_trace.specs.declared.event.Event.TheVariants as events
-use Rattle.sk_plain.specs.declared.next.Next.{Next}
-use Rattle.sk_plain.specs.declared.next.Next.TheVariants as nexts
-use Rattle.sk_plain.specs.declared.refusal.Refusal.{Refusal}
-use Rattle.sk_plain.specs.declared.refusal.Refusal.TheVariants.{Blocked, TooMany, TraceFull}
-use Rattle.sk_kernel.specs.Kernel.{KernelView, kernel_code, state_at, tags_at, undecided_at, next_guess, settled, room, effect_at, next_at, or_else, guess_misfits, too_many, step_misfit, step_refused, with_event}
-use Rattle.sk_server.specs.declared.request.Ask.{Ask}
-use Rattle.sk_server.specs.declared.request.Ask.TheVariants.{Get, Check, Store}
-use Rattle.sk_server.specs.declared.request.Request.{Request}
-use Rattle.sk_server.specs.declared.reply.Answer.{Answer}
-use Rattle.sk_server.specs.declared.reply.Answer.TheVariants.{Yes, No, Copy, Dropped}
-use Rattle.sk_server.specs.declared.reply.Reply.{Reply}
-use Rattle.sk_server.specs.declared.server.TheConstants.{LAST_REQUEST}
+use Rattle.sk_client.specs.Base.{filter, list_any, Coded, code_by, coded×, coded_ℕ, coded_list, get, has, Status, Proc}
+use Rattle.sk_client.specs.Base.{CopyOf, LAST_VERSION, Input, EntryView, Event, Next, Refusal, KernelView, kernel_code}
+use Rattle.sk_client.specs.Base.{state_at, tags_at, undecided_at, next_guess, settled, room, effect_at, next_at}
+use Rattle.sk_client.specs.Base.{or_else, guess_misfits, too_many, step_misfit, step_refused, with_event, Ask, Request}
+use Rattle.sk_client.specs.Base.{Answer, Reply, LAST_REQUEST, asked_name, KeptAnswer, Turn, Given, ReplyRefusal}
 use Rattle.sk_client.specs.Table.{version_of, buffer_of}
 use Rattle.sk_client.specs.Pending.{PendingRequest, request_code}
-use Rattle.sk_client.specs.declared.pending.KeptAnswer.{KeptAnswer}
 use Rattle.sk_client.specs.contracts.pending.KeptAnswer as kept_row
-use Rattle.sk_client.specs.Rule.{Rule}
-use Rattle.sk_client.specs.Rule as rules
-use Rattle.sk_client.specs.declared.desk.Turn.{Turn}
-use Rattle.sk_client.specs.declared.desk.Turn.TheVariants as turns
-use Rattle.sk_client.specs.declared.desk.Given.{Given}
-use Rattle.sk_client.specs.declared.desk.Given.TheVariants as gives
-use Rattle.sk_client.specs.declared.desk.ReplyRefusal.{ReplyRefusal}
-use Rattle.sk_client.specs.declared.desk.ReplyRefusal.TheVariants.{OutOfTurn, WrongKind}
 
 -- the kernel; the requests without a reply, those that were taken and those that wait to be, the oldest first; the numbers of
 -- the first request of the epoch and of the next one to be made; and the kept answers
@@ -55,17 +26,13 @@ desk_code =
     (λ d. (d.kernel, (d.taken, (d.waiting, (d.first, (d.next, d.kept))))))
     (λ p. record { kernel = p.0; taken = p.1.0; waiting = p.1.1.0; first = p.1.1.1.0; next = p.1.1.1.1.0; kept = p.1.1.1.1.1 }) (λ _. refl)
 
--- the number of the first request that a desk makes
-abbrev pub first_number : ℕ
-first_number = 1
-
 -- over a kernel, before any request of an epoch whose first one has this number
 abbrev pub opened_at : KernelView → ℕ → DeskView
 opened_at k first = record { kernel = k; taken = []; waiting = []; first = first; next = first; kept = [] }
 
--- over a kernel, before any request
+-- over a kernel, before any request; the first one has number 1
 abbrev pub opened : KernelView → DeskView
-opened k = opened_at k first_number
+opened k = opened_at k 1
 
 -- the requests without a reply, the oldest first: those that were handed out, and then those that wait
 abbrev pub pending : DeskView → List PendingRequest
@@ -85,16 +52,11 @@ is_asked q = is_none q.guess
 abbrev pub asked_count : List PendingRequest → ℕ
 asked_count qs = length (filter is_asked qs)
 
-abbrev pub name_of : Ask → List ℕ
-name_of (Get name) = name
-name_of (Check name version) = name
-name_of (Store name version bytes) = name
-
 abbrev pub asks_for : ℕ → List PendingRequest → Bool
 asks_for pid qs = list_any (λ q. is_asked q && (q.process == pid)) qs
 
 abbrev pub asks_on : List ℕ → List PendingRequest → Bool
-asks_on name qs = list_any (λ q. is_asked q && bytes_eq (name_of q.ask) name) qs
+asks_on name qs = list_any (λ q. is_asked q && bytes_eq (asked_name q.ask) name) qs
 
 -- ---- kept answers: one for a process at most
 
@@ -105,22 +67,25 @@ kept_for pid (k ∷ ks) = if k.process == pid then Some k.input else kept_for pi
 abbrev pub forgotten : ℕ → List KeptAnswer → List KeptAnswer
 forgotten pid ks = filter (λ k. not (k.process == pid)) ks
 
-abbrev pub with_kept : ℕ → Input → List KeptAnswer → List KeptAnswer
-with_kept pid input ks = forgotten pid ks ++ record { process = pid; input = input } ∷ []
-
 -- ---- which rule a turn takes
 
+-- it takes a step with this input; or it guesses that the cached copy is good, and asks whether it is; or it asks, and takes no step
+pub data Rule : Type 0 where
+  Steps : Input → Rule
+  Guesses : Ask → Rule
+  Asks : Ask → Rule
+
 abbrev pub fetch_rule : List ℕ → Option ℕ → Rule
-fetch_rule name None = rules.Asks (Get name)
-fetch_rule name (Some v) = rules.Guesses (Check name v)
+fetch_rule name None = Rule.Asks (Ask.Get name)
+fetch_rule name (Some v) = Rule.Guesses (Ask.Check name v)
 
 abbrev pub store_rule : List ℕ → List ℕ → Option ℕ → Rule
-store_rule name bytes None = rules.Asks (Store name 0 bytes)
-store_rule name bytes (Some v) = if nat_lt v LAST_VERSION then rules.Guesses (Store name v bytes) else rules.Asks (Store name v bytes)
+store_rule name bytes None = Rule.Asks (Ask.Store name 0 bytes)
+store_rule name bytes (Some v) = if nat_lt v LAST_VERSION then Rule.Guesses (Ask.Store name v bytes) else Rule.Asks (Ask.Store name v bytes)
 
 -- a kept answer is used first
 abbrev pub unless_kept : Option Input → Rule → Rule
-unless_kept (Some input) rule = rules.Steps input
+unless_kept (Some input) rule = Rule.Steps input
 unless_kept None rule = rule
 
 abbrev pub cached : KernelView → List ℕ → Option ℕ
@@ -130,17 +95,17 @@ abbrev pub buffer : KernelView → ℕ → List ℕ
 buffer k pid = buffer_of (get (state_at k) (Proc pid))
 
 abbrev pub rule_next : DeskView → ℕ → Next → Result Rule Refusal
-rule_next d pid nexts.Signal = Ok (rules.Steps inputs.None)
-rule_next d pid (nexts.Fetch name) =
-    if asks_on name (pending d) then Err Blocked else Ok (unless_kept (kept_for pid d.kept) (fetch_rule name (cached d.kernel name)))
-rule_next d pid (nexts.Store name) =
-    if asks_on name (pending d) then Err Blocked
+rule_next d pid Next.Signal = Ok (Rule.Steps Input.None)
+rule_next d pid (Next.Fetch name) =
+    if asks_on name (pending d) then Err Refusal.Blocked else Ok (unless_kept (kept_for pid d.kept) (fetch_rule name (cached d.kernel name)))
+rule_next d pid (Next.Store name) =
+    if asks_on name (pending d) then Err Refusal.Blocked
     else Ok (unless_kept (kept_for pid d.kept) (store_rule name (buffer d.kernel pid) (cached d.kernel name)))
-rule_next d pid _ = Ok (unless_kept (kept_for pid d.kept) (rules.Steps inputs.None))
+rule_next d pid _ = Ok (unless_kept (kept_for pid d.kept) (Rule.Steps Input.None))
 
 abbrev pub rule_of : DeskView → ℕ → Result Next Refusal → Result Rule Refusal
 rule_of d pid (Err why) = Err why
-rule_of d pid (Ok next) = if asks_for pid (pending d) then Err Blocked else rule_next d pid next
+rule_of d pid (Ok next) = if asks_for pid (pending d) then Err Refusal.Blocked else rule_next d pid next
 
 -- what a turn of a process does, or why it is refused
 abbrev pub rule : DeskView → ℕ → Result Rule Refusal
@@ -149,10 +114,10 @@ rule d pid = rule_of d pid (next_at d.kernel pid)
 -- ---- why a turn is refused: the first cause, want of memory aside
 
 abbrev pub no_place : DeskView → ℕ → Option Refusal
-no_place d places = if nat_lt (room d.kernel - asked_count (pending d)) places then Some TraceFull else None
+no_place d places = if nat_lt (room d.kernel - asked_count (pending d)) places then Some Refusal.TraceFull else None
 
 abbrev pub no_number : DeskView → Option Refusal
-no_number d = if nat_lt LAST_REQUEST d.next then Some TooMany else None
+no_number d = if nat_lt LAST_REQUEST d.next then Some Refusal.TooMany else None
 
 -- a step of a process with an input, which is a guess's own where it has a number
 abbrev pub entry : ℕ → Input → Option ℕ → EntryView
@@ -160,13 +125,13 @@ entry pid input guess = record { pid = pid; input = input; guess = guess }
 
 abbrev pub guess_refused_at : DeskView → ℕ → Option Refusal
 guess_refused_at d pid =
-    or_else (guess_misfits inputs.Good (effect_at d.kernel (entry pid inputs.Good (Some (next_guess d.kernel)))))
+    or_else (guess_misfits Input.Good (effect_at d.kernel (entry pid Input.Good (Some (next_guess d.kernel)))))
     (or_else (too_many d.kernel) (or_else (no_number d) (no_place d 2)))
 
 abbrev pub rule_refused : DeskView → ℕ → Rule → Option Refusal
-rule_refused d pid (rules.Steps input) = or_else (step_misfit d.kernel (entry pid input None)) (no_place d 1)
-rule_refused d pid (rules.Guesses ask) = guess_refused_at d pid
-rule_refused d pid (rules.Asks ask) = or_else (no_number d) (no_place d 1)
+rule_refused d pid (Rule.Steps input) = or_else (step_misfit d.kernel (entry pid input None)) (no_place d 1)
+rule_refused d pid (Rule.Guesses ask) = guess_refused_at d pid
+rule_refused d pid (Rule.Asks ask) = or_else (no_number d) (no_place d 1)
 
 -- ---- what a turn does
 
@@ -180,7 +145,7 @@ request_of d pid ask guess = record {
   process = pid;
   ask = ask;
   guess = guess;
-  rests = rests_of d.kernel pid (name_of ask);
+  rests = rests_of d.kernel pid (asked_name ask);
   settled = settled d.kernel;
 }
 
@@ -189,17 +154,17 @@ with_request d q = record d { waiting = d.waiting ++ q ∷ []; next = d.next + 1
 
 -- a step takes or forgets the kept answer of its process; a guess and a question make a request
 abbrev pub turned : DeskView → ℕ → Rule → DeskView
-turned d pid (rules.Steps input) = record d { kernel = with_event d.kernel (events.Step pid input); kept = forgotten pid d.kept }
-turned d pid (rules.Guesses ask) =
+turned d pid (Rule.Steps input) = record d { kernel = with_event d.kernel (Event.Step pid input); kept = forgotten pid d.kept }
+turned d pid (Rule.Guesses ask) =
     record (with_request d (request_of d pid ask (Some (next_guess d.kernel)))) {
-      kernel = with_event d.kernel (events.Guess (next_guess d.kernel) pid inputs.Good);
+      kernel = with_event d.kernel (Event.Guess (next_guess d.kernel) pid Input.Good);
     }
-turned d pid (rules.Asks ask) = with_request d (request_of d pid ask None)
+turned d pid (Rule.Asks ask) = with_request d (request_of d pid ask None)
 
 abbrev pub turn_answer : DeskView → Rule → Turn
-turn_answer d (rules.Steps input) = turns.Stepped
-turn_answer d (rules.Guesses ask) = turns.Guessed (next_guess d.kernel)
-turn_answer d (rules.Asks ask) = turns.Asked d.next
+turn_answer d (Rule.Steps input) = Turn.Stepped
+turn_answer d (Rule.Guesses ask) = Turn.Guessed (next_guess d.kernel)
+turn_answer d (Rule.Asks ask) = Turn.Asked d.next
 
 -- ---- requests that are taken
 
@@ -220,11 +185,11 @@ first_taken d (q ∷ qs) = record d { taken = d.taken ++ q ∷ []; waiting = qs 
 -- ---- why a reply is handed back, want of memory aside
 
 abbrev pub fits_ask : Ask → Answer → Bool
-fits_ask (Get name) (Copy content) = true
-fits_ask (Get name) Dropped = true
-fits_ask (Get name) _ = false
-fits_ask ask (Copy content) = false
-fits_ask (Store name version bytes) Yes = not (version == LAST_VERSION)
+fits_ask (Ask.Get name) (Answer.Copy content) = true
+fits_ask (Ask.Get name) Answer.Dropped = true
+fits_ask (Ask.Get name) _ = false
+fits_ask ask (Answer.Copy content) = false
+fits_ask (Ask.Store name version bytes) Answer.Yes = not (version == LAST_VERSION)
 fits_ask ask _ = true
 
 -- the number of the oldest of these requests, or of the next one
@@ -233,22 +198,19 @@ expected d [] = d.next
 expected d (q ∷ qs) = q.number
 
 abbrev pub out_of_turn : DeskView → ReplyRefusal
-out_of_turn d = OutOfTurn (expected d (pending d))
-
-abbrev pub refused_by : DeskView → PendingRequest → Reply → Option ReplyRefusal
-refused_by d q r =
-    if not (q.number == r.number) then Some (out_of_turn d)
-    else if fits_ask q.ask r.answer then None else Some WrongKind
+out_of_turn d = ReplyRefusal.OutOfTurn (expected d (pending d))
 
 abbrev pub reply_refused : DeskView → Reply → List PendingRequest → Option ReplyRefusal
 reply_refused d r [] = Some (out_of_turn d)
-reply_refused d r (q ∷ qs) = refused_by d q r
+reply_refused d r (q ∷ qs) =
+    if not (q.number == r.number) then Some (out_of_turn d)
+    else if fits_ask q.ask r.answer then None else Some ReplyRefusal.WrongKind
 
 -- ---- what a reply does
 
 -- whether an event commits a guess
 abbrev pub commits : ℕ → Event → Bool
-commits id (events.Commit g) = g == id
+commits id (Event.Commit g) = g == id
 commits id event = false
 
 abbrev pub is_lost : KernelView → ℕ → Bool
@@ -256,11 +218,9 @@ is_lost k g = not (has g (undecided_at k)) && not (list_any (commits g) k.trace)
 
 -- told by its status
 abbrev pub lost_by : Option Status → Bool
-lost_by (Some Undecided) = false
-lost_by (Some Committed) = false
-lost_by (Some Failed) = true
-lost_by (Some Struck) = true
-lost_by None = true
+lost_by (Some Status.Undecided) = false
+lost_by (Some Status.Committed) = false
+lost_by s = true
 
 -- a guess on which the request rests failed or was struck
 abbrev pub is_void : KernelView → PendingRequest → Bool
@@ -268,31 +228,31 @@ is_void k q = list_any (is_lost k) q.rests
 
 -- what the process gets of a refused guess
 abbrev pub answer_kept : Ask → Answer → Option Input
-answer_kept (Store name version bytes) (No content) = Some (inputs.Stale content)
-answer_kept ask (No content) = Some (inputs.Fresh content)
+answer_kept (Ask.Store name version bytes) (Answer.No content) = Some (Input.Stale content)
+answer_kept ask (Answer.No content) = Some (Input.Fresh content)
 answer_kept ask _ = None
 
 abbrev pub kept_after : ℕ → Option Input → List KeptAnswer → List KeptAnswer
 kept_after pid None ks = ks
-kept_after pid (Some input) ks = with_kept pid input ks
+kept_after pid (Some input) ks = forgotten pid ks ++ record { process = pid; input = input } ∷ []
 
 abbrev pub decision : ℕ → Answer → Event
-decision g Yes = events.Commit g
-decision g _ = events.Fail g
+decision g Answer.Yes = Event.Commit g
+decision g _ = Event.Fail g
 
 abbrev pub decided : DeskView → PendingRequest → ℕ → Answer → DeskView
 decided d q g a = record d { kernel = with_event d.kernel (decision g a); kept = kept_after q.process (answer_kept q.ask a) d.kept }
 
 -- what the step of an asked request is given
 abbrev pub input_of : Answer → Option Input
-input_of Yes = Some inputs.Good
-input_of (No content) = Some (inputs.Stale content)
-input_of (Copy content) = Some (inputs.Fresh content)
-input_of Dropped = None
+input_of Answer.Yes = Some Input.Good
+input_of (Answer.No content) = Some (Input.Stale content)
+input_of (Answer.Copy content) = Some (Input.Fresh content)
+input_of Answer.Dropped = None
 
 -- the step, which a refusal leaves out
 abbrev pub stepped : KernelView → ℕ → Input → Option Refusal → KernelView
-stepped k pid input None = with_event k (events.Step pid input)
+stepped k pid input None = with_event k (Event.Step pid input)
 stepped k pid input (Some why) = k
 
 abbrev pub answered : DeskView → PendingRequest → Option Input → DeskView
@@ -308,19 +268,19 @@ given d r [] = d
 given d r (q ∷ qs) = given_to (record d { taken = qs }) q r.answer q.guess
 
 abbrev pub decision_answer : ℕ → Answer → Given
-decision_answer g Yes = gives.Committed g
-decision_answer g _ = gives.Failed g
+decision_answer g Answer.Yes = Given.Committed g
+decision_answer g _ = Given.Failed g
 
 abbrev pub step_answer : ℕ → Option Input → Given
-step_answer number None = gives.Forgotten number
-step_answer number (Some input) = gives.Taken number
+step_answer number None = Given.Forgotten number
+step_answer number (Some input) = Given.Taken number
 
 abbrev pub answer_to : KernelView → PendingRequest → Answer → Option ℕ → Given
-answer_to k q a (Some g) = if has g (undecided_at k) then decision_answer g a else gives.Gone g
-answer_to k q a None = if is_void k q then gives.Forgotten q.number else step_answer q.number (input_of a)
+answer_to k q a (Some g) = if has g (undecided_at k) then decision_answer g a else Given.Gone g
+answer_to k q a None = if is_void k q then Given.Forgotten q.number else step_answer q.number (input_of a)
 
 abbrev pub given_answer : DeskView → Reply → List PendingRequest → Given
-given_answer d r [] = gives.Forgotten r.number
+given_answer d r [] = Given.Forgotten r.number
 given_answer d r (q ∷ qs) = answer_to d.kernel q r.answer q.guess
 
 abbrev pub first_guess : List PendingRequest → Option ℕ
@@ -332,11 +292,7 @@ abbrev pub is_taken : KernelView → ℕ → Option Input → Bool
 is_taken k pid None = false
 is_taken k pid (Some input) = is_none (step_refused k (entry pid input None))
 
--- a reply takes a step, and with it memory
-abbrev pub takes_step : KernelView → PendingRequest → Answer → Option ℕ → Bool
-takes_step k q a (Some g) = false
-takes_step k q a None = not (is_void k q) && is_taken k q.process (input_of a)
-
+-- the reply to an asked request takes its step, and with it memory
 abbrev pub wants_memory : DeskView → Reply → List PendingRequest → Bool
 wants_memory d r [] = false
-wants_memory d r (q ∷ qs) = takes_step d.kernel q r.answer q.guess
+wants_memory d r (q ∷ qs) = is_asked q && (not (is_void d.kernel q) && is_taken d.kernel q.process (input_of r.answer))

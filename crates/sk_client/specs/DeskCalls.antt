@@ -1,20 +1,8 @@
 -- What the calls of a desk answer.
 use Rattle.std.specs.Prelude.{◌≡◌, ℕ, ◌<◌, true, length, [], Some, None, Result, Ok, Err}
-use Rattle.sk_plain.specs.Refusal.{cause}
-use Rattle.sk_plain.specs.declared.refusal.Refusal.{Refusal}
-use Rattle.sk_trace.specs.Trace.{TraceView}
-use Rattle.sk_terminal.specs.Terminals.{TerminalMap, released_at}
-use Rattle.sk_kernel.specs.Calls.{LeavesTexts, EpochPost}
-use Rattle.sk_kernel.specs.declared.kernel.EpochRefusal.{EpochRefusal}
-use Rattle.sk_kernel.specs.declared.kernel.EpochRefusal.TheVariants as epoch_refusals
-use Rattle.sk_server.specs.declared.reply.Reply.{Reply}
-use Rattle.sk_client.specs.Rule.{Rule}
-use Rattle.sk_client.specs.declared.desk.Turn.{Turn}
-use Rattle.sk_client.specs.declared.desk.Given.{Given}
-use Rattle.sk_client.specs.declared.desk.Pending.{Pending}
-use Rattle.sk_client.specs.declared.desk.ReplyRefusal.{ReplyRefusal}
-use Rattle.sk_client.specs.declared.desk.ReplyRefusal.TheVariants.{OutOfTurn, WrongKind, Memory}
-use Rattle.sk_client.specs.Desk.{DeskView, opened_at, pending, rule, rule_refused, turn_answer, turned, reply_refused, given_answer, given, wants_memory}
+use Rattle.sk_client.specs.Base.{cause, Refusal, TraceView, TerminalMap, released_at, LeavesTexts, EpochPost}
+use Rattle.sk_client.specs.Base.{EpochRefusal, Reply, Turn, Given, Pending, ReplyRefusal}
+use Rattle.sk_client.specs.Desk.{DeskView, Rule, opened_at, pending, rule, rule_refused, turn_answer, turned, reply_refused, given_answer, given, wants_memory}
 
 -- what a rule says is done, or the first cause against it is told, and nothing changes
 abbrev pub RulePost : Result Turn Refusal → DeskView → ℕ → Rule → DeskView → Type 0
@@ -32,9 +20,8 @@ TurnPost result old pid new = ByRule result old pid new (rule old pid)
 
 -- why a reply comes back; memory is wanted for a step alone
 abbrev pub HandsBack : ReplyRefusal → DeskView → Reply → Type 0
-HandsBack Memory d r = (reply_refused d r d.taken ≡ None) × (wants_memory d r d.taken ≡ true)
-HandsBack (OutOfTurn expected) d r = reply_refused d r d.taken ≡ Some (OutOfTurn expected)
-HandsBack WrongKind d r = reply_refused d r d.taken ≡ Some WrongKind
+HandsBack ReplyRefusal.Memory d r = (reply_refused d r d.taken ≡ None) × (wants_memory d r d.taken ≡ true)
+HandsBack why d r = reply_refused d r d.taken ≡ Some why
 
 -- a reply is given, or comes back, and nothing changes
 abbrev pub ReplyPost : Result Given (Reply × ReplyRefusal) → DeskView → Reply → DeskView → Type 0
@@ -55,5 +42,5 @@ ShutPost (Err back) d = (0 < length (pending d)) × (back.0 ≡ d) × (back.1.0 
 -- next one; else nothing changes
 abbrev pub DeskEpochPost : Result (TraceView × TerminalMap) EpochRefusal → DeskView → DeskView → Type 0
 DeskEpochPost (Ok left) old new = (pending old ≡ []) × EpochPost (Ok left) old.kernel new.kernel × (new ≡ opened_at new.kernel old.next)
-DeskEpochPost (Err (epoch_refusals.Undecided n)) old new = (n ≡ length (pending old)) × (0 < n) × (new ≡ old)
-DeskEpochPost (Err epoch_refusals.Memory) old new = (pending old ≡ []) × (new ≡ old)
+DeskEpochPost (Err (EpochRefusal.Undecided n)) old new = (n ≡ length (pending old)) × (0 < n) × (new ≡ old)
+DeskEpochPost (Err EpochRefusal.Memory) old new = (pending old ≡ []) × (new ≡ old)

@@ -1,31 +1,19 @@
 -- What was served on the way from a world to another.
-use Rattle.std.specs.Prelude.{◌≡◌, List, [], ◌∷◌, ◌++◌, Option, Some, None, Result, Ok}
-use Rattle.sk_server.specs.declared.request.Request.{Request as Sent}
-use Rattle.sk_server.specs.declared.reply.Reply.{Reply}
+use Rattle.std.specs.Prelude.{◌≡◌, List, [], ◌∷◌, ◌++◌, Option, Some, Result, Ok}
+use Rattle.sk_client.specs.Base.{Sent, Reply, WorldEvent, WorldAnswer, Cause}
 use Rattle.sk_client.specs.WorldView.{WorldView, taken_by, EventPost}
-use Rattle.sk_trace.specs.declared.world_event.WorldEvent.{WorldEvent}
-use Rattle.sk_trace.specs.declared.world_event.WorldEvent.TheVariants as events
-use Rattle.sk_client.specs.declared.world.WorldAnswer.{WorldAnswer}
-use Rattle.sk_client.specs.declared.world.WorldAnswer.TheVariants as told
-use Rattle.sk_client.specs.declared.world.Cause.{Cause}
 
 -- requests, each with its reply, in the server's order
 abbrev pub Exchanges : Type 0
 Exchanges = List (Sent × Reply)
 
-abbrev pub with_reply : Sent → Result WorldAnswer Cause → Exchanges
-with_reply q (Ok (told.Served r)) = (q, r) ∷ []
-with_reply q answer = []
-
 abbrev pub exchange : Option Sent → Result WorldAnswer Cause → Exchanges
-exchange None answer = []
-exchange (Some q) answer = with_reply q answer
+exchange (Some q) (Ok (WorldAnswer.Served r)) = (q, r) ∷ []
+exchange q answer = []
 
 abbrev pub exchanged : Result WorldAnswer Cause → WorldView → WorldEvent → Exchanges
-exchanged answer w (events.Turn pid) = []
-exchanged answer w events.Serve = exchange (taken_by w w.back).back answer
-exchanged answer w events.Reply = []
-exchanged answer w (events.Edit name expected bytes) = []
+exchanged answer w WorldEvent.Serve = exchange (taken_by w w.back).back answer
+exchanged answer w e = []
 
 -- a world comes to another by these events, whatever each of them is answered, and so many requests are served
 abbrev pub Leads : WorldView → List WorldEvent → Exchanges → WorldView → Type 0

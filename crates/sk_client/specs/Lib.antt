@@ -1,9 +1,8 @@
+pub mod Base
 pub mod Pending
-pub mod Rule
 pub mod Table
 pub mod Desk
 pub mod DeskCalls
-pub mod Boxed
 pub mod Requests
 pub mod Wish
 pub mod DeskInvariant

@@ -1,12 +1,9 @@
 -- A kernel that can begin a world, of whatever epoch, and a world that begins.
 use Rattle.std.specs.Prelude.{◌≡◌, ◌+◌, ◌≤◌, length, List, []}
-use Rattle.sk_kernel.specs.Kernel.{KernelView, undecided_at}
-use Rattle.sk_kernel.specs.Laws.{HasSoundTrace}
-use Rattle.sk_server.specs.declared.server.TheConstants.{LAST_REQUEST}
+use Rattle.sk_client.specs.Base.{KernelView, undecided_at, HasSoundTrace, LAST_REQUEST, WorldEvent}
 use Rattle.sk_client.specs.Desk.{opened_at}
 use Rattle.sk_client.specs.WorldView.{WorldView, joined}
 use Rattle.sk_client.specs.Exchanges.{Exchanges, Leads}
-use Rattle.sk_trace.specs.declared.world_event.WorldEvent.{WorldEvent}
 pub use Rattle.sk_plain.specs.TidyState.{IsCounted, IsPlaced, IsCopy, IsTidyState}
 
 -- a kernel was booted, whatever it did since: its start is tidy, and its trace sound, with a place for the decision of each

@@ -1,18 +1,8 @@
 -- The steps of a record and the requests whose reply was given, one for one; that no request has two replies; and the places of
 -- the trace.
 use Rattle.std.specs.Prelude.{◌≡◌, ℕ, ◌+◌, ◌≤◌, ◌⊎◌, length, List, ◌++◌, map, Option, Some, None, IsSome, slice_get}
-use Rattle.std.specs.List.{Contains}
-use Rattle.sk_record.specs.Effects.{MarkedEffect}
-use Rattle.sk_record.specs.Trace.{Commit}
-use Rattle.sk_ids.specs.declared.entity.Entity.{Entity}
-use Rattle.sk_script.specs.declared.instruction.Input.TheVariants as inputs
-use Rattle.sk_store.specs.declared.entity_state.EntityState.{EntityState}
-use Rattle.sk_trace.specs.Entry.{EntryView}
-use Rattle.sk_plain.specs.Act.{Saying}
-use Rattle.sk_kernel.specs.Kernel.{KernelView, events_of, record_at, undecided_at}
-use Rattle.sk_server.specs.declared.request.Request.{Request as Sent}
-use Rattle.sk_server.specs.declared.reply.Answer.TheVariants as answers
-use Rattle.sk_server.specs.declared.reply.Reply.{Reply}
+use Rattle.sk_client.specs.Base.{Contains, MarkedEffect, Commit, Entity, Input, EntityState, EntryView, Saying}
+use Rattle.sk_client.specs.Base.{KernelView, events_of, record_at, undecided_at, Sent, Answer, Reply}
 use Rattle.sk_client.specs.Desk.{pending, asked_count, input_of}
 use Rattle.sk_client.specs.Exchanges.{Exchanges}
 use Rattle.sk_client.specs.AcceptedStores.{steps_at, IsStepAt, IsGiven}
@@ -33,7 +23,7 @@ pub record Replied (served : Exchanges) (v : WorldView) : Type 0 where
   pub request : Sent
   pub reply : Reply
   pub there : slice_get served at ≡ Some (request, reply)
-  pub accepted : reply.answer ≡ answers.Yes
+  pub accepted : reply.answer ≡ Answer.Yes
   pub given : IsGiven v request
 
 -- a step at this place of the record counts, and is this request's: of its guess, or of none, with Good, and it does what
@@ -49,11 +39,11 @@ pub record StepsAreReplied (before : ℕ) (served : Exchanges) (earlier v : Worl
   -- no two steps are one request's
   pub once : (place other number : ℕ) → request_at place ≡ Some number → request_at other ≡ Some number → place ≡ other
   -- each step with Good is some request's, but for so many steps that were there before
-  pub good : (place : ℕ) (n : EntryView) → before ≤ place → slice_get (record_at v.desk.kernel) place ≡ Some n → n.input ≡ inputs.Good → IsSome (request_at place)
+  pub good : (place : ℕ) (n : EntryView) → before ≤ place → slice_get (record_at v.desk.kernel) place ≡ Some n → n.input ≡ Input.Good → IsSome (request_at place)
   -- where it counts, its request was accepted and its reply given
   pub steps :
       (place : ℕ) (n : EntryView) (f : MarkedEffect Entity EntityState Saying) → before ≤ place → slice_get (steps_at v.desk.kernel) place ≡ Some (n, f)
-      → n.input ≡ inputs.Good → Counts v.desk.kernel n
+      → n.input ≡ Input.Good → Counts v.desk.kernel n
       → (r : Replied served v) × (request_at place ≡ Some r.request.number) × IsStepOf v.desk.kernel place r.request
   -- and each such request has its step
   pub replies : (r : Replied served v) → (place : ℕ) × (request_at place ≡ Some r.request.number) × IsStepOf v.desk.kernel place r.request

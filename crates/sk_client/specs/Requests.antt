@@ -1,9 +1,9 @@
 -- The requests of a desk in one queue, and what is seen of them.
 use Rattle.std.specs.Prelude.{◌≡◌, ℕ, ◌≤◌, length, map, drop, List, [], ◌∷◌, All, Option, None, Some}
-use Rattle.std.specs.Borrow.{Bor}
+use Rattle.sk_client.specs.Base.{Bor}
+use Rattle.sk_client.specs.declared.requests.Queued.{Queued}
 use Rattle.sk_client.specs.Pending.{PendingRequest}
 use Rattle.sk_client.specs.Desk.{asked_count}
-use Rattle.sk_client.specs.declared.requests.Queued.{Queued}
 
 -- those that were taken and those that wait to be, the oldest first, and for how many requests there is room
 pub record RequestsView : Type 0 where

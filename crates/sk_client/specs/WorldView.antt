@@ -1,27 +1,11 @@
 -- A world as its callers see it: a desk, a server, and what is on its way between them; and what each event does.
 use Rattle.std.specs.Prelude.{◌≡◌, ℕ, ◌+◌, ◌≤◌, ◌⊎◌, true, length, List, [], ◌∷◌, ◌++◌, Option, Some, None, Result, Ok, Err, refl}
-use Rattle.std.specs.Coded.{Coded, code_by, coded×, coded_list, coded_option}
-use Rattle.sk_terminal.specs.Terminals.{TerminalMap}
-use Rattle.sk_trace.specs.Trace.{TraceView}
-use Rattle.sk_kernel.specs.declared.kernel.EpochRefusal.{EpochRefusal}
-use Rattle.sk_server.specs.declared.request.Request.{Request}
-use Rattle.sk_server.specs.declared.reply.Reply.{Reply}
+use Rattle.sk_client.specs.Base.{Coded, code_by, coded×, coded_list, coded_option, TerminalMap, TraceView}
+use Rattle.sk_client.specs.Base.{EpochRefusal, Request, Reply, LAST_REQUEST, ServerView, server_code, answer_to}
+use Rattle.sk_client.specs.Base.{answered, Edits, ReplyRefusal, WorldEvent, WorldAnswer, WorldNews, Cause, WorldStop}
 use Rattle.sk_server.specs.contracts.request.Request as request_row
 use Rattle.sk_server.specs.contracts.reply.Reply as reply_row
-use Rattle.sk_server.specs.declared.server.TheConstants.{LAST_REQUEST}
-use Rattle.sk_server.specs.Server.{ServerView, server_code, answer_to, answered}
-use Rattle.sk_server.specs.Calls.{Edits}
 use Rattle.sk_client.specs.Pending.{PendingRequest}
-use Rattle.sk_client.specs.declared.desk.ReplyRefusal.TheVariants as refusals
-use Rattle.sk_trace.specs.declared.world_event.WorldEvent.{WorldEvent}
-use Rattle.sk_trace.specs.declared.world_event.WorldEvent.TheVariants as events
-use Rattle.sk_client.specs.declared.world.WorldAnswer.{WorldAnswer}
-use Rattle.sk_client.specs.declared.world.WorldAnswer.TheVariants as answers
-use Rattle.sk_client.specs.declared.world.WorldNews.{WorldNews}
-use Rattle.sk_client.specs.declared.world.WorldNews.TheVariants as news
-use Rattle.sk_client.specs.declared.world.Cause.{Cause}
-use Rattle.sk_client.specs.declared.world.WorldStop.{WorldStop}
-use Rattle.sk_client.specs.declared.world.Cause.TheVariants as causes
 use Rattle.sk_client.specs.Desk.{DeskView, desk_code, sent, first_taken, fits_ask}
 use Rattle.sk_client.specs.DeskCalls.{TurnPost, ReplyPost, DeskEpochPost}
 
@@ -65,53 +49,51 @@ told_as answer (Err why) = Err why
 
 -- the server answers the request that comes first; without one nothing changes, and without memory it is kept
 abbrev pub Serves : Result WorldAnswer Cause → WorldView → WorldView → Option Request → Type 0
-Serves result w new None = (result ≡ Err causes.Idle) × (new ≡ w)
-Serves (Ok told) w new (Some q) = (told ≡ answers.Served (reply_to w.server q)) × (new ≡ served w q)
-Serves (Err why) w new (Some q) = (why ≡ causes.Memory) × (new ≡ w)
+Serves result w new None = (result ≡ Err Cause.Idle) × (new ≡ w)
+Serves (Ok told) w new (Some q) = (told ≡ WorldAnswer.Served (reply_to w.server q)) × (new ≡ served w q)
+Serves (Err why) w new (Some q) = (why ≡ Cause.Memory) × (new ≡ w)
 
 -- the same, where the reply is behind the others
 abbrev pub ServesNext : Result (Unit {0}) Cause → WorldView → WorldView → Option Request → Type 0
-ServesNext result w new None = (result ≡ Err causes.Idle) × (new ≡ w)
+ServesNext result w new None = (result ≡ Err Cause.Idle) × (new ≡ w)
 ServesNext (Ok done) w new (Some q) = new ≡ served w q
-ServesNext (Err why) w new (Some q) = (why ≡ causes.Memory) × (new ≡ w)
+ServesNext (Err why) w new (Some q) = (why ≡ Cause.Memory) × (new ≡ w)
 
 -- the same for server and replies alone
 abbrev pub AnswersWith : Result (Unit {0}) Cause → ServerView → List Reply → Request → ServerView → List Reply → Type 0
 AnswersWith (Ok done) s rs q t all = (t ≡ answered s q (answer_to s q)) × (all ≡ rs ++ reply_to s q ∷ [])
-AnswersWith (Err why) s rs q t all = (why ≡ causes.Memory) × (t ≡ s) × (all ≡ rs)
+AnswersWith (Err why) s rs q t all = (why ≡ Cause.Memory) × (t ≡ s) × (all ≡ rs)
 
 -- the desk gets the oldest reply
 abbrev pub Replies : Result WorldAnswer Cause → WorldView → WorldView → List Reply → Type 0
-Replies result w new [] = (result ≡ Err causes.Idle) × (new ≡ w)
-Replies (Ok (answers.Given told)) w new (r ∷ rs) = ReplyPost (Ok told) w.desk r new.desk × (new ≡ record w { desk = new.desk; replies = rs })
+Replies result w new [] = (result ≡ Err Cause.Idle) × (new ≡ w)
+Replies (Ok (WorldAnswer.Given told)) w new (r ∷ rs) = ReplyPost (Ok told) w.desk r new.desk × (new ≡ record w { desk = new.desk; replies = rs })
 Replies (Ok told) w new (r ∷ rs) = ⊥
-Replies (Err why) w new (r ∷ rs) = (why ≡ causes.Memory) × ReplyPost (Err (r, refusals.Memory)) w.desk r w.desk × (new ≡ w)
+Replies (Err why) w new (r ∷ rs) = (why ≡ Cause.Memory) × ReplyPost (Err (r, ReplyRefusal.Memory)) w.desk r w.desk × (new ≡ w)
 
 abbrev pub Turns : Result WorldAnswer Cause → WorldView → ℕ → WorldView → Type 0
-Turns (Ok (answers.Turn turn)) w pid new = TurnPost (Ok turn) w.desk pid new.desk × (new ≡ record w { desk = new.desk })
-Turns (Ok told) w pid new = ⊥
-Turns (Err (causes.Turn why)) w pid new = TurnPost (Err why) w.desk pid w.desk × (new ≡ w)
-Turns (Err why) w pid new = ⊥
+Turns (Ok (WorldAnswer.Turn turn)) w pid new = TurnPost (Ok turn) w.desk pid new.desk × (new ≡ record w { desk = new.desk })
+Turns (Err (Cause.Turn why)) w pid new = TurnPost (Err why) w.desk pid w.desk × (new ≡ w)
+Turns result w pid new = ⊥
 
 abbrev pub EditsFile : Result WorldAnswer Cause → WorldView → List ℕ → ℕ → List ℕ → WorldView → Type 0
-EditsFile (Ok (answers.Edited version)) w name expected bytes new = Edits w.server name expected bytes (Ok version) new.server × (new ≡ record w { server = new.server })
-EditsFile (Ok told) w name expected bytes new = ⊥
-EditsFile (Err (causes.Edit why)) w name expected bytes new = Edits w.server name expected bytes (Err why) w.server × (new ≡ w)
-EditsFile (Err why) w name expected bytes new = ⊥
+EditsFile (Ok (WorldAnswer.Edited version)) w name expected bytes new = Edits w.server name expected bytes (Ok version) new.server × (new ≡ record w { server = new.server })
+EditsFile (Err (Cause.Edit why)) w name expected bytes new = Edits w.server name expected bytes (Err why) w.server × (new ≡ w)
+EditsFile result w name expected bytes new = ⊥
 
 -- an event is done as desk and server do it; a refused one changes nothing, but that a request may have been taken
 abbrev pub EventPost : Result WorldAnswer Cause → WorldView → WorldEvent → WorldView → Type 0
-EventPost result w (events.Turn pid) new = Turns result w pid new
-EventPost result w events.Serve new = let t = taken_by w w.back in Serves result t new t.back
-EventPost result w events.Reply new = Replies result w new w.replies
-EventPost result w (events.Edit name expected bytes) new = EditsFile result w name expected bytes new
+EventPost result w (WorldEvent.Turn pid) new = Turns result w pid new
+EventPost result w WorldEvent.Serve new = let t = taken_by w w.back in Serves result t new t.back
+EventPost result w WorldEvent.Reply new = Replies result w new w.replies
+EventPost result w (WorldEvent.Edit name expected bytes) new = EditsFile result w name expected bytes new
 
 -- the same in a few words: what was served is the newest of the replies
 abbrev pub NewsPost : Result WorldNews Cause → WorldView → WorldEvent → WorldView → Type 0
-NewsPost (Ok (news.Turn turn)) w e new = EventPost (Ok (answers.Turn turn)) w e new
-NewsPost (Ok news.Served) w e new = (reply : Reply) × (older : List Reply) × (new.replies ≡ older ++ reply ∷ []) × EventPost (Ok (answers.Served reply)) w e new
-NewsPost (Ok (news.Given given)) w e new = EventPost (Ok (answers.Given given)) w e new
-NewsPost (Ok (news.Edited version)) w e new = EventPost (Ok (answers.Edited version)) w e new
+NewsPost (Ok (WorldNews.Turn turn)) w e new = EventPost (Ok (WorldAnswer.Turn turn)) w e new
+NewsPost (Ok WorldNews.Served) w e new = (reply : Reply) × (older : List Reply) × (new.replies ≡ older ++ reply ∷ []) × EventPost (Ok (WorldAnswer.Served reply)) w e new
+NewsPost (Ok (WorldNews.Given given)) w e new = EventPost (Ok (WorldAnswer.Given given)) w e new
+NewsPost (Ok (WorldNews.Edited version)) w e new = EventPost (Ok (WorldAnswer.Edited version)) w e new
 NewsPost (Err why) w e new = EventPost (Err why) w e new
 
 -- the desk begins a new epoch, with nothing on its way to the server, which keeps its files; else nothing changes

@@ -1,19 +1,10 @@
 -- What a world's events write at the server.
-use Rattle.std.specs.Prelude.{◌≡◌, ℕ, Bool, true, List, [], ◌∷◌, ◌++◌, Option, Some, None, is_some, Result, Ok, Err}
-use Rattle.std.specs.List.{filter, fold}
-use Rattle.sk_server.specs.Files.{FileMap, is_fitting, written}
-use Rattle.sk_server.specs.declared.request.Request.{Request as Sent}
-use Rattle.sk_server.specs.declared.request.Ask.{Ask}
-use Rattle.sk_server.specs.declared.request.Ask.TheVariants as asks
-use Rattle.sk_server.specs.declared.reply.Answer.{Answer}
-use Rattle.sk_server.specs.declared.reply.Answer.TheVariants as answers
+use Rattle.std.specs.Prelude.{◌≡◌, ℕ, true, List, [], ◌∷◌, ◌++◌, Option, Some, None, is_some, Result, Ok, Err}
+use Rattle.sk_client.specs.Base.{filter, fold, FileMap, is_fitting, written, Sent, Ask, Answer, WorldEvent}
+use Rattle.sk_client.specs.Base.{WorldAnswer, Cause}
 use Rattle.sk_client.specs.Table.{Bytes}
 use Rattle.sk_client.specs.Exchanges.{Exchanges, exchanged, Leads}
 use Rattle.sk_client.specs.WorldView.{WorldView}
-use Rattle.sk_trace.specs.declared.world_event.WorldEvent.{WorldEvent}
-use Rattle.sk_trace.specs.declared.world_event.WorldEvent.TheVariants as events
-use Rattle.sk_client.specs.declared.world.WorldAnswer.{WorldAnswer}
-use Rattle.sk_client.specs.declared.world.Cause.{Cause}
 
 -- a write of a file that has this version: a foreign edit, or the store of a request
 pub record Write : Type 0 where
@@ -22,9 +13,6 @@ pub record Write : Type 0 where
   pub bytes : Bytes
   pub store : Option Sent
 
-abbrev pub is_store : Write → Bool
-is_store w = is_some w.store
-
 -- an edit writes where it is answered so
 abbrev pub edit_of : Result WorldAnswer Cause → Bytes → ℕ → Bytes → List Write
 edit_of (Ok answer) name expected bytes = record { name = name; expected = expected; bytes = bytes; store = None } ∷ []
@@ -32,7 +20,7 @@ edit_of (Err why) name expected bytes = []
 
 -- a store writes where it is accepted
 abbrev pub store_of : Sent → Ask → Answer → List Write
-store_of q (asks.Store name version bytes) answers.Yes = record { name = name; expected = version; bytes = bytes; store = Some q } ∷ []
+store_of q (Ask.Store name version bytes) Answer.Yes = record { name = name; expected = version; bytes = bytes; store = Some q } ∷ []
 store_of q ask answer = []
 
 abbrev pub stores_of : Exchanges → List Write
@@ -41,7 +29,7 @@ stores_of (x ∷ xs) = store_of x.0 x.0.ask x.1.answer ++ stores_of xs
 
 -- what an event writes, and what these events write
 abbrev pub written_by : Result WorldAnswer Cause → WorldView → WorldEvent → List Write
-written_by answer w (events.Edit name expected bytes) = edit_of answer name expected bytes
+written_by answer w (WorldEvent.Edit name expected bytes) = edit_of answer name expected bytes
 written_by answer w e = stores_of (exchanged answer w e)
 
 -- what a list of events writes at the server, in order: edits, and stores that it accepts
@@ -63,4 +51,4 @@ AllFit files (w ∷ ws) = (is_fitting files w.name w.expected ≡ true) × AllFi
 pub record AreWritten (first : WorldView) (ws : List Write) (served : Exchanges) (last : WorldView) : Type 0 where
   pub files : last.server.files ≡ all_written first.server.files ws
   pub fit : AllFit first.server.files ws
-  pub stores : filter is_store ws ≡ stores_of served
+  pub stores : filter (λ w. is_some w.store) ws ≡ stores_of served

@@ -1,19 +1,10 @@
 //! The desk.
 ghost use Rattle.std.specs.Prelude.{◌≡◌, ◌||◌, ℕ, List, ◌+◌, ◌-◌, ◌<◌, ◌≤◌, [], ◌++◌, nat_lt, length, is_some, option_map, OnOk, IfOk, IfSome, Some, None, vec_capacity};
-ghost use Rattle.std.specs.Option.{option_copied};
-ghost use Rattle.std.specs.Ordering.{nat_cmp};
-ghost use Rattle.std.specs.List.Sorted.{IsStrictlySortedBy};
-ghost use Rattle.sk_record.specs.Notes.{has};
-ghost use Rattle.sk_plain.specs.Refusal.{cause};
-ghost use Rattle.sk_kernel.specs.Kernel.{next_at, undecided_at, room};
-ghost use Rattle.sk_plain.specs.Next.{unplanned};
-ghost use Rattle.sk_server.specs.declared.server.TheConstants.{LAST_REQUEST};
-ghost use Rattle.sk_kernel.specs.Holder.{DecidesPost};
-ghost use Rattle.sk_trace.specs.Kept.{input_in};
-ghost use Rattle.sk_client.specs.Boxed.{ask_of};
+ghost use Rattle.sk_client.specs.Base.{option_copied, nat_cmp, IsStrictlySortedBy, has, cause, next_at, undecided_at};
+ghost use Rattle.sk_client.specs.Base.{room, unplanned, LAST_REQUEST, DecidesPost, input_in};
+ghost use Rattle.sk_client.specs.Pending.{ask_of};
 ghost use Rattle.sk_client.specs.Wish.{wanted, brought, wished, wished_at};
-ghost use Rattle.sk_client.specs.Rule as rules;
-ghost use Rattle.sk_client.specs.Desk.{opened, pending, requests_taken, asks_for, asks_on, asked_count, kept_for, forgotten, kept_after, answer_kept, cached, buffer, rule, rule_next, rule_of, unless_kept, guess_refused_at, rests_of, request_of, sent, first_sent, first_taken, first_guess, expected, fits_ask, reply_refused, is_lost, lost_by, is_void, given, given_answer, decision, decision_answer, input_of};
+ghost use Rattle.sk_client.specs.Desk.{Rule, opened, pending, requests_taken, asks_for, asks_on, asked_count, kept_for, forgotten, kept_after, answer_kept, cached, buffer, rule, rule_next, rule_of, unless_kept, guess_refused_at, rests_of, request_of, sent, first_sent, first_taken, first_guess, expected, fits_ask, reply_refused, is_lost, lost_by, is_void, given, given_answer, decision, decision_answer, input_of};
 ghost use Rattle.sk_client.specs.Upcoming.{turn_step, reply_step};
 ghost use Rattle.sk_client.specs.DeskCalls.{TurnPost, RulePost, ReplyPost, handed_back, ShutPost, DeskEpochPost};
 
@@ -468,7 +459,7 @@ impl Desk {
     #[inline(always)]
     fn take_step(&mut self, pid: Pid, takes_kept: bool) -> Result<Turn, Refusal>
         ensures { RulePost result self.old pid
-            (rules.Steps (brought takes_kept (kept_for pid self.old.kept))) self.new }
+            (Rule.Steps (brought takes_kept (kept_for pid self.old.kept))) self.new }
     {
         if self.free_places() < 1 {
             let kernel = self.holder.kernel();
@@ -568,7 +559,7 @@ impl Desk {
     /// A step with a guess that the cached copy is good, and a request that asks whether it is.
     fn guess(&mut self, pid: Pid, want: &Wanted<'_>) -> Result<Turn, Refusal>
         ensures { RulePost result self.old pid
-            (rules.Guesses (wanted (buffer self.old.kernel pid) want.now)) self.new }
+            (Rule.Guesses (wanted (buffer self.old.kernel pid) want.now)) self.new }
     {
         if self.is_numbered_out() {
             return Err(self.why_no_guess(pid));
@@ -596,7 +587,7 @@ impl Desk {
     #[inline(never)]
     fn ask(&mut self, pid: Pid, want: &Wanted<'_>) -> Result<Turn, Refusal>
         ensures { RulePost result self.old pid
-            (rules.Asks (wanted (buffer self.old.kernel pid) want.now)) self.new }
+            (Rule.Asks (wanted (buffer self.old.kernel pid) want.now)) self.new }
     {
         if self.is_numbered_out() {
             return Err(Refusal::TooMany);

@@ -1,23 +1,11 @@
 //! What holds of a kernel with its desk and a server, after every list of turns, replies and foreign edits. Each law is
 //! the contract of a function that does nothing.
 ghost use Rattle.std.specs.Prelude.{◌≡◌, ℕ, length, List, ◌++◌, Some, None, Result, Ok};
-ghost use Rattle.sk_script.specs.Boot.{BootView};
-ghost use Rattle.sk_script.specs.Lease.{LeaseView, after_private};
-ghost use Rattle.sk_guesses.specs.Token.{Token};
-ghost use Rattle.sk_script.specs.declared.instruction.Input.{Input};
-ghost use Rattle.sk_terminal.specs.Terminals.{TerminalMap};
-ghost use Rattle.sk_trace.specs.Trace.{TraceView};
+ghost use Rattle.sk_client.specs.Base.{BootView, LeaseView, after_private, Token, Input, TerminalMap, TraceView};
+ghost use Rattle.sk_client.specs.Base.{Refusal, KernelView, booted, record_at, next_guess, step_refused, guess_refused};
+ghost use Rattle.sk_client.specs.Base.{StepPost, GuessPost, CommitPost, FailPost, EpochPost, HandInPost, Outcome};
+ghost use Rattle.sk_client.specs.Base.{Stranger, FailRefusal, EpochRefusal, HandIn, ServerView, WorldEvent};
 ghost use Rattle.sk_trace.specs.declared.event.Event.TheVariants as events;
-ghost use Rattle.sk_plain.specs.declared.refusal.Refusal.{Refusal};
-ghost use Rattle.sk_kernel.specs.Kernel.{KernelView, booted, record_at, next_guess, step_refused, guess_refused};
-ghost use Rattle.sk_kernel.specs.Calls.{StepPost, GuessPost, CommitPost, FailPost, EpochPost};
-ghost use Rattle.sk_kernel.specs.HandIn.{HandInPost};
-ghost use Rattle.sk_kernel.specs.declared.kernel.Outcome.{Outcome};
-ghost use Rattle.sk_kernel.specs.declared.kernel.Stranger.{Stranger};
-ghost use Rattle.sk_kernel.specs.declared.kernel.FailRefusal.{FailRefusal};
-ghost use Rattle.sk_kernel.specs.declared.kernel.EpochRefusal.{EpochRefusal};
-ghost use Rattle.sk_kernel.specs.declared.hand_in.HandIn.{HandIn};
-ghost use Rattle.sk_server.specs.Server.{ServerView};
 ghost use Rattle.sk_client.specs.Table.{Bytes, IsNumbered};
 ghost use Rattle.sk_client.specs.Desk.{DeskView, opened, entry};
 ghost use Rattle.sk_client.specs.DeskCalls.{DeskEpochPost};
@@ -28,7 +16,6 @@ ghost use Rattle.sk_client.specs.AskedSteps.{StepsAreTaken, ForgottenAreDropped}
 ghost use Rattle.sk_client.specs.Replied.{StepsAreReplied, AreRepliedOnce, PlacesAreKept};
 ghost use Rattle.sk_client.specs.Writes.{writes_of, AreWritten};
 ghost use Rattle.sk_client.specs.WorldView.{WorldView, joined};
-ghost use Rattle.sk_trace.specs.declared.world_event.WorldEvent.{WorldEvent};
 
 use sk_script::{Boot, BootProcess};
 

@@ -1,8 +1,7 @@
 //! Leases of a desk.
 ghost use Rattle.std.specs.Prelude.{◌≡◌};
+ghost use Rattle.sk_client.specs.Base.{state_at, Lends, lease_of};
 ghost use Rattle.std.specs.FinMap as map;
-ghost use Rattle.sk_kernel.specs.Kernel.{state_at};
-ghost use Rattle.sk_plain.specs.Leased.{Lends, lease_of};
 ghost use Rattle.sk_client.specs.Leasing.{blocked_why, desk_lease, WhyShort, DeskHandInPost};
 
 use crate::Desk;

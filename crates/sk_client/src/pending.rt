@@ -1,8 +1,9 @@
 //! Requests without a reply, and kept answers.
 ghost use Rattle.std.specs.Prelude.{◌≡◌, ◌∷◌, [], ◌&&◌, ◌==◌, bytes_eq};
 ghost use Rattle.sk_server.specs.Lent.{ask_in, request_in};
-ghost use Rattle.sk_client.specs.Desk.{is_asked, asked_count, name_of, sent};
-ghost use Rattle.sk_client.specs.Boxed.{ask_of};
+ghost use Rattle.sk_server.specs.Verdict.{asked_name};
+ghost use Rattle.sk_client.specs.Desk.{is_asked, asked_count, sent};
+ghost use Rattle.sk_client.specs.Pending.{ask_of};
 
 use sk_ids::{GuessId, Name, Pid, TagSet, Text};
 use sk_script::Input;
@@ -33,8 +34,7 @@ pub(crate) struct BoxedRequest {
 }
 
 impl Model for BoxedRequest {
-    ghost use Rattle.sk_client.specs.Pending.{PendingRequest, request_code};
-    ghost use Rattle.sk_client.specs.Boxed.{ask_of};
+    ghost use Rattle.sk_client.specs.Pending.{PendingRequest, request_code, ask_of};
 
     ghost Value = { PendingRequest };
 
@@ -60,7 +60,7 @@ pub struct KeptAnswer {
 impl BoxedAsk {
     /// The name of the file that is asked about.
     pub(crate) fn name(&self) -> &Name
-        ensures { result.now ≡ name_of (ask_of self.now) }
+        ensures { result.now ≡ asked_name (ask_of self.now) }
     {
         match self {
             BoxedAsk::Get(name) | BoxedAsk::Check(name, _) | BoxedAsk::Store(name, _, _) => name,
@@ -114,7 +114,7 @@ impl BoxedRequest {
 
     /// Whether a process waits for a reply on this name.
     pub(crate) fn asks_on(&self, name: &Name) -> bool
-        ensures { result ≡ (is_asked self.now && bytes_eq (name_of self.now.ask) name.now) }
+        ensures { result ≡ (is_asked self.now && bytes_eq (asked_name self.now.ask) name.now) }
     {
         self.is_asked() && self.ask.name() == name
     }

@@ -1,14 +1,11 @@
 //! A desk and a server, joined.
 ghost use Rattle.std.specs.Prelude.{◌≡◌, ◌↔◌, ◌<◌, ◌≤◌, ◌+◌, ◌-◌, [], true, length, IsSome, IfSome, slice_index_or};
+ghost use Rattle.sk_client.specs.Base.{request_in, LAST_REQUEST, event_in, is_in_turn};
 ghost use Rattle.sk_client.specs.WorldView.{joined, taken_by, told_as, EventPost, NewsPost, RunsTo, Turns, AnswersWith, ServesNext, Replies, EditsFile, WorldEpochPost};
 ghost use Rattle.sk_client.specs.declared.world.WorldAnswer.TheVariants as answers;
-ghost use Rattle.sk_server.specs.Lent.{request_in};
-ghost use Rattle.sk_server.specs.declared.server.TheConstants.{LAST_REQUEST};
 ghost use Rattle.sk_client.specs.Leasing.{WorldHandInPost};
 ghost use Rattle.sk_client.specs.Desk.{first_sent, first_taken};
 ghost use Rattle.sk_client.specs.Upcoming.{upcoming};
-ghost use Rattle.sk_trace.specs.LentEvent.{event_in};
-ghost use Rattle.sk_server.specs.Server.{is_in_turn};
 
 use crate::desk::{Desk, Given, ReplyRefusal, Turn};
 use sk_ids::{Name, Pid, Text};

@@ -2,9 +2,7 @@
 use Rattle.std.specs.Prelude.{◌≡◌, ℕ, zero, suc, ◌-◌, max, Bool, true, false, ◌&&◌, ◌||◌, not, ◌==◌, length, take, count_by, Option, Some}
 use Rattle.std.specs.List.{list_any}
 use Rattle.sk_record.specs.declared.status.Status.{Status}
-use Rattle.sk_record.specs.declared.status.Status.TheVariants.{Struck}
 use Rattle.sk_trace.specs.declared.event.Event.{Event}
-use Rattle.sk_trace.specs.declared.event.Event.TheVariants as events
 use Rattle.sk_plain.specs.Replay.{is_made}
 use Rattle.sk_kernel.specs.Kernel.{KernelView, record_at, undecided_at}
 use Rattle.sk_kernel.specs.Notes.{CanHold}
@@ -12,34 +10,34 @@ use Rattle.sk_counts.specs.declared.counts.Counts.{Counts}
 
 -- whether an event takes a step, which may be a guess's
 abbrev pub is_step : Event → Bool
-is_step (events.Step pid input) = true
-is_step (events.Guess id pid input) = true
+is_step (Event.Step pid input) = true
+is_step (Event.Guess id pid input) = true
 is_step event = false
 
 -- whether it makes a guess
 abbrev pub is_guess : Event → Bool
-is_guess (events.Guess id pid input) = true
+is_guess (Event.Guess id pid input) = true
 is_guess event = false
 
 -- whether it commits one
 abbrev pub is_commit : Event → Bool
-is_commit (events.Commit id) = true
+is_commit (Event.Commit id) = true
 is_commit event = false
 
 -- whether it fails one
 abbrev pub is_failure : Event → Bool
-is_failure (events.Fail id) = true
+is_failure (Event.Fail id) = true
 is_failure event = false
 
 -- whether it makes this guess
 abbrev pub makes : ℕ → Event → Bool
-makes g (events.Guess id pid input) = id == g
+makes g (Event.Guess id pid input) = id == g
 makes g event = false
 
 -- whether it decides this guess
 abbrev pub decides : ℕ → Event → Bool
-decides g (events.Commit id) = id == g
-decides g (events.Fail id) = id == g
+decides g (Event.Commit id) = id == g
+decides g (Event.Fail id) = id == g
 decides g event = false
 
 -- whether a guess was made and not decided, and its step is not in the record any more
@@ -48,12 +46,12 @@ is_struck k g = list_any (makes g) k.trace && not (list_any (decides g) k.trace 
 
 -- whether the status of a guess is that it was struck
 abbrev pub is_struck_status : Option Status → Bool
-is_struck_status (Some Struck) = true
+is_struck_status (Some Status.Struck) = true
 is_struck_status status = false
 
 -- whether an event makes a guess that was struck later
 abbrev pub makes_struck : KernelView → Event → Bool
-makes_struck k (events.Guess id pid input) = is_struck k id
+makes_struck k (Event.Guess id pid input) = is_struck k id
 makes_struck k event = false
 
 -- how many guesses were undecided after the first n events

@@ -17,8 +17,7 @@ pub use Rattle.sk_client.specs.declared.desk.Turn.{Turn}
 pub use Rattle.sk_crew.specs.Ahead.{HasRun, RunsAhead, IsLentNext, IsLent, IsLentFor, TakesTurn}
 pub use Rattle.sk_crew.specs.Crewed.{start_of, HasCause, IsRefused, IsCrewed}
 pub use Rattle.sk_crew.specs.Duties.{AreNew, AllKeepTo, AllWorkOn, OnlyReplies, AllTookTurns, WorksOn, KeepsTo}
-pub use Rattle.sk_crew.specs.Duties.{processes_of, LeadsOn, IsNew, AreNumbered, IsReply, IsDuty}
-pub use Rattle.sk_crew.specs.Processes.{process_of}
+pub use Rattle.sk_crew.specs.Duties.{process_of, processes_of, LeadsOn, IsNew, AreNumbered, IsReply, IsDuty}
 pub use Rattle.sk_crew.specs.Rounds.{next, is_ended, after, due, fresh}
 pub use Rattle.sk_crew.specs.Served.{IsServed, AnswersAll}
 pub use Rattle.sk_crew.specs.Turns.{turn_count, TookTurns, AllEnded, IsOf, IsOver, HasTurn, turns_of}

@@ -1,15 +1,7 @@
 -- What a worker does before a turn.
 use Rattle.std.specs.Prelude.{◌≡◌, ◌⊎◌, ◌<◌, ◌≤◌, ℕ, false, List, Option, Some, Result, slice_get}
-use Rattle.sk_script.specs.Lease.{LeaseView}
-use Rattle.sk_plain.specs.declared.refusal.Refusal.{Refusal}
-use Rattle.sk_client.specs.declared.desk.Turn.{Turn}
-use Rattle.sk_kernel.specs.declared.hand_in.HandIn.{HandIn}
-use Rattle.sk_workers.specs.declared.entry.DeskCall.TheVariants as calls
-use Rattle.sk_workers.specs.declared.entry.Answered.TheVariants.{HandedIn}
-use Rattle.sk_workers.specs.Views.{WorkerView}
-use Rattle.sk_workers.specs.History.{Told, TurnTold}
-use Rattle.sk_workers.specs.Closing.{begins_turn}
-use Rattle.sk_crew.specs.declared.rounds.Rounds.{Rounds}
+use Rattle.sk_crew.specs.Base.{LeaseView, Refusal, Turn, HandIn, Answered, DeskCall, WorkerView, Told, TurnTold}
+use Rattle.sk_crew.specs.Base.{begins_turn, Rounds}
 
 -- a lease of this process that did no instruction yet
 abbrev pub IsLent : ℕ → LeaseView → Type 0
@@ -32,7 +24,7 @@ abbrev pub RunsAhead : ℕ → ℕ → WorkerView → WorkerView → Type 0
 RunsAhead n pid w w' =
     (w' ≡ w)
     ⊎ ((count : ℕ) × (answer : Result (Unit {0}) HandIn)
-    × (0 < count) × (count ≤ n) × Told w (calls.HandIn pid count) (HandedIn answer) w')
+    × (0 < count) × (count ≤ n) × Told w (DeskCall.HandIn pid count) (Answered.HandedIn answer) w')
 
 -- a turn of a process is begun and answered, and before the answer up to n of its private instructions were handed in
 abbrev pub TakesTurn : ℕ → Result Turn Refusal → WorkerView → ℕ → WorkerView → Type 0

@@ -1,14 +1,7 @@
 -- What a crew leaves, and why it has no history.
-use Rattle.std.specs.Prelude.{ℕ, List, ⊤}
-use Rattle.sk_kernel.specs.Opening.{opening_of}
-use Rattle.sk_client.specs.Desk.{DeskView}
-use Rattle.sk_workers.specs.declared.entry.HistoryEntry.{HistoryEntry}
-use Rattle.sk_workers.specs.Views.{SharedView, BookView, WorkerView}
-use Rattle.sk_workers.specs.History.{IsLegal}
-use Rattle.sk_workers.specs.Closing.{IsClosed, Refuses}
-use Rattle.sk_crew.specs.declared.crew.CrewFault.{CrewFault}
-use Rattle.sk_crew.specs.declared.crew.CrewFault.TheVariants.{Memory, Close}
-use Rattle.sk_crew.specs.declared.crew.CrewPlan.{CrewPlan}
+use Rattle.std.specs.Prelude.{List, ⊤}
+use Rattle.sk_crew.specs.Base.{opening_of, DeskView, HistoryEntry, SharedView, BookView, WorkerView, IsLegal, IsClosed}
+use Rattle.sk_crew.specs.Base.{Refuses, CrewFault, CrewPlan}
 use Rattle.sk_crew.specs.Duties.{AreNumbered, AllKeepTo, AllTookTurns, processes_of}
 
 -- where a desk begins
@@ -26,13 +19,13 @@ pub record IsCrewed (plan : CrewPlan) (d : DeskView) (history : List HistoryEntr
 
 -- a close that some book with a legal history refuses to these workers
 abbrev pub IsRefused : SharedView → List WorkerView → CrewFault → Type 0
-IsRefused s workers Memory = ⊥
-IsRefused s workers (Close why) = (book : BookView) × IsLegal book.history book.desk × Refuses s workers book why
+IsRefused s workers CrewFault.Memory = ⊥
+IsRefused s workers (CrewFault.Close why) = (book : BookView) × IsLegal book.history book.desk × Refuses s workers book why
 
 -- want of memory, or such a close to so many workers, numbered from 0, each of whose calls is its worker's to make, and who took their turns
 abbrev pub HasCause : CrewPlan → DeskView → CrewFault → Type 0
-HasCause plan d Memory = ⊤
-HasCause plan d (Close why) =
+HasCause plan d CrewFault.Memory = ⊤
+HasCause plan d (CrewFault.Close why) =
     (crew : List WorkerView) × AreNumbered plan.workers crew
     × AllKeepTo plan (processes_of d) crew × AllTookTurns plan (processes_of d) crew
-    × IsRefused (start_of d) crew (Close why)
+    × IsRefused (start_of d) crew (CrewFault.Close why)

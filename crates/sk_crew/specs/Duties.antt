@@ -1,18 +1,14 @@
 -- Which calls are a worker's to make.
-use Rattle.std.specs.Prelude.{◌≡◌, ◌<◌, ◌≤◌, ℕ, ◌+◌, ◌*◌, List, ◌++◌, Some, length, flat_map, slice_get}
-use Rattle.std.specs.List.{Contains}
+use Rattle.std.specs.Prelude.{◌≡◌, ◌<◌, ◌≤◌, ℕ, ◌+◌, ◌*◌, List, [], ◌∷◌, ◌++◌, Some, length, flat_map, slice_get}
+use Rattle.sk_crew.specs.Base.{Contains, Pid, Entity, state_at, DeskView, DeskCall, Receipt, WorkerView, numbers, fresh}
+use Rattle.sk_crew.specs.Base.{CrewPlan}
 use Rattle.std.specs.FinMap as map
-use Rattle.sk_kernel.specs.Kernel.{state_at}
-use Rattle.sk_client.specs.Desk.{DeskView}
-use Rattle.sk_workers.specs.declared.entry.DeskCall.{DeskCall}
-use Rattle.sk_workers.specs.declared.entry.DeskCall.TheVariants as calls
-use Rattle.sk_workers.specs.declared.entry.Receipt.{Receipt}
-use Rattle.sk_workers.specs.Views.{WorkerView}
-use Rattle.sk_workers.specs.Closing.{numbers}
-use Rattle.sk_workers.specs.History.{fresh}
-use Rattle.sk_crew.specs.declared.crew.CrewPlan.{CrewPlan}
-use Rattle.sk_crew.specs.Processes.{process_of}
 use Rattle.sk_crew.specs.Turns.{IsOf, TookTurns}
+
+-- the process that an entity is, if it is one
+abbrev pub process_of : Entity → List Pid
+process_of (Entity.Proc pid) = pid ∷ []
+process_of entity = []
 
 -- the processes of a desk, by rising number
 abbrev pub processes_of : DeskView → List ℕ
@@ -21,9 +17,9 @@ processes_of d = flat_map process_of (map.keys (state_at d.kernel))
 -- a turn is of a process that the worker has, a reply is given by worker 0, and a hand-in is of such a process too, with 1 to as many private
 -- instructions as the plan says
 abbrev pub IsDuty : CrewPlan → List ℕ → ℕ → DeskCall → Type 0
-IsDuty plan processes number (calls.Turn pid) = IsOf plan.workers number processes pid
-IsDuty plan processes number (calls.Reply reply) = number ≡ 0
-IsDuty plan processes number (calls.HandIn pid count) = IsOf plan.workers number processes pid × (0 < count) × (count ≤ plan.ahead)
+IsDuty plan processes number (DeskCall.Turn pid) = IsOf plan.workers number processes pid
+IsDuty plan processes number (DeskCall.Reply reply) = number ≡ 0
+IsDuty plan processes number (DeskCall.HandIn pid count) = IsOf plan.workers number processes pid × (0 < count) × (count ≤ plan.ahead)
 
 -- each of a worker's receipts is for such a call
 abbrev pub KeepsTo : CrewPlan → List ℕ → WorkerView → Type 0
@@ -37,7 +33,7 @@ abbrev pub AllTookTurns : CrewPlan → List ℕ → List WorkerView → Type 0
 AllTookTurns plan processes ws = (w : WorkerView) → Contains ws w → TookTurns plan.workers plan.turns processes w
 
 abbrev pub IsReply : DeskCall → Type 0
-IsReply (calls.Reply reply) = Unit {0}
+IsReply (DeskCall.Reply reply) = Unit {0}
 IsReply call = ⊥
 
 -- a worker gave replies and did nothing else: its last receipts are for these

@@ -1,6 +1,6 @@
+pub mod Base
 pub mod Crewed
 pub mod Rounds
-pub mod Processes
 pub mod Ahead
 pub mod Turns
 pub mod Served

@@ -1,9 +1,6 @@
 -- The rounds that a worker makes of its processes.
 use Rattle.std.specs.Prelude.{ℕ, ◌+◌, Bool, true, false, ◌&&◌, nat_lt, nat_le, Option, Some, None, Result, Err, if◌then◌else◌}
-use Rattle.sk_plain.specs.declared.refusal.Refusal.{Refusal}
-use Rattle.sk_plain.specs.declared.refusal.Refusal.TheVariants.{Ended}
-use Rattle.sk_client.specs.declared.desk.Turn.{Turn}
-use Rattle.sk_crew.specs.declared.rounds.Rounds.{Rounds}
+use Rattle.sk_crew.specs.Base.{Refusal, Turn, Rounds}
 
 -- the worker of this number, one of so many, took no turn yet; one that has no process has stopped
 abbrev pub fresh : ℕ → ℕ → ℕ → Rounds
@@ -25,5 +22,5 @@ after ended r =
 
 -- whether a turn was answered `Ended`
 abbrev pub is_ended : Result Turn Refusal → Bool
-is_ended (Err Ended) = true
+is_ended (Err Refusal.Ended) = true
 is_ended answer = false

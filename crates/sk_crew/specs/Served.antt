@@ -1,9 +1,6 @@
 -- What the server of a crew did.
-use Rattle.std.specs.Prelude.{◌≡◌, List, [], ◌∷◌, Some, Ok}
-use Rattle.sk_server.specs.declared.request.Request.{Request}
-use Rattle.sk_server.specs.declared.reply.Reply.{Reply}
-use Rattle.sk_server.specs.Server.{ServerView}
-use Rattle.sk_server.specs.Calls.{Answers}
+use Rattle.std.specs.Prelude.{◌≡◌, List, [], ◌∷◌, Ok}
+use Rattle.sk_crew.specs.Base.{Request, Reply, ServerView, Answers}
 
 -- a server answers these requests, one after another
 abbrev pub AnswersAll : ServerView → List Request → ServerView → Type 0

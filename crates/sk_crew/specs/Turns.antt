@@ -1,12 +1,6 @@
 -- The turns that a worker began, and those of a round in which each was answered `Ended`.
 use Rattle.std.specs.Prelude.{◌≡◌, ◌⊎◌, ◌≤◌, ℕ, ◌+◌, ◌*◌, List, ◌++◌, Some, Err, slice_get}
-use Rattle.std.specs.List.{Contains, sum_by}
-use Rattle.sk_plain.specs.declared.refusal.Refusal.TheVariants.{Ended}
-use Rattle.sk_workers.specs.declared.entry.DeskCall.{DeskCall}
-use Rattle.sk_workers.specs.declared.entry.DeskCall.TheVariants as calls
-use Rattle.sk_workers.specs.declared.entry.Answered.TheVariants.{Turned}
-use Rattle.sk_workers.specs.declared.entry.Receipt.{Receipt}
-use Rattle.sk_workers.specs.Views.{WorkerView}
+use Rattle.sk_crew.specs.Base.{Contains, sum_by, Refusal, DeskCall, Answered, Receipt, WorkerView}
 
 -- of so many workers the one of this number has the processes whose places are its number, and so many further on each time
 abbrev pub IsOf : ℕ → ℕ → List ℕ → ℕ → Type 0
@@ -15,7 +9,7 @@ IsOf workers number processes pid =
 
 -- a turn counts as one, another call as none
 abbrev pub turn_count : DeskCall → ℕ
-turn_count (calls.Turn pid) = 1
+turn_count (DeskCall.Turn pid) = 1
 turn_count call = 0
 
 -- how many of these receipts are for turns
@@ -24,11 +18,11 @@ turns_of rs = sum_by (λ (r : Receipt). turn_count r.entry.call) rs
 
 -- a turn of this process is among these
 abbrev pub HasTurn : List Receipt → ℕ → Type 0
-HasTurn rs pid = (r : Receipt) × Contains rs r × (r.entry.call ≡ calls.Turn pid)
+HasTurn rs pid = (r : Receipt) × Contains rs r × (r.entry.call ≡ DeskCall.Turn pid)
 
 -- each turn among these was answered `Ended`
 abbrev pub AllEnded : List Receipt → Type 0
-AllEnded rs = (r : Receipt) (pid : ℕ) → Contains rs r → r.entry.call ≡ calls.Turn pid → r.entry.answer ≡ Turned (Err Ended)
+AllEnded rs = (r : Receipt) (pid : ℕ) → Contains rs r → r.entry.call ≡ DeskCall.Turn pid → r.entry.answer ≡ Answered.Turned (Err Refusal.Ended)
 
 -- the rounds of a worker are over: among its last receipts is a turn of each of its processes, and each turn was answered `Ended`
 pub record IsOver (workers : ℕ) (processes : List ℕ) (w : WorkerView) : Type 0 where

@@ -1,9 +1,6 @@
 //! A crew, from its desk and server to the history of its calls.
 ghost use Rattle.std.specs.Prelude.{◌≡◌, ◌≤◌, ◌<◌, [], vec_len, IfOk, IfErr};
-ghost use Rattle.sk_client.specs.Desk.{opened_at, pending};
-ghost use Rattle.sk_workers.specs.declared.worker.TheConstants.{WORKERS_LIMIT};
-ghost use Rattle.sk_workers.specs.History.{Runs, AreFresh};
-ghost use Rattle.sk_workers.specs.Closing.{numbers, AreDistinct, IsClosed};
+ghost use Rattle.sk_crew.specs.Base.{opened_at, pending, WORKERS_LIMIT, Runs, AreFresh, numbers, AreDistinct, IsClosed};
 ghost use Rattle.sk_crew.specs.Crewed.{IsCrewed, IsRefused, HasCause};
 ghost use Rattle.sk_crew.specs.Duties.{AllKeepTo, AllTookTurns};
 

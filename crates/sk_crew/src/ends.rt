@@ -1,10 +1,6 @@
 //! The two ends of a wire.
 ghost use Rattle.std.specs.Prelude.{◌≡◌, ◌+◌, ◌<◌, ◌^◌, ◌↔◌, length, IfOk, IfErr, OnOk, IsTrue};
-ghost use Rattle.crossbeam_queue.specs.Passes.{view};
-ghost use Rattle.sk_wire.specs.declared.rule.TheConstants.{WIRE_ITEMS};
-ghost use Rattle.sk_wire.specs.Rule.{sender, with_sent};
-ghost use Rattle.sk_wire.specs.Wire.{IsSending, IsReceiving};
-ghost use Rattle.sk_wire.specs.Calls.{PopPost};
+ghost use Rattle.sk_crew.specs.Base.{view, WIRE_ITEMS, sender, with_sent, IsSending, IsReceiving, PopPost};
 
 use sk_wire::{HasNumber, WIRE_ITEMS, Wire, WirePass};
 use std::alloc::{AllocError, Global};

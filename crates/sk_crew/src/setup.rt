@@ -2,8 +2,7 @@
 ghost use Rattle.std.specs.Prelude.{◌≡◌, flat_map, IfOk};
 ghost use Rattle.std.specs.FinMap as map;
 ghost use Rattle.sk_kernel.specs.Kernel.{state_at};
-ghost use Rattle.sk_crew.specs.Duties.{processes_of};
-ghost use Rattle.sk_crew.specs.Processes.{process_of};
+ghost use Rattle.sk_crew.specs.Duties.{process_of, processes_of};
 
 use crate::ends::WireEnds;
 use sk_client::Desk;

@@ -1,9 +1,6 @@
 //! The threads of a crew.
 ghost use Rattle.std.specs.Prelude.{◌≡◌, ℕ, Some, IfOk, IfSome, vec_len, vec_capacity, slice_get, option_and_then};
-ghost use Rattle.std.specs.Thread.{IsSync};
-ghost use Rattle.sk_plain.specs.Leased.{Lends};
-ghost use Rattle.sk_client.specs.Desk.{DeskView};
-ghost use Rattle.sk_client.specs.Leasing.{desk_lease};
+ghost use Rattle.sk_crew.specs.Base.{IsSync, Lends, DeskView, desk_lease};
 ghost use Rattle.sk_crew.specs.Rounds.{due, next, after, is_ended};
 ghost use Rattle.sk_crew.specs.Ahead.{IsLent, IsLentFor, IsLentNext, HasRun, TakesTurn};
 ghost use Rattle.sk_crew.specs.Duties.{WorksOn, LeadsOn, AllWorkOn, OnlyReplies};

@@ -7,8 +7,9 @@ pub use Rattle.std.proofs.lemmas.Iterator.Search.{any_from_yields_List}
 pub use Rattle.std.proofs.lemmas.List.{append-nil}
 pub use Rattle.std.specs.List.{filter, list_any}
 pub use Rattle.sk_record.specs.Notes.{has}
+pub use Rattle.sk_record.specs.Trace.{marks}
 pub use Rattle.sk_server.specs.Lent.{request_in}
-pub use Rattle.sk_server.specs.Server.{is_new_file, answer_to, listed, refused_by, adds, is_dropped, ServerView}
+pub use Rattle.sk_server.specs.Server.{is_new_file, answer_to, refused_by, adds, is_dropped, ServerView}
 pub use Rattle.sk_server.specs.Server.{remembered, judged}
 pub use Rattle.sk_server.specs.Verdict.{Decides, said}
 pub use Rattle.sk_server.specs.declared.reply.Answer.{Answer}

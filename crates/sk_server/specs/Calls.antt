@@ -6,14 +6,12 @@ use Rattle.sk_server.specs.Server.{ServerView, is_in_turn, answer_to, answered, 
 use Rattle.sk_server.specs.declared.request.Request.{Request}
 use Rattle.sk_server.specs.declared.reply.Reply.{Reply}
 use Rattle.sk_server.specs.declared.server.ServerRefusal.{ServerRefusal}
-use Rattle.sk_server.specs.declared.server.ServerRefusal.TheVariants.{OutOfTurn, Memory}
 use Rattle.sk_server.specs.declared.server.EditRefusal.{EditRefusal}
-use Rattle.sk_server.specs.declared.server.EditRefusal.TheVariants as edits
 
 -- another number is due; or what the answer adds has no room
 abbrev pub IsRefused : ServerView → Request → ServerRefusal → Type 0
-IsRefused s q (OutOfTurn expected) = (is_in_turn s q ≡ false) × (expected ≡ s.next)
-IsRefused s q Memory = (is_in_turn s q ≡ true) × (adds s q (answer_to s q) ≡ true)
+IsRefused s q (ServerRefusal.OutOfTurn expected) = (is_in_turn s q ≡ false) × (expected ≡ s.next)
+IsRefused s q ServerRefusal.Memory = (is_in_turn s q ≡ true) × (adds s q (answer_to s q) ≡ true)
 
 -- the reply to a request in turn; or the request comes back, and all is as it was
 abbrev pub Answers : ServerView → Request → Result Reply (Request × ServerRefusal) → ServerView → Type 0
@@ -38,11 +36,11 @@ Edits s name expected bytes (Ok version) t =
     (is_fitting s.files name expected ≡ true)
     × (version ≡ expected + 1)
     × (t ≡ record s { files = written s.files name expected bytes })
-Edits s name expected bytes (Err (edits.Version actual)) t =
+Edits s name expected bytes (Err (EditRefusal.Version actual)) t =
     (is_fitting s.files name expected ≡ false)
     × (actual ≡ (file_of s.files name).version)
     × (t ≡ s)
-Edits s name expected bytes (Err edits.Memory) t =
+Edits s name expected bytes (Err EditRefusal.Memory) t =
     (is_fitting s.files name expected ≡ true)
     × (map.get s.files name ≡ None)
     × (t ≡ s)

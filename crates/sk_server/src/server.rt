@@ -5,7 +5,8 @@ ghost use Rattle.std.specs.Option.{option_copied};
 ghost use Rattle.std.specs.List.Sorted.{IsStrictlySortedBy};
 ghost use Rattle.std.specs.FinMap as map;
 ghost use Rattle.sk_ids.specs.Name.{name_order};
-ghost use Rattle.sk_server.specs.Server.{new_server, is_in_turn, remembered, is_dropped, judged, answer_to, answered, listed, adds};
+ghost use Rattle.sk_record.specs.Trace.{marks};
+ghost use Rattle.sk_server.specs.Server.{new_server, is_in_turn, remembered, is_dropped, judged, answer_to, answered, adds};
 ghost use Rattle.sk_server.specs.Calls.{Answers, AnswersBehind, Edits};
 ghost use Rattle.sk_server.specs.Files.{file_of};
 ghost use Rattle.sk_server.specs.Lent.{ask_in, request_in};
@@ -314,7 +315,7 @@ fn make_room(refused: &mut Vec<GuessId>, guess: Option<GuessId>) -> Result<(), A
 fn remember(refused: &mut Vec<GuessId>, request: &RequestRef<'_>, guess: Option<GuessId>)
     requires { is_some guess ≡ true → vec_len refused.old < vec_capacity refused.old }
     ensures { refused.new.items
-        ≡ remembered (request_in request.now) refused.old.items ++ listed guess }
+        ≡ remembered (request_in request.now) refused.old.items ++ marks guess }
 {
     refused.retain(|guess| is_open(*guess, request.settled));
     if let Some(guess) = guess {

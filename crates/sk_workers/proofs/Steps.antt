@@ -5,11 +5,10 @@ use Rattle.sk_workers.proofs.Names.{decided, input_of, first_taken, DeskView, an
 use Rattle.sk_workers.proofs.Names.{ReplyPost, ByRule, TurnPost, DeskTakesIn, DeskHandInPost, Given, ReplyRefusal, Turn}
 use Rattle.sk_workers.proofs.Names.{PendingRequest, Rule, undecided_at, step_refused, HandIn, Stale, Memory, Refusal}
 use Rattle.sk_workers.proofs.Names.{has, LeaseView, after_private, Input, Answer, Reply, HandInAdds, TurnTold}
-use Rattle.sk_workers.proofs.Names.{without_reply, AnyTold, as_opened, HandInTold, CallPost, TakesAny, TakesInAdds}
-use Rattle.sk_workers.proofs.Names.{TurnAdds, with_reply, without_lease, HandsIn, BookView, WorkerView, Answered}
+use Rattle.sk_workers.proofs.Names.{answer_alone, AnyTold, as_opened, HandInTold, CallPost, TakesAny, TakesInAdds}
+use Rattle.sk_workers.proofs.Names.{TurnAdds, handed_back, HandsIn, BookView, WorkerView, Answered}
 use Rattle.sk_workers.proofs.Names.{Turned, Replied, HandedIn, DeskCall}
 use Rattle.std.proofs.Common.{Option, Some, None}
-use Rattle.sk_client.specs.Rule as rules
 use Rattle.sk_client.specs.Desk.{entry}
 use Rattle.sk_workers.specs.declared.entry.DeskCall.TheVariants as calls
 
@@ -20,7 +19,7 @@ Keeps d e = as_opened e ≡ as_opened d
 -- ---- turns
 
 turned_keeps : (d : DeskView) (pid : ℕ) (r : Rule) → Keeps d (turned d pid r)
-turned_keeps d pid (rules.Steps input) = refl
+turned_keeps d pid (Rule.Steps input) = refl
 turned_keeps d pid r = refl
 
 by_rule_keeps : (d e : DeskView) (pid : ℕ) (answer : Result Turn Refusal) (r : Result Rule Refusal) → ByRule answer d pid e r → Keeps d e
@@ -71,7 +70,7 @@ hands_in d e l s done post = (l, (post.0, refl, refl, done), post)
 
 pub step_keeps : (d e : DeskView) (call : DeskCall) (answer : Answered) → CallPost d call answer e → as_opened e ≡ as_opened d
 step_keeps d e (calls.Turn pid) (Turned r) step = by_rule_keeps d e pid r (rule d pid) step.0
-step_keeps d e (calls.Reply reply) (Replied r) step = reply_keeps d e reply (with_reply reply r) step.0
+step_keeps d e (calls.Reply reply) (Replied r) step = reply_keeps d e reply (handed_back reply r) step.0
 step_keeps d e (calls.HandIn pid count) (HandedIn r) step = hand_in_keeps d e pid count r step.0
 step_keeps d e call answer step = absurd step
 
@@ -91,9 +90,9 @@ turn_leaves d e pid answer why post is = by_rule_leaves d e pid why (rule d pid)
 
 -- an answer tells what it would with the reply that comes back
 pub with_back : (d e : DeskView) (reply : Reply) (answer : Result Given (Reply × ReplyRefusal)) (r : Result Given ReplyRefusal)
-    → ReplyPost answer d reply e → r ≡ without_reply answer → ReplyPost (with_reply reply r) d reply e
-with_back d e reply (Ok told) r post is = subst (λ (x : Result Given ReplyRefusal). ReplyPost (with_reply reply x) d reply e) (sym is) post
-with_back d e reply (Err back) r post is = subst (λ (x : Result Given ReplyRefusal). ReplyPost (with_reply reply x) d reply e) (sym is) (refl, post.1, post.2)
+    → ReplyPost answer d reply e → r ≡ answer_alone answer → ReplyPost (handed_back reply r) d reply e
+with_back d e reply (Ok told) r post is = subst (λ (x : Result Given ReplyRefusal). ReplyPost (handed_back reply x) d reply e) (sym is) post
+with_back d e reply (Err back) r post is = subst (λ (x : Result Given ReplyRefusal). ReplyPost (handed_back reply x) d reply e) (sym is) (refl, post.1, post.2)
 
 -- ---- receipts
 
@@ -108,7 +107,7 @@ pub without_back : (back : LeaseView × HandIn) (b : BookView) (w : WorkerView) 
 without_back back b w l b' w' (inl none) = inl none
 without_back back b w l b' w' (inr adds) = inr (adds.0.1, adds.1)
 
-pub desk_takes : (r : Result (Unit {0}) (LeaseView × HandIn)) (l : LeaseView) (d e : DeskView) → DeskHandInPost r l d e → DeskTakesIn (without_lease r) l d e
+pub desk_takes : (r : Result (Unit {0}) (LeaseView × HandIn)) (l : LeaseView) (d e : DeskView) → DeskHandInPost r l d e → DeskTakesIn (answer_alone r) l d e
 desk_takes (Ok u) l d e post = post
 desk_takes (Err back) l d e post = post.1
 
@@ -117,7 +116,7 @@ pub comes_back : (r : Result (Unit {0}) (LeaseView × HandIn)) (l : LeaseView) (
 comes_back (Ok u) l d e post = tt
 comes_back (Err back) l d e post = post.0
 
-pub short_back : (r : Result (Unit {0}) (LeaseView × HandIn)) (l : LeaseView) (d e : DeskView) → DeskHandInPost r l d e → without_lease r ≡ Err Memory → e ≡ d
+pub short_back : (r : Result (Unit {0}) (LeaseView × HandIn)) (l : LeaseView) (d e : DeskView) → DeskHandInPost r l d e → answer_alone r ≡ Err Memory → e ≡ d
 short_back r l d e post is = (subst (λ (x : Result (Unit {0}) HandIn). DeskTakesIn x l d e) is (desk_takes r l d e post)).3
 
 taken_told : (r : Result (Unit {0}) HandIn) (b : BookView) (w : WorkerView) (l : LeaseView) (b' : BookView) (w' : WorkerView)

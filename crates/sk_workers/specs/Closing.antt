@@ -6,7 +6,6 @@ use Rattle.sk_client.specs.Desk.{DeskView, pending}
 use Rattle.sk_workers.specs.declared.entry.HistoryEntry.{HistoryEntry}
 use Rattle.sk_workers.specs.declared.entry.Receipt.{Receipt}
 use Rattle.sk_workers.specs.declared.entry.CloseRefusal.{CloseRefusal}
-use Rattle.sk_workers.specs.declared.entry.CloseRefusal.TheVariants.{Pending, Disagree, Other}
 use Rattle.sk_workers.specs.Views.{BookView, WorkerView, SharedView}
 use Rattle.sk_workers.specs.History.{IsLegal, AreOwn}
 
@@ -82,6 +81,6 @@ Disagrees history ws number k =
 
 -- why a close is refused, in the order of the causes: requests are pending, a receipt doesn't stand, or the desk began elsewhere
 abbrev pub Refuses : SharedView → List WorkerView → BookView → CloseRefusal → Type 0
-Refuses s ws b (Pending n) = (n ≡ length (pending b.desk)) × (0 < n)
-Refuses s ws b (Disagree worker receipt) = (pending b.desk ≡ []) × Disagrees b.history ws worker receipt
-Refuses s ws b Other = (pending b.desk ≡ []) × AllStand b.history ws × ¬ IsFrom s b.desk
+Refuses s ws b (CloseRefusal.Pending n) = (n ≡ length (pending b.desk)) × (0 < n)
+Refuses s ws b (CloseRefusal.Disagree worker receipt) = (pending b.desk ≡ []) × Disagrees b.history ws worker receipt
+Refuses s ws b CloseRefusal.Other = (pending b.desk ≡ []) × AllStand b.history ws × ¬ IsFrom s b.desk

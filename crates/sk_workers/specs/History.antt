@@ -3,23 +3,18 @@ use Rattle.std.specs.Prelude.{◌≡◌, ◌≢◌, ◌⊎◌, ℕ, zero, suc, L
 use Rattle.sk_script.specs.Lease.{LeaseView, after_private}
 use Rattle.sk_plain.specs.Leased.{Lends}
 use Rattle.sk_plain.specs.declared.refusal.Refusal.{Refusal}
-use Rattle.sk_plain.specs.declared.refusal.Refusal.TheVariants as refusals
 use Rattle.sk_server.specs.declared.reply.Reply.{Reply}
 use Rattle.sk_server.specs.declared.request.Request.{Request}
 use Rattle.sk_client.specs.Desk.{DeskView, opened_at, first_sent, first_taken, requests_taken}
 use Rattle.sk_kernel.specs.HandIn.{IsAsLent}
 use Rattle.sk_kernel.specs.declared.hand_in.HandIn.{HandIn}
-use Rattle.sk_kernel.specs.declared.hand_in.HandIn.TheVariants as hand_ins
-use Rattle.sk_client.specs.DeskCalls.{TurnPost, ReplyPost}
+use Rattle.sk_client.specs.DeskCalls.{TurnPost, ReplyPost, handed_back}
 use Rattle.sk_client.specs.Leasing.{DeskTakesIn, DeskHandInPost, desk_lease}
 use Rattle.sk_client.specs.declared.desk.Turn.{Turn}
 use Rattle.sk_client.specs.declared.desk.Given.{Given}
 use Rattle.sk_client.specs.declared.desk.ReplyRefusal.{ReplyRefusal}
-use Rattle.sk_client.specs.declared.desk.ReplyRefusal.TheVariants.{Memory}
 use Rattle.sk_workers.specs.declared.entry.DeskCall.{DeskCall}
-use Rattle.sk_workers.specs.declared.entry.DeskCall.TheVariants as calls
 use Rattle.sk_workers.specs.declared.entry.Answered.{Answered}
-use Rattle.sk_workers.specs.declared.entry.Answered.TheVariants.{Turned, Replied, HandedIn}
 use Rattle.sk_workers.specs.declared.entry.HistoryEntry.{HistoryEntry}
 use Rattle.sk_workers.specs.declared.entry.Receipt.{Receipt}
 use Rattle.sk_workers.specs.Views.{BookView, WorkerView}
@@ -30,20 +25,10 @@ entry worker call answer taken = record { worker = worker; call = call; answer =
 abbrev pub receipt : ℕ → HistoryEntry → Receipt
 receipt place e = record { place = place; entry = e }
 
--- an answer with the reply that comes back, and without it
-abbrev pub with_reply : Reply → Result Given ReplyRefusal → Result Given (Reply × ReplyRefusal)
-with_reply reply (Ok given) = Ok given
-with_reply reply (Err why) = Err (reply, why)
-
--- the answer to a reply, without the reply that comes back where it is refused
-abbrev pub without_reply : Result Given (Reply × ReplyRefusal) → Result Given ReplyRefusal
-without_reply (Ok given) = Ok given
-without_reply (Err back) = Err back.1
-
--- an answer without the lease that comes back
-abbrev pub without_lease : Result (Unit {0}) (LeaseView × HandIn) → Result (Unit {0}) HandIn
-without_lease (Ok u) = Ok u
-without_lease (Err back) = Err back.1
+-- an answer alone, without what comes back where it is refused
+abbrev pub answer_alone : {A B C : Type 0} → Result A (B × C) → Result A C
+answer_alone (Ok given) = Ok given
+answer_alone (Err back) = Err back.1
 
 -- ---- histories
 
@@ -58,14 +43,14 @@ Leases d pid count l =
 
 -- a hand-in does what the desk promises of it with such a lease; of a stale one nothing is said but that nothing changed
 abbrev pub HandsIn : Result (Unit {0}) HandIn → DeskView → ℕ → ℕ → DeskView → Type 0
-HandsIn (Err hand_ins.Stale) d pid count d' = d' ≡ d
+HandsIn (Err HandIn.Stale) d pid count d' = d' ≡ d
 HandsIn r d pid count d' = (l : LeaseView) × Leases d pid count l × DeskTakesIn r l d d'
 
 -- a call does what the desk promises of it; want of memory is no answer
 abbrev pub CallPost : DeskView → DeskCall → Answered → DeskView → Type 0
-CallPost d (calls.Turn pid) (Turned r) d' = TurnPost r d pid d' × (r ≢ Err refusals.Memory)
-CallPost d (calls.Reply reply) (Replied r) d' = ReplyPost (with_reply reply r) d reply d' × (r ≢ Err Memory)
-CallPost d (calls.HandIn pid count) (HandedIn r) d' = HandsIn r d pid count d' × (r ≢ Err hand_ins.Memory)
+CallPost d (DeskCall.Turn pid) (Answered.Turned r) d' = TurnPost r d pid d' × (r ≢ Err Refusal.Memory)
+CallPost d (DeskCall.Reply reply) (Answered.Replied r) d' = ReplyPost (handed_back reply r) d reply d' × (r ≢ Err ReplyRefusal.Memory)
+CallPost d (DeskCall.HandIn pid count) (Answered.HandedIn r) d' = HandsIn r d pid count d' × (r ≢ Err HandIn.Memory)
 CallPost d call answer d' = ⊥
 
 -- the oldest request that waits is taken, so many times
@@ -100,18 +85,18 @@ Adds b w call answer b' w' =
 -- memory wants for a hand-in, and nothing has changed; or it is the desk's, and the history's next entry and the worker's next receipt
 abbrev pub TakesInAdds : Result (Unit {0}) HandIn → BookView → WorkerView → LeaseView → BookView → WorkerView → Type 0
 TakesInAdds r b w l b' w' =
-    ((r ≡ Err hand_ins.Memory) × (b' ≡ b) × (w' ≡ w))
-    ⊎ (DeskTakesIn r l b.desk b'.desk × Adds b w (calls.HandIn l.lent.pid l.count) (HandedIn r) b' w')
+    ((r ≡ Err HandIn.Memory) × (b' ≡ b) × (w' ≡ w))
+    ⊎ (DeskTakesIn r l b.desk b'.desk × Adds b w (DeskCall.HandIn l.lent.pid l.count) (Answered.HandedIn r) b' w')
 
 -- the same where the lease comes back after a refusal
 abbrev pub HandInAdds : Result (Unit {0}) (LeaseView × HandIn) → BookView → WorkerView → LeaseView → BookView → WorkerView → Type 0
 HandInAdds r b w l b' w' =
-    ((without_lease r ≡ Err hand_ins.Memory) × (b' ≡ b) × (w' ≡ w))
-    ⊎ (DeskHandInPost r l b.desk b'.desk × Adds b w (calls.HandIn l.lent.pid l.count) (HandedIn (without_lease r)) b' w')
+    ((answer_alone r ≡ Err HandIn.Memory) × (b' ≡ b) × (w' ≡ w))
+    ⊎ (DeskHandInPost r l b.desk b'.desk × Adds b w (DeskCall.HandIn l.lent.pid l.count) (Answered.HandedIn (answer_alone r)) b' w')
 
 -- memory wants for a turn, and nothing has changed; or it is the history's next entry and the worker's next receipt
 abbrev pub TurnAdds : Result Turn Refusal → BookView → WorkerView → ℕ → BookView → WorkerView → Type 0
-TurnAdds r b w pid b' w' = ((r ≡ Err refusals.Memory) × (b' ≡ b) × (w' ≡ w)) ⊎ Adds b w (calls.Turn pid) (Turned r) b' w'
+TurnAdds r b w pid b' w' = ((r ≡ Err Refusal.Memory) × (b' ≡ b) × (w' ≡ w)) ⊎ Adds b w (DeskCall.Turn pid) (Answered.Turned r) b' w'
 
 -- a lease is handed in, where there is one, and given up where it is refused
 abbrev pub TakesAny : Option (Result (Unit {0}) HandIn) → BookView → WorkerView → Option LeaseView → BookView → WorkerView → Type 0
@@ -128,9 +113,9 @@ LendsAny r place d pid = ⊥
 
 -- want of memory is no answer
 abbrev pub IsAnswer : Answered → Type 0
-IsAnswer (Turned r) = r ≢ Err refusals.Memory
-IsAnswer (Replied r) = r ≢ Err Memory
-IsAnswer (HandedIn r) = r ≢ Err hand_ins.Memory
+IsAnswer (Answered.Turned r) = r ≢ Err Refusal.Memory
+IsAnswer (Answered.Replied r) = r ≢ Err ReplyRefusal.Memory
+IsAnswer (Answered.HandedIn r) = r ≢ Err HandIn.Memory
 
 -- an answer and one receipt more, for this call and answer, at some place and after so many requests
 abbrev pub Told : WorkerView → DeskCall → Answered → WorkerView → Type 0
@@ -139,11 +124,11 @@ Told w call answer w' =
 
 -- memory wants for a turn, or it is answered, with a receipt
 abbrev pub TurnTold : Result Turn Refusal → WorkerView → ℕ → WorkerView → Type 0
-TurnTold r w pid w' = ((r ≡ Err refusals.Memory) × (w' ≡ w)) ⊎ Told w (calls.Turn pid) (Turned r) w'
+TurnTold r w pid w' = ((r ≡ Err Refusal.Memory) × (w' ≡ w)) ⊎ Told w (DeskCall.Turn pid) (Answered.Turned r) w'
 
 -- memory wants for a hand-in, or it is answered, with a receipt
 abbrev pub HandInTold : Result (Unit {0}) HandIn → WorkerView → LeaseView → WorkerView → Type 0
-HandInTold r w l w' = ((r ≡ Err hand_ins.Memory) × (w' ≡ w)) ⊎ Told w (calls.HandIn l.lent.pid l.count) (HandedIn r) w'
+HandInTold r w l w' = ((r ≡ Err HandIn.Memory) × (w' ≡ w)) ⊎ Told w (DeskCall.HandIn l.lent.pid l.count) (Answered.HandedIn r) w'
 
 -- so it is with a lease, where there is one
 abbrev pub AnyTold : Option (Result (Unit {0}) HandIn) → WorkerView → Option LeaseView → WorkerView → Type 0

@@ -5,7 +5,7 @@ ghost use Rattle.sk_plain.specs.Leased.{Lends};
 ghost use Rattle.sk_client.specs.Desk.{opened_at, first_sent, first_taken};
 ghost use Rattle.sk_client.specs.Leasing.{desk_lease, DeskHandInPost};
 ghost use Rattle.sk_workers.specs.declared.worker.TheConstants.{WORKERS_LIMIT};
-ghost use Rattle.sk_workers.specs.History.{CallPost, Adds, TurnAdds, HandInAdds, TakesAny, LendsAny, IsLeaseOf, AreFresh, IsLegal, receipt, without_reply, without_lease};
+ghost use Rattle.sk_workers.specs.History.{CallPost, Adds, TurnAdds, HandInAdds, TakesAny, LendsAny, IsLeaseOf, AreFresh, IsLegal, receipt, answer_alone};
 ghost use Rattle.sk_workers.specs.Views.{BookView, WorkerView};
 
 use crate::entry::{Answered, DeskCall, HistoryEntry, Receipt};
@@ -128,10 +128,10 @@ impl<L: Ledger> Book<L> {
         reply: Reply,
     ) -> (Worker<L>, Result<Given, (Reply, ReplyRefusal)>)
         ensures back { IfErr result.1 (λ back. back.0 ≡ reply) }
-        ensures entered { ((without_reply result.1 ≡ Err ReplyRefusal.Memory)
+        ensures entered { ((answer_alone result.1 ≡ Err ReplyRefusal.Memory)
             × (self.new ≡ self.old) × (result.0 ≡ worker))
             ⊎ Adds self.old worker (DeskCall.Reply reply)
-            (Answered.Replied (without_reply result.1))
+            (Answered.Replied (answer_alone result.1))
             self.new result.0 }
     {
         let mut worker = worker;
@@ -422,7 +422,7 @@ fn wants_memory(answer: &Result<Given, ReplyRefusal>) -> bool
 
 /// The answer to a reply, without the reply that comes back.
 fn without_reply(given: &Result<Given, (Reply, ReplyRefusal)>) -> Result<Given, ReplyRefusal>
-    ensures { result ≡ without_reply given.now }
+    ensures { result ≡ answer_alone given.now }
 {
     match given {
         Ok(given) => Ok(*given),
@@ -432,7 +432,7 @@ fn without_reply(given: &Result<Given, (Reply, ReplyRefusal)>) -> Result<Given, 
 
 /// What a hand-in is answered, without the lease that came back.
 fn told_of(answer: &Result<(), (Lease, HandIn)>) -> Result<(), HandIn>
-    ensures { result ≡ without_lease answer.now }
+    ensures { result ≡ answer_alone answer.now }
 {
     match answer {
         Ok(()) => Ok(()),

@@ -1,6 +1,6 @@
 //! Replies as entries keep them: a few words, with what is long in a box.
 ghost use Rattle.std.specs.Prelude.{◌≡◌, ◌↔◌, IfOk, OnErr, IsTrue};
-ghost use Rattle.sk_workers.specs.Kept.{BringsContent};
+ghost use Rattle.sk_workers.specs.Kept.{HasContent};
 
 use sk_objects::Content;
 use sk_server::{Answer, Reply};
@@ -25,11 +25,12 @@ pub struct KeptReply {
 
 impl Model for KeptReply {
     ghost use Rattle.sk_server.specs.declared.reply.Reply.{Reply};
-    ghost use Rattle.sk_workers.specs.Kept.{answer_of, reply_code};
+    ghost use Rattle.sk_server.specs.contracts.reply.Reply as reply_row;
+    ghost use Rattle.sk_workers.specs.Kept.{answer_of};
 
     ghost Value = { Reply };
 
-    ghost coded = { reply_code };
+    ghost coded = { reply_row.the_row.coded };
 
     ghost view = { λ k. record { number = k.number; answer = answer_of k.answer } };
 }
@@ -37,9 +38,9 @@ impl Model for KeptReply {
 impl PartialEq for KeptReply {
     ghost use Rattle.std.specs.Cmp.{partial_equiv_from_equiv};
     ghost use Rattle.sk_server.specs.contracts.reply.ReplyEq.TheImpl.Laws.{laws-law as reply_laws};
-    ghost use Rattle.sk_workers.specs.Kept.{same_reply};
+    ghost use Rattle.sk_server.specs.contracts.reply.ReplyPartialEq.TheImpl as reply;
 
-    ghost eq = { same_reply };
+    ghost eq = { (reply.ghosts).eq };
 
     ghost laws = { partial_equiv_from_equiv reply_laws };
 
@@ -58,7 +59,7 @@ impl KeptReply {
     /// Keeps a reply. It takes memory only for a content.
     pub(crate) fn keep(alloc: Global, reply: &Reply) -> Result<KeptReply, AllocError>
         ensures ok { IfOk result (λ kept. kept ≡ reply.now) }
-        ensures err { OnErr result (BringsContent reply.now) }
+        ensures err { OnErr result (HasContent reply.now.answer) }
     {
         let answer = match &reply.answer {
             Answer::Yes => BoxedAnswer::Yes,

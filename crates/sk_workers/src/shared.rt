@@ -7,7 +7,7 @@ ghost use Rattle.sk_client.specs.Leasing.{desk_lease};
 ghost use Rattle.sk_workers.specs.declared.entry.HistoryEntry.{HistoryEntry};
 ghost use Rattle.sk_workers.specs.declared.worker.TheConstants.{WORKERS_LIMIT};
 ghost use Rattle.sk_workers.specs.Views.{BookView, WorkerView};
-ghost use Rattle.sk_workers.specs.History.{AreFresh, IsLegal, Told, TurnTold, HandInTold, AnyTold, IsLentAny, IsLeaseOf, IsHandedOut, without_reply, without_lease};
+ghost use Rattle.sk_workers.specs.History.{AreFresh, IsLegal, Told, TurnTold, HandInTold, AnyTold, IsLentAny, IsLeaseOf, IsHandedOut, answer_alone};
 ghost use Rattle.sk_workers.specs.Closing.{AreDistinct, IsClosed, Refuses, begins_turn};
 
 use crate::book::{Book, Leased};
@@ -170,8 +170,8 @@ impl<L: Ledger> Shared<L> {
         reply: Reply,
     ) -> (Worker<L>, Result<Given, (Reply, ReplyRefusal)>)
         ensures back { IfErr result.1 (λ back. back.0 ≡ reply) }
-        ensures receipt { ((without_reply result.1 ≡ Err ReplyRefusal.Memory) × (result.0 ≡ worker))
-            ⊎ Told worker (DeskCall.Reply reply) (Answered.Replied (without_reply result.1))
+        ensures receipt { ((answer_alone result.1 ≡ Err ReplyRefusal.Memory) × (result.0 ≡ worker))
+            ⊎ Told worker (DeskCall.Reply reply) (Answered.Replied (answer_alone result.1))
             result.0 }
     {
         self.hold(rt).reply(worker, reply)
@@ -201,7 +201,7 @@ impl<L: Ledger> Shared<L> {
         lease: Lease,
     ) -> (Worker<L>, Result<(), (Lease, HandIn)>)
         ensures back { IfErr result.1 (λ back. back.0 ≡ lease) }
-        ensures receipt { HandInTold (without_lease result.1) worker lease result.0 }
+        ensures receipt { HandInTold (answer_alone result.1) worker lease result.0 }
     {
         self.hold(rt).hand_in(worker, lease)
     }

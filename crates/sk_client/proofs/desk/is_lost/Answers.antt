@@ -1,6 +1,6 @@
 -- By the status, which is that of the trace where no earlier epoch made the guess.
 use Rattle.sk_client.proofs.Names.{◌≡◌, ◌+◌, ◌∙◌, length, ap, arith, OpeningView}
-use Rattle.sk_client.proofs.DeskFacts.{earlier_lost, lost_is}
+use Rattle.sk_client.proofs.Desks.{earlier_lost, lost_is}
 use Rattle.sk_client.proofs.desk.is_lost.Goals as goal
 
 pub returns-then-number-guess : goal.returns-then-number-guess

@@ -1,6 +1,6 @@
 -- What is left to look at has the answer.
 use Rattle.sk_client.proofs.Names.{true, false, ◌∙◌, sym, refl, ap, drop_all, kept_for}
-use Rattle.sk_client.proofs.DeskFacts.{kept_at}
+use Rattle.sk_client.proofs.Desks.{kept_at}
 use Rattle.sk_client.proofs.desk.kept_for.Goals as goal
 
 pub loop-one-init : goal.loop-one-init

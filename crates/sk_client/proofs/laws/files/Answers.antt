@@ -1,5 +1,5 @@
 -- Event after event.
-use Rattle.sk_client.proofs.Writes.{all_are_written}
+use Rattle.sk_client.proofs.Steps.{all_are_written}
 use Rattle.sk_client.proofs.laws.files.Goals as goal
 
 pub returns : goal.returns

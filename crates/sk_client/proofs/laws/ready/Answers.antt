@@ -1,5 +1,5 @@
 -- By what each call ensures.
-use Rattle.sk_client.proofs.Booted.{was_booted, after_step, after_guess, after_commit, after_fail, after_hand_in, after_epoch}
+use Rattle.sk_client.proofs.Steps.Kept.Facts.Held.Kernels.{was_booted, after_step, after_guess, after_commit, after_fail, after_hand_in, after_epoch}
 use Rattle.sk_client.proofs.laws.ready.Goals as goal
 
 pub returns : goal.returns

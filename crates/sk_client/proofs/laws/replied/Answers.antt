@@ -1,5 +1,5 @@
 -- From the laws of worlds, told of a world's calls.
-use Rattle.sk_client.proofs.RequestSteps.{steps_are_replied, replied_once}
+use Rattle.sk_client.proofs.Steps.{steps_are_replied, replied_once}
 use Rattle.sk_client.proofs.laws.replied.Goals as goal
 
 pub returns : goal.returns

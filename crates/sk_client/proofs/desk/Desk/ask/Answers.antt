@@ -1,7 +1,7 @@
 -- One request more, which has no guess, and for which room was made.
 use Rattle.sk_client.proofs.Names.{List, ◌∷◌, ◌++◌, [], length, ℕ, sym, ◌∙◌, ap, vec_capacity, append-nil, marks}
 use Rattle.sk_client.proofs.Names.{PendingRequest}
-use Rattle.sk_client.proofs.DeskFacts.{tidy_more}
+use Rattle.sk_client.proofs.Desks.{tidy_more}
 use Rattle.sk_client.proofs.desk.Desk.ask.Goals as goal
 
 pub invariant_of-self-2 : goal.invariant_of-self-2

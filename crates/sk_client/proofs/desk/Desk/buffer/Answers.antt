@@ -1,6 +1,6 @@
 -- What is no process has no buffer.
 use Rattle.sk_client.proofs.Names.{◌∙◌, Some, sym, ap, subst, get, Proc, KernelView, state_at, Shows, buffer}
-use Rattle.sk_client.proofs.DeskFacts.{no_buffer, buffer_of_value}
+use Rattle.sk_client.proofs.Desks.{no_buffer, buffer_of_value}
 use Rattle.sk_client.proofs.desk.Desk.buffer.Goals as goal
 
 pub returns-in-Some-Value : goal.returns-in-Some-Value

@@ -1,9 +1,8 @@
 -- One request more, with its guess, and for which room was made; a guess that the desk does not refuse, the kernel does not refuse.
 use Rattle.sk_client.proofs.Names.{◌≡◌, List, ◌∷◌, ◌++◌, [], length, ℕ, Some, None, cond, sym, ◌∙◌, ap, subst}
 use Rattle.sk_client.proofs.Names.{vec_capacity, cause, guess_refused, next_guess, HolderView, TooMany, ask_of}
-use Rattle.sk_client.proofs.Names.{DeskView, entry, no_number, PendingRequest}
-use Rattle.sk_script.specs.declared.instruction.Input.TheVariants as inputs
-use Rattle.sk_client.proofs.DeskFacts.{tidy_more, same_guess_refusal}
+use Rattle.sk_client.proofs.Names.{DeskView, entry, no_number, PendingRequest, Input}
+use Rattle.sk_client.proofs.Desks.{tidy_more, same_guess_refusal}
 use Rattle.sk_client.proofs.desk.Desk.guess.Goals as goal
 
 pub invariant_of-self-2 : goal.invariant_of-self-2
@@ -23,7 +22,7 @@ pub returns-in-Err : goal.returns-in-Err
 returns-in-Err c =
     let numbered : no_number c.args.self.now ≡ None = ap (λ b. cond b (Some TooMany) None) (sym c.is_numbered_out.ensures ∙ c.if-is_numbered_out.false) in
     let refused =
-    subst (λ (d : DeskView). guess_refused d.kernel (entry c.args.pid inputs.Good (Some (next_guess d.kernel))) ≡ cause c.in-Err.why) c.self.view_is c.in-Err.ensures.0 in (
+    subst (λ (d : DeskView). guess_refused d.kernel (entry c.args.pid Input.Good (Some (next_guess d.kernel))) ≡ cause c.in-Err.why) c.self.view_is c.in-Err.ensures.0 in (
       same_guess_refusal c.args.self.now c.free_places.result c.free_places.ensures c.args.pid c.if-free_places-lt2.false numbered ∙ refused,
       (λ i. record {
         kernel = (c.in-Err.ensures.1 i).kernel;

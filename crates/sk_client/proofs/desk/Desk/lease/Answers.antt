@@ -1,7 +1,7 @@
 -- A process that waits is not lent; any other is, as the kernel lends it.
 use Rattle.sk_client.proofs.Names.{Err, sym, ◌∙◌, subst, Lends, lease_of, Refusal, KernelView, state_at, desk_lease}
 use Rattle.std.specs.FinMap as map
-use Rattle.sk_client.proofs.DeskFacts.{lends_blocked, lends_free}
+use Rattle.sk_client.proofs.Desks.{lends_blocked, lends_free}
 use Rattle.sk_client.proofs.desk.Desk.lease.Goals as goal
 
 pub returns-then-asks_for : goal.returns-then-asks_for

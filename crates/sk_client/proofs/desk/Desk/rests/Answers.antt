@@ -1,6 +1,6 @@
 -- The union of two rising sets of undecided guesses; none where no guess is undecided.
 use Rattle.sk_client.proofs.Names.{◌≡◌, ◌∙◌, length, undecided_at, sym, ap, subst, Proc, Copy, KernelView, tags_at, HasSoundTrace}
-use Rattle.sk_client.proofs.DeskFacts.{none_rested, rests_found}
+use Rattle.sk_client.proofs.Desks.{none_rested, rests_found}
 use Rattle.sk_client.proofs.desk.Desk.rests.Goals as goal
 
 pub returns : goal.returns

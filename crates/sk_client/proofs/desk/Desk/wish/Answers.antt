@@ -2,11 +2,10 @@
 use Rattle.sk_client.proofs.Names.{refl, ℕ, ap, Ok, ◌≡◌, Result, ◌∙◌, rule_of, DeskView, Next, Refusal}
 use Rattle.sk_kernel.specs.Kernel.{next_at}
 use Rattle.sk_plain.specs.Next.{unplanned}
-use Rattle.sk_plain.specs.declared.next.Next.TheVariants as nexts
 use Rattle.sk_client.proofs.desk.Desk.wish.Goals as goal
 
 unplanned_rule : (d : DeskView) (pid : ℕ) (r : Result Next Refusal) → rule_of d pid (unplanned r) ≡ rule_of d pid r
-unplanned_rule d pid (Ok nexts.Full) = refl
+unplanned_rule d pid (Ok Next.Full) = refl
 unplanned_rule d pid r = refl
 
 pub returns : goal.returns

@@ -1,6 +1,6 @@
 -- Each of the queue is taken or waits.
 use Rattle.sk_client.proofs.Names.{◌++◌, ◌∙◌, ap, asked_count, RequestsView}
-use Rattle.sk_client.proofs.QueueFacts.{count_of}
+use Rattle.sk_client.proofs.Desks.{count_of}
 use Rattle.sk_client.proofs.requests.Requests.asked.Goals as goal
 
 pub returns : goal.returns

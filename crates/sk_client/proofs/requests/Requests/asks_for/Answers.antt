@@ -1,7 +1,7 @@
 -- Each of the queue is taken or waits.
 use Rattle.sk_client.proofs.Names.{rules, tests, ◌≡◌, ◌++◌, ◌∙◌, ap, Bool, ◌&&◌, ◌==◌, list_any, YieldsList-from_deque}
 use Rattle.sk_client.proofs.Names.{any_from_yields_List, is_asked, asks_for, RequestsView, PendingRequest, Queued}
-use Rattle.sk_client.proofs.QueueFacts.{any_of, none_of}
+use Rattle.sk_client.proofs.Desks.{any_of, none_of}
 use Rattle.sk_client.proofs.requests.Requests.asks_for.Goals as goal
 
 pub returns : goal.returns

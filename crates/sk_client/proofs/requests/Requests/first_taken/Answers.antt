@@ -1,6 +1,6 @@
 -- The oldest of the queue was taken.
 use Rattle.sk_client.proofs.Names.{◌≡◌, ◌∷◌, drop, subst, arith, RequestsView}
-use Rattle.sk_client.proofs.QueueFacts.{first_of}
+use Rattle.sk_client.proofs.Desks.{first_of}
 use Rattle.sk_client.proofs.requests.Requests.first_taken.Goals as goal
 
 pub returns : goal.returns

@@ -1,6 +1,6 @@
 -- The oldest that waits follows those that were taken.
 use Rattle.sk_client.proofs.Names.{◌≡◌, ◌∷◌, drop, subst, RequestsView}
-use Rattle.sk_client.proofs.QueueFacts.{first_waits}
+use Rattle.sk_client.proofs.Desks.{first_waits}
 use Rattle.sk_client.proofs.requests.Requests.first_waiting.Goals as goal
 
 pub returns : goal.returns

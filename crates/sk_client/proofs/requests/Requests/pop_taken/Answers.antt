@@ -1,7 +1,7 @@
 -- The oldest of the queue was taken.
 use Rattle.sk_client.proofs.Names.{rules, ℕ, ◌-◌, ◌≡◌, ◌∷◌, List, take, drop, sym, ◌∙◌, ap, subst, arith, RequestsView, IsQueue}
 use Rattle.sk_client.proofs.Names.{requests_in, Queued}
-use Rattle.sk_client.proofs.QueueFacts.{one_counted, out_is, out_taken, out_waiting}
+use Rattle.sk_client.proofs.Desks.{one_counted, out_is, out_taken, out_waiting}
 use Rattle.sk_client.proofs.requests.Requests.pop_taken.Goals as goal
 
 pub overflow_sub-self-2 : goal.overflow_sub-self-2

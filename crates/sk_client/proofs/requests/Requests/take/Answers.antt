@@ -1,6 +1,6 @@
 -- The oldest that waits is the newest that was taken.
 use Rattle.sk_client.proofs.Names.{rules, ◌≡◌, ◌++◌, take, drop, Some, None, sym, ◌∙◌, ap, first_sent, RequestsView}
-use Rattle.sk_client.proofs.QueueFacts.{waits, whole_here, taken_one, waiting_fewer, taken_is}
+use Rattle.sk_client.proofs.Desks.{waits, whole_here, taken_one, waiting_fewer, taken_is}
 use Rattle.sk_client.proofs.requests.Requests.take.Goals as goal
 
 pub unreachable-requires : goal.unreachable-requires

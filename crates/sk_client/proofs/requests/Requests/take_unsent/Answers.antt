@@ -1,6 +1,6 @@
 -- The oldest that waits is the newest that was taken.
 use Rattle.sk_client.proofs.Names.{◌++◌, take, drop, None, ◌∙◌, ap, RequestsView}
-use Rattle.sk_client.proofs.QueueFacts.{taken_one, waiting_fewer, taken_is}
+use Rattle.sk_client.proofs.Desks.{taken_one, waiting_fewer, taken_is}
 use Rattle.sk_client.proofs.requests.Requests.take_unsent.Goals as goal
 
 pub invariant_of-self : goal.invariant_of-self

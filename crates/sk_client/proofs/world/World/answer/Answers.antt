@@ -1,7 +1,7 @@
 -- The request that was handed back is in turn; answered, it has its reply.
 use Rattle.sk_client.proofs.Names.{◌≡◌, Option, Some, None, Ok, sym, ◌∙◌, ap, subst, Request, request_in, WorldView}
 use Rattle.sk_client.proofs.Names.{IsJoined, ServesNext, served}
-use Rattle.sk_client.proofs.WorldFacts.{answer_joined}
+use Rattle.sk_client.proofs.Desks.{answer_joined}
 use Rattle.sk_client.proofs.world.World.answer.Goals as goal
 
 pub invariant_of-self-2 : goal.invariant_of-self-2

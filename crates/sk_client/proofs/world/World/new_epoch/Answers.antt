@@ -1,6 +1,6 @@
 -- Without a request there is no reply on its way, and none behind a new epoch.
 use Rattle.sk_client.proofs.Names.{subst, WorldView, WorldEpochPost}
-use Rattle.sk_client.proofs.WorldFacts.{epoch_joined, epoch_left, world_of}
+use Rattle.sk_client.proofs.Desks.{epoch_joined, epoch_left, world_of}
 use Rattle.sk_client.proofs.world.World.new_epoch.Goals as goal
 
 pub invariant_of-self : goal.invariant_of-self

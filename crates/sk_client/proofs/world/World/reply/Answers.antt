@@ -1,6 +1,6 @@
 -- The desk has the request of the oldest reply.
 use Rattle.sk_client.proofs.Names.{rules, ◌≡◌, ◌∷◌, List, subst, Reply, IsJoined}
-use Rattle.sk_client.proofs.WorldFacts.{given_joined}
+use Rattle.sk_client.proofs.Desks.{given_joined}
 use Rattle.sk_client.proofs.world.World.reply.Goals as goal
 
 pub invariant_of-self : goal.invariant_of-self

@@ -1,7 +1,7 @@
 -- The oldest request that waits is in turn at the server; answered, it has its reply, and refused, it is handed back.
 use Rattle.sk_client.proofs.Names.{◌≡◌, Option, Some, refl, sym, ◌∙◌, subst, Request, request_in, DeskView, sent}
 use Rattle.sk_client.proofs.Names.{first_sent, first_taken, IsJoined}
-use Rattle.sk_client.proofs.WorldFacts.{none_is, next_joined, answer_joined, back_joined}
+use Rattle.sk_client.proofs.Desks.{none_is, next_joined, answer_joined, back_joined}
 use Rattle.sk_client.proofs.world.World.serve.Goals as goal
 
 pub invariant_of-self : goal.invariant_of-self

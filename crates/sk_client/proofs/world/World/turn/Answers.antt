@@ -1,6 +1,6 @@
 -- A turn adds at most one request, at the end; a refused one changes nothing.
 use Rattle.sk_client.proofs.Names.{Ok, Err, ◌∙◌, ap, subst, DeskView, TurnPost, WorldView}
-use Rattle.sk_client.proofs.WorldFacts.{turn_any, turn_back}
+use Rattle.sk_client.proofs.Desks.{turn_any, turn_back}
 use Rattle.sk_client.proofs.world.World.turn.Goals as goal
 
 pub invariant_of-self : goal.invariant_of-self

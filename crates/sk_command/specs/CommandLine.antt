@@ -1,23 +1,21 @@
 -- The command line, and what words ask for by it.
 use Rattle.std.specs.Prelude.{◌≡◌, ◌⊎◌, ℕ, Bool, true, false, List, [], ◌∷◌, ⊤, Option, Some, None, codes, bytes_eq, option_map, option_and_then, if◌then◌else◌}
+use Rattle.clap.specs.declared.builder.value_parser.ValueParser.{ValueParser}
 use Rattle.std.specs.Int.{IsInRange}
 use Rattle.std.specs.Option.{option_map_or}
 use Rattle.std.specs.Str.Parse.{digits_value, without_leading_plus}
 use Rattle.clap.specs.Kinds.{IsAmong, Kinds}
 use Rattle.clap.specs.Faults.{fault_of}
-use Rattle.clap.specs.Simple.{App, Shape, new_app, new_rule, on_top, subcommand_of, with_rule, with_subcommand}
+use Rattle.clap.specs.Simple.{App, new_app, new_rule, on_top, subcommand_of, with_rule, with_subcommand}
 use Rattle.clap.specs.ValueTests.{is_unsigned_in}
 use Rattle.clap.specs.Walk.{Row, Rule, Text, first_of}
 use Rattle.clap.specs.declared.builder.action.ArgAction.TheVariants.{Set, SetTrue}
-use Rattle.clap.specs.declared.builder.value_parser.ValueParser.TheVariants as parsers
 use Rattle.clap.specs.declared.error.kind.ErrorKind.{ErrorKind}
 use Rattle.sk_command.specs.declared.job.Job.{Job}
 use Rattle.sk_command.specs.declared.job.Shows.{Shows}
 use Rattle.sk_command.specs.declared.job.Task.{Task}
-use Rattle.sk_command.specs.declared.job.Task.TheVariants as tasks
 use Rattle.sk_command.specs.declared.job.TheConstants.{WORKERS_MOST, TURNS_MOST}
 use Rattle.sk_command.specs.declared.end.End.{End}
-use Rattle.sk_command.specs.declared.end.End.TheVariants as ends
 use Rattle.sk_command.specs.Ends.{EndsFor, EndsUnwritten}
 
 -- the word FILE of a command
@@ -30,11 +28,11 @@ flag_rule name = record (new_rule name) { long = Some name; action = Some SetTru
 
 -- the option --workers, a number from 1 to 8
 abbrev pub workers_rule : Rule
-workers_rule = record (new_rule (codes "workers")) { long = Some (codes "workers"); required = true; action = Some Set; value_names = 1; parser = Some (parsers.Unsigned 1 WORKERS_MOST) }
+workers_rule = record (new_rule (codes "workers")) { long = Some (codes "workers"); required = true; action = Some Set; value_names = 1; parser = Some (ValueParser.Unsigned 1 WORKERS_MOST) }
 
 -- the option --turns, a number from 1 to 1,000,000
 abbrev pub turns_rule : Rule
-turns_rule = record (new_rule (codes "turns")) { long = Some (codes "turns"); action = Some Set; value_names = 1; defaults = codes "100000" ∷ []; parser = Some (parsers.Unsigned 1 TURNS_MOST) }
+turns_rule = record (new_rule (codes "turns")) { long = Some (codes "turns"); action = Some Set; value_names = 1; defaults = codes "100000" ∷ []; parser = Some (ValueParser.Unsigned 1 TURNS_MOST) }
 
 -- a command that takes a file
 abbrev pub file_command : Text → App
@@ -46,30 +44,24 @@ play_command = with_rule (with_rule (with_rule (file_command (codes "play")) (fl
 abbrev pub work_command : App
 work_command = with_rule (with_rule (file_command (codes "work")) workers_rule) turns_rule
 
--- it takes no word, and without one it has help to print
-abbrev pub prints_help : Shape → Shape
-prints_help s = record s { arg_required_else_help = true }
-
--- the command that prints the table of instructions
+-- the command that prints the table of instructions: it takes no word, and without one it has help to print
 abbrev pub instructions_command : App
-instructions_command = on_top prints_help (new_app (codes "instructions"))
+instructions_command = on_top (λ s. record s { arg_required_else_help = true }) (new_app (codes "instructions"))
 
--- it has a version, and one command has to be named; `help` is one, of clap's own
-abbrev pub wants_command : Shape → Shape
-wants_command s = record s { has_version = true; subcommand_required = true }
-
--- before it has its commands
+-- before it has its commands: it has a version, and one command has to be named; `help` is one, of clap's own
 abbrev pub bare_command_line : App
-bare_command_line = on_top wants_command (new_app (codes "speculate"))
+bare_command_line = on_top (λ s. record s { has_version = true; subcommand_required = true }) (new_app (codes "speculate"))
 
--- with those that take a file
-abbrev pub with_files : App
-with_files =
-    with_subcommand (with_subcommand (with_subcommand (with_subcommand (with_subcommand bare_command_line play_command.top) (file_command (codes "talk")).top)
-    (file_command (codes "plain")).top) (file_command (codes "replay")).top) work_command.top
+-- with those that play what a scenario declares
+abbrev pub with_players : App
+with_players = with_subcommand (with_subcommand bare_command_line play_command.top) (file_command (codes "talk")).top
+
+-- and those that take a trace
+abbrev pub with_readers : App
+with_readers = with_subcommand (with_subcommand with_players (file_command (codes "plain")).top) (file_command (codes "replay")).top
 
 abbrev pub command_line : App
-command_line = with_subcommand with_files instructions_command.top
+command_line = with_subcommand (with_subcommand with_readers work_command.top) instructions_command.top
 
 -- ---- what words ask for
 
@@ -99,15 +91,15 @@ number_found most argument rows = option_and_then (number_said most) (first_of a
 
 -- 1 to 8 workers, and 1 to 1,000,000 turns
 abbrev pub work_for : List Row → Option Task
-work_for rows = option_and_then (λ workers. option_map (λ turns. tasks.Work workers turns) (number_found TURNS_MOST (codes "turns") rows)) (number_found WORKERS_MOST (codes "workers") rows)
+work_for rows = option_and_then (λ workers. option_map (λ turns. Task.Work workers turns) (number_found TURNS_MOST (codes "turns") rows)) (number_found WORKERS_MOST (codes "workers") rows)
 
 -- what a command of this name is to do
 abbrev pub task_for : Text → List Row → Option Task
 task_for command rows =
-    if bytes_eq command (codes "play") then Some (tasks.Play (shows_found rows))
-    else if bytes_eq command (codes "talk") then Some tasks.Talk
-    else if bytes_eq command (codes "plain") then Some tasks.Plain
-    else if bytes_eq command (codes "replay") then Some tasks.Replay
+    if bytes_eq command (codes "play") then Some (Task.Play (shows_found rows))
+    else if bytes_eq command (codes "talk") then Some Task.Talk
+    else if bytes_eq command (codes "plain") then Some Task.Plain
+    else if bytes_eq command (codes "replay") then Some Task.Replay
     else if bytes_eq command (codes "work") then work_for rows else None
 
 -- the same with the file that it names
@@ -129,21 +121,16 @@ wished words = wish_found (subcommand_of command_line words)
 
 -- workers and their turns are within their bounds
 abbrev pub IsWithinBounds : Task → Type 0
-IsWithinBounds (tasks.Work workers turns) = IsInRange 1 WORKERS_MOST workers × IsInRange 1 TURNS_MOST turns
+IsWithinBounds (Task.Work workers turns) = IsInRange 1 WORKERS_MOST workers × IsInRange 1 TURNS_MOST turns
 IsWithinBounds _ = ⊤
 
 -- words ask for a job
 abbrev pub Asks : List Text → Wish → Type 0
 Asks words wish = (faults_of words ≡ []) × (wished words ≡ Some wish)
 
--- words that ask for no job end the run as the first fault of them has it
-abbrev pub EndsByFaults : List Text → End → Option (List ℕ) → Option (List ℕ) → Type 0
-EndsByFaults words end old new = (kind : ErrorKind) × IsAmong kind (faults_of words) × EndsFor kind end old new
-
--- words that have no fault and name no command with its file
-abbrev pub EndsWithoutWish : List Text → End → Option (List ℕ) → Option (List ℕ) → Type 0
-EndsWithoutWish words end old new = (faults_of words ≡ []) × (wished words ≡ None) × EndsUnwritten ends.Usage end old new
-
--- the run ends before it has a job: by want of memory, a fault of the words or a wish for help
+-- the run ends before it has a job: by want of memory; by a fault of the words or a wish for help, as the first fault of them has it; or as they
+-- have no fault and name no command with its file
 abbrev pub EndsWithoutJob : List Text → End → Option (List ℕ) → Option (List ℕ) → Type 0
-EndsWithoutJob words end old new = EndsUnwritten ends.Trouble end old new ⊎ (EndsByFaults words end old new ⊎ EndsWithoutWish words end old new)
+EndsWithoutJob words end old new = EndsUnwritten End.Trouble end old new
+    ⊎ (((kind : ErrorKind) × IsAmong kind (faults_of words) × EndsFor kind end old new)
+    ⊎ ((faults_of words ≡ []) × (wished words ≡ None) × EndsUnwritten End.Usage end old new))

@@ -8,7 +8,7 @@ ghost use Rattle.clap.specs.Simple.{app_of, subcommand_rows_of};
 ghost use Rattle.clap.specs.Values.{kind_of};
 ghost use Rattle.clap.specs.Walk.{rows_of, rule_of};
 ghost use Rattle.clap.specs.declared.builder.command.Command.TheViews.{out-Command as fields_of};
-ghost use Rattle.sk_command.specs.CommandLine.{bare_command_line, command_line, file_command, play_command, work_command, instructions_command, file_rule, flag_rule, workers_rule, turns_rule, has_flag, shows_found, number_said, number_found, work_for, task_for, IsWithinBounds, wish_of, wish_found, wished, faults_of};
+ghost use Rattle.sk_command.specs.CommandLine.{bare_command_line, with_players, with_readers, command_line, file_command, play_command, work_command, instructions_command, file_rule, flag_rule, workers_rule, turns_rule, has_flag, shows_found, number_said, number_found, work_for, task_for, IsWithinBounds, wish_of, wish_found, wished, faults_of};
 ghost use Rattle.sk_command.specs.Ends.{EndsFor, EndsWithHelp, IsFlushed};
 
 use crate::end::{End, flushed};
@@ -164,14 +164,29 @@ fn without_commands<'a>(alloc: Global) -> Command<'a>
         .subcommand_required(true)
 }
 
-fn command<'a>(alloc: Global) -> Result<Command<'a>, AllocError>
-    ensures { IfOk result (λ command. app_of command ≡ command_line) }
+/// The command line with the commands that play what a scenario declares.
+fn with_players<'a>(alloc: Global) -> Result<Command<'a>, AllocError>
+    ensures { IfOk result (λ command. app_of command ≡ with_players) }
 {
     without_commands(alloc)
         .subcommand(play(alloc)?)?
-        .subcommand(of_file(alloc, "talk", TALK)?)?
+        .subcommand(of_file(alloc, "talk", TALK)?)
+}
+
+/// The same with those that take a trace.
+fn with_readers<'a>(alloc: Global) -> Result<Command<'a>, AllocError>
+    ensures { IfOk result (λ command. app_of command ≡ with_readers) }
+{
+    with_players(alloc)?
         .subcommand(of_file(alloc, "plain", PLAIN)?)?
-        .subcommand(of_file(alloc, "replay", REPLAY)?)?
+        .subcommand(of_file(alloc, "replay", REPLAY)?)
+}
+
+/// The command line with all its commands.
+fn command<'a>(alloc: Global) -> Result<Command<'a>, AllocError>
+    ensures { IfOk result (λ command. app_of command ≡ command_line) }
+{
+    with_readers(alloc)?
         .subcommand(work(alloc)?)?
         .subcommand(instructions(alloc))
 }

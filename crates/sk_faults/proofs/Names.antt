@@ -3,7 +3,7 @@ pub use Rattle.std.proofs.Common.{Some, Bool, subst, Ok, ◌∷◌, Err, slice_i
 pub use Rattle.std.proofs.Common.{◌+◌, Option, List, bytes_eq, ◌++◌, length, ◌||◌, ℕ, true, drop, None}
 pub use Rattle.std.proofs.Common.{if◌then◌else◌, false, refl, codes, Result, [], ◌∙◌, nat_lt, ◌==◌, sym}
 pub use Rattle.std.proofs.lemmas.Slice.Eq.{bytes_eq-Decides}
-pub use Rattle.std.specs.Prelude.{IfSome, MatchOption}
+pub use Rattle.std.specs.Prelude.{IfSome, MatchOption, is_some}
 pub use Rattle.std.specs.List.{list_any}
 pub use Rattle.std.specs.Str.Lines.{lines}
 pub use Rattle.sk_script.specs.Forms.{brings_content, is_said, fits}
@@ -11,7 +11,7 @@ pub use Rattle.sk_faults.specs.Found.{IsToldIn, wrong_at, is_wide, count_at, sec
 pub use Rattle.sk_faults.specs.Found.{or_else, open_at, unknown_input, found_of, kind_of, operand_fault, input_word}
 pub use Rattle.sk_faults.specs.Found.{Agrees, third, found_behind}
 pub use Rattle.sk_faults.specs.Parts.{line_at}
-pub use Rattle.sk_faults.specs.Tables.{input_forms, world_forms, is_labelled, heading_forms, other_forms}
+pub use Rattle.sk_faults.specs.Tables.{input_forms, world_forms, heading_forms, other_forms}
 pub use Rattle.sk_script.specs.declared.form.Form.{Form}
 pub use Rattle.sk_faults.specs.declared.found.Found.{Found}
 pub use Rattle.sk_faults.specs.declared.part.Part.{Part}

@@ -2,7 +2,7 @@
 use Rattle.sk_faults.proofs.Names.{◌≡◌, ℕ, List, [], ◌∷◌, ◌++◌, Bool, true, false, ◌==◌, Some, None, Option, Result, Ok}
 use Rattle.sk_faults.proofs.Names.{Err, length, slice_index, if◌then◌else◌, none_of, FaultKind, ◌>>=◌, INSTRUCTIONS}
 use Rattle.sk_faults.proofs.Names.{Instruction, place_of, instruction, ScriptState, label_in, declares_or_does, line_of}
-use Rattle.sk_faults.proofs.Names.{undeclared, room_for, Form, is_end_of, instruction_forms, is_labelled, operand_fault}
+use Rattle.sk_faults.proofs.Names.{undeclared, room_for, Form, is_end_of, instruction_forms, is_some, operand_fault}
 use Rattle.sk_faults.proofs.Names.{found_of, Agrees, IsToldIn}
 use Rattle.sk_words.specs.declared.fault.FaultKind.TheVariants as kinds
 use Rattle.sk_script.specs.Scripting as code
@@ -28,7 +28,7 @@ only_so (Err e) f h = h
 
 -- the forms of a first word that isn't `end`
 abbrev seen_forms : Option (List ℕ) → List ℕ → Option (List Form)
-seen_forms label word = if is_labelled label then Some [] else instruction_forms word
+seen_forms label word = if is_some label then Some [] else instruction_forms word
 
 labelled : (s : ScriptState) (label : Option (List ℕ)) (w : List ℕ) (ws : List (List ℕ)) → Agrees ws (added s (declares_or_does label w ws)) (operand_fault None (seen_forms label w) ws)
 unfolding added

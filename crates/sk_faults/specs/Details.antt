@@ -1,12 +1,11 @@
 -- Where a fault of a line is told.
-use Rattle.std.specs.Prelude.{◌≡◌, ◌<◌, ◌⊎◌, ⊤, ℕ, List, [], Option, Some, None, length, drop}
-use Rattle.sk_words.specs.declared.fault.FaultKind.{FaultKind}
-use Rattle.sk_words.specs.declared.fault.FaultKind.TheVariants as kinds
-use Rattle.sk_words.specs.Words.{words, first_of}
-use Rattle.sk_faults.specs.declared.found.Found.{Found}
-use Rattle.sk_faults.specs.declared.part.Part.{Part}
+use Rattle.std.specs.Prelude.{◌≡◌, ◌<◌, ◌⊎◌, ⊤, ℕ, List, [], ◌∷◌, Option, Some, None, length, drop}
+use Rattle.sk_faults.specs.Base.{FaultKind, words, first_of, Found, Part}
 use Rattle.sk_faults.specs.Found.{found_of, open_at}
-use Rattle.sk_faults.specs.Places.{IsWordOf}
+
+-- the word of this index, the first having the index 0
+abbrev pub IsWordOf : List ℕ → ℕ → List ℕ → Type 0
+IsWordOf line index word = (behind : List (List ℕ)) × (drop index (words line) ≡ word ∷ behind)
 
 -- at the word of this index, or behind the line's last byte where the line has no such word
 abbrev pub IsAt : List ℕ → ℕ → ℕ → List ℕ → Type 0
@@ -39,16 +38,12 @@ IsAtWord None line start word = ⊥
 
 -- where a fault of this kind is told of a line that stands in a part
 abbrev pub IsTold : FaultKind → Part × List ℕ → ℕ → List ℕ → Type 0
-IsTold kinds.Word x start word = IsAtFound (found_of x.0 (first_of (words x.1))) x.1 start word
-IsTold kinds.Operand x start word = IsAtFound (found_of x.0 (first_of (words x.1))) x.1 start word
-IsTold kinds.Label x start word = IsSomewhere x.1 start word
-IsTold kinds.TooLong x start word = IsSomewhere x.1 start word
-IsTold kinds.Memory x start word = ⊥
+IsTold FaultKind.Word x start word = IsAtFound (found_of x.0 (first_of (words x.1))) x.1 start word
+IsTold FaultKind.Operand x start word = IsAtFound (found_of x.0 (first_of (words x.1))) x.1 start word
+IsTold FaultKind.Memory x start word = ⊥
+IsTold _ x start word = IsSomewhere x.1 start word
 
 -- nothing is told of want of memory, nor of a line that there is not
 abbrev pub IsUntold : FaultKind → Option (Part × List ℕ) → Type 0
-IsUntold kinds.Word line = line ≡ None
-IsUntold kinds.Operand line = line ≡ None
-IsUntold kinds.Label line = line ≡ None
-IsUntold kinds.TooLong line = line ≡ None
-IsUntold kinds.Memory line = ⊤
+IsUntold FaultKind.Memory line = ⊤
+IsUntold _ line = line ≡ None

@@ -1,17 +1,7 @@
 -- The first fault of the words of a line, word by word.
 use Rattle.std.specs.Prelude.{◌≡◌, ℕ, ◌+◌, min, Bool, false, List, [], ◌∷◌, Option, Some, None, Result, Ok, Err, codes, bytes_eq, drop, if◌then◌else◌}
-use Rattle.sk_words.specs.declared.fault.FaultKind.{FaultKind}
-use Rattle.sk_words.specs.declared.fault.FaultKind.TheVariants as kinds
-use Rattle.sk_words.specs.Words.{is_open, first_of}
-use Rattle.sk_script.specs.StepInput.{no_input}
-use Rattle.sk_faults.specs.declared.part.Part.{Part}
-use Rattle.sk_faults.specs.declared.part.Part.TheVariants as parts
-use Rattle.sk_script.specs.declared.form.Form.{Form}
-use Rattle.sk_faults.specs.declared.found.Found.{Found}
-use Rattle.sk_faults.specs.declared.found.InputWord.{InputWord}
-use Rattle.sk_faults.specs.declared.found.Why.{Why}
-use Rattle.sk_faults.specs.declared.found.Why.TheVariants as why
-use Rattle.sk_script.specs.Forms.{fits, is_input, brings_content}
+use Rattle.sk_faults.specs.Base.{FaultKind, is_open, first_of, no_input, Part, Form, Found, InputWord, Why, fits}
+use Rattle.sk_faults.specs.Base.{is_input, brings_content}
 use Rattle.sk_faults.specs.Tables.{forms_of}
 
 -- a fault of the word of this index, where the first word of the line has the index 0
@@ -30,20 +20,20 @@ next_index index = min index 4294967295 + 1
 -- the first literal without its closing quote; the first of these words has this index
 abbrev pub open_at : ℕ → List (List ℕ) → Option Found
 open_at index [] = None
-open_at index (w ∷ ws) = if is_open w then fault_at index why.Open else open_at (next_index index) ws
+open_at index (w ∷ ws) = if is_open w then fault_at index Why.Open else open_at (next_index index) ws
 
 -- the place of the first missing word, or the first word too many
 abbrev pub count_at : ℕ → List Form → List (List ℕ) → Option Found
 count_at index [] [] = None
-count_at index [] (w ∷ ws) = fault_at index why.Surplus
-count_at index (f ∷ fs) [] = fault_at index (why.Missing f)
+count_at index [] (w ∷ ws) = fault_at index Why.Surplus
+count_at index (f ∷ fs) [] = fault_at index (Why.Missing f)
 count_at index (f ∷ fs) (w ∷ ws) = count_at (index + 1) fs ws
 
 -- the first word that has not its form
 abbrev pub wrong_at : ℕ → List Form → List (List ℕ) → Option Found
 wrong_at index [] ws = None
 wrong_at index (f ∷ fs) [] = None
-wrong_at index (f ∷ fs) (w ∷ ws) = if fits f w then wrong_at (index + 1) fs ws else fault_at index (why.Malformed f)
+wrong_at index (f ∷ fs) (w ∷ ws) = if fits f w then wrong_at (index + 1) fs ws else fault_at index (Why.Malformed f)
 
 -- ---- inputs
 
@@ -52,15 +42,12 @@ input_word index word = record { index = index; is_known = is_input word; is_wid
 
 -- the first word of an input, behind one word or two
 abbrev pub second : List (List ℕ) → Option InputWord
-second [] = None
-second (v ∷ []) = None
 second (v ∷ w ∷ ws) = Some (input_word 2 w)
+second _ = None
 
 abbrev pub third : List (List ℕ) → Option InputWord
-third [] = None
-third (u ∷ []) = None
-third (u ∷ v ∷ []) = None
 third (u ∷ v ∷ w ∷ ws) = Some (input_word 3 w)
+third _ = None
 
 abbrev pub input_of_step : List ℕ → List (List ℕ) → Option InputWord
 input_of_step word ws = if bytes_eq (codes "step") word then second ws else if bytes_eq (codes "guess") word then second ws else None
@@ -70,11 +57,9 @@ input_of_event word ws = if bytes_eq (codes "step") word then second ws else if 
 
 -- where a line of a section has an input
 abbrev pub input_in : Part → List ℕ → List (List ℕ) → Option InputWord
-input_in parts.Declarations word ws = None
-input_in parts.Script word ws = None
-input_in parts.Steps word ws = input_of_step word ws
-input_in parts.World word ws = None
-input_in parts.Trace word ws = input_of_event word ws
+input_in Part.Steps word ws = input_of_step word ws
+input_in Part.Trace word ws = input_of_event word ws
+input_in _ word ws = None
 
 abbrev pub is_wide : Option InputWord → Bool
 is_wide None = false
@@ -83,13 +68,13 @@ is_wide (Some x) = x.is_wide
 -- while it is unknown what an input is, the words behind it can't be judged
 abbrev pub unknown_input : Option InputWord → Option Found
 unknown_input None = None
-unknown_input (Some x) = if x.is_known then None else fault_at x.index why.Input
+unknown_input (Some x) = if x.is_known then None else fault_at x.index Why.Input
 
 -- ---- lines
 
 -- the first fault of the words behind a first word that has these forms, if it is known
 abbrev pub operand_fault : Option InputWord → Option (List Form) → List (List ℕ) → Option Found
-operand_fault input None ws = fault_at 0 why.Unknown
+operand_fault input None ws = fault_at 0 Why.Unknown
 operand_fault input (Some fs) ws = or_else (open_at 1 ws) (or_else (unknown_input input) (or_else (count_at 1 fs ws) (wrong_at 1 fs ws)))
 
 abbrev pub found_behind : Part → List ℕ → List (List ℕ) → Option Found
@@ -104,12 +89,10 @@ found_of part (Some x) = found_behind part x.0 x.1
 
 -- of an unknown input the count of the words behind it tells
 abbrev pub kind_by : Why → FaultKind → FaultKind
-kind_by why.Unknown of_input = kinds.Word
-kind_by why.Open of_input = kinds.Operand
-kind_by why.Input of_input = of_input
-kind_by (why.Missing f) of_input = kinds.Word
-kind_by why.Surplus of_input = kinds.Word
-kind_by (why.Malformed f) of_input = kinds.Operand
+kind_by Why.Open of_input = FaultKind.Operand
+kind_by (Why.Malformed f) of_input = FaultKind.Operand
+kind_by Why.Input of_input = of_input
+kind_by _ of_input = FaultKind.Word
 
 -- the kind of a fault, of a line behind whose first word these words stand
 abbrev pub kind_of : Found → List (List ℕ) → FaultKind
@@ -117,11 +100,9 @@ kind_of f ws = kind_by f.why (no_input (drop f.index ws))
 
 -- whether this kind tells of something else than words and operands
 abbrev pub IsOther : FaultKind → Type 0
-IsOther kinds.Word = ⊥
-IsOther kinds.Operand = ⊥
-IsOther kinds.Label = Unit {0}
-IsOther kinds.TooLong = Unit {0}
-IsOther kinds.Memory = Unit {0}
+IsOther FaultKind.Word = ⊥
+IsOther FaultKind.Operand = ⊥
+IsOther _ = Unit {0}
 
 -- What is found in a line of which this is said, behind whose first word these words stand: a fault of the kind that is
 -- told; and where none is found, none of words and operands is told.

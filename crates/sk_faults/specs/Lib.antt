@@ -1,5 +1,5 @@
+pub mod Base
 pub mod Parts
 pub mod Tables
 pub mod Found
-pub mod Places
 pub mod Details

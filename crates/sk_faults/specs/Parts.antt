@@ -1,30 +1,25 @@
 -- In which part of a scenario a line stands, by the lines before it.
 use Rattle.std.specs.Prelude.{ℕ, ◌-◌, List, [], ◌∷◌, Option, Some, None, codes, bytes_eq, nat_le, if◌then◌else◌}
-use Rattle.sk_words.specs.Words.{words, first_of}
-use Rattle.sk_scenario.specs.Scenario.{is_end}
-use Rattle.sk_faults.specs.declared.part.Part.{Part}
-use Rattle.sk_faults.specs.declared.part.Part.TheVariants as parts
+use Rattle.sk_faults.specs.Base.{words, first_of, is_end, Part}
 
 -- the part that a line among the declarations begins
 abbrev pub begun_by : List ℕ → Part
 begun_by word =
-    if bytes_eq (codes "script") word then parts.Script
-    else if bytes_eq (codes "steps") word then parts.Steps
-    else if bytes_eq (codes "world") word then parts.World
-    else if bytes_eq (codes "trace") word then parts.Trace
-    else parts.Declarations
+    if bytes_eq (codes "script") word then Part.Script
+    else if bytes_eq (codes "steps") word then Part.Steps
+    else if bytes_eq (codes "world") word then Part.World
+    else if bytes_eq (codes "trace") word then Part.Trace
+    else Part.Declarations
 
 abbrev pub begun : Option (List ℕ × List (List ℕ)) → Part
-begun None = parts.Declarations
+begun None = Part.Declarations
 begun (Some x) = begun_by x.0
 
 -- the part in which the line behind this one stands
 abbrev pub part_behind : Part → List ℕ → Part
-part_behind parts.Declarations line = begun (first_of (words line))
-part_behind parts.Script line = if is_end line then parts.Declarations else parts.Script
-part_behind parts.Steps line = parts.Steps
-part_behind parts.World line = parts.World
-part_behind parts.Trace line = parts.Trace
+part_behind Part.Declarations line = begun (first_of (words line))
+part_behind Part.Script line = if is_end line then Part.Declarations else Part.Script
+part_behind section line = section
 
 -- the line of this number, where the first of these lines has the number 1, and the part in which it stands
 abbrev pub line_at : Part → ℕ → List (List ℕ) → Option (Part × List ℕ)

@@ -1,24 +1,15 @@
 -- What forms the words behind a first word have to have.
-use Rattle.std.specs.Prelude.{ℕ, Bool, true, false, List, [], ◌∷◌, Option, Some, None, codes, bytes_eq, if◌then◌else◌}
-use Rattle.sk_script.specs.Scripting.{label_in}
-use Rattle.sk_script.specs.InstructionForms.{Table, forms_in, instruction_forms}
-use Rattle.sk_faults.specs.declared.part.Part.{Part}
-use Rattle.sk_faults.specs.declared.part.Part.TheVariants as parts
-use Rattle.sk_script.specs.declared.form.Form.{Form}
-use Rattle.sk_script.specs.declared.form.Form.TheVariants.{Literal, Name, Index, Natural, Short, Guess, Process, Input}
+use Rattle.std.specs.Prelude.{ℕ, Bool, true, false, List, [], ◌∷◌, Option, Some, None, is_some, codes, bytes_eq, if◌then◌else◌}
+use Rattle.sk_faults.specs.Base.{label_in, Table, forms_in, instruction_forms, Part, Form, Literal, Name, Index}
+use Rattle.sk_faults.specs.Base.{Natural, Short, Guess, Process, Input}
 
 -- ---- scripts
 
--- nothing stands behind a label
-abbrev pub is_labelled : Option (List ℕ) → Bool
-is_labelled (Some name) = true
-is_labelled None = false
-
--- a line of a script: its end, a label, or an instruction
+-- a line of a script: its end or a label, behind which nothing stands, or an instruction
 abbrev pub script_forms : List ℕ → Option (List Form)
 script_forms word =
     if bytes_eq word (codes "end") then Some []
-    else if is_labelled (label_in word) then Some []
+    else if is_some (label_in word) then Some []
     else instruction_forms word
 
 -- ---- declarations
@@ -82,8 +73,8 @@ event_forms wide =
 
 -- the forms behind a first word in a part, whose input brings a content or not; none where the word is unknown
 abbrev pub forms_of : Part → Bool → List ℕ → Option (List Form)
-forms_of parts.Declarations wide word = declaration_forms word
-forms_of parts.Script wide word = script_forms word
-forms_of parts.Steps wide word = forms_in (step_forms wide) None word
-forms_of parts.World wide word = forms_in world_forms None word
-forms_of parts.Trace wide word = forms_in (event_forms wide) None word
+forms_of Part.Declarations wide word = declaration_forms word
+forms_of Part.Script wide word = script_forms word
+forms_of Part.Steps wide word = forms_in (step_forms wide) None word
+forms_of Part.World wide word = forms_in world_forms None word
+forms_of Part.Trace wide word = forms_in (event_forms wide) None word

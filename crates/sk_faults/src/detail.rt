@@ -1,11 +1,9 @@
 //! The place of a text's fault, and its reason.
 ghost use Rattle.std.specs.Prelude.{◌≡◌, [], IfSome, IsSomeAnd, MatchOption, length};
-ghost use Rattle.std.specs.Str.Lines.{lines};
-ghost use Rattle.sk_words.specs.Words.{words, first_of};
+ghost use Rattle.sk_faults.specs.Base.{lines, words, first_of, Declarations};
 ghost use Rattle.sk_faults.specs.Found.{found_of};
 ghost use Rattle.sk_faults.specs.Details.{IsAt, IsSomewhere, IsAtFound, IsTold, IsUntold};
 ghost use Rattle.sk_faults.specs.Parts.{line_at};
-ghost use Rattle.sk_faults.specs.declared.part.Part.TheVariants.{Declarations};
 
 use crate::found::{Found, Why, find};
 use crate::part::{Part, line_at};

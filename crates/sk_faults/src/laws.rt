@@ -1,17 +1,9 @@
 //! What is found in a line is what its reading tells. Each law is the contract of a function that does nothing.
 ghost use Rattle.std.specs.Prelude.{◌≡◌, ℕ, List, false};
-ghost use Rattle.sk_scenario.specs.KeptEvent.{WorldEvent};
-ghost use Rattle.sk_words.specs.Words.{words, first_of};
-ghost use Rattle.sk_script.specs.Scripting.{ScriptState, script_line};
-ghost use Rattle.sk_trace.specs.declared.event.Event.{Event};
-ghost use Rattle.sk_trace.specs.Lines.{event_line};
-ghost use Rattle.sk_scenario.specs.declared.call.Call.{Call};
-ghost use Rattle.sk_scenario.specs.Calls.{step_line};
-ghost use Rattle.sk_scenario.specs.Declarations.{Declared, line_said};
-ghost use Rattle.sk_scenario.specs.Scenario.{is_end};
-ghost use Rattle.sk_scenario.specs.WorldEvents.{world_line};
+ghost use Rattle.sk_faults.specs.Base.{WorldEvent, words, first_of, ScriptState, script_line, Event, event_line, Call};
+ghost use Rattle.sk_faults.specs.Base.{step_line, Declared, line_said, is_end, world_line, Declarations, Script, Steps};
+ghost use Rattle.sk_faults.specs.Base.{World, Trace};
 ghost use Rattle.sk_faults.specs.Found.{IsToldIn};
-ghost use Rattle.sk_faults.specs.declared.part.Part.TheVariants.{Declarations, Script, Steps, World, Trace};
 
 /// In a line of a script.
 pub fn script_lines()

@@ -1,9 +1,7 @@
 //! In which part of a scenario a line stands.
 ghost use Rattle.std.specs.Prelude.{◌≡◌, None, Some, MatchOption};
-ghost use Rattle.std.specs.Str.Lines.{lines};
-ghost use Rattle.sk_scenario.specs.Scenario.{is_end};
+ghost use Rattle.sk_faults.specs.Base.{lines, is_end, Declarations};
 ghost use Rattle.sk_faults.specs.Parts.{begun_by, part_behind, line_at};
-ghost use Rattle.sk_faults.specs.declared.part.Part.TheVariants.{Declarations};
 
 use sk_words::{Lines, Words, first_word};
 

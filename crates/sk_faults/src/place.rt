@@ -1,7 +1,7 @@
 //! Where a word stands in its line.
 ghost use Rattle.std.specs.Prelude.{◌≡◌, [], drop, MatchOption};
 ghost use Rattle.sk_words.specs.Words.{words};
-ghost use Rattle.sk_faults.specs.Places.{IsWordOf};
+ghost use Rattle.sk_faults.specs.Details.{IsWordOf};
 
 use sk_words::Words;
 

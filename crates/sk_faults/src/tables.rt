@@ -1,9 +1,7 @@
 //! What forms the words behind a first word have to have.
-ghost use Rattle.std.specs.Prelude.{◌≡◌, ◌∷◌, None, Some, MatchOption};
-ghost use Rattle.sk_script.specs.Scripting.{label_in};
-ghost use Rattle.sk_script.specs.declared.form.Form.TheVariants.{Guess, Process};
-ghost use Rattle.sk_script.specs.InstructionForms.{forms_in, instruction_forms};
-ghost use Rattle.sk_faults.specs.Tables.{script_forms, is_labelled, declaration_forms, step_forms, world_forms, event_forms, input_forms, forms_of};
+ghost use Rattle.std.specs.Prelude.{◌≡◌, ◌∷◌, None, Some, is_some, MatchOption};
+ghost use Rattle.sk_faults.specs.Base.{label_in, Guess, Process, forms_in, instruction_forms};
+ghost use Rattle.sk_faults.specs.Tables.{script_forms, declaration_forms, step_forms, world_forms, event_forms, input_forms, forms_of};
 
 use crate::part::Part;
 use sk_script::Form::{Guess, Index, Input, Literal, Name, Natural, Process, Short};
@@ -22,7 +20,7 @@ fn label_in(word: &[u8]) -> Option<Label>
 
 /// Whether a word declares a label.
 pub(crate) fn is_label(word: &[u8]) -> bool
-    ensures { result ≡ is_labelled (label_in word.now) }
+    ensures { result ≡ is_some (label_in word.now) }
 {
     match label_in(word) {
         Some(_) => true,

@@ -1,8 +1,6 @@
 //! The place of a fault of a line of a talk, and its reason.
 ghost use Rattle.std.specs.Prelude.{◌≡◌, ◌≢◌, ◌<◌, None, Ok, IfSome, MatchOption};
-ghost use Rattle.sk_words.specs.declared.fault.FaultKind.TheVariants.{Memory};
-ghost use Rattle.sk_words.specs.Words.{words, first_of};
-ghost use Rattle.sk_questions.specs.Questions.{asked_by};
+ghost use Rattle.sk_faults.specs.Base.{Memory, words, first_of, asked_by};
 ghost use Rattle.sk_faults.specs.Found.{found_of, open_at};
 ghost use Rattle.sk_faults.specs.Details.{IsAtAsked, IsAtWord, IsWrong};
 

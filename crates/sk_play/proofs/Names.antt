@@ -8,7 +8,7 @@ pub use Rattle.std.proofs.lemmas.List.{take_all, append_assoc, take_more, append
 pub use Rattle.std.specs.Io.KnownBytes.{Appends}
 pub use Rattle.std.specs.Prelude.{OnOk, codes}
 pub use Rattle.sk_client.proofs.Upcoming.{event_foreseen}
-pub use Rattle.sk_client.proofs.WorldFacts.{newest_is}
+pub use Rattle.sk_client.proofs.Desks.{newest_is}
 pub use Rattle.sk_trace.specs.LentEvent.{event_in}
 pub use Rattle.sk_client.specs.Upcoming.{upcoming as upcoming_in}
 pub use Rattle.sk_client.specs.WorldView.{NewsPost, WorldView, EventPost}
@@ -17,8 +17,8 @@ pub use Rattle.sk_client.specs.declared.world.WorldAnswer.{WorldAnswer}
 pub use Rattle.sk_trace.specs.declared.world_event.WorldEvent.{WorldEvent}
 pub use Rattle.sk_client.specs.declared.world.WorldNews.{WorldNews}
 pub use Rattle.sk_kernel.specs.Holder.{DecidesPost, HolderView, but}
-pub use Rattle.sk_kernel.proofs.Appended.{appended_foreseen, unchanged_foreseen}
-pub use Rattle.sk_kernel.specs.Footprint.{appended, IsForeseen}
+pub use Rattle.sk_kernel.proofs.Appended.{IsForeseen, appended_foreseen, unchanged_foreseen}
+pub use Rattle.sk_kernel.specs.Footprint.{appended}
 pub use Rattle.sk_kernel.specs.Kernel.{next_guess, with_event, KernelView}
 pub use Rattle.sk_kernel.specs.declared.kernel.Outcome.{Outcome}
 pub use Rattle.sk_plain.specs.Refusal.{refusal_number}
@@ -27,9 +27,8 @@ pub use Rattle.sk_plain.specs.declared.refusal.Refusal.{Refusal}
 pub use Rattle.sk_play.specs.Played.{answer_text}
 pub use Rattle.sk_play.specs.Plays.{Plays}
 pub use Rattle.sk_play.specs.Replays.{replayed, told_by, call_of, Replays, StopsAt}
-pub use Rattle.sk_play.specs.Session.{DecisionTold, AnswerMatches, held_after, StepTold, GuessTold}
+pub use Rattle.sk_play.specs.Session.{DecisionTold, AnswerMatches, held_after, StepTold, GuessTold, upcoming}
 pub use Rattle.sk_play.specs.Told.{told_line}
-pub use Rattle.sk_play.specs.Upcoming.{upcoming}
 pub use Rattle.sk_play.specs.Worlds.{seeded, Happens}
 pub use Rattle.sk_play.specs.declared.answer.CallAnswer.{CallAnswer}
 pub use Rattle.sk_play.specs.declared.told.WorldTold.{WorldTold}

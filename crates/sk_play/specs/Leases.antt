@@ -1,29 +1,17 @@
 -- What comes of private instructions that a process does away from its kernel.
 use Rattle.std.specs.Prelude.{◌≡◌, ℕ, List, [], ◌∷◌, ◌++◌, codes, decimal, Option, Some, None, Result, Ok, Err}
+use Rattle.sk_play.specs.Base.{LeaseView, ran, lease_of, refusal_words, Refusal, KernelView, state_at, TakesIn, HandIn}
+use Rattle.sk_play.specs.Base.{DeskView, desk_lease, DeskTakesIn, WorldTakesIn, WorldView, LeaseTold}
 use Rattle.std.specs.FinMap as map
-use Rattle.sk_script.specs.Lease.{LeaseView, ran}
-use Rattle.sk_plain.specs.Leased.{lease_of}
-use Rattle.sk_plain.specs.RefusalText.{refusal_words}
-use Rattle.sk_plain.specs.declared.refusal.Refusal.{Refusal}
-use Rattle.sk_plain.specs.declared.refusal.Refusal.TheVariants as refusals
-use Rattle.sk_kernel.specs.Kernel.{KernelView, state_at}
-use Rattle.sk_kernel.specs.HandIn.{TakesIn}
-use Rattle.sk_kernel.specs.declared.hand_in.HandIn.{HandIn}
-use Rattle.sk_kernel.specs.declared.hand_in.HandIn.TheVariants as hand_ins
-use Rattle.sk_client.specs.Desk.{DeskView}
-use Rattle.sk_client.specs.Leasing.{desk_lease, DeskTakesIn, WorldTakesIn}
-use Rattle.sk_client.specs.WorldView.{WorldView}
-use Rattle.sk_play.specs.declared.leasing.LeaseTold.{LeaseTold}
-use Rattle.sk_play.specs.declared.leasing.LeaseTold.TheVariants as tells
 
 -- what is told of the hand-in of a lease of so many instructions; of want of memory nothing
 abbrev pub refused_told : HandIn → Option LeaseTold
-refused_told hand_ins.Stale = Some tells.Signalled
-refused_told hand_ins.TraceFull = Some (tells.Refused refusals.TraceFull)
-refused_told hand_ins.Memory = None
+refused_told HandIn.Stale = Some LeaseTold.Signalled
+refused_told HandIn.TraceFull = Some (LeaseTold.Refused Refusal.TraceFull)
+refused_told HandIn.Memory = None
 
 abbrev pub handed_told : ℕ → Result (Unit {0}) HandIn → Option LeaseTold
-handed_told n (Ok u) = Some (tells.Ran n)
+handed_told n (Ok u) = Some (LeaseTold.Ran n)
 handed_told n (Err why) = refused_told why
 
 -- what a hand-in answered, without the lease that came back
@@ -41,7 +29,7 @@ abbrev pub Leases :
     {S : Type 0} → (Result (Unit {0}) HandIn → LeaseView → S → S → Type 0) → Option LeaseTold → Result LeaseView Refusal → ℕ → S → S → Type 0
 Leases TakesIn None lent count old new = new ≡ old
 Leases TakesIn (Some told) (Ok l) count old new = HandsIn TakesIn (Some told) (ran count l) old new
-Leases TakesIn (Some told) (Err why) count old new = (told ≡ tells.Refused why) × (new ≡ old)
+Leases TakesIn (Some told) (Err why) count old new = (told ≡ LeaseTold.Refused why) × (new ≡ old)
 
 abbrev pub KernelLeases : Option LeaseTold → ℕ → ℕ → KernelView → KernelView → Type 0
 KernelLeases told pid count old new = Leases TakesIn told (lease_of (map.get (state_at old)) old.scripts pid) count old new
@@ -54,9 +42,9 @@ WorldLeases told pid count old new = Leases WorldTakesIn told (desk_lease old.de
 
 -- how many were done, or why none was
 abbrev pub lease_text : LeaseTold → List ℕ
-lease_text (tells.Ran n) = decimal n
-lease_text (tells.Refused why) = codes "refused " ++ refusal_words why
-lease_text tells.Signalled = codes "refused signal"
+lease_text (LeaseTold.Ran n) = decimal n
+lease_text (LeaseTold.Refused why) = codes "refused " ++ refusal_words why
+lease_text LeaseTold.Signalled = codes "refused signal"
 
 -- its line
 abbrev pub lease_line : LeaseTold → List ℕ

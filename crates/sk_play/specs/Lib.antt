@@ -1,10 +1,10 @@
+pub mod Base
 pub mod Played
 pub mod Session
 pub mod Plays
 pub mod Replays
 pub mod Told
 pub mod Worlds
-pub mod Upcoming
 pub mod Epochs
 pub mod Leases
 pub mod WorldReport

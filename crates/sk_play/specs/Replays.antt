@@ -1,29 +1,20 @@
 -- A trace that is replayed: each event is the call of a session, which is answered as the event tells.
 use Rattle.std.specs.Prelude.{◌≡◌, ℕ, ◌+◌, List, ◌∷◌, ◌++◌, map, length, Result, Ok, Err, ⊤}
-use Rattle.sk_trace.specs.declared.event.Event.{Event}
-use Rattle.sk_trace.specs.declared.event.Event.TheVariants as events
-use Rattle.sk_scenario.specs.declared.call.Call.{Call}
-use Rattle.sk_scenario.specs.declared.call.Call.TheVariants as calls
-use Rattle.sk_kernel.specs.Kernel.{KernelView}
-use Rattle.sk_play.specs.declared.answer.CallAnswer.{CallAnswer}
-use Rattle.sk_play.specs.declared.answer.CallAnswer.TheVariants as answers
-use Rattle.sk_play.specs.declared.replaying.Unreplayed.{Unreplayed}
-use Rattle.sk_play.specs.declared.replaying.Unreplayed.TheVariants as unreplayed
+use Rattle.sk_play.specs.Base.{Event, Call, KernelView, CallAnswer, Unreplayed}
 use Rattle.sk_play.specs.Session.{AnswerMatches}
 use Rattle.sk_play.specs.Plays.{Plays}
 
 abbrev pub call_of : Event → Call
-call_of (events.Step pid input) = calls.Step pid input
-call_of (events.Guess id pid input) = calls.Guess pid input
-call_of (events.Commit id) = calls.Commit id
-call_of (events.Fail id) = calls.Fail id
+call_of (Event.Step pid input) = Call.Step pid input
+call_of (Event.Guess id pid input) = Call.Guess pid input
+call_of (Event.Commit id) = Call.Commit id
+call_of (Event.Fail id) = Call.Fail id
 
 -- the answer that the event tells
 abbrev pub told_by : Event → CallAnswer
-told_by (events.Step pid input) = answers.Stepped
-told_by (events.Guess id pid input) = answers.Guessed id
-told_by (events.Commit id) = answers.Done
-told_by (events.Fail id) = answers.Done
+told_by (Event.Step pid input) = CallAnswer.Stepped
+told_by (Event.Guess id pid input) = CallAnswer.Guessed id
+told_by _ = CallAnswer.Done
 
 -- the events happen in turn, from these held guesses and this kernel on, which leaves those guesses held and that kernel
 abbrev pub Replays : List Event → List ℕ → KernelView → List ℕ → KernelView → Type 0
@@ -53,5 +44,5 @@ replayed k es = record k { trace = k.trace ++ es }
 -- all events happen, or the first that does not is told, or memory ran out
 abbrev pub ReplaysSo : Result (Unit {0}) Unreplayed → List Event → List ℕ → KernelView → List ℕ → KernelView → Type 0
 ReplaysSo (Ok u) es held kernel left last = Replays es held kernel left last × (last ≡ replayed kernel es)
-ReplaysSo (Err (unreplayed.Entry at)) es held kernel left last = StopsAt es held kernel at
-ReplaysSo (Err unreplayed.Memory) es held kernel left last = ⊤
+ReplaysSo (Err (Unreplayed.Entry at)) es held kernel left last = StopsAt es held kernel at
+ReplaysSo (Err Unreplayed.Memory) es held kernel left last = ⊤

@@ -1,14 +1,8 @@
 -- The report of a desk and a server, in a world or apart; and the line of workers.
 use Rattle.std.specs.Prelude.{ℕ, List, [], ◌∷◌, ◌++◌, flat_map, codes, decimal, length, Option, Some, None}
+use Rattle.sk_play.specs.Base.{ContentView, KernelView, undecided_at, FileMap, ServerView, DeskView, pending}
+use Rattle.sk_play.specs.Base.{WorldView, content_text, kernel_text}
 use Rattle.std.specs.FinMap as finmap
-use Rattle.sk_objects.specs.Content.{ContentView}
-use Rattle.sk_kernel.specs.Kernel.{KernelView, undecided_at}
-use Rattle.sk_server.specs.Files.{FileMap}
-use Rattle.sk_server.specs.Server.{ServerView}
-use Rattle.sk_client.specs.Desk.{DeskView, pending}
-use Rattle.sk_client.specs.WorldView.{WorldView}
-use Rattle.sk_report.specs.Printed.{content_text}
-use Rattle.sk_report.specs.Report.{kernel_text}
 
 -- the line of a server's file, none where it was never stored
 abbrev pub remote_line : List ℕ → Option ContentView → List ℕ

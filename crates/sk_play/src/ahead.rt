@@ -1,6 +1,6 @@
 //! The step that a call of a scenario takes.
 ghost use Rattle.std.specs.Prelude.{◌≡◌};
-ghost use Rattle.sk_play.specs.Upcoming.{upcoming};
+ghost use Rattle.sk_play.specs.Session.{upcoming};
 
 use sk_ids::Pid;
 use sk_scenario::Call;

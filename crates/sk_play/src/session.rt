@@ -1,13 +1,10 @@
 //! A kernel at play, with the tokens of its guesses.
 ghost use Rattle.std.specs.Prelude.{MatchResult, IfOk, None, Some, ◌≡◌};
-ghost use Rattle.sk_kernel.specs.Holder.{holding, BeginsPost};
+ghost use Rattle.sk_play.specs.Base.{holding, BeginsPost, step_refused, guess_refused, next_guess, HandInPost};
+ghost use Rattle.sk_play.specs.Base.{input_in, cause};
 ghost use Rattle.sk_play.specs.Session.{decision_told, entry, with_guess, held_after, AnswerMatches, CanWantMemory, StepTold, GuessTold};
 ghost use Rattle.sk_play.specs.Plays.{declared_kernel};
-ghost use Rattle.sk_kernel.specs.Kernel.{step_refused, guess_refused, next_guess};
-ghost use Rattle.sk_kernel.specs.HandIn.{HandInPost};
-ghost use Rattle.sk_trace.specs.Kept.{input_in};
 ghost use Rattle.sk_trace.specs.declared.event.Event.TheVariants as events;
-ghost use Rattle.sk_plain.specs.Refusal.{cause};
 
 use crate::answer::CallAnswer;
 use sk_ids::Pid;

@@ -1,12 +1,9 @@
 //! The world that a scenario declares, and what is told of its events.
 ghost use Rattle.std.specs.Prelude.{◌≡◌, IfOk, MatchResult, Some, None};
-ghost use Rattle.sk_server.specs.Server.{new_server};
-ghost use Rattle.sk_client.specs.Desk.{opened};
-ghost use Rattle.sk_trace.specs.LentEvent.{event_in};
+ghost use Rattle.sk_play.specs.Base.{new_server, opened, event_in, WorldTold};
 ghost use Rattle.sk_client.specs.declared.world.WorldAnswer.TheVariants as answers;
 ghost use Rattle.sk_play.specs.Plays.{declared_kernel};
 ghost use Rattle.sk_play.specs.Told.{told_line};
-ghost use Rattle.sk_play.specs.declared.told.WorldTold.{WorldTold};
 ghost use Rattle.sk_play.specs.declared.told.WorldTold.TheVariants as tells;
 ghost use Rattle.sk_play.specs.Worlds.{seeded, declared_world, turn_told, edit_told, cause_told, Happens};
 

@@ -9,7 +9,7 @@ use Rattle.sk_store.specs.Present.{IsPresent}
 use Rattle.sk_report.specs.Printed.{entity_text, value_text}
 use Rattle.sk_report.specs.Directories.{name_text, target_text, directory_text, gathered_at, gathered}
 use Rattle.sk_report.specs.Report.{line_with, with_terminal}
-use Rattle.sk_report.specs.Listed.{link_said, directory_said, names_said, value_said, held_said, line_said, lines_said, terminals_said}
+use Rattle.sk_report.specs.Listed.{link_said, directory_said, names_said, held_said, line_said, lines_said, terminals_said}
 
 -- the entities of those that pass a test of theirs
 kept_head : (b : Bool) (p : Present) (rest : List Present) (es : List Entity) → entities_of rest ≡ es → entities_of (cond b (p ∷ rest) rest) ≡ cond b (p.entity ∷ es) es
@@ -21,7 +21,7 @@ names_are d [] = refl
 names_are d (p ∷ ps) = kept_head (is_name_of d p.entity) p (filter (λ q. is_name_of d q.entity) ps) (names_under d (entities_of ps)) (names_are d ps)
 
 -- what is no directory says the same with names as without
-pub value_alone : (all : List Present) (e : Entity) (v : Value) → v ≢ Dir → value_text v ≡ value_said all e v
+pub value_alone : (all : List Present) (e : Entity) (v : Value) → v ≢ Dir → value_text v ≡ held_said all e (StoredValue v)
 value_alone all e Dir other = absurd (other refl)
 value_alone all e v other = refl
 

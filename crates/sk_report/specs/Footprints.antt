@@ -1,13 +1,7 @@
 -- What is listed beside the answer to an event: what its step read and wrote, and the guesses that it rests on.
 use Rattle.std.specs.Prelude.{ℕ, List, [], ◌∷◌, ◌++◌, codes, Option, Some, None, Result, Ok, Err}
-use Rattle.sk_ids.specs.declared.entity.Entity.{Entity}
-use Rattle.sk_ids.specs.declared.entity.Entity.TheVariants.{Proc}
-use Rattle.sk_trace.specs.declared.event.Event.{Event}
-use Rattle.sk_trace.specs.declared.event.Event.TheVariants as events
-use Rattle.sk_plain.specs.declared.refusal.Refusal.{Refusal}
-use Rattle.sk_kernel.specs.Kernel.{KernelView, effect_at, tags_at}
-use Rattle.sk_kernel.specs.Footprint.{footprint_of, appended}
-use Rattle.sk_kernel.specs.declared.footprint.Footprint.{Footprint}
+use Rattle.sk_report.specs.Base.{Entity, Proc, Event, Refusal, KernelView, effect_at, tags_at, footprint_of, appended}
+use Rattle.sk_report.specs.Base.{Footprint}
 use Rattle.sk_report.specs.Printed.{joined, tags_text, entity_text}
 
 abbrev pub entities_text : List Entity → List ℕ
@@ -26,13 +20,11 @@ touched_lines (Err why) tags = []
 -- of an event that leads from one kernel to another: what the plain kernel reads and writes there, and what the process rests on then,
 -- which the step has written; of a decision nothing
 abbrev pub event_lines : KernelView → KernelView → Option Event → List ℕ
-event_lines old new None = []
-event_lines old new (Some (events.Step pid input)) =
+event_lines old new (Some (Event.Step pid input)) =
     touched_lines (footprint_of (effect_at old (record { pid = pid; input = input; guess = None }))) (tags_at new (Proc pid))
-event_lines old new (Some (events.Guess id pid input)) =
+event_lines old new (Some (Event.Guess id pid input)) =
     touched_lines (footprint_of (effect_at old (record { pid = pid; input = input; guess = Some id }))) (tags_at new (Proc pid))
-event_lines old new (Some (events.Commit id)) = []
-event_lines old new (Some (events.Fail id)) = []
+event_lines old new _ = []
 
 -- of whatever was appended between two kernels
 abbrev pub listed : KernelView → KernelView → List ℕ

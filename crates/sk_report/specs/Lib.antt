@@ -1,3 +1,4 @@
+pub mod Base
 pub mod Footprints
 pub mod Printed
 pub mod Directories

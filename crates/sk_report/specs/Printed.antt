@@ -1,16 +1,7 @@
 -- How entities and what they have are printed.
 use Rattle.std.specs.Prelude.{ℕ, Bool, List, [], ◌∷◌, ◌++◌, flat_map, codes, decimal, length, Option, Some, None, if◌then◌else◌}
-use Rattle.sk_ids.specs.declared.entity.Entity.{Entity}
-use Rattle.sk_ids.specs.declared.entity.Entity.TheVariants as entity
-use Rattle.sk_objects.specs.Content.{ContentView}
-use Rattle.sk_objects.specs.declared.value.Value.{Value}
-use Rattle.sk_objects.specs.declared.value.Value.TheVariants as value
-use Rattle.sk_plain.specs.declared.view.View.{View}
-use Rattle.sk_plain.specs.declared.view.View.TheVariants as views
-use Rattle.sk_script.specs.declared.process.Process.{Process}
-use Rattle.sk_script.specs.declared.register.Val.{Val}
-use Rattle.sk_script.specs.Registers.{held, val_word}
-use Rattle.sk_words.specs.Spelling.{spelled, pid_word, object_word}
+use Rattle.sk_report.specs.Base.{Entity, ContentView, Value, View, Process, Val, held, val_word, spelled, pid_word}
+use Rattle.sk_report.specs.Base.{object_word}
 
 -- what is missing
 abbrev pub dash : List ℕ
@@ -24,10 +15,6 @@ joined separator spelling (first ∷ others) = spelling first ++ flat_map (λ ot
 -- guesses by rising number
 abbrev pub tags_text : List ℕ → List ℕ
 tags_text ids = joined 44 decimal ids
-
--- signals from the front
-abbrev pub signals_text : List ℕ → List ℕ
-signals_text signals = joined 44 decimal signals
 
 -- a number that may be missing
 abbrev pub option_text : Option ℕ → List ℕ
@@ -59,26 +46,26 @@ process_text p = held_text p ++ 32 ∷ made_text p
 abbrev pub content_text : ContentView → List ℕ
 content_text content = decimal content.version ++ 32 ∷ spelled content.bytes
 
--- a value, behind its entity; of a directory its names are entities of their own
+-- a value, behind its entity; signals from the front; of a directory its names are entities of their own
 abbrev pub value_text : Value → List ℕ
-value_text (value.File bytes) = codes "file " ++ decimal (length bytes) ++ 32 ∷ spelled bytes
-value_text value.Dir = codes "dir"
-value_text (value.Link object) = object_word object
-value_text (value.Pipe pipe) = codes "pipe " ++ (if pipe.shut then codes "shut " else codes "open ") ++ spelled pipe.bytes
-value_text (value.Signals signals) = signals_text signals
-value_text (value.Exit status) = option_text status
-value_text (value.Copy content) = content_text content
+value_text (Value.File bytes) = codes "file " ++ decimal (length bytes) ++ 32 ∷ spelled bytes
+value_text Value.Dir = codes "dir"
+value_text (Value.Link object) = object_word object
+value_text (Value.Pipe pipe) = codes "pipe " ++ (if pipe.shut then codes "shut " else codes "open ") ++ spelled pipe.bytes
+value_text (Value.Signals signals) = joined 44 decimal signals
+value_text (Value.Exit status) = option_text status
+value_text (Value.Copy content) = content_text content
 
 -- what an entity has, behind its name, as a kernel shows it
 abbrev pub view_text : View → List ℕ
-view_text (views.Process p) = process_text p.now
-view_text (views.Value v) = value_text v.now
+view_text (View.Process p) = process_text p.now
+view_text (View.Value v) = value_text v.now
 
 -- an entity
 abbrev pub entity_text : Entity → List ℕ
-entity_text (entity.Proc pid) = codes "proc " ++ pid_word pid
-entity_text (entity.Sig pid) = codes "sig " ++ pid_word pid
-entity_text (entity.Exit pid) = codes "exit " ++ pid_word pid
-entity_text (entity.Obj id) = codes "obj " ++ object_word id
-entity_text (entity.Link d name) = codes "link " ++ object_word d ++ 32 ∷ name
-entity_text (entity.Copy name) = codes "copy " ++ name
+entity_text (Entity.Proc pid) = codes "proc " ++ pid_word pid
+entity_text (Entity.Sig pid) = codes "sig " ++ pid_word pid
+entity_text (Entity.Exit pid) = codes "exit " ++ pid_word pid
+entity_text (Entity.Obj id) = codes "obj " ++ object_word id
+entity_text (Entity.Link d name) = codes "link " ++ object_word d ++ 32 ∷ name
+entity_text (Entity.Copy name) = codes "copy " ++ name

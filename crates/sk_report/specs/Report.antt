@@ -1,16 +1,8 @@
 -- The report of a kernel, and that of a plain kernel.
 use Rattle.std.specs.Prelude.{ℕ, List, [], ◌∷◌, ◌++◌, map, flat_map, codes, decimal, length, Option, Some, None}
-use Rattle.std.specs.Ordering.{nat_cmp}
+use Rattle.sk_report.specs.Base.{nat_cmp, insert_key, Entity, EntityState, released, TaggedText, waiting_of, PlainView}
+use Rattle.sk_report.specs.Base.{texts_said, KernelView, state_at, tags_at, texts_at, undecided_at, spelled}
 use Rattle.std.specs.FinMap as finmap
-use Rattle.std.specs.BTreeSet.{insert_key}
-use Rattle.sk_ids.specs.declared.entity.Entity.{Entity}
-use Rattle.sk_store.specs.declared.entity_state.EntityState.{EntityState}
-use Rattle.sk_store.specs.declared.entity_state.EntityState.TheVariants as stored
-use Rattle.sk_record.specs.Machine.{released}
-use Rattle.sk_terminal.specs.Terminal.{TaggedText, waiting_of}
-use Rattle.sk_plain.specs.Plain.{PlainView, texts_said}
-use Rattle.sk_kernel.specs.Kernel.{KernelView, state_at, tags_at, texts_at, undecided_at}
-use Rattle.sk_words.specs.Spelling.{spelled}
 use Rattle.sk_report.specs.Printed.{tags_text, entity_text}
 use Rattle.sk_report.specs.Directories.{gathered}
 
@@ -25,9 +17,6 @@ line_of look end es e = line_with look es (look e) e (end e)
 -- the guesses that an entity depends on
 abbrev pub tags_end : List ℕ → List ℕ
 tags_end tags = codes " tags " ++ tags_text tags
-
-abbrev pub entity_end : KernelView → Entity → List ℕ
-entity_end k e = tags_end (tags_at k e)
 
 -- the released texts, a literal a line
 abbrev pub texts_lines : List (List ℕ) → List ℕ
@@ -63,8 +52,8 @@ steps_line steps = codes "steps " ++ decimal steps ++ 10 ∷ []
 
 -- the terminals of processes, by rising number, each once
 abbrev pub with_terminal : List ℕ → Option EntityState → List ℕ
-with_terminal numbers (Some (stored.Process p)) = insert_key nat_cmp numbers p.terminal
-with_terminal numbers (Some (stored.Value v)) = numbers
+with_terminal numbers (Some (EntityState.Process p)) = insert_key nat_cmp numbers p.terminal
+with_terminal numbers (Some (EntityState.Value v)) = numbers
 with_terminal numbers None = numbers
 
 -- these terminals, with those of the processes among the entities
@@ -78,7 +67,7 @@ body_text look terminal end es = flat_map terminal (with_terminals look [] es) +
 
 -- the terminals, and the entities that are present by their order
 abbrev pub kernel_text : KernelView → List ℕ
-kernel_text k = body_text (finmap.get (state_at k)) (terminal_said k) (entity_end k) (finmap.keys (state_at k))
+kernel_text k = body_text (finmap.get (state_at k)) (terminal_said k) (λ e. tags_end (tags_at k e)) (finmap.keys (state_at k))
 
 -- these, and the last line
 abbrev pub report_text : KernelView → List ℕ

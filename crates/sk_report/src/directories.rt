@@ -1,12 +1,8 @@
 //! What the line of an entity says. The names of a directory are gathered from the entities that they are.
 ghost use Rattle.std.specs.Prelude.{◌≡◌, ◌∷◌, OnOk, flat_map, [], Some, None};
-ghost use Rattle.std.specs.Io.KnownBytes.{Appends};
-ghost use Rattle.std.specs.List.Sorted.{IsStrictlySortedBy};
-ghost use Rattle.sk_ids.specs.Entity.{entity_cmp};
+ghost use Rattle.sk_report.specs.Base.{Appends, IsStrictlySortedBy, entity_cmp, entities_of, filter};
 ghost use Rattle.sk_report.specs.Directories.{is_before, is_name_of};
-ghost use Rattle.sk_store.specs.Present.{entities_of};
 ghost use Rattle.sk_report.specs.Listed.{link_said, directory_said, names_said, held_said};
-ghost use Rattle.std.specs.List.{filter};
 
 use crate::{PrintedProcess, PrintedValue};
 use sk_ids::{Entity, ObjId};

@@ -1,10 +1,8 @@
 //! The line of an entity, made from its end on in a room and written at once, without formatting machinery.
 ghost use Rattle.std.specs.Prelude.{◌≡◌, ◌≢◌, ◌<◌, ◌≤◌, ◌+◌, ◌∷◌, [], ◌++◌, codes, drop, length, decimal, IfSome};
-ghost use Rattle.sk_report.specs.Printed.{option_text, registers_text, yes_or_no, held_text, made_text, process_text, signals_text, value_text, entity_text};
-ghost use Rattle.sk_report.specs.declared.line.TheConstants.{ROOM, VALUE, REGISTERS, LITERAL, MADE, HELD};
-ghost use Rattle.sk_script.specs.Registers.{held, val_word};
-ghost use Rattle.sk_words.specs.Spelling.{spelled, object_word, pid_word};
-ghost use Rattle.sk_report.specs.declared.placed.TheConstants.{DIGITS, LEVELS, OBJECT};
+ghost use Rattle.sk_report.specs.Base.{ROOM, VALUE, REGISTERS, LITERAL, MADE, HELD, held, val_word, spelled};
+ghost use Rattle.sk_report.specs.Base.{object_word, pid_word, DIGITS, LEVELS, OBJECT};
+ghost use Rattle.sk_report.specs.Printed.{option_text, registers_text, yes_or_no, held_text, made_text, process_text, joined, value_text, entity_text};
 
 use crate::placed::{
     DIGITS, LEVELS, OBJECT, put_literal, put_number, put_object, put_pid, put_signed, put_words,
@@ -195,7 +193,7 @@ fn put_file(file: &File, words: &[u8], line: &mut [u8], end: usize) -> Option<us
 fn put_signals(signals: &Signals, words: &[u8], line: &mut [u8], end: usize) -> Option<usize>
     requires { (HELD + length words.now ≤ end) × (end ≤ length line.old) }
     ensures line { IfSome result (λ start.
-        drop start line.new ≡ signals_text signals.now ++ words.now ++ drop end line.old) }
+        drop start line.new ≡ joined 44 decimal signals.now ++ words.now ++ drop end line.old) }
     ensures start { IfSome result (λ start.
         (start ≤ end) × (end ≤ start + HELD + length words.now)) }
     ensures length { length line.new ≡ length line.old }

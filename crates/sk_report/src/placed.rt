@@ -1,8 +1,7 @@
 //! Words that are put in a line before a place, so that it is made from its end on, without formatting machinery.
 ghost use Rattle.std.specs.Prelude.{◌≡◌, ◌≤◌, ◌+◌, ◌∷◌, [], ◌++◌, take, drop, length, decimal, flat_map, true, IfSome};
-ghost use Rattle.std.specs.Fmt.{signed_decimal};
-ghost use Rattle.sk_words.specs.Spelling.{spelled, spelled_byte, two_levels, pid_word, object_word};
-ghost use Rattle.sk_report.specs.declared.placed.TheConstants.{DIGITS, LEVELS, OBJECT};
+ghost use Rattle.sk_report.specs.Base.{signed_decimal, spelled, spelled_byte, two_levels, pid_word, object_word};
+ghost use Rattle.sk_report.specs.Base.{DIGITS, LEVELS, OBJECT};
 
 use itoa::write_digits;
 use sk_ids::{ObjId, Pid};

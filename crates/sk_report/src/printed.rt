@@ -1,8 +1,7 @@
 //! How entities and what they have are printed.
 ghost use Rattle.std.specs.Prelude.{◌≡◌, ◌<◌, ◌∷◌, Some, flat_map, decimal};
-ghost use Rattle.sk_report.specs.Printed.{tags_text, signals_text, option_text, registers_text, held_text, made_text, yes_or_no, process_text, content_text, value_text, view_text, entity_text};
-ghost use Rattle.sk_script.specs.Registers.{held};
-ghost use Rattle.sk_words.specs.Spelling.{spelled};
+ghost use Rattle.sk_report.specs.Base.{held, spelled};
+ghost use Rattle.sk_report.specs.Printed.{joined, tags_text, option_text, registers_text, held_text, made_text, yes_or_no, process_text, content_text, value_text, view_text, entity_text};
 
 use sk_ids::{Entity, GuessId, TagSet};
 use sk_objects::{Content, File, Pipe, Signals, Value};
@@ -78,7 +77,7 @@ impl fmt::Display for MoreSignals<'_> {
 struct PrintedSignals<'a>(&'a Signals);
 
 impl fmt::Display for PrintedSignals<'_> {
-    ghost output = { λ s. Some (signals_text s.0.now) };
+    ghost output = { λ s. Some (joined 44 decimal s.0.now) };
 
     fn fmt<W: fmt::Write>(&self, f: &mut fmt::Formatter<W>) -> fmt::Result {
         match self.0.as_slice() {

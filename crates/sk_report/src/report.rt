@@ -1,15 +1,8 @@
 //! The report of a kernel, and that of a plain kernel.
 ghost use Rattle.std.specs.Prelude.{◌≡◌, ◌≤◌, ◌++◌, List, flat_map, drop, OnOk, IfSome};
-ghost use Rattle.std.specs.Io.KnownBytes.{Appends};
-ghost use Rattle.std.specs.BTreeSet.{insert_key};
-ghost use Rattle.std.specs.List.Sorted.{IsStrictlySortedBy};
-ghost use Rattle.std.specs.Ordering.{nat_cmp};
-ghost use Rattle.sk_ids.specs.Entity.{entity_cmp};
-ghost use Rattle.std.specs.List.{All};
-ghost use Rattle.sk_store.specs.Present.{IsPresent, entities_of};
-ghost use Rattle.sk_store.specs.declared.present.Present.{Present};
+ghost use Rattle.sk_report.specs.Base.{Appends, insert_key, IsStrictlySortedBy, nat_cmp, entity_cmp, All, IsPresent};
+ghost use Rattle.sk_report.specs.Base.{entities_of, Present, ROOM};
 ghost use Rattle.sk_report.specs.Listed.{line_said, lines_said, terminals_said};
-ghost use Rattle.sk_report.specs.declared.line.TheConstants.{ROOM};
 ghost use Rattle.sk_report.specs.Report.{last_line, steps_line, body_text, kernel_text, report_text, plain_report_text};
 
 use crate::directories::write_held;

@@ -1,10 +1,7 @@
 //! The kernels of which a report is written.
 ghost use Rattle.std.specs.Prelude.{◌≡◌, ◌∷◌, ◌++◌, true, OnOk, []};
-ghost use Rattle.std.specs.Io.KnownBytes.{Appends};
+ghost use Rattle.sk_report.specs.Base.{Appends, state_at, tags_at, TEXT_ROOM, spelled};
 ghost use Rattle.std.specs.FinMap as map;
-ghost use Rattle.sk_kernel.specs.Kernel.{state_at, tags_at};
-ghost use Rattle.sk_report.specs.declared.subject.TheConstants.{TEXT_ROOM};
-ghost use Rattle.sk_words.specs.Spelling.{spelled};
 ghost use Rattle.sk_report.specs.Report.{counts_line, terminal_lines, terminal_said, texts_lines, tags_end, plain_terminal_said};
 
 use crate::placed::{put_literal, put_words};

@@ -1,8 +1,8 @@
 //! The guesses that an entity rests on, put in a room from the last one on and written at once.
 ghost use Rattle.std.specs.Prelude.{◌≡◌, ◌≤◌, ◌+◌, ◌*◌, ◌∷◌, ◌++◌, codes, decimal, drop, flat_map, length, OnOk};
-ghost use Rattle.std.specs.Io.KnownBytes.{Appends};
+ghost use Rattle.sk_report.specs.Base.{Appends, TAG};
 ghost use Rattle.sk_report.specs.Printed.{tags_text};
-ghost use Rattle.sk_report.specs.declared.tags.TheConstants.{ROOM, TAG};
+ghost use Rattle.sk_report.specs.declared.tags.TheConstants.{ROOM};
 
 use crate::placed::{DIGITS, put_number, put_words};
 use crate::printed::PrintedIds;

@@ -55,7 +55,7 @@ pub replayed_out : (held : List ℕ) (k : KernelView) (es : List Event) (left : 
     → Replays es held k left last → last ≡ replayed k es
     → OnOk written (Appends old mid (report_text last)) → EndsReport written end buffer mid new → EndsReplayed held k es end old new
 replayed_out held k es left last (Ok u) ends.Done buffer old mid new again is report ended =
-    (left, last, again, subst (λ (r : KernelView). Appends old new (report_text r)) is (Appends-kept old mid new _ report ended.1))
+    ((left, last, again), subst (λ (r : KernelView). Appends old new (report_text r)) is (Appends-kept old mid new _ report ended.1))
 replayed_out held k es left last (Ok u) ends.Fault buffer old mid new again is report ended = absurd ended.0
 replayed_out held k es left last (Ok u) ends.Usage buffer old mid new again is report ended = ended.0
 replayed_out held k es left last (Ok u) ends.Trouble buffer old mid new again is report ended = inl (left, last, again)

@@ -23,7 +23,8 @@ pub use Rattle.sk_command.specs.declared.end.End.{End}
 pub use Rattle.sk_command.specs.declared.job.Shows.{Shows}
 pub use Rattle.sk_ids.specs.declared.entity.Entity.{Entity}
 pub use Rattle.sk_ids.specs.declared.entity.Entity.TheVariants.{Proc}
-pub use Rattle.sk_kernel.specs.Footprint.{appended, footprint_of, IsForeseen}
+pub use Rattle.sk_kernel.proofs.Appended.{IsForeseen}
+pub use Rattle.sk_kernel.specs.Footprint.{appended, footprint_of}
 pub use Rattle.sk_kernel.specs.Kernel.{effect_at, tags_at, KernelView}
 pub use Rattle.sk_kernel.specs.declared.footprint.Footprint.{Footprint}
 pub use Rattle.sk_plain.proofs.Replays.{first_is_taken}
@@ -37,7 +38,7 @@ pub use Rattle.sk_play.proofs.Foreseen.{call_foreseen, happening_foreseen}
 pub use Rattle.sk_play.specs.Played.{answer_line}
 pub use Rattle.sk_play.specs.Replays.{replayed, Replays}
 pub use Rattle.sk_play.specs.Told.{told_line}
-pub use Rattle.sk_play.specs.Upcoming.{upcoming}
+pub use Rattle.sk_play.specs.Session.{upcoming}
 pub use Rattle.sk_play.specs.Worlds.{Happens}
 pub use Rattle.sk_questions.specs.Questions.{asked_by}
 pub use Rattle.sk_questions.specs.declared.asked.Asked.{Asked}
@@ -50,14 +51,14 @@ pub use Rattle.sk_record.specs.Trace.{IsSound}
 pub use Rattle.sk_report.specs.Footprints.{event_lines, listed, touched_lines}
 pub use Rattle.sk_report.specs.Report.{report_text, plain_report_text}
 pub use Rattle.sk_report.specs.declared.stop.Stop.{Stop}
-pub use Rattle.sk_run.specs.InTurn.{Answered, HasAnswered, Lists, Reported, Tells}
+pub use Rattle.sk_run.specs.InTurn.{Answered, HasAnswered, Lists, Prints, Reported, Tells}
 pub use Rattle.sk_run.specs.Listing.{foreseen, touched, lines_of, foreseen_lines}
 pub use Rattle.sk_run.specs.Plainly.{HasRun, happened, after_step, HasSoundTrace, left_by, all_run, AllTaken}
 pub use Rattle.sk_run.specs.Plainly.{trace_fault_end}
 pub use Rattle.sk_run.specs.Replayed.{EndsReplayed}
-pub use Rattle.sk_run.specs.Run.{EndsReport, counts_section, IsCounted, WritesCounts, IsPlayed, EndsPlain}
-pub use Rattle.sk_run.specs.Run.{trace_section, IsBehind, where_wanted, EndsPlay, Prints}
-pub use Rattle.sk_run.specs.Talk.{Answers, is_end, number_behind, EndsTalk, EndsOpened, Talks, talked, begun, AnswersAs}
+pub use Rattle.sk_run.specs.Run.{EndsReport, IsCounted, WritesCounts, IsPlayed, EndsPlain}
+pub use Rattle.sk_run.specs.Run.{trace_section, IsBehind, where_wanted, EndsPlay}
+pub use Rattle.sk_run.specs.Talk.{Answers, is_end, number_behind, EndsTalk, EndsOpened, talked, begun, AnswersAs}
 pub use Rattle.sk_run.specs.Talk.{TakesLine}
 pub use Rattle.sk_run.specs.declared.talking.Talk.{Talk}
 pub use Rattle.sk_scenario.specs.Scenario.{section_view}
@@ -67,6 +68,7 @@ pub use Rattle.sk_script.specs.declared.instruction.Input.{Input}
 pub use Rattle.sk_store.specs.Start.{start_of}
 pub use Rattle.sk_store.specs.State.{State}
 pub use Rattle.sk_store.specs.declared.entity_state.EntityState.{EntityState}
+pub use Rattle.sk_talk.specs.Asked.{counts_lines}
 pub use Rattle.sk_talk.specs.Played.{opened_in}
 pub use Rattle.sk_talk.specs.declared.line.LineTold.{LineTold}
 pub use Rattle.sk_talk.specs.declared.play.Play.{Play}

@@ -5,7 +5,8 @@ use Rattle.sk_run.proofs.Names.{IsSome, ⊤, take_through, drop_through, DropsTh
 use Rattle.sk_run.proofs.Names.{reader_inner, reader_remaining, Appends, Keeps, BufReader, Appends-kept, Appends-trans}
 use Rattle.sk_run.proofs.Names.{ne_eqb, append-nil, append_assoc, lines, parts, next_line, FaultKind, asked_by, Asked}
 use Rattle.sk_run.proofs.Names.{Play, LineTold, End, IsWritten, Talk, is_end, talked, number_behind, AnswersAs, Answers}
-use Rattle.sk_run.proofs.Names.{Talks, begun, EndsTalk, EndsOpened, TakesLine}
+use Rattle.sk_run.proofs.Names.{Tells, begun, EndsTalk, EndsOpened, TakesLine}
+use Rattle.sk_run.proofs.InTurn.{tells_more}
 use Rattle.sk_questions.specs.declared.asked.Asked.TheVariants as asks
 use Rattle.sk_talk.specs.declared.line.LineTold.TheVariants as tells
 use Rattle.sk_command.specs.declared.end.End.TheVariants as ends
@@ -48,16 +49,6 @@ taken None new line e d = tt
 taken (Some xs) new line e d = rw (e, d) (taken_from xs (cut xs))
 
 -- ---- one more line
-
-pub talks_more : (n : ℕ) (ls : List (List ℕ)) (l : List ℕ) (old mid new : Talk) (text answer : List ℕ) → Talks n ls old mid text → Answers (n + length ls) l mid new answer
-    → Talks n (ls ++ l ∷ []) old new (text ++ answer)
-talks_more n [] l old mid new text answer p h =
-    let here : n + 0 ≡ n = omega arith in
-    rw (p.1, ← p.0, ← here) (new, answer, [], h, (refl, refl), sym (append-nil answer))
-talks_more n (x ∷ ls) l old mid new text answer p h =
-    let later : n + length (x ∷ ls) ≡ n + 1 + length ls = omega arith in
-    let more = talks_more (n + 1) ls l p.0 mid new p.2 answer p.4 (subst (λ m. Answers m l mid new answer) later h) in
-    (p.0, p.1, p.2 ++ answer, p.3, more, ap (λ ls. ls ++ answer) p.5 ∙ append_assoc p.1 p.2 answer)
 
 next_number : (told : LineTold) (n : ℕ) → number_behind told n ≤ n + 1
 next_number (tells.Answered a) n = omega arith
@@ -115,7 +106,7 @@ pub record Going (play : Play) (input : Option (List ℕ)) (n : ℕ) (talk : Tal
   pub text : List ℕ
   pub count : n ≡ 1 + length ls
   pub number : talk.number ≤ n
-  pub talks : Talks 1 ls (begun play) talk text
+  pub talks : Tells Answers 1 ls (begun play) talk text
   pub written : Appends old new text
   pub leaves : Leaves input ls left
 
@@ -134,7 +125,7 @@ goes_on play input n talk next left then old mid new l answer tail g t e h w = r
   text = g.text ++ answer;
   count = omega (arith, g.count, length-append g.ls (l ∷ []));
   number = omega (arith, g.number, answered_number (asked_by l) n l talk next answer h);
-  talks = talks_more 1 g.ls l (begun play) talk next g.text answer g.talks (subst (λ m. Answers m l talk next answer) g.count h);
+  talks = tells_more Answers 1 g.ls l (begun play) talk next g.text answer g.talks (subst (λ m. Answers m l talk next answer) g.count h);
   written = Appends-trans _ _ _ _ _ g.written w;
   leaves = leaves_more input left then g.ls tail l g.leaves t e;
 }
@@ -143,20 +134,20 @@ goes_on play input n talk next left then old mid new l answer tail g t e h w = r
 
 pub ends_by_line : (play : Play) (input : Option (List ℕ)) (n : ℕ) (talk : Talk) (left then old mid new : Option (List ℕ)) (l : List ℕ) (tail : List (List ℕ)) (end : End) (buffer : List ℕ)
     → Going play input n talk left old mid → TakesLine left then (l ∷ tail) → is_end l ≡ true → IsWritten end buffer → Keeps mid new → EndsTalk play input end old new
-ends_by_line play input n talk left then old mid new l tail ends.Done buffer g t e w k = (g.ls, leaves_end input left then g.ls tail l g.leaves t e, (talk, g.text, g.talks, Appends-kept old mid new g.text g.written k))
+ends_by_line play input n talk left then old mid new l tail ends.Done buffer g t e w k = (g.ls, leaves_end input left then g.ls tail l g.leaves t e, (talk, (g.text, g.talks, Appends-kept old mid new g.text g.written k)))
 ends_by_line play input n talk left then old mid new l tail ends.Trouble buffer g t e w k = absurd w
 ends_by_line play input n talk left then old mid new l tail ends.OutputRefused buffer g t e w k = tt
 ends_by_line play input n talk left then old mid new l tail s buffer g t e w k = w
 
 pub ends_behind : (play : Play) (input : Option (List ℕ)) (n : ℕ) (talk : Talk) (left then old mid new : Option (List ℕ)) (end : End) (buffer : List ℕ)
     → Going play input n talk left old mid → TakesLine left then [] → IsWritten end buffer → Keeps mid new → EndsTalk play input end old new
-ends_behind play input n talk left then old mid new ends.Done buffer g t w k = (g.ls, leaves_all input left then g.ls g.leaves t, (talk, g.text, g.talks, Appends-kept old mid new g.text g.written k))
+ends_behind play input n talk left then old mid new ends.Done buffer g t w k = (g.ls, leaves_all input left then g.ls g.leaves t, (talk, (g.text, g.talks, Appends-kept old mid new g.text g.written k)))
 ends_behind play input n talk left then old mid new ends.Trouble buffer g t w k = absurd w
 ends_behind play input n talk left then old mid new ends.OutputRefused buffer g t w k = tt
 ends_behind play input n talk left then old mid new s buffer g t w k = w
 
 pub ends_in_trouble : (play : Play) (input : Option (List ℕ)) (n : ℕ) (talk : Talk) (left old new : Option (List ℕ)) → Going play input n talk left old new → EndsTalk play input ends.Trouble old new
-ends_in_trouble play input n talk left old new g = (g.ls, leaves_some input left g.ls g.leaves, (talk, g.text, g.talks, g.written))
+ends_in_trouble play input n talk left old new g = (g.ls, leaves_some input left g.ls g.leaves, (talk, (g.text, g.talks, g.written)))
 
 pub not_begun : (play : Play) (input old : Option (List ℕ)) → EndsTalk play input ends.Trouble old old
 not_begun play input old = ends_in_trouble play input 1 (begun play) input old old (begins play input old)

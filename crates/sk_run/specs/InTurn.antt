@@ -1,9 +1,12 @@
 -- What is played in turn, a kernel by calls or a world by events: items of a type I, each of which is taken at a state of a type S, as `Takes` says: the item of a number
 -- leaves another state, and a text is told of it.
 use Rattle.std.specs.Prelude.{◌≡◌, ℕ, ◌+◌, Bool, List, [], ◌∷◌, ◌++◌, Option}
-use Rattle.std.specs.Io.KnownBytes.{Appends}
-use Rattle.sk_kernel.specs.Kernel.{KernelView}
+use Rattle.sk_run.specs.Base.{Appends, KernelView}
 use Rattle.sk_run.specs.Listing.{beside}
+
+-- such a text is appended
+abbrev pub Prints : (List ℕ → Type 0) → Option (List ℕ) → Option (List ℕ) → Type 0
+Prints IsText old new = (text : List ℕ) × IsText text × Appends old new text
 
 module _ {S I : Type 0} where
   -- the same, with what is told beside the text of the kernels before and after the item, where that is wanted

@@ -1,15 +1,7 @@
 -- What is listed beside the answer to an event, as it is foreseen.
 use Rattle.std.specs.Prelude.{ℕ, Bool, true, false, List, [], length, slice_get, Option, Some, None, option_and_then}
-use Rattle.std.specs.Result.{result_ok}
-use Rattle.sk_ids.specs.declared.entity.Entity.TheVariants.{Proc}
-use Rattle.sk_script.specs.declared.instruction.Input.{Input}
-use Rattle.sk_trace.specs.declared.event.Event.{Event}
-use Rattle.sk_trace.specs.declared.event.Event.TheVariants as events
-use Rattle.sk_kernel.specs.Kernel.{KernelView, effect_at, tags_at}
-use Rattle.sk_kernel.specs.Footprint.{footprint_of}
-use Rattle.sk_kernel.specs.declared.footprint.Footprint.{Footprint}
-use Rattle.sk_report.specs.Footprints.{footprint_lines, listed}
-use Rattle.sk_run.specs.declared.listing.Foreseen.{Foreseen}
+use Rattle.sk_run.specs.Base.{result_ok, Proc, Input, Event, KernelView, effect_at, tags_at, footprint_of, Footprint}
+use Rattle.sk_run.specs.Base.{footprint_lines, listed, Foreseen}
 
 -- nothing, or what was appended between two kernels
 abbrev pub beside : Bool → KernelView → KernelView → List ℕ
@@ -26,11 +18,9 @@ foreseen k upcoming = record { place = length k.trace; footprint = option_and_th
 -- the lines of a footprint, where the event took a step
 abbrev pub lines_of : Option Footprint → KernelView → Option Event → List ℕ
 lines_of None k e = []
-lines_of (Some f) k None = []
-lines_of (Some f) k (Some (events.Step pid input)) = footprint_lines f (tags_at k (Proc pid))
-lines_of (Some f) k (Some (events.Guess id pid input)) = footprint_lines f (tags_at k (Proc pid))
-lines_of (Some f) k (Some (events.Commit id)) = []
-lines_of (Some f) k (Some (events.Fail id)) = []
+lines_of (Some f) k (Some (Event.Step pid input)) = footprint_lines f (tags_at k (Proc pid))
+lines_of (Some f) k (Some (Event.Guess id pid input)) = footprint_lines f (tags_at k (Proc pid))
+lines_of _ k e = []
 
 abbrev pub foreseen_lines : Foreseen → KernelView → List ℕ
 foreseen_lines f k = lines_of f.footprint k (slice_get k.trace f.place)

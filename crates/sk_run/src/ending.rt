@@ -1,6 +1,5 @@
 //! How a run ends behind what it printed.
-ghost use Rattle.std.specs.Io.Buffered.{writer_buffer, writer_contents};
-ghost use Rattle.sk_command.specs.Ends.{IsFlushed};
+ghost use Rattle.sk_run.specs.Base.{writer_buffer, writer_contents, IsFlushed};
 ghost use Rattle.sk_run.specs.Run.{EndsReport};
 
 use sk_command::end::{End, flushed};

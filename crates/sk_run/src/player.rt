@@ -1,6 +1,5 @@
 //! What is played: a kernel, by calls, or a world, by events.
-ghost use Rattle.sk_play.specs.Worlds.{declared_world};
-ghost use Rattle.sk_play.specs.WorldReport.{world_report_text};
+ghost use Rattle.sk_run.specs.Base.{declared_world, world_report_text};
 ghost use Rattle.sk_run.specs.Run.{declared_session, kernel_of_session, session_report, kernel_of_world, CallTakes, EventTakes};
 
 use crate::listing::{foresee, write_foreseen};

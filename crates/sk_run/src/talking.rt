@@ -1,23 +1,14 @@
 //! Talking: what a scenario declares is played by the lines of a reader, each of which is answered before the next one
 //! is read.
 ghost use Rattle.std.specs.Prelude.{◌≡◌, ◌<◌, ◌^◌, ◌-◌, ◌+◌, ◌++◌, ◌∷◌, ℕ, List, [], None, Some, Ok, Err, IfOk, OnOk, codes};
-ghost use Rattle.std.specs.Str.Lines.{lines};
-ghost use Rattle.std.specs.Io.KnownBytes.{Appends};
-ghost use Rattle.std.specs.Io.Buffered.{writer_buffer, writer_contents};
-ghost use Rattle.sk_words.specs.Words.{words};
-ghost use Rattle.sk_command.specs.Ends.{IsFlushed};
-ghost use Rattle.sk_command.specs.Messages.{message_text};
+ghost use Rattle.sk_run.specs.Base.{lines, Appends, writer_buffer, writer_contents, words, IsFlushed, message_text};
+ghost use Rattle.sk_run.specs.Base.{section_view, opened_in, epoch_line, lease_line, IsAnswer, LineTaken, asked_by};
 ghost use Rattle.sk_command.specs.declared.message.Message.TheVariants as messages;
-ghost use Rattle.sk_scenario.specs.Scenario.{section_view};
-ghost use Rattle.sk_talk.specs.Played.{opened_in};
-ghost use Rattle.sk_play.specs.Epochs.{epoch_line};
-ghost use Rattle.sk_play.specs.Leases.{lease_line};
-ghost use Rattle.sk_talk.specs.Lines.{LineTaken};
 ghost use Rattle.sk_words.specs.declared.fault.FaultKind.TheVariants as kinds;
 ghost use Rattle.sk_talk.specs.declared.line.LineTold.TheVariants as tells;
 ghost use Rattle.sk_report.specs.declared.stop.Stop.TheVariants as stops;
-ghost use Rattle.sk_questions.specs.Questions.{asked_by};
-ghost use Rattle.sk_run.specs.Talk.{begun, is_alone, fault_line, fault_of, IsFaultAs, told_as, number_behind, handed_behind, AnswersAs, Answers, BeginsEpoch, HandsOut, Serves, TellsLease, WritesAnswer, EndsTalk, EndsOpened, TakesLine, WantsMemory};
+ghost use Rattle.sk_run.specs.InTurn.{Prints};
+ghost use Rattle.sk_run.specs.Talk.{begun, is_alone, fault_line, fault_of, IsFaultAs, told_as, number_behind, handed_behind, AnswersAs, Answers, BeginsEpoch, HandsOut, Serves, TellsLease, EndsTalk, EndsOpened, TakesLine, WantsMemory};
 
 use sk_command::end::{End, flushed, tell_unread, tell_wrong_section};
 use sk_command::message::{Message, write_message};
@@ -178,7 +169,8 @@ impl Talk {
     /// Writes the answer to a question.
     fn reply<W: Write>(&self, alloc: Global, question: &Question, out: &mut W) -> Result<(), Stop>
         ensures written { OnOk result
-            (WritesAnswer self.now.play question.now (W.contents out.old) (W.contents out.new)) }
+            (Prints (IsAnswer self.now.play question.now)
+            (W.contents out.old) (W.contents out.new)) }
         ensures memory { result ≡ Err stops.Memory → out.new ≡ out.old }
     {
         let text = self.play.asked(alloc, question)?;

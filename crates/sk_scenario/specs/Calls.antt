@@ -1,28 +1,21 @@
 -- What the lines of a section of steps say.
 use Rattle.std.specs.Prelude.{ℕ, List, [], ◌∷◌, Result, Ok, codes}
-use Rattle.sk_words.specs.declared.fault.FaultKind.{FaultKind}
-use Rattle.sk_words.specs.Faults.{◌>>=◌}
-use Rattle.sk_words.specs.Operands.{one_of, positive}
-use Rattle.sk_words.specs.Tables.{Rule, rule_in, unknown}
-use Rattle.sk_words.specs.Items.{with_item}
-use Rattle.sk_trace.specs.Lines.{step}
-use Rattle.sk_scenario.specs.declared.call.Call.{Call}
-use Rattle.sk_scenario.specs.declared.call.Call.TheVariants as calls
+use Rattle.sk_scenario.specs.Base.{FaultKind, ◌>>=◌, one_of, positive, Rule, rule_in, unknown, with_item, step, Call}
 
 -- what the words of a step say
 abbrev pub step_call : Rule Call
-step_call ws = step ws >>= λ x. Ok (calls.Step x.0 x.1)
+step_call ws = step ws >>= λ x. Ok (Call.Step x.0 x.1)
 
 -- what the words of a guess say
 abbrev pub guess_call : Rule Call
-guess_call ws = step ws >>= λ x. Ok (calls.Guess x.0 x.1)
+guess_call ws = step ws >>= λ x. Ok (Call.Guess x.0 x.1)
 
 abbrev pub step_rules : List (List ℕ × Rule Call)
 step_rules =
     (codes "step", step_call) ∷
     (codes "guess", guess_call) ∷
-    (codes "commit", λ ws. one_of positive ws >>= λ x. Ok (calls.Commit x)) ∷
-    (codes "fail", λ ws. one_of positive ws >>= λ x. Ok (calls.Fail x)) ∷
+    (codes "commit", λ ws. one_of positive ws >>= λ x. Ok (Call.Commit x)) ∷
+    (codes "fail", λ ws. one_of positive ws >>= λ x. Ok (Call.Fail x)) ∷
     []
 
 -- what a line says whose first word this is

@@ -1,26 +1,11 @@
 -- What the declarations of a scenario say.
 use Rattle.std.specs.Prelude.{◌≡◌, ℕ, Bool, List, [], ◌∷◌, ◌++◌, Option, Some, None, Result, Ok, Err, refl, codes, length, nat_lt, bytes_eq, if◌then◌else◌}
-use Rattle.std.specs.List.{list_any}
-use Rattle.std.specs.Coded.{Coded, code_by, coded×, coded_ℕ, coded_option, coded_list}
+use Rattle.sk_scenario.specs.Base.{list_any, Coded, code_by, coded×, coded_ℕ, coded_option, coded_list, ContentView}
+use Rattle.sk_scenario.specs.Base.{Instruction, BootView, boot_code, BOOT_OBJECTS, has_script, has_object, has_copy}
+use Rattle.sk_scenario.specs.Base.{has_process, with_script, with_object, with_copy, with_process, BootFault}
+use Rattle.sk_scenario.specs.Base.{ObjectKind, File, Dir, Pipe, FaultKind, ◌>>=◌, literal, name, natural, index, short}
+use Rattle.sk_scenario.specs.Base.{none_of, one_of, two_of, three_of, Rule, rule_in, unknown, Heading, Remote, Said}
 use Rattle.std.specs.FinMap as map
-use Rattle.sk_objects.specs.Content.{ContentView}
-use Rattle.sk_script.specs.declared.instruction.Instruction.{Instruction}
-use Rattle.sk_script.specs.Boot.{BootView, boot_code, BOOT_OBJECTS, has_script, has_object, has_copy, has_process, with_script, with_object, with_copy, with_process}
-use Rattle.sk_script.specs.declared.boot.BootFault.{BootFault}
-use Rattle.sk_script.specs.declared.boot.BootFault.TheVariants as boot_faults
-use Rattle.sk_script.specs.declared.boot.ObjectKind.{ObjectKind}
-use Rattle.sk_script.specs.declared.boot.ObjectKind.TheVariants.{File, Dir, Pipe}
-use Rattle.sk_words.specs.declared.fault.FaultKind.{FaultKind}
-use Rattle.sk_words.specs.declared.fault.FaultKind.TheVariants as kinds
-use Rattle.sk_words.specs.Faults.{◌>>=◌}
-use Rattle.sk_words.specs.Literals.{literal}
-use Rattle.sk_words.specs.Operands.{name, natural, index, short, none_of, one_of, two_of, three_of}
-use Rattle.sk_words.specs.Tables.{Rule, rule_in, unknown}
-use Rattle.sk_scenario.specs.declared.declarations.Heading.{Heading}
-use Rattle.sk_scenario.specs.declared.declarations.Heading.TheVariants as headings
-use Rattle.sk_scenario.specs.declared.declarations.Remote.{Remote}
-use Rattle.sk_scenario.specs.declared.declarations.Said.{Said}
-use Rattle.sk_scenario.specs.declared.declarations.Said.TheVariants as says
 use Rattle.sk_scenario.specs.contracts.declarations.Remote as remote_row
 
 -- what is declared so far: the start, the files of the server in the order of declaration, the trace limit and the
@@ -45,23 +30,22 @@ nothing_declared =
 
 -- a name or number that is taken or missing is a fault of the kind Label
 abbrev pub boot_fault : BootFault → FaultKind
-boot_fault boot_faults.Duplicate = kinds.Label
-boot_fault boot_faults.NoScript = kinds.Label
-boot_fault boot_faults.Memory = kinds.Memory
+boot_fault BootFault.Memory = FaultKind.Memory
+boot_fault _ = FaultKind.Label
 
 -- ---- the declarations, after each operand is read
 
 abbrev pub object : Declared → ObjectKind → List ℕ × List ℕ → Result Declared FaultKind
 object d kind x =
-    if has_object d.boot x.0 then Err kinds.Label
+    if has_object d.boot x.0 then Err FaultKind.Label
     else if nat_lt (length d.boot.objects) BOOT_OBJECTS then Ok (record d { boot = with_object d.boot x.0 kind x.1 })
-    else Err kinds.TooLong
+    else Err FaultKind.TooLong
 
 abbrev pub content_of : ℕ → List ℕ → ContentView
 content_of version bytes = record { version = version; bytes = bytes }
 
 abbrev pub copy : Declared → List ℕ × ℕ × List ℕ → Result Declared FaultKind
-copy d x = if has_copy d.boot x.0 then Err kinds.Label else Ok (record d { boot = with_copy d.boot x.0 (content_of x.1 x.2) })
+copy d x = if has_copy d.boot x.0 then Err FaultKind.Label else Ok (record d { boot = with_copy d.boot x.0 (content_of x.1 x.2) })
 
 abbrev pub has_remote : Declared → List ℕ → Bool
 has_remote d name = list_any (λ r. bytes_eq r.name name) d.remotes
@@ -71,18 +55,18 @@ with_remote d name content = record d { remotes = d.remotes ++ record { name = n
 
 -- a file of the server
 abbrev pub remote : Declared → List ℕ × ℕ × List ℕ → Result Declared FaultKind
-remote d x = if has_remote d x.0 then Err kinds.Label else Ok (with_remote d x.0 (content_of x.1 x.2))
+remote d x = if has_remote d x.0 then Err FaultKind.Label else Ok (with_remote d x.0 (content_of x.1 x.2))
 
 abbrev pub process : Declared → ℕ × List ℕ × ℕ → Result Declared FaultKind
 process d x =
-    if has_process d.boot x.0 then Err kinds.Label
+    if has_process d.boot x.0 then Err FaultKind.Label
     else if has_script d.boot x.1 then Ok (record d { boot = with_process d.boot x.0 x.1 x.2 })
-    else Err kinds.Label
+    else Err FaultKind.Label
 
 -- at most once
 abbrev pub once : Option ℕ → Declared → Result Declared FaultKind
 once None new = Ok new
-once (Some before) new = Err kinds.Label
+once (Some before) new = Err FaultKind.Label
 
 abbrev pub declaration_rules : Declared → List (List ℕ × Rule Declared)
 declaration_rules d =
@@ -103,12 +87,12 @@ declares d word ws = rule_in (declaration_rules d) unknown word ws
 -- ---- the lines that go on below them: a script's, whose name must be new, and the headings of sections
 
 abbrev pub new_name : Declared → List ℕ → Result (List ℕ) FaultKind
-new_name d n = if has_script d.boot n then Err kinds.Label else Ok n
+new_name d n = if has_script d.boot n then Err FaultKind.Label else Ok n
 
 -- what is declared with one script more
 abbrev pub script : Declared → List ℕ → List Instruction → Result Declared FaultKind
 script d name instructions =
-    if has_script d.boot name then Err kinds.Label
+    if has_script d.boot name then Err FaultKind.Label
     else Ok (record d { boot = with_script d.boot name instructions })
 
 -- the name of a script that begins
@@ -116,19 +100,19 @@ abbrev pub new_script : Declared → Rule (List ℕ)
 new_script d ws = one_of name ws >>= new_name d
 
 abbrev pub heading_rule : Declared → Heading → Rule (Said × Declared)
-heading_rule d heading ws = none_of ws >>= λ x. Ok (says.Heading heading, d)
+heading_rule d heading ws = none_of ws >>= λ x. Ok (Said.Heading heading, d)
 
 abbrev pub line_rules : Declared → List (List ℕ × Rule (Said × Declared))
 line_rules d =
-    (codes "script", λ ws. new_script d ws >>= λ n. Ok (says.Script n, d)) ∷
-    (codes "steps", heading_rule d headings.Steps) ∷
-    (codes "world", heading_rule d headings.World) ∷
-    (codes "trace", heading_rule d headings.Trace) ∷
+    (codes "script", λ ws. new_script d ws >>= λ n. Ok (Said.Script n, d)) ∷
+    (codes "steps", heading_rule d Heading.Steps) ∷
+    (codes "world", heading_rule d Heading.World) ∷
+    (codes "trace", heading_rule d Heading.Trace) ∷
     []
 
 -- a declaration
 abbrev pub declared_next : Declared → List ℕ → Rule (Said × Declared)
-declared_next d word ws = declares d word ws >>= λ e. Ok (says.Declared, e)
+declared_next d word ws = declares d word ws >>= λ e. Ok (Said.Declared, e)
 
 -- what a line says whose first word this is, and what is declared behind it
 unfoldable pub says_next : Declared → List ℕ → Rule (Said × Declared)
@@ -136,13 +120,13 @@ says_next d word ws = rule_in (line_rules d) (declared_next d word) word ws
 
 -- what a line says, and what is declared behind it; a line that is ignored declares nothing
 abbrev pub line_said : Declared → Option (List ℕ × List (List ℕ)) → Result (Said × Declared) FaultKind
-line_said d None = Ok (says.Declared, d)
+line_said d None = Ok (Said.Declared, d)
 line_said d (Some x) = says_next d x.0 x.1
 
 -- The kind that is told of a line of which this is said: that of its fault, or want of memory where it declares
 -- something. A heading takes no memory.
 abbrev pub TellsNext : FaultKind → Result (Said × Declared) FaultKind → Type 0
-TellsNext e (Ok x) = (e ≡ kinds.Memory) × (x.0 ≡ says.Declared)
+TellsNext e (Ok x) = (e ≡ FaultKind.Memory) × (x.0 ≡ Said.Declared)
 TellsNext e (Err k) = e ≡ k
 
 -- a function answers what is said, and leaves what is declared then, or a kind is told and nothing has changed

@@ -1,9 +1,6 @@
 -- Ends of lines at the front of a text.
 use Rattle.std.specs.Prelude.{◌≡◌, ℕ, List, ◌∷◌, ◌++◌, Ok}
-use Rattle.std.specs.List.{AllByRecursion}
-use Rattle.sk_words.specs.Printed.{IsWord}
-use Rattle.sk_words.specs.Spelling.{spaced}
-use Rattle.sk_words.specs.Tables.{Rule}
+use Rattle.sk_scenario.specs.Base.{AllByRecursion, IsWord, spaced, Rule}
 
 -- a text begins with the last words of a line, which say this, and this is left behind the line
 abbrev pub EndsLine : {A : Type 0} → Rule A → List ℕ → A → List ℕ → Type 0

@@ -1,10 +1,8 @@
 -- What is seen of an event of a world that is kept.
-use Rattle.std.specs.Coded.{Coded}
+use Rattle.sk_scenario.specs.Base.{Coded, EventWords, Turn, Serve, Reply, Edit}
 pub use Rattle.sk_trace.specs.declared.world_event.WorldEvent.{WorldEvent}
 pub use Rattle.sk_trace.specs.declared.world_event.WorldEvent.TheVariants as events
 use Rattle.sk_trace.specs.contracts.world_event.WorldEvent as event
-use Rattle.sk_scenario.specs.declared.kept.EventWords.{EventWords}
-use Rattle.sk_scenario.specs.declared.kept.EventWords.TheVariants.{Turn, Serve, Reply, Edit}
 
 -- the event, with an edit out of its box
 abbrev pub event_of : EventWords → WorldEvent

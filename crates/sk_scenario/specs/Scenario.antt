@@ -1,30 +1,13 @@
 -- What a whole scenario says: its declarations, with the scripts between them, and the section below.
 use Rattle.std.specs.Prelude.{◌≡◌, ◌≤◌, ◌<◌, ◌⊎◌, ℕ, ◌+◌, ◌-◌, Bool, true, false, not, List, [], ◌∷◌, ◌++◌, length, drop, Option, Some, None, Result, Ok, Err, codes, bytes_eq, if◌then◌else◌}
-use Rattle.std.specs.List.{list_all}
-use Rattle.std.specs.Str.Lines.{lines}
-use Rattle.sk_words.specs.declared.fault.FaultKind.{FaultKind}
-use Rattle.sk_words.specs.declared.fault.FaultKind.TheVariants as kinds
-use Rattle.sk_words.specs.declared.fault.Fault.{Fault}
-use Rattle.sk_words.specs.Faults.{◌>>=◌}
-use Rattle.sk_words.specs.Words.{words, first_of}
-use Rattle.sk_words.specs.Operands.{none_of}
-use Rattle.sk_words.specs.Reading.{at, read_from, Tells}
-use Rattle.sk_script.specs.declared.instruction.Instruction.{Instruction}
-use Rattle.sk_script.specs.Scripting.{script_from}
-use Rattle.sk_scenario.specs.declared.declarations.Heading.{Heading}
-use Rattle.sk_scenario.specs.declared.declarations.Heading.TheVariants as headings
-use Rattle.sk_scenario.specs.declared.declarations.Said.{Said}
-use Rattle.sk_scenario.specs.declared.declarations.Said.TheVariants as says
 use Rattle.sk_scenario.specs.declared.scenario.Section.{Section}
-use Rattle.sk_scenario.specs.declared.scenario.Section.TheVariants as sections
 use Rattle.sk_scenario.specs.declared.scenario.Scenario.{Scenario}
-use Rattle.sk_scenario.specs.declared.call.Call.{Call}
+use Rattle.sk_scenario.specs.Base.{list_all, lines, FaultKind, Fault, ◌>>=◌, words, first_of, none_of, at, read_from}
+use Rattle.sk_scenario.specs.Base.{Tells, Instruction, script_from, Heading, Said, Call, WorldEvent}
+use Rattle.sk_scenario.specs.Base.{Event, trace_from}
 use Rattle.sk_scenario.specs.Declarations.{Declared, nothing_declared, script, line_said}
 use Rattle.sk_scenario.specs.Calls.{step_line}
 use Rattle.sk_scenario.specs.WorldEvents.{world_line}
-use Rattle.sk_trace.specs.declared.world_event.WorldEvent.{WorldEvent}
-use Rattle.sk_trace.specs.declared.event.Event.{Event}
-use Rattle.sk_trace.specs.Lines.{trace_from}
 
 -- what a section says: the calls to make, what is to happen in a world, or what happened
 pub data SectionView : Type 0 where
@@ -38,9 +21,9 @@ pub record ScenarioView : Type 0 where
   pub section : SectionView
 
 abbrev pub section_view : Section → SectionView
-section_view (sections.Steps steps) = Steps steps
-section_view (sections.World events) = World events
-section_view (sections.Trace trace) = Trace trace.events
+section_view (Section.Steps steps) = Steps steps
+section_view (Section.World events) = World events
+section_view (Section.Trace trace) = Trace trace.events
 
 abbrev pub scenario_view : Scenario → ScenarioView
 scenario_view s = record { declarations = s.declarations; section = section_view s.section }
@@ -74,7 +57,7 @@ script_ends d b number line rest = with_script (script_from b.first b.lines) (λ
 
 -- no line ends the script: that is a fault of the last line, behind any other
 abbrev pub script_unended : Begun → ℕ → Result ScenarioView Fault
-script_unended b last = with_script (script_from b.first b.lines) (λ is. Err (record { line = last; kind = kinds.Word }))
+script_unended b last = with_script (script_from b.first b.lines) (λ is. Err (record { line = last; kind = FaultKind.Word }))
 
 -- the declarations with a section, where its lines are sound
 abbrev pub with_section : {A : Type 0} → Declared → (A → SectionView) → Result A Fault → Result ScenarioView Fault
@@ -83,15 +66,15 @@ with_section d section (Err f) = Err f
 
 -- the section below a heading
 abbrev pub section_from : Declared → Heading → ℕ → List (List ℕ) → Result ScenarioView Fault
-section_from d headings.Steps first ls = with_section d Steps (read_from step_line [] first ls)
-section_from d headings.World first ls = with_section d World (read_from world_line [] first ls)
-section_from d headings.Trace first ls = with_section d Trace (trace_from first ls)
+section_from d Heading.Steps first ls = with_section d Steps (read_from step_line [] first ls)
+section_from d Heading.World first ls = with_section d World (read_from world_line [] first ls)
+section_from d Heading.Trace first ls = with_section d Trace (trace_from first ls)
 
 -- what a line said, of which the next line has this number, and what the lines behind it say then
 abbrev pub goes_on : Said → Declared → ℕ → List (List ℕ) → (Option Begun → Result ScenarioView Fault) → Result ScenarioView Fault
-goes_on says.Declared d next ls rest = rest None
-goes_on (says.Script name) d next ls rest = rest (Some (record { name = name; first = next; lines = [] }))
-goes_on (says.Heading heading) d next ls rest = section_from d heading next ls
+goes_on Said.Declared d next ls rest = rest None
+goes_on (Said.Script name) d next ls rest = rest (Some (record { name = name; first = next; lines = [] }))
+goes_on (Said.Heading heading) d next ls rest = section_from d heading next ls
 
 -- the script that is being read, with one line more
 abbrev pub more : Begun → List ℕ → Begun
@@ -144,8 +127,8 @@ ComesBefore Edge f g = (f.line < g.line) ⊎ ((f.line ≡ g.line) × Edge f.line
 -- The fault that is told of lines of which this is said, the first and the last of them having these numbers: the
 -- first fault, or want of memory before it.
 abbrev pub TellsUpTo : {S : Type 0} → (ℕ → Type 0) → ℕ → ℕ → Fault → Result S Fault → Type 0
-TellsUpTo Edge first last f (Ok s) = (f.kind ≡ kinds.Memory) × (first ≤ f.line) × (f.line ≤ last)
-TellsUpTo Edge first last f (Err g) = (f ≡ g) ⊎ ((f.kind ≡ kinds.Memory) × (first ≤ f.line) × ComesBefore Edge f g)
+TellsUpTo Edge first last f (Ok s) = (f.kind ≡ FaultKind.Memory) × (first ≤ f.line) × (f.line ≤ last)
+TellsUpTo Edge first last f (Err g) = (f ≡ g) ⊎ ((f.kind ≡ FaultKind.Memory) × (first ≤ f.line) × ComesBefore Edge f g)
 
 -- the scenario of these lines, or the fault that is told of it
 abbrev pub Says : Result Scenario Fault → Result ScenarioView Fault → List (List ℕ) → Type 0
@@ -161,7 +144,7 @@ Goes (Err f) said rest first last ls = TellsUpTo (IsEdge first last ls) first la
 
 -- the edges of what a line began
 abbrev pub IsEdgeOf : Said → ℕ → ℕ → List (List ℕ) → ℕ → Type 0
-IsEdgeOf s first last ls n = (name : List ℕ) × (s ≡ says.Script name) × IsEdge first last ls n
+IsEdgeOf s first last ls n = (name : List ℕ) × (s ≡ Said.Script name) × IsEdge first last ls n
 
 -- what is said of what a line began, where a section ends the scenario
 abbrev pub GoesOn : Result (Option Section) Fault → Said → Result ScenarioView Fault → Declared → Result ScenarioView Fault → ℕ → ℕ → List (List ℕ) → Type 0

@@ -1,23 +1,17 @@
 -- What the lines of a section of a world say.
 use Rattle.std.specs.Prelude.{ℕ, List, [], ◌∷◌, Result, Ok, codes}
-use Rattle.sk_words.specs.declared.fault.FaultKind.{FaultKind}
-use Rattle.sk_words.specs.Faults.{◌>>=◌}
-use Rattle.sk_words.specs.Literals.{literal}
-use Rattle.sk_words.specs.Operands.{none_of, one_of, three_of, pid, name, natural}
-use Rattle.sk_words.specs.Tables.{Rule, rule_in, unknown}
-use Rattle.sk_words.specs.Items.{with_item}
-use Rattle.sk_trace.specs.declared.world_event.WorldEvent.{WorldEvent}
-use Rattle.sk_trace.specs.declared.world_event.WorldEvent.TheVariants as events
+use Rattle.sk_scenario.specs.Base.{FaultKind, ◌>>=◌, literal, none_of, one_of, three_of, pid, name, natural, Rule}
+use Rattle.sk_scenario.specs.Base.{rule_in, unknown, with_item, WorldEvent}
 
 -- what the words of an edit say: a name, a version and a literal
 abbrev pub edit : Rule WorldEvent
-edit ws = three_of name natural literal ws >>= λ x. Ok (events.Edit x.0 x.1 x.2)
+edit ws = three_of name natural literal ws >>= λ x. Ok (WorldEvent.Edit x.0 x.1 x.2)
 
 abbrev pub world_rules : List (List ℕ × Rule WorldEvent)
 world_rules =
-    (codes "turn", λ ws. one_of pid ws >>= λ x. Ok (events.Turn x)) ∷
-    (codes "serve", λ ws. none_of ws >>= λ x. Ok events.Serve) ∷
-    (codes "reply", λ ws. none_of ws >>= λ x. Ok events.Reply) ∷
+    (codes "turn", λ ws. one_of pid ws >>= λ x. Ok (WorldEvent.Turn x)) ∷
+    (codes "serve", λ ws. none_of ws >>= λ x. Ok WorldEvent.Serve) ∷
+    (codes "reply", λ ws. none_of ws >>= λ x. Ok WorldEvent.Reply) ∷
     (codes "edit", edit) ∷
     []
 

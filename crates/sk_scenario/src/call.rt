@@ -1,8 +1,6 @@
 //! What the lines of a section of steps say.
 ghost use Rattle.std.specs.Prelude.{◌≡◌, Some, IfSome, codes};
-ghost use Rattle.sk_words.specs.Reading.{Leaves};
-ghost use Rattle.sk_words.specs.Tables.{with_said};
-ghost use Rattle.sk_words.specs.Words.{words, first_of};
+ghost use Rattle.sk_scenario.specs.Base.{Leaves, with_said, words, first_of};
 ghost use Rattle.sk_scenario.specs.Calls.{step_call, guess_call};
 
 use crate::glance;

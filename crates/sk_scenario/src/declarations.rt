@@ -1,10 +1,6 @@
 //! What the declarations of a scenario say.
 ghost use Rattle.std.specs.Prelude.{◌≡◌, [], Some, unwrap_or};
-ghost use Rattle.sk_words.specs.Words.{words, first_of};
-ghost use Rattle.sk_script.specs.Boot.{has_object};
-ghost use Rattle.sk_script.specs.declared.boot.ObjectKind.TheVariants.{Dir};
-ghost use Rattle.sk_words.specs.Reading.{Leaves};
-ghost use Rattle.sk_scenario.specs.declared.declarations.TheConstants.{TRACE_LIMIT, KERNEL_NUMBER};
+ghost use Rattle.sk_scenario.specs.Base.{words, first_of, has_object, Dir, Leaves, TRACE_LIMIT, KERNEL_NUMBER};
 ghost use Rattle.sk_scenario.specs.Declarations.{nothing_declared, script as script_added, boot_fault, content_of, object, copy, has_remote, remote, process, once, declares, new_script, declared_next, says_next, line_said, SaysNext};
 
 use sk_ids::{Name, Text};

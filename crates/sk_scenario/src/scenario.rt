@@ -1,9 +1,6 @@
 //! Reading a scenario.
 ghost use Rattle.std.specs.Prelude.{◌≡◌, ◌≤◌, ◌+◌, ◌++◌, ◌∷◌, [], None, Some, MatchOption, true, not, length};
-ghost use Rattle.std.specs.Str.Lines.{lines};
-ghost use Rattle.sk_words.specs.Lines.{last_line};
-ghost use Rattle.std.specs.List.{list_all};
-ghost use Rattle.sk_words.specs.Reading.{Leaves};
+ghost use Rattle.sk_scenario.specs.Base.{lines, last_line, list_all, Leaves};
 ghost use Rattle.sk_scenario.specs.Declarations.{Declared};
 ghost use Rattle.sk_scenario.specs.Scenario.{is_end, ended, goes_on, section_from, scenario_from, scenario_of, Says, SaysSection, Goes, GoesOn, NoEnd, AreLeft};
 

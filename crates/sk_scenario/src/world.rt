@@ -1,6 +1,5 @@
 //! What the lines of a section of a world say.
-ghost use Rattle.sk_words.specs.Reading.{Leaves};
-ghost use Rattle.sk_words.specs.Tables.{with_said};
+ghost use Rattle.sk_scenario.specs.Base.{Leaves, with_said};
 ghost use Rattle.sk_scenario.specs.WorldEvents.{edit};
 
 use crate::glance::{behind_byte, behind_reply, behind_serve, behind_turn, digit_pid};

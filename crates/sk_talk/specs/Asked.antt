@@ -1,28 +1,10 @@
 -- What is asked of what is at play, and its answer.
 use Rattle.std.specs.Prelude.{◌≡◌, ℕ, Bool, List, [], ◌∷◌, ◌++◌, codes, bytes_eq, if◌then◌else◌, Option, Some, None, Result, Ok, Err}
+use Rattle.sk_talk.specs.Base.{IsStrictlySortedBy, entity_cmp, Entity, is_in, has, EntityState, trace_text, AreCounts}
+use Rattle.sk_talk.specs.Base.{counts_text, Counts, KernelView, state_at, tags_at, gathered, entities_text}
+use Rattle.sk_talk.specs.Base.{entity_text, tags_text, terminal_said, FaultKind, words, entity, Question, Play}
 use Rattle.std.specs.FinMap as map
-use Rattle.std.specs.List.Sorted.{IsStrictlySortedBy}
-use Rattle.sk_ids.specs.Entity.{entity_cmp}
-use Rattle.sk_ids.specs.declared.entity.Entity.{Entity}
-use Rattle.sk_record.specs.Effects.{is_in}
-use Rattle.sk_record.specs.Notes.{has}
-use Rattle.sk_store.specs.declared.entity_state.EntityState.{EntityState}
-use Rattle.sk_trace.specs.Text.{trace_text}
-use Rattle.sk_counts.specs.Counts.{AreCounts}
-use Rattle.sk_counts.specs.Text.{counts_text}
-use Rattle.sk_counts.specs.declared.counts.Counts.{Counts}
-use Rattle.sk_kernel.specs.Kernel.{KernelView, state_at, tags_at}
-use Rattle.sk_report.specs.Directories.{gathered}
-use Rattle.sk_report.specs.Footprints.{entities_text}
-use Rattle.sk_report.specs.Printed.{entity_text, tags_text}
-use Rattle.sk_report.specs.Report.{terminal_said}
-use Rattle.sk_words.specs.declared.fault.FaultKind.{FaultKind}
-use Rattle.sk_words.specs.Words.{words}
-use Rattle.sk_questions.specs.Named.{entity}
-use Rattle.sk_questions.specs.declared.question.Question.{Question}
-use Rattle.sk_questions.specs.declared.question.Question.TheVariants as questions
 use Rattle.sk_talk.specs.Played.{kernel_of, report_of}
-use Rattle.sk_talk.specs.declared.play.Play.{Play}
 
 -- ---- an entity, by the name that the report has for it
 
@@ -81,10 +63,10 @@ TellsDependents k id text = (es : List Entity) × AreDependents k id es × (text
 
 -- the answer to a question; a terminal's are its lines in the report
 abbrev pub IsAnswer : Play → Question → List ℕ → Type 0
-IsAnswer p (questions.Value e) text = text ≡ value_answer (kernel_of p) e
-IsAnswer p (questions.Tags e) text = text ≡ tags_answer (kernel_of p) e
-IsAnswer p (questions.Dependents id) text = TellsDependents (kernel_of p) id text
-IsAnswer p (questions.Terminal number) text = text ≡ terminal_said (kernel_of p) number
-IsAnswer p questions.Counts text = TellsCounts (kernel_of p) text
-IsAnswer p questions.Trace text = text ≡ trace_answer (kernel_of p)
-IsAnswer p questions.Report text = text ≡ report_of p
+IsAnswer p (Question.Value e) text = text ≡ value_answer (kernel_of p) e
+IsAnswer p (Question.Tags e) text = text ≡ tags_answer (kernel_of p) e
+IsAnswer p (Question.Dependents id) text = TellsDependents (kernel_of p) id text
+IsAnswer p (Question.Terminal number) text = text ≡ terminal_said (kernel_of p) number
+IsAnswer p Question.Counts text = TellsCounts (kernel_of p) text
+IsAnswer p Question.Trace text = text ≡ trace_answer (kernel_of p)
+IsAnswer p Question.Report text = text ≡ report_of p

@@ -1,12 +1,7 @@
 -- The texts of terminals, handed out once each.
 use Rattle.std.specs.Prelude.{ℕ, List, ◌∷◌, ◌++◌, length, drop, codes, decimal}
-use Rattle.std.specs.Coded.{Coded, coded_ℕ}
+use Rattle.sk_talk.specs.Base.{Coded, coded_ℕ, unwrap_or, nat_cmp, released, KernelView, said_there, texts_lines}
 use Rattle.std.specs.FinMap as map
-use Rattle.std.specs.Option.{unwrap_or}
-use Rattle.std.specs.Ordering.{nat_cmp}
-use Rattle.sk_record.specs.Machine.{released}
-use Rattle.sk_kernel.specs.Kernel.{KernelView}
-use Rattle.sk_report.specs.Report.{said_there, texts_lines}
 
 -- by the terminal's number, how many of its texts were handed out
 abbrev pub HandedMap : Type 0

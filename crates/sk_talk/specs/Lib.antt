@@ -1,3 +1,4 @@
+pub mod Base
 pub mod Played
 pub mod Lines
 pub mod Asked

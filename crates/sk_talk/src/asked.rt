@@ -1,15 +1,8 @@
 //! What is asked of what is at play, and the answers. Nothing changes by them.
 ghost use Rattle.std.specs.Prelude.{◌≡◌, ℕ, List, Ok, IfOk, OnOk};
+ghost use Rattle.sk_talk.specs.Base.{find, AllByRecursion, Appends, Entity, entity, IsEntity, KernelView, state_at};
+ghost use Rattle.sk_talk.specs.Base.{held_there, gathered_at, entity_text, terminal_said, words};
 ghost use Rattle.std.specs.FinMap as map;
-ghost use Rattle.std.specs.List.{find, AllByRecursion};
-ghost use Rattle.std.specs.Io.KnownBytes.{Appends};
-ghost use Rattle.sk_ids.specs.declared.entity.Entity.{Entity};
-ghost use Rattle.sk_questions.specs.Named.{entity, IsEntity};
-ghost use Rattle.sk_kernel.specs.Kernel.{KernelView, state_at};
-ghost use Rattle.sk_report.specs.Directories.{held_there, gathered_at};
-ghost use Rattle.sk_report.specs.Printed.{entity_text};
-ghost use Rattle.sk_report.specs.Report.{terminal_said};
-ghost use Rattle.sk_words.specs.Words.{words};
 ghost use Rattle.sk_talk.specs.Played.{kernel_of};
 ghost use Rattle.sk_talk.specs.Asked.{is_named, named, present_as, value_answer, tags_answer, counts_lines, dependents_line, trace_answer, TellsCounts, TellsDependents, IsAnswer};
 

@@ -1,8 +1,7 @@
 //! Handing out the texts of terminals, each once.
 ghost use Rattle.std.specs.Prelude.{◌≡◌, drop, IfOk, OnOk, OnErr};
+ghost use Rattle.sk_talk.specs.Base.{Appends, texts_lines};
 ghost use Rattle.std.specs.FinMap as map;
-ghost use Rattle.std.specs.Io.KnownBytes.{Appends};
-ghost use Rattle.sk_report.specs.Report.{texts_lines};
 ghost use Rattle.sk_talk.specs.HandedOut.{all_handed, handed_at, released_in, released_answer, released_lines};
 
 use sk_ids::Text;

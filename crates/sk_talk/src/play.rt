@@ -1,9 +1,7 @@
 //! A kernel or a world at play, from its start on.
 ghost use Rattle.std.specs.Prelude.{◌≡◌, [], IfOk, IsSome, MatchResult};
-ghost use Rattle.sk_scenario.specs.Scenario.{section_view};
+ghost use Rattle.sk_talk.specs.Base.{section_view, step_line, world_line};
 ghost use Rattle.sk_scenario.specs.Scenario as scenarios;
-ghost use Rattle.sk_scenario.specs.Calls.{step_line};
-ghost use Rattle.sk_scenario.specs.WorldEvents.{world_line};
 ghost use Rattle.sk_talk.specs.Played.{opened_in, kernel_of, report_of};
 ghost use Rattle.sk_talk.specs.Lines.{only, StepsTake, WorldTakes, LineTaken};
 

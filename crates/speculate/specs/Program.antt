@@ -1,5 +1,5 @@
 -- What a run of the program comes to: how it ends, and what its output holds then.
-use Rattle.std.specs.Prelude.{◌⊎◌, ◌≢◌, ◌≤◌, ◌++◌, if◌then◌else◌, Bool, true, false, ℕ, List, [], codes, length, Option, Some, None, Result, Ok, Err}
+use Rattle.std.specs.Prelude.{◌⊎◌, ◌≢◌, ◌≤◌, ◌++◌, ℕ, List, [], codes, length, Option, Some, None, Result, Ok, Err}
 use Rattle.std.specs.Str.Lines.{lines}
 use Rattle.sk_words.specs.declared.fault.Fault.{Fault}
 use Rattle.sk_scenario.specs.Declarations.{Declared}
@@ -7,13 +7,11 @@ use Rattle.sk_scenario.specs.Scenario.{Says, scenario_of, section_view, SectionV
 use Rattle.sk_scenario.specs.declared.scenario.Scenario.{Scenario}
 use Rattle.sk_play.specs.Plays.{declared_kernel}
 use Rattle.sk_command.specs.declared.end.End.{End}
-use Rattle.sk_command.specs.declared.end.End.TheVariants as ends
 use Rattle.sk_command.specs.CommandLine.{Wish, Asks, EndsWithoutJob}
 use Rattle.sk_command.specs.Ends.{EndsUnwritten, fault_end}
 use Rattle.sk_command.specs.ReadAll.{INPUT_LIMIT}
 use Rattle.sk_command.specs.Messages.{takes}
 use Rattle.sk_command.specs.declared.job.Task.{Task}
-use Rattle.sk_command.specs.declared.job.Task.TheVariants as tasks
 use Rattle.sk_talk.specs.Played.{opened_in}
 use Rattle.sk_run.specs.Run.{EndsPlain, EndsPlayed, EndsWorld}
 use Rattle.sk_run.specs.Replayed.{EndsReplayed}
@@ -22,13 +20,13 @@ use Rattle.speculate.specs.Work.{EndsWork}
 
 -- the task is done with the section below the declarations, and with the standard input, where its bytes are known; a section that it doesn't take is a fault of the file, and workers take any
 abbrev pub EndsInSection : Task → Option (List ℕ) → Declared → SectionView → End → Option (List ℕ) → Option (List ℕ) → Type 0
-EndsInSection (tasks.Play shows) input d (Steps steps) end old new = EndsPlayed shows d steps end old new
-EndsInSection (tasks.Play shows) input d (World es) end old new = EndsWorld shows d es end old new
-EndsInSection tasks.Talk input d section end old new = EndsOpened (opened_in d section) input end old new
-EndsInSection tasks.Plain input d (Trace es) end old new = EndsPlain d.boot es end old new
-EndsInSection tasks.Replay input d (Trace es) end old new = EndsReplayed [] (declared_kernel d) es end old new
-EndsInSection (tasks.Work workers turns) input d section end old new = EndsWork workers turns d end old new
-EndsInSection _ input d section end old new = EndsUnwritten ends.Fault end old new
+EndsInSection (Task.Play shows) input d (Steps steps) end old new = EndsPlayed shows d steps end old new
+EndsInSection (Task.Play shows) input d (World es) end old new = EndsWorld shows d es end old new
+EndsInSection Task.Talk input d section end old new = EndsOpened (opened_in d section) input end old new
+EndsInSection Task.Plain input d (Trace es) end old new = EndsPlain d.boot es end old new
+EndsInSection Task.Replay input d (Trace es) end old new = EndsReplayed [] (declared_kernel d) es end old new
+EndsInSection (Task.Work workers turns) input d section end old new = EndsWork workers turns d end old new
+EndsInSection _ input d section end old new = EndsUnwritten End.Fault end old new
 
 -- what reading a text gave is run, or is a fault of which nothing is on the output
 abbrev pub EndsRead : Task → Option (List ℕ) → Result Scenario Fault → End → Option (List ℕ) → Option (List ℕ) → Type 0
@@ -43,9 +41,9 @@ EndsText t input text end old new =
 -- a file with these bytes, where they are known, is read and run, or it can't be read;
 -- one that is too long never is
 abbrev pub EndsFile : Task → Option (List ℕ) → Option (List ℕ) → End → Option (List ℕ) → Option (List ℕ) → Type 0
-EndsFile t input None end old new = end ≢ ends.Usage
+EndsFile t input None end old new = end ≢ End.Usage
 EndsFile t input (Some bytes) end old new =
-    EndsUnwritten ends.Trouble end old new ⊎ ((length bytes ≤ INPUT_LIMIT) × EndsText t input bytes end old new)
+    EndsUnwritten End.Trouble end old new ⊎ ((length bytes ≤ INPUT_LIMIT) × EndsText t input bytes end old new)
 
 -- words, of which the first is the program's own name, ask for no job, or for one that is done
 abbrev pub EndsWords : List (List ℕ) → (List ℕ → Option (List ℕ)) → End → Option (List ℕ) → Option (List ℕ) → Type 0
@@ -54,15 +52,12 @@ EndsWords words bytes_of end old new =
 
 -- ---- what is told of a section that isn't taken
 
-abbrev pub is_talk : Task → Bool
-is_talk tasks.Talk = true
-is_talk _ = false
-
 -- a talk takes no event, whichever the section
 abbrev pub has : Task → SectionView → List ℕ
 has _ (Trace es) = codes "trace"
-has t (Steps steps) = if is_talk t then codes "events" else codes "steps"
-has t (World es) = if is_talk t then codes "events" else codes "world"
+has Task.Talk _ = codes "events"
+has _ (Steps steps) = codes "steps"
+has _ (World es) = codes "world"
 
 -- what a task takes, and what the file has
 abbrev pub section_told : Wish → SectionView → List ℕ

@@ -1,6 +1,6 @@
 -- The counts, and then the trace.
 use Rattle.sk_run.proofs.Names.{◌≡◌, Bool, true, false, ℕ, List, [], ◌++◌, Option, refl, Appends, Appends-trans}
-use Rattle.sk_run.proofs.Names.{on_ok_weaker, KernelView, IsCounted, Prints, WritesCounts, counts_section}
+use Rattle.sk_run.proofs.Names.{on_ok_weaker, KernelView, IsCounted, Prints, WritesCounts, counts_lines}
 use Rattle.sk_run.proofs.Names.{trace_section, where_wanted}
 use Rattle.sk_run.proofs.playing.write_behind.Goals as goal
 
@@ -10,7 +10,7 @@ Both wanted k rest text = (counts : List ℕ) × IsCounted wanted k counts × (t
 behind : (wanted : Bool) (k : KernelView) (old mid new : Option (List ℕ)) (rest : List ℕ) → WritesCounts wanted k old mid → Appends mid new rest → Prints (Both wanted k rest) old new
 behind false k old mid new rest counted written = ([] ++ rest, ([], refl, refl), Appends-trans old mid new [] rest counted written)
 behind true k old mid new rest counted written =
-    let text = counts_section counted.0 in
+    let text = counts_lines counted.0 in
     (text ++ rest, (text, (counted.0, counted.1, refl), refl), Appends-trans old mid new text rest counted.2 written)
 
 pub returns : goal.returns

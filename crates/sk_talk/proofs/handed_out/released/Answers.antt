@@ -9,5 +9,5 @@ returns-in-Some c =
 
 pub returns-in-None : goal.returns-in-None
 returns-in-None c =
-    let said : said_there c.args.kernel.now c.args.number ≡ [] = nothing_there c.args.kernel.now c.args.number c.in-None.ensures.said in
+    let said : said_there c.args.kernel.now c.args.number ≡ [] = nothing_there c.args.kernel.now c.args.number c.in-None.ensures.0 in
     sym (ap released said)

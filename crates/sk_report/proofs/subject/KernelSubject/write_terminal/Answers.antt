@@ -10,5 +10,5 @@ returns-in-Some g c =
 
 pub returns-in-None : goal.returns-in-None
 returns-in-None g c =
-    let said : said_there c.args.self.now c.args.number ≡ [] = nothing_there c.args.self.now c.args.number c.in-None.ensures.said in
+    let said : said_there c.args.self.now c.args.number ≡ [] = nothing_there c.args.self.now c.args.number c.in-None.ensures.0 in
     rw (said, append-nil (counts_line c.args.number 0 0)) c.write_counts.ensures

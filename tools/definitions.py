@@ -215,7 +215,6 @@ SAID = {
     },
     "sk_client": {
         "WorldHandInPost": "what a hand-in leaves of the desk of a world, or its first cause; all else of the world stays",
-        "ask_of": "what is asked, with its bytes out of their box",
         "given": "the desk after a reply",
         "given_answer": "what a reply is answered",
         "out_of_turn": "the refusal that tells the number of the reply which is next",
@@ -229,18 +228,15 @@ SAID = {
     },
     "sk_workers": {
         "AllStand": "all receipts of these workers stand and are their own",
-        "BringsContent": "a reply that brings a content, for which alone memory is wanted",
     },
     "sk_crew": {
         "AreNew": "these workers made no call yet",
-        "process_of": "the process that an entity is, if it is one",
     },
     "sk_scenario": {
         "is_end": "a line whose words are just `end`",
         "section_view": "a section as contracts see it",
     },
     "sk_report": {
-        "held_there": "the line of what a look-up tells of an entity",
         "last_line": "the report's last line",
         "line_of": "the line of an entity",
         "terminal_said": "the line of a terminal",
@@ -257,7 +253,6 @@ SAID = {
     "sk_run": {
         "Answers": "the lines of a talk are answered in turn, and this text is their answers",
         "foreseen": "the place of the trace where an event goes, and what its step would touch",
-        "IsFaulty": "a trace is not sound, and one entry is its first fault",
         "left_by": "the record that a trace leaves",
     },
     "sk_play": {

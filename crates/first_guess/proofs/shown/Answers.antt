@@ -12,4 +12,4 @@ pub returns-in-Some : goal.returns-in-Some
 returns-in-Some c = ap length c.released.ensures ∙ as_many 1 c.in-Some.terminal.now ∙ ap (λ texts. length (released texts)) c.in-Some.ensures.said
 
 pub returns-in-None : goal.returns-in-None
-returns-in-None c = ap (λ texts. length (released texts)) (sym c.in-None.ensures.said)
+returns-in-None c = ap (λ texts. length (released texts)) (sym c.in-None.ensures.0)

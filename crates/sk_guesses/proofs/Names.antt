@@ -18,7 +18,7 @@ pub use Rattle.std.proofs.lemmas.Map.Keys.{Less-from_sorted}
 pub use Rattle.std.proofs.lemmas.Option.{get_or_from_slice_get, slice_get_within}
 pub use Rattle.std.specs.Cmp.{nat_cmp_is, both_ways, Equal-is, IsTotalOrder}
 pub use Rattle.std.specs.FinMap.{IsAntisymmetric}
-pub use Rattle.std.specs.List.{filter, remove, insert, AllByRecursion, prefix_len, list_all, list_any}
+pub use Rattle.std.specs.List.{filter, remove, insert, AllByRecursion, AllZip, cons_option, prefix_len, list_all, list_any}
 pub use Rattle.std.specs.List.Sorted.{IsBinarySearchResult, IsStrictlySortedBy, IsNonDecreasingBy}
 pub use Rattle.std.specs.Ordering.{nat_cmp, is_eq, ordering_index, eq_by_cmp, ordering_reverse, is_lt}
 pub use Rattle.std.specs.Prelude.{Ok, Err, ◌↔◌, slice_index_or, ◌/◌, slice_get, slice_set, IsOk, is_some, if◌then◌else◌}
@@ -38,7 +38,7 @@ pub use Rattle.sk_guesses.specs.Opens.{open_in, left_to, but, relieved, struck_b
 pub use Rattle.sk_guesses.specs.Opens.{dependents_of, opens_of, AreOpen, OpenGuess, not_resting, after_commit}
 pub use Rattle.sk_guesses.specs.Opens.{without_tag}
 pub use Rattle.sk_guesses.specs.Room.{Listing, Roomy, Settlement}
-pub use Rattle.sk_guesses.specs.Row.{in_order, before, InOrder, ArePresent, AreApart, AreKeys}
+pub use Rattle.sk_guesses.specs.Row.{in_order, InOrder, ArePresent, AreApart, AreKeys}
 pub use Rattle.sk_guesses.specs.Token.{Token}
 pub use Rattle.sk_guesses.specs.declared.guess.Redeemed.{Redeemed}
 pub use Rattle.sk_guesses.specs.declared.guesses.TheConstants.{GUESS_LIMIT}

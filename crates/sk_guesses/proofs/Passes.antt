@@ -3,10 +3,9 @@ use Rattle.sk_guesses.proofs.Names.{◌≡◌, ◌≢◌, ℕ, zero, suc, ◌+�
 use Rattle.sk_guesses.proofs.Names.{List, ◌∷◌, ◌++◌, map, refl, sym, ◌∙◌, arith, slice_index_or, nat_cmp, filter}
 use Rattle.sk_guesses.proofs.Names.{prefix_len, remove, eq-eqb, or_left, or_right, suc-eq-add-one, drop-cons}
 use Rattle.sk_guesses.proofs.Names.{prefix_len_passes, prefix_len_stops, has, without, Open, not_struck, AreBelow}
-use Rattle.sk_guesses.proofs.Names.{struck_with, above, OpenGuess, after_commit, but, opens_of, without_tag, Listing}
+use Rattle.sk_guesses.proofs.Names.{AllZip, struck_with, above, OpenGuess, after_commit, but, opens_of, without_tag, Listing}
 use Rattle.std.proofs.Common.{[]}
 use Rattle.std.specs.List.Sorted.{IsStrictlySortedBy}
-use Rattle.sk_guesses.specs.Shared.{Pairs}
 use Rattle.sk_guesses.proofs.Opens.{guess_of, named, is_other, none_closed, not_above, not_there}
 use Rattle.sk_guesses.proofs.Shared.{IsPassed, pairs_map}
 use Rattle.std.proofs.lemmas.Simd.{map-map}
@@ -100,7 +99,7 @@ module _ {E : Type 0} where
   from_there g from os none =
       grind (arith, nat_tests, λ (k : ℕ) (d : Listing E). same_tags g (slice_index_or os k d).guess.tags)
 
-  pub all_untagged : (g : ℕ) (os ls : List (Listing E)) → Pairs (Untagged g) os ls → map guess_of ls ≡ map (without_tag g) (map guess_of os)
+  pub all_untagged : (g : ℕ) (os ls : List (Listing E)) → AllZip (Untagged g) os ls → map guess_of ls ≡ map (without_tag g) (map guess_of os)
   all_untagged g os ls ps =
       pairs_map (Untagged g) guess_of (λ x. without_tag g x.guess) os ls (λ x y is. is) ps ∙ sym (map-map (without_tag g) guess_of os)
 

@@ -2,7 +2,7 @@
 use Rattle.sk_guesses.proofs.Names.{◌≡◌, ◌≢◌, ℕ, zero, suc, ◌+◌, ◌<◌, length, true, false, cond, List, ◌∷◌, ◌++◌}
 use Rattle.sk_guesses.proofs.Names.{Option, Some, Result, sym, ◌∙◌, arith, count_by, ◌==◌, slice_set}
 use Rattle.sk_guesses.proofs.Names.{slice_index_or, is_some, OnOk, remove, eq-eqb, or_left, or_right, get_or-set_same}
-use Rattle.sk_guesses.proofs.Names.{list_any-append, sum_by-cons, Slab, slab_len, with_value, Updates, before, in_order}
+use Rattle.sk_guesses.proofs.Names.{list_any-append, sum_by-cons, Slab, slab_len, with_value, Updates, cons_option, in_order}
 use Rattle.sk_guesses.proofs.Names.{ArePresent, AreApart, AreKeys}
 use Rattle.std.proofs.Common.{[], None, Ok, Err, refl, ap}
 use Rattle.std.proofs.lemmas.Bool.{true≢false}
@@ -52,14 +52,14 @@ module _ {T : Type 0} where
   within (o ∷ slots) zero is = omega arith
   within (o ∷ slots) (suc j) is = omega (arith, within slots j is)
 
-  before_more : (o : Option T) (xs ys : List T) → before o (xs ++ ys) ≡ before o xs ++ ys
+  before_more : (o : Option T) (xs ys : List T) → cons_option o (xs ++ ys) ≡ cons_option o xs ++ ys
   before_more None xs ys = refl
   before_more (Some x) xs ys = refl
 
   pub as_many : (slots : List (Option T)) (ks : List ℕ) → ArePresent slots ks → length (in_order slots ks) ≡ length ks
   as_many slots [] all = refl
   as_many slots (k ∷ ks) all =
-      ap (λ o. length (before o (in_order slots ks))) (some_of (slice_index_or slots k None) all.0).1 ∙ ap suc (as_many slots ks all.1)
+      ap (λ o. length (cons_option o (in_order slots ks))) (some_of (slice_index_or slots k None) all.0).1 ∙ ap suc (as_many slots ks all.1)
 
   pub present_at : (slots : List (Option T)) (ks : List ℕ) (i k : ℕ) → ArePresent slots ks → i < length ks → k ≡ slice_index_or ks i k → is_some (slice_index_or slots k None) ≡ true
   present_at slots [] i k all lt at = absurd (omega arith)
@@ -70,9 +70,9 @@ module _ {T : Type 0} where
       → slice_index_or (in_order slots ks) i d ≡ x
   value_at slots [] i k x d all lt at is = absurd (omega arith)
   value_at slots (j ∷ ks) zero k x d all lt at is =
-      ap (λ o. slice_index_or (before o (in_order slots ks)) 0 d) (ap (λ m. slice_index_or slots m None) (sym at) ∙ is)
+      ap (λ o. slice_index_or (cons_option o (in_order slots ks)) 0 d) (ap (λ m. slice_index_or slots m None) (sym at) ∙ is)
   value_at slots (j ∷ ks) (suc i) k x d all lt at is =
-      ap (λ o. slice_index_or (before o (in_order slots ks)) (suc i) d) (some_of (slice_index_or slots j None) all.0).1
+      ap (λ o. slice_index_or (cons_option o (in_order slots ks)) (suc i) d) (some_of (slice_index_or slots j None) all.0).1
       ∙ value_at slots ks i k x d all.1 (omega arith) at is
 
   -- ---- slots that agree at these keys
@@ -87,8 +87,8 @@ module _ {T : Type 0} where
   unfolding Agree
   same_in old new [] same = refl
   same_in old new (j ∷ ks) same =
-      ap (λ o. before o (in_order new ks)) (same j (or_left _ _ (eq-eqb j j refl)))
-      ∙ ap (λ xs. before (slice_index_or old j None) xs) (same_in old new ks (further old new j ks same))
+      ap (λ o. cons_option o (in_order new ks)) (same j (or_left _ _ (eq-eqb j j refl)))
+      ∙ ap (λ xs. cons_option (slice_index_or old j None) xs) (same_in old new ks (further old new j ks same))
 
   pub same_present : (old new : List (Option T)) (ks : List ℕ) → Agree old new ks → ArePresent old ks → ArePresent new ks
   unfolding Agree
@@ -139,9 +139,9 @@ module _ {T : Type 0} where
   fresh slots (j ∷ ks) k all gone = grind (arith, nat_tests, fresh slots ks k all.1 gone)
 
   behind : (slots : List (Option T)) (ks : List ℕ) (k : ℕ) (x : T) → slice_index_or slots k None ≡ Some x → in_order slots (ks ++ k ∷ []) ≡ in_order slots ks ++ x ∷ []
-  behind slots [] k x is = ap (λ o. before o []) is
+  behind slots [] k x is = ap (λ o. cons_option o []) is
   behind slots (j ∷ ks) k x is =
-      ap (λ xs. before (slice_index_or slots j None) xs) (behind slots ks k x is) ∙ before_more (slice_index_or slots j None) (in_order slots ks) (x ∷ [])
+      ap (λ xs. cons_option (slice_index_or slots j None) xs) (behind slots ks k x is) ∙ before_more (slice_index_or slots j None) (in_order slots ks) (x ∷ [])
 
   present_more : (slots : List (Option T)) (ks : List ℕ) (k : ℕ) → is_some (slice_index_or slots k None) ≡ true → ArePresent slots ks → ArePresent slots (ks ++ k ∷ [])
   present_more slots [] k is all = (is, tt)
@@ -173,7 +173,7 @@ module _ {T : Type 0} where
   removed slots [] i k all apart lt at = absurd (omega arith)
   removed slots (j ∷ ks) zero k all apart lt at =
       same_in slots (slice_set slots k None) ks (aside slots k None ks (ap (λ m. has m ks) at ∙ apart.0))
-      ∙ sym (ap (λ o. remove (before o (in_order slots ks)) 0) (some_of (slice_index_or slots j None) all.0).1)
+      ∙ sym (ap (λ o. remove (cons_option o (in_order slots ks)) 0) (some_of (slice_index_or slots j None) all.0).1)
   removed slots (j ∷ ks) (suc i) k all apart lt at =
       let is = (some_of (slice_index_or slots j None) all.0).1 in
       let other = get_or-set_other slots k j None None (later ks i j k apart.0 (omega arith) at) in

@@ -1,13 +1,13 @@
 -- Passes over the guesses, many of which share a list, and what is seen of them.
 use Rattle.sk_guesses.proofs.Names.{◌≡◌, ℕ, suc, ◌<◌, ◌≤◌, ◌+◌, length, length-set, Bool, true, false, cond, not, List}
 use Rattle.sk_guesses.proofs.Names.{[], ◌∷◌, ◌++◌, map, inl, inr, refl, sym, ◌∙◌, ap, subst, arith, slice_set, has}
-use Rattle.sk_guesses.proofs.Names.{slice_index_or, AllByRecursion, true≢false, remove, OpenGuess, Listing, left_to}
+use Rattle.sk_guesses.proofs.Names.{slice_index_or, AllByRecursion, AllZip, true≢false, remove, OpenGuess, Listing, left_to}
 use Rattle.sk_guesses.proofs.Names.{zero, Ordering, without_entity, with_entity, without_tag, get_or-set_same}
 use Rattle.std.proofs.lemmas.Bool.{cases_lt}
 use Rattle.std.proofs.lemmas.List.{get_or_default, get_or-map, get_or-set_other, map-set}
 use Rattle.std.proofs.Math.Seq.{map-set_same}
 use Rattle.std.specs.Prelude.{Result, Ok, Err, OnErr}
-use Rattle.sk_guesses.specs.Shared.{Sharing, seen, IsReady, AreReady, Pairs, is_named, changing, HasPlace, IsRoomier}
+use Rattle.sk_guesses.specs.Shared.{Sharing, seen, IsReady, AreReady, is_named, changing, HasPlace, IsRoomier}
 use Rattle.sk_guesses.specs.Shared.{IsPlaced, IsParted, Agrees, IsChanged, WillChange}
 use Rattle.sk_guesses.proofs.Opens.{guess_of}
 use Rattle.std.proofs.lemmas.Bool.Decides.{nat_tests}
@@ -23,7 +23,7 @@ module _ {A : Type 0} (P : A → A → Type 0) where
   none_passed os = record { as_many = refl; done = λ k d lt. absurd (omega arith); left = λ k d le. refl }
 
   pub all_pairs : (os ls : List A) → length ls ≡ length os
-      → ((k : ℕ) (d : A) → k < length os → P (slice_index_or os k d) (slice_index_or ls k d)) → Pairs P os ls
+      → ((k : ℕ) (d : A) → k < length os → P (slice_index_or os k d) (slice_index_or ls k d)) → AllZip P os ls
   all_pairs [] [] many is = tt
   all_pairs [] (y ∷ ys) many is = absurd (omega (arith, many))
   all_pairs (x ∷ xs) [] many is = absurd (omega (arith, many))
@@ -48,12 +48,12 @@ module _ {A : Type 0} {P : A → A → Type 0} {os ls : List A} {i : ℕ} (so : 
       let old = λ (k : ℕ) (d : A). get_or_default ls k d l in
       grind (arith, nat_tests, length-set {A = A}, other, now, old)
 
-  pub all_passed : length os ≤ i → Pairs P os ls
+  pub all_passed : length os ≤ i → AllZip P os ls
   all_passed le = all_pairs P os ls so.as_many (λ k d lt. so.done k d (omega (arith, lt, le)) lt)
 
 -- what stops in the middle is a pass of what all are
 pub stopped : {A : Type 0} {P : A → A → Type 0} {os ls : List A} {i : ℕ} → IsPassed P os ls i → (Q : A → A → Type 0) (l new : A) → ((x y : A) → P x y → Q x y) → ((x : A) → Q x x)
-    → i < length os → l ≡ slice_index_or ls i l → Q l new → Pairs Q os (slice_set ls i new)
+    → i < length os → l ≡ slice_index_or ls i l → Q l new → AllZip Q os (slice_set ls i new)
 stopped {os = os} {ls = ls} {i = i} so Q l new weaker same lt at is =
     let weak : IsPassed Q os ls i = record { as_many = so.as_many; done = λ k d less within. weaker _ _ (so.done k d less within); left = so.left } in
     let more = one_passed weak l new lt at is in
@@ -75,22 +75,22 @@ on_err (Ok a) P p = tt
 on_err (Err e) P p = p
 
 -- ---- what pairs tell
-pub pairs_map : {A B : Type 0} (P : A → A → Type 0) (f g : A → B) (xs ys : List A) → ((x y : A) → P x y → f y ≡ g x) → Pairs P xs ys → map f ys ≡ map g xs
+pub pairs_map : {A B : Type 0} (P : A → A → Type 0) (f g : A → B) (xs ys : List A) → ((x y : A) → P x y → f y ≡ g x) → AllZip P xs ys → map f ys ≡ map g xs
 pairs_map P f g [] [] each ps = refl
 pairs_map P f g (x ∷ xs) (y ∷ ys) each ps = let first = each x y ps.0 in let rest = pairs_map P f g xs ys each ps.1 in λ j. first j ∷ rest j
 pairs_map P f g _ _ each ps = absurd ps
 
-pub pairs_all : {A : Type 0} (P : A → A → Type 0) (Q S : A → Type 0) (xs ys : List A) → ((x y : A) → Q x → P x y → S y) → AllByRecursion Q xs → Pairs P xs ys → AllByRecursion S ys
+pub pairs_all : {A : Type 0} (P : A → A → Type 0) (Q S : A → Type 0) (xs ys : List A) → ((x y : A) → Q x → P x y → S y) → AllByRecursion Q xs → AllZip P xs ys → AllByRecursion S ys
 pairs_all P Q S [] [] each all ps = tt
 pairs_all P Q S (x ∷ xs) (y ∷ ys) each all ps = (each x y all.0 ps.0, pairs_all P Q S xs ys each all.1 ps.1)
 pairs_all P Q S _ _ each all ps = absurd ps
 
-pub weaker_pairs : {A : Type 0} (P Q : A → A → Type 0) (xs ys : List A) → ((x y : A) → P x y → Q x y) → Pairs P xs ys → Pairs Q xs ys
+pub weaker_pairs : {A : Type 0} (P Q : A → A → Type 0) (xs ys : List A) → ((x y : A) → P x y → Q x y) → AllZip P xs ys → AllZip Q xs ys
 weaker_pairs P Q [] [] weaker ps = tt
 weaker_pairs P Q (x ∷ xs) (y ∷ ys) weaker ps = (weaker x y ps.0, weaker_pairs P Q xs ys weaker ps.1)
 weaker_pairs P Q _ _ weaker ps = absurd ps
 
-pub pairs_self : {A : Type 0} (Q : A → Type 0) (P : A → A → Type 0) (xs : List A) → ((x : A) → Q x → P x x) → AllByRecursion Q xs → Pairs P xs xs
+pub pairs_self : {A : Type 0} (Q : A → Type 0) (P : A → A → Type 0) (xs : List A) → ((x : A) → Q x → P x x) → AllByRecursion Q xs → AllZip P xs xs
 pairs_self Q P [] each all = tt
 pairs_self Q P (x ∷ xs) each all = (each x all.0, pairs_self Q P xs each all.1)
 
@@ -164,7 +164,7 @@ module _ {E : Type 0} where
     pub same : es ≡ was
     pub count : xs ≡ es
     pub ready : AreReady (length was) os
-    pub roomier : Pairs (IsRoomier (length xs)) os ls
+    pub roomier : AllZip (IsRoomier (length xs)) os ls
 
   module _ {was xs es : List E} {os ls : List (Sharing E)} (is : IsReserved was xs es os ls) where
     pub reserved_ready : AreReady (length es) ls
@@ -201,9 +201,9 @@ module _ {E : Type 0} where
   place_stays es c b n o new place (inr is) = λ e. absurd (true≢false (sym e ∙ ap (λ (g : OpenGuess E). c g.id) is.0.guess ∙ is.1))
 
   -- where room was made for those before they agree
-  pub places_stay : (c : ℕ → Bool) (b : Bool) (n : ℕ) (es : List E) (os ls ms : List (Sharing E)) → Pairs (IsPlaced c n) os ls → Pairs (Agrees es c b) ls ms → AllByRecursion (HasPlace c n) ms
+  pub places_stay : (c : ℕ → Bool) (b : Bool) (n : ℕ) (es : List E) (os ls ms : List (Sharing E)) → AllZip (IsPlaced c n) os ls → AllZip (Agrees es c b) ls ms → AllByRecursion (HasPlace c n) ms
   places_stay c b n es os ls ms placed agree = pairs_all (Agrees es c b) (HasPlace c n) (HasPlace c n) ls ms (place_stays es c b n) (all_placed os ls placed) agree where
-    all_placed : (os ls : List (Sharing E)) → Pairs (IsPlaced c n) os ls → AllByRecursion (HasPlace c n) ls
+    all_placed : (os ls : List (Sharing E)) → AllZip (IsPlaced c n) os ls → AllByRecursion (HasPlace c n) ls
     all_placed [] [] ps = tt
     all_placed [] (l ∷ ls) ps = absurd ps
     all_placed (o ∷ os) [] ps = absurd ps
@@ -218,7 +218,7 @@ module _ {E : Type 0} where
       → (seen (shared_after f b es) new).guess ≡ changing f c (seen es o).guess
   changed_one f c b es o new agrees is = grind (arith, nat_tests, is.sharing, is.alone, is.shares)
 
-  changed_all : (f : List E → List E) (c : ℕ → Bool) (b : Bool) (n : ℕ) (es : List E) (os ls : List (Sharing E)) → AllByRecursion (IsAgreed c b n) os → Pairs (IsChanged f c) os ls
+  changed_all : (f : List E → List E) (c : ℕ → Bool) (b : Bool) (n : ℕ) (es : List E) (os ls : List (Sharing E)) → AllByRecursion (IsAgreed c b n) os → AllZip (IsChanged f c) os ls
       → map guess_of (map (seen (shared_after f b es)) ls) ≡ map (changing f c) (map guess_of (map (seen es) os))
   changed_all f c b n es [] [] all ps = refl
   changed_all f c b n es [] (l ∷ ls) all ps = absurd ps
@@ -232,8 +232,8 @@ module _ {E : Type 0} where
   -- the guesses agree, and then each list is changed, among them the shared one
   pub record IsTurned (f : List E → List E) (c : ℕ → Bool) (b : Bool) (es : List E) (os ms ns : List (Sharing E)) : Type 0 where
     pub ready : AreReady (length es) os
-    pub agree : Pairs (Agrees es c b) os ms
-    pub change : Pairs (IsChanged f c) ms ns
+    pub agree : AllZip (Agrees es c b) os ms
+    pub change : AllZip (IsChanged f c) ms ns
 
   module _ {f : List E → List E} {c : ℕ → Bool} {b : Bool} {es : List E} {os ms ns : List (Sharing E)} (is : IsTurned f c b es os ms ns) where
     all_agreed : AllByRecursion (IsAgreed c b (length es)) ms

@@ -1,9 +1,6 @@
 -- Lists of what rests on each undecided guess.
 use Rattle.std.specs.Prelude.{◌≡◌, ◌||◌, ℕ, true, false, List, [], map, if◌then◌else◌}
-use Rattle.std.specs.List.{AllByRecursion}
-use Rattle.std.specs.declared.cmp.Ordering.{Ordering}
-use Rattle.sk_record.specs.Effects.{is_in}
-use Rattle.sk_record.specs.Notes.{Note, has, last_tags}
+use Rattle.sk_guesses.specs.Base.{AllByRecursion, Ordering, is_in, Note, has, last_tags}
 use Rattle.sk_guesses.specs.Opens.{OpenGuess, depending}
 
 -- the guesses that each key rests on, by its notes

@@ -1,20 +1,11 @@
 -- The guesses of a kernel that keeps nothing of decided ones, but for the struck ones whose tokens have not come back.
 use Rattle.std.specs.Prelude.{◌≡◌, ◌==◌, ◌+◌, ◌<◌, ◌≤◌, ◌&&◌, ℕ, true, not, List, [], ◌++◌, map, length, Option, Some, None, Result, Ok, Err, if◌then◌else◌}
-use Rattle.std.specs.List.{filter}
-use Rattle.std.specs.List.{AllByRecursion}
-use Rattle.std.specs.List.Sorted.{IsStrictlySortedBy}
-use Rattle.std.specs.Ordering.{nat_cmp}
-use Rattle.sk_record.specs.Notes.{has, without}
-use Rattle.sk_record.specs.UndoState.{Open, numbers}
-use Rattle.sk_record.specs.declared.status.Status.{Status}
-use Rattle.sk_record.specs.declared.status.Status.TheVariants.{Undecided, Struck}
-use Rattle.sk_ids.specs.declared.guess.TheConstants.{LAST_GUESS}
+use Rattle.sk_guesses.specs.Base.{filter, AllByRecursion, IsStrictlySortedBy, nat_cmp, has, without, Open, numbers}
+use Rattle.sk_guesses.specs.Base.{Status, Undecided, Struck, LAST_GUESS, Redeemed}
 use Rattle.sk_guesses.specs.Token.{Token}
 use Rattle.sk_guesses.specs.Calls.{redeemed_at}
 use Rattle.sk_guesses.specs.Opens.{OpenGuess, opens_of, open_in}
 use Rattle.sk_guesses.specs.Room.{Listing}
-use Rattle.sk_guesses.specs.declared.guess.Redeemed.{Redeemed}
-use Rattle.sk_guesses.specs.declared.guess.Redeemed.TheVariants as redeemed_as
 
 -- the kernel's number, how many guesses may be undecided at once, how many were drawn, whose numbers are 1, 2 and so on, and the
 -- struck ones whose tokens have not come back, in the order in which they were struck
@@ -53,9 +44,8 @@ redeemed_kept v os token = if token.kernel == v.kernel then redeemed_at (known v
 
 -- a struck guess is forgotten with its token
 abbrev pub forgotten : KeptView → Result Redeemed Token → KeptView
-forgotten v (Ok (redeemed_as.Undecided g)) = v
-forgotten v (Ok (redeemed_as.Struck g)) = record v { struck = without g v.struck }
-forgotten v (Err token) = v
+forgotten v (Ok (Redeemed.Struck g)) = record v { struck = without g v.struck }
+forgotten v _ = v
 
 -- ---- a draw and a failure
 

@@ -1,7 +1,6 @@
 -- Undecided guesses, many of which share one list of what rests on them.
-use Rattle.std.specs.Prelude.{◌≡◌, ◌≤◌, ◌<◌, ◌+◌, ℕ, Bool, true, false, not, List, [], ◌∷◌, length, if◌then◌else◌, ◌⊎◌, ⊤}
-use Rattle.std.specs.List.{AllByRecursion}
-use Rattle.sk_record.specs.Notes.{has}
+use Rattle.std.specs.Prelude.{◌≡◌, ◌≤◌, ◌<◌, ◌+◌, ℕ, Bool, true, false, not, List, [], length, if◌then◌else◌, ◌⊎◌}
+use Rattle.sk_guesses.specs.Base.{AllByRecursion, has}
 use Rattle.sk_guesses.specs.Opens.{OpenGuess}
 use Rattle.sk_guesses.specs.Room.{Listing}
 
@@ -21,13 +20,6 @@ IsReady n o = o.shares ≡ true → (o.guess.dependents ≡ []) × (n ≤ o.room
 
 abbrev pub AreReady : {E : Type 0} → ℕ → List (Sharing E) → Type 0
 AreReady n os = AllByRecursion (IsReady n) os
-
--- two lists are as long, and what stands in one place is related
-abbrev pub Pairs : {A : Type 0} → (A → A → Type 0) → List A → List A → Type 0
-Pairs P [] [] = ⊤
-Pairs P [] (y ∷ ys) = ⊥
-Pairs P (x ∷ xs) [] = ⊥
-Pairs P (x ∷ xs) (y ∷ ys) = P x y × Pairs P xs ys
 
 -- a guess is among some, or it is not
 abbrev pub is_named : Bool → List ℕ → ℕ → Bool

@@ -1,7 +1,6 @@
 //! Sets of keys.
 ghost use Rattle.std.specs.Prelude.{◌≡◌, ◌<◌, ◌≤◌, ◌+◌, ◌++◌, ◌∷◌, [], true, length, OnOk, OnErr, IsOk, vec_capacity};
-ghost use Rattle.std.specs.List.{insert};
-ghost use Rattle.std.specs.List.Sorted.{IsStrictlySortedBy, IsSearchInRange, IsBinarySearchResult};
+ghost use Rattle.sk_guesses.specs.Base.{insert, IsStrictlySortedBy, IsSearchInRange, IsBinarySearchResult};
 ghost use Rattle.sk_guesses.specs.EntitySet.{with_entity, with_entities, without_entity};
 
 use sk_map::Key;

@@ -1,16 +1,8 @@
 //! The guesses that a kernel drew.
 ghost use Rattle.std.specs.Prelude.{◌≡◌, ◌≢◌, ◌<◌, ◌≤◌, ◌+◌, ◌-◌, ◌==◌, ◌∷◌, ◌++◌, ℕ, [], true, length, map, get_or, slice_index_or, slice_set, if◌then◌else◌, Some, IfSome, IfOk, IsOk, OnOk, OnErr, false, not, is_some};
-ghost use Rattle.std.specs.List.{list_any, prefix_len};
-ghost use Rattle.std.specs.List.Sorted.{IsStrictlySortedBy};
-ghost use Rattle.std.specs.Option.{unwrap_or};
-ghost use Rattle.std.specs.Ordering.{nat_cmp};
-ghost use Rattle.sk_record.specs.Notes.{has};
-ghost use Rattle.sk_record.specs.Machine.{rests_on};
-ghost use Rattle.sk_record.specs.UndoState.{numbers, not_struck};
-ghost use Rattle.sk_record.specs.declared.status.Status.{Status};
-ghost use Rattle.sk_record.specs.declared.status.Status.TheVariants.{Undecided, Committed, Failed, Struck};
-ghost use Rattle.sk_ids.specs.declared.guess.TheConstants.{LAST_GUESS};
-ghost use Rattle.sk_guesses.specs.declared.guesses.TheConstants.{GUESS_LIMIT};
+ghost use Rattle.sk_guesses.specs.Base.{list_any, prefix_len, IsStrictlySortedBy, unwrap_or, nat_cmp, has, rests_on};
+ghost use Rattle.sk_guesses.specs.Base.{numbers, not_struck, Status, Undecided, Committed, Failed, Struck, LAST_GUESS};
+ghost use Rattle.sk_guesses.specs.Base.{GUESS_LIMIT};
 ghost use Rattle.sk_guesses.specs.Guesses.{opened, next_of, undecided_of, is_full, is_undecided, status_of, status_since, decided, drawn, settled};
 ghost use Rattle.sk_guesses.specs.EntitySet.{with_entities};
 ghost use Rattle.sk_guesses.specs.Opens.{opens_of, dependents_of, depending, relieved, left_to, but, not_resting, after_commit, open_in, struck_by, without_list};

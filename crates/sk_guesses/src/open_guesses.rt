@@ -1,14 +1,8 @@
 //! The guesses of a kernel that keeps nothing of decided ones.
 ghost use Rattle.std.specs.Prelude.{◌≡◌, ◌≢◌, ◌<◌, ◌≤◌, ◌+◌, ◌==◌, ◌&&◌, ◌∷◌, ◌++◌, ℕ, [], true, false, not, slice_index_or, if◌then◌else◌, length, map, nat_le, get_or, Option, Some, OnOk, OnErr, MatchOption};
-ghost use Rattle.std.specs.List.Sorted.{IsStrictlySortedBy};
-ghost use Rattle.std.specs.Option.{unwrap_or};
-ghost use Rattle.std.specs.Vec.{vec_capacity};
-ghost use Rattle.sk_ids.specs.declared.guess.TheConstants.{LAST_GUESS};
-ghost use Rattle.sk_record.specs.Machine.{with_drawn, with_failure, with_status};
-ghost use Rattle.sk_record.specs.Notes.{has, without};
-ghost use Rattle.sk_record.specs.UndoState.{not_struck, numbers, still_open};
-ghost use Rattle.sk_record.specs.declared.status.Status.{Status};
-ghost use Rattle.sk_record.specs.declared.status.Status.TheVariants.{Committed, Undecided};
+ghost use Rattle.sk_guesses.specs.Base.{IsStrictlySortedBy, unwrap_or, vec_capacity, LAST_GUESS, with_drawn};
+ghost use Rattle.sk_guesses.specs.Base.{with_failure, with_status, has, without, not_struck, numbers, still_open};
+ghost use Rattle.sk_guesses.specs.Base.{Status, Committed, Undecided};
 ghost use Rattle.sk_guesses.specs.EntitySet.{with_entities};
 ghost use Rattle.sk_guesses.specs.Kept.{known, none_drawn, one_drawn, keys_of, forgotten, redeemed_kept, struck_with, with_struck, AreStatuses, HasKeptRoom};
 ghost use Rattle.sk_guesses.specs.Room.{Listing};

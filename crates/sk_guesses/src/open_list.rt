@@ -1,11 +1,6 @@
 //! The open guesses of a list, by rising number, and what calls make of all of them.
 ghost use Rattle.std.specs.Prelude.{◌≡◌, ◌<◌, ◌≤◌, ◌==◌, ℕ, true, false, length, map, not, slice_index_or, get_or, OnOk};
-ghost use Rattle.std.specs.List.{list_any, prefix_len};
-ghost use Rattle.std.specs.List.Sorted.{IsStrictlySortedBy};
-ghost use Rattle.std.specs.Option.{unwrap_or};
-ghost use Rattle.std.specs.Ordering.{nat_cmp};
-ghost use Rattle.sk_record.specs.Notes.{has};
-ghost use Rattle.sk_record.specs.UndoState.{numbers};
+ghost use Rattle.sk_guesses.specs.Base.{list_any, prefix_len, IsStrictlySortedBy, unwrap_or, nat_cmp, has, numbers};
 ghost use Rattle.sk_guesses.specs.Opens.{opens_of, dependents_of, depending, relieved, left_to, without_tag, but, not_resting, after_commit, without_list};
 ghost use Rattle.sk_guesses.specs.Room.{Listing};
 ghost use Rattle.sk_guesses.specs.Kept.{AreBelow};

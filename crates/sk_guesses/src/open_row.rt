@@ -1,12 +1,10 @@
 //! The undecided guesses, many of which share one list of what rests on them.
 ghost use Rattle.std.specs.Prelude.{◌≡◌, ◌<◌, ◌≤◌, ◌+◌, ◌∷◌, ◌++◌, ℕ, List, [], true, false, length, map, slice_index_or, slice_set, OnOk, OnErr, IsOk, if◌then◌else◌};
-ghost use Rattle.std.specs.List.{remove, AllByRecursion};
-ghost use Rattle.std.specs.List.Sorted.{IsStrictlySortedBy};
-ghost use Rattle.sk_record.specs.Notes.{has};
+ghost use Rattle.sk_guesses.specs.Base.{remove, AllByRecursion, AllZip, IsStrictlySortedBy, has};
 ghost use Rattle.sk_guesses.specs.EntitySet.{with_entity, without_entity};
 ghost use Rattle.sk_guesses.specs.Opens.{depending, without_tag};
 ghost use Rattle.sk_guesses.specs.Room.{Listing};
-ghost use Rattle.sk_guesses.specs.Shared.{seen, is_named, changing, IsReady, AreReady, Pairs, HasPlace, IsRoomier, IsPlaced, Agrees, IsChanged, WillChange};
+ghost use Rattle.sk_guesses.specs.Shared.{seen, is_named, changing, IsReady, AreReady, HasPlace, IsRoomier, IsPlaced, Agrees, IsChanged, WillChange};
 
 use crate::EntitySet;
 use crate::open_guess::OpenGuess;
@@ -115,7 +113,7 @@ fn any_named<E: Key>(row: &Row<OpenGuess<E>>, tags: &TagSet, within: bool) -> bo
 fn part_others<E: Key>(row: &mut Row<OpenGuess<E>>, shared: &[E], tags: &TagSet, within: bool)
     requires rising { IsStrictlySortedBy E.order shared.now }
     requires ready { AreReady (length shared.now) row.old.items }
-    ensures { Pairs (Agrees shared.now (is_named within tags.now) true) row.old.items
+    ensures { AllZip (Agrees shared.now (is_named within tags.now) true) row.old.items
         row.new.items }
 {
     for place in 0..row.len() {
@@ -142,7 +140,7 @@ fn part_other<E: Key>(open: &mut OpenGuess<E>, shared: &[E], tags: &TagSet, with
 fn agree<E: Key>(row: &mut Row<OpenGuess<E>>, shared: &[E], tags: &TagSet, within: bool) -> bool
     requires rising { IsStrictlySortedBy E.order shared.now }
     requires ready { AreReady (length shared.now) row.old.items }
-    ensures { Pairs (Agrees shared.now (is_named within tags.now) result) row.old.items
+    ensures { AllZip (Agrees shared.now (is_named within tags.now) result) row.old.items
         row.new.items }
 {
     if any_named(row, tags, within) {
@@ -156,7 +154,7 @@ fn agree<E: Key>(row: &mut Row<OpenGuess<E>>, shared: &[E], tags: &TagSet, withi
 fn depend_own<E: Key>(row: &mut Row<OpenGuess<E>>, tags: &TagSet, entity: &E)
     requires { AllByRecursion (λ o. o.shares ≡ false → has o.guess.id tags.now ≡ true
         → 0 < o.room) row.old.items }
-    ensures { Pairs (IsChanged (λ es. with_entity E.order es entity.now) (λ g. has g tags.now))
+    ensures { AllZip (IsChanged (λ es. with_entity E.order es entity.now) (λ g. has g tags.now))
         row.old.items row.new.items }
 {
     for place in 0..row.len() {
@@ -166,7 +164,7 @@ fn depend_own<E: Key>(row: &mut Row<OpenGuess<E>>, tags: &TagSet, entity: &E)
 
 /// Takes an entity out of the own lists of these guesses, or of all others.
 fn leave_own<E: Key>(row: &mut Row<OpenGuess<E>>, tags: &TagSet, within: bool, entity: &E)
-    ensures { Pairs (IsChanged (λ es. without_entity E.order es entity.now)
+    ensures { AllZip (IsChanged (λ es. without_entity E.order es entity.now)
         (is_named within tags.now)) row.old.items row.new.items }
 {
     for place in 0..row.len() {
@@ -183,9 +181,9 @@ fn reserve_own<E: Key>(
 ) -> Result<(), AllocError>
     requires places { shared < places }
     requires ready { AreReady shared row.old.items }
-    ensures same { Pairs (IsRoomier shared) row.old.items row.new.items }
+    ensures same { AllZip (IsRoomier shared) row.old.items row.new.items }
     ensures ok { OnOk result
-        (Pairs (IsPlaced (λ g. has g tags.now) shared) row.old.items row.new.items) }
+        (AllZip (IsPlaced (λ g. has g tags.now) shared) row.old.items row.new.items) }
 {
     for place in 0..row.len() {
         row.at_mut(place).reserve(tags, shared, places)?;

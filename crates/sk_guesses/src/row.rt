@@ -1,7 +1,6 @@
 //! Values under small keys, in an order that is kept beside them.
 ghost use Rattle.std.specs.Prelude.{◌≡◌, ◌<◌, ◌≤◌, ◌+◌, ◌∷◌, ◌++◌, [], length, slice_index_or, slice_set, OnOk, IsOk, vec_capacity};
-ghost use Rattle.std.specs.List.{remove};
-ghost use Rattle.std.specs.Borrow.{Lends, sem};
+ghost use Rattle.sk_guesses.specs.Base.{remove, Lends, sem};
 ghost use Rattle.sk_guesses.specs.contracts.row.Row.{the_row};
 
 use slab::Slab;

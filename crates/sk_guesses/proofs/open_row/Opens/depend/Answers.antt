@@ -1,7 +1,7 @@
 -- Room, those that agree, and then the change.
 use Rattle.sk_guesses.proofs.Names.{◌≡◌, ◌∙◌, List, true, false, ◌<◌, length, map, ap, sym, subst, AllByRecursion, has}
-use Rattle.sk_guesses.proofs.Names.{with_entity, ℕ, InOrder}
-use Rattle.sk_guesses.specs.Shared.{changing, seen, AreReady, Agrees, Pairs, HasPlace, Sharing}
+use Rattle.sk_guesses.proofs.Names.{AllZip, with_entity, ℕ, InOrder}
+use Rattle.sk_guesses.specs.Shared.{changing, seen, AreReady, Agrees, HasPlace, Sharing}
 use Rattle.sk_guesses.proofs.Opens.{guess_of}
 use Rattle.sk_guesses.proofs.Shared.{on_err, all_of, IsReserved, reserved_ready, reserved_seen, places_stay, IsTurned}
 use Rattle.sk_guesses.proofs.Shared.{turned_seen, more_ready, will_turn, will_fit}
@@ -43,7 +43,7 @@ invariant_of-self-2 g c =
     let es = c.reserve.new.self.entities in
     let room : IsReserved c.self.inside.shared.entities xs es c.self.inside.row.items ls =
     record { same = c.reserve.ensures.entities; count = c.as_slice-count.ensures.entities; ready = c.self.invariant.0; roomier = c.reserve_own.ensures.same } in
-    let agree : Pairs (Agrees es c2 b) ls ms = subst (λ ys. Pairs (Agrees ys c2 b) ls ms) c.as_slice.ensures.entities c.agree-changes.ensures in
+    let agree : AllZip (Agrees es c2 b) ls ms = subst (λ ys. AllZip (Agrees ys c2 b) ls ms) c.as_slice.ensures.entities c.agree-changes.ensures in
     let turned : IsTurned (λ (ys : List _). with_entity g.E.Key.order ys c.args.entity.now) c2 b es ls ms c.depend_own.new.row.items =
     record { ready = reserved_ready room; agree = agree; change = c.depend_own.ensures } in
     let stay : AllByRecursion (HasPlace c2 (length es)) ms =
@@ -62,7 +62,7 @@ returns-clause-ok g c =
     let f = λ (xs : List _). with_entity g.E.Key.order xs c.args.entity.now in
     let room : IsReserved c.self.inside.shared.entities c.as_slice-count.result.now es c.self.inside.row.items ls =
     record { same = c.reserve.ensures.entities; count = c.as_slice-count.ensures.entities; ready = c.self.invariant.0; roomier = c.reserve_own.ensures.same } in
-    let agree : Pairs (Agrees es c2 b) ls ms = subst (λ ys. Pairs (Agrees ys c2 b) ls ms) c.as_slice.ensures.entities c.agree-changes.ensures in
+    let agree : AllZip (Agrees es c2 b) ls ms = subst (λ ys. AllZip (Agrees ys c2 b) ls ms) c.as_slice.ensures.entities c.agree-changes.ensures in
     let turned : IsTurned f c2 b es ls ms c.depend_own.new.row.items = record { ready = reserved_ready room; agree = agree; change = c.depend_own.ensures } in
     ap (λ xs. map guess_of (map (seen xs) c.depend_own.new.row.items)) c.add_if.ensures.entities ∙ turned_seen turned
     ∙ ap (λ xs. map (changing f c2) (map guess_of xs)) (reserved_seen room ∙ ap (λ (r : InOrder _). r.items) c.self.view_is)

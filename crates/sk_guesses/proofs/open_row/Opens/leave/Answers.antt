@@ -1,6 +1,6 @@
 -- Those that agree, and then the change.
-use Rattle.sk_guesses.proofs.Names.{◌∙◌, List, length, map, ap, sym, subst, without_entity, InOrder}
-use Rattle.sk_guesses.specs.Shared.{is_named, changing, seen, AreReady, Agrees, Pairs}
+use Rattle.sk_guesses.proofs.Names.{AllZip, ◌∙◌, List, length, map, ap, sym, subst, without_entity, InOrder}
+use Rattle.sk_guesses.specs.Shared.{is_named, changing, seen, AreReady, Agrees}
 use Rattle.sk_guesses.proofs.Opens.{guess_of}
 use Rattle.sk_guesses.proofs.Shared.{IsTurned, turned_seen, less_ready}
 use Rattle.sk_guesses.proofs.open_row.Opens.leave.Goals as goal
@@ -16,7 +16,7 @@ invariant_of-self g c =
     let es = c.self.inside.shared.entities in
     let c2 = is_named c.args.within c.args.tags.now in
     let b = c.agree-changes.result in
-    let agree : Pairs (Agrees es c2 b) os ms = subst (λ xs. Pairs (Agrees xs c2 b) os ms) c.as_slice.ensures.entities c.agree-changes.ensures in
+    let agree : AllZip (Agrees es c2 b) os ms = subst (λ xs. AllZip (Agrees xs c2 b) os ms) c.as_slice.ensures.entities c.agree-changes.ensures in
     let turned : IsTurned (λ (xs : List _). without_entity g.E.Key.order xs c.args.entity.now) c2 b es os ms ns =
     record { ready = c.self.invariant.0; agree = agree; change = c.leave_own.ensures } in
     (subst (λ xs. AreReady (length xs) ns) (sym c.remove_if.ensures) (less_ready g.E.Key.order c.args.entity.now turned), c.self.invariant.1)
@@ -30,7 +30,7 @@ returns g c =
     let c2 = is_named c.args.within c.args.tags.now in
     let b = c.agree-changes.result in
     let f = λ (xs : List _). without_entity g.E.Key.order xs c.args.entity.now in
-    let agree : Pairs (Agrees es c2 b) os ms = subst (λ xs. Pairs (Agrees xs c2 b) os ms) c.as_slice.ensures.entities c.agree-changes.ensures in
+    let agree : AllZip (Agrees es c2 b) os ms = subst (λ xs. AllZip (Agrees xs c2 b) os ms) c.as_slice.ensures.entities c.agree-changes.ensures in
     let turned : IsTurned f c2 b es os ms ns = record { ready = c.self.invariant.0; agree = agree; change = c.leave_own.ensures } in
     ap (λ xs. map guess_of (map (seen xs) ns)) c.remove_if.ensures ∙ turned_seen turned
     ∙ ap (λ (r : InOrder _). map (changing f c2) (map guess_of r.items)) c.self.view_is

@@ -4,10 +4,10 @@ use Rattle.sk_channels.proofs.Names.{Option, Some, None, refl, sym, ◌∙◌, a
 use Rattle.sk_channels.proofs.Names.{map-append, Fault, Limits, HasFault, IsPart, one_fault, fault_is_final}
 use Rattle.sk_channels.proofs.Names.{parts_are_none, read_once, Ask, Text, Queue, Say, Do, Reject, Inlet, Requests}
 use Rattle.sk_channels.proofs.Names.{with_words, asks_of, untold, AskInTurn, HadMemory, with_posed, IsOpen, IsClosed}
-use Rattle.sk_channels.proofs.Names.{IsHosts, HasHeard, with_ask, AsksAreSaid, CutsDontMatter, TicketsInOrder}
+use Rattle.sk_channels.proofs.Names.{HasHeard, with_ask, AsksAreSaid, CutsDontMatter, TicketsInOrder}
 use Rattle.sk_channels.specs.declared.rejection.Rejection.TheVariants as rejections
 use Rattle.sk_channels.proofs.Asks.{asks_are, had_before, had_more, text_on}
-use Rattle.sk_channels.proofs.Heard.{opened, closed_one}
+use Rattle.sk_channels.proofs.Heard.{opened, closed_one, IsHosts}
 
 -- Of two fronts of the same bytes one is the front of the other.
 fronts : (xs a ys b : List ℕ) → xs ++ a ≡ ys ++ b → ((m : List ℕ) × (ys ≡ xs ++ m)) ⊎ ((m : List ℕ) × (xs ≡ ys ++ m))

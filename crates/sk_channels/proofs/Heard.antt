@@ -4,11 +4,19 @@ use Rattle.sk_channels.proofs.Names.{take, Option, Some, None, refl, sym, ◌∙
 use Rattle.sk_channels.proofs.Names.{append_assoc, false≢true, append-nil, take_all, Fault, Limits, Found, HasFault}
 use Rattle.sk_channels.proofs.Names.{words_of, HasRead, HasFound, Splits, go_on, Ask, Text, Say, Do, Reject, Asked}
 use Rattle.sk_channels.proofs.Names.{Inlet, Requests, is_for_host, is_hosts, with_words, AskInTurn, ComesTo, with_posed}
-use Rattle.sk_channels.proofs.Names.{IsAsked, IsHosts, IsOpen, IsClosed, IsHeard, HasHeard, HasHeardOn, IsGiven}
-use Rattle.sk_channels.proofs.Names.{WordsAsk, Finds}
+use Rattle.sk_channels.proofs.Names.{IsAsked, IfSome, IsOpen, IsClosed, IsHeard, HasHeard, HoldsWith, IsGiven}
+use Rattle.sk_channels.proofs.Names.{WordsAsk, Finds, Queue}
 use Rattle.sk_requests.specs.declared.reader.Found.TheVariants as finds
 use Rattle.sk_channels.specs.declared.rejection.Rejection.TheVariants as rejections
 use Rattle.sk_channels.proofs.Asks.{ask_on, words_more, none_more, empty_more, text_on}
+
+-- It is the host's to answer.
+abbrev pub IsHosts : Option Queue → Option (List (List ℕ)) → Type 0
+IsHosts queue posed = IfSome posed (λ words. is_for_host queue words ≡ true)
+
+-- The same, with what is asked for now.
+abbrev pub HasHeardOn : Limits → List Ask → List ℕ → Option Asked → Inlet → Type 0
+HasHeardOn limits asked stream one inlet = HoldsWith (λ asked stream. HasHeard limits asked stream inlet) asked stream one
 
 pub opened : (limits : Limits) (asked : List Ask) (stream : List ℕ) (inlet : Inlet) → inlet.closed ≡ false
     → HasHeard limits asked stream inlet → IsOpen limits asked stream inlet

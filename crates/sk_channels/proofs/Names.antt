@@ -1,7 +1,7 @@
 -- What the proofs of this crate cite from outside of them, passed on from one place. Declares nothing.
 pub use Rattle.std.proofs.Common.{Some, Bool, subst, ◌≢◌, inr, Ok, ◌∷◌, Err, inl, ◌≡◌, ◌-◌, ◌+◌, Option, arith, List}
 pub use Rattle.std.proofs.Common.{get_or, ap, ◌++◌, length, append_assoc, ℕ, true, drop, sym, length-append, None}
-pub use Rattle.std.proofs.Common.{is_some, ◌≤◌, take, false, ◌<◌, refl, Result, [], ◌∙◌, map}
+pub use Rattle.std.proofs.Common.{is_some, IfSome, ◌≤◌, take, false, ◌<◌, refl, Result, [], ◌∙◌, map}
 pub use Rattle.std.proofs.lemmas.Bool.{cases_lt, true≢false, false≢true, iff_false}
 pub use Rattle.std.proofs.lemmas.Grind.{flat_map-append}
 pub use Rattle.std.proofs.lemmas.List.{drop_all, drop-drop, replicate_more, length-replicate, take-take, flat_map_more}
@@ -9,11 +9,11 @@ pub use Rattle.std.proofs.lemmas.List.{length-drop, drop-take, take_all, map-app
 pub use Rattle.std.specs.Prelude.{◌↔◌, IsTrue, ◌⊎◌, ◌||◌, is_none, flat_map}
 pub use Rattle.sk_channels.specs.Asking.{AskInTurn, Requests, ComesTo, untold, is_hosts, with_words, asks_of}
 pub use Rattle.sk_channels.specs.Asking.{is_for_host, HadMemory}
-pub use Rattle.sk_channels.specs.Hearing.{with_posed, Finds, HasHeardOn, IsGiven, IsHosts, IsHeard, HasHeard, IsClosed}
+pub use Rattle.sk_channels.specs.Hearing.{with_posed, Finds, HoldsWith, IsGiven, IsHeard, HasHeard, IsClosed}
 pub use Rattle.sk_channels.specs.Hearing.{IsAsked, Feeds, IsOpen, only_posed, WordsAsk}
 pub use Rattle.sk_channels.specs.Laws.{AsksAreSaid, with_ask, TicketsInOrder, CutsDontMatter}
 pub use Rattle.sk_channels.specs.Serving.{ReplyPost, HasServed, RefusePost}
-pub use Rattle.sk_channels.specs.Telling.{Refuses, refused, refused_up_to, told_text, HasTold, Tells, Told}
+pub use Rattle.sk_channels.specs.Telling.{refused, refused_up_to, told_text, HasTold, Tells, Told}
 pub use Rattle.sk_channels.specs.declared.channel.Channel.{Channel}
 pub use Rattle.sk_channels.specs.declared.inlet.Ask.{Ask}
 pub use Rattle.sk_channels.specs.declared.inlet.Ask.TheVariants.{Do, Reject}

@@ -2,7 +2,7 @@
 use Rattle.sk_channels.proofs.Names.{ℕ, ◌+◌, ◌-◌, ◌<◌, ◌≤◌, List, [], ◌∷◌, ◌++◌, length, Option, Some, None, Result, Ok}
 use Rattle.sk_channels.proofs.Names.{Err, arith, length-append, length-replicate, Limits, Refusal, NoTicket, Full}
 use Rattle.sk_channels.proofs.Names.{Memory, Ask, Inlet, Outlet, Channel, HasHeard, Told, refused_up_to, HasTold, Tells}
-use Rattle.sk_channels.proofs.Names.{Refuses, HasServed, ReplyPost, RefusePost}
+use Rattle.sk_channels.proofs.Names.{HasServed, ReplyPost, RefusePost}
 
 -- More tickets were told something, or none.
 served_on : (limits : Limits) (asked : List Ask) (stream : List ℕ) (told more : Told) (handed : List ℕ) (old : Channel)
@@ -23,7 +23,7 @@ same_served limits asked stream told handed old outlet has said = record
 pub replied : (limits : Limits) (asked : List Ask) (stream : List ℕ) (told : Told) (handed : List ℕ) (ticket : ℕ)
     (text : List ℕ) (result : Result (Unit {0}) Refusal)
     (old : Channel) (outlet : Outlet) → old.outlet.next ≤ ticket → ticket < old.inlet.next
-    → HasServed limits asked stream told handed old → Tells told handed ticket text result outlet
+    → HasServed limits asked stream told handed old → Tells told handed (refused_up_to told ticket ++ Some text ∷ []) result outlet
     → ReplyPost limits asked stream told handed ticket text result (record { inlet = old.inlet; outlet = outlet })
 replied limits asked stream told handed ticket text (Ok unit) old outlet untold given has tells = (
   omega (arith, untold, has.said.next),
@@ -49,7 +49,7 @@ replied limits asked stream told handed ticket text (Err Memory) old outlet unto
 pub refused_on : (limits : Limits) (asked : List Ask) (stream : List ℕ) (told : Told) (handed : List ℕ) (ticket : ℕ)
     (result : Result (Unit {0}) Refusal)
     (old : Channel) (outlet : Outlet) → ticket ≤ old.inlet.next → HasServed limits asked stream told handed old
-    → Refuses told handed ticket result outlet
+    → Tells told handed (refused_up_to told ticket) result outlet
     → RefusePost limits asked stream told handed ticket result (record { inlet = old.inlet; outlet = outlet })
 refused_on limits asked stream told handed ticket (Ok unit) old outlet given has tells = (
   omega (arith, given, has.heard.tickets),

@@ -3,8 +3,9 @@ use Rattle.sk_channels.proofs.Names.{◌≡◌, ℕ, ◌+◌, ◌-◌, ◌<◌, 
 use Rattle.sk_channels.proofs.Names.{Option, Some, None, Ok, refl, sym, ◌∙◌, ap, subst, inl, inr, arith, append_assoc}
 use Rattle.sk_channels.proofs.Names.{length-drop, take-append-drop, take-take, drop-take, drop-drop, drop_all, cases_lt}
 use Rattle.sk_channels.proofs.Names.{iff_false, true≢false, ◌↔◌, ◌||◌, IsTrue, Asked, Limits, Ask, Fed, Inlet}
-use Rattle.sk_channels.proofs.Names.{only_posed, HasHeard, HasHeardOn, Feeds}
+use Rattle.sk_channels.proofs.Names.{only_posed, HasHeard, Feeds}
 use Rattle.std.specs.Prelude.{is_some}
+use Rattle.sk_channels.proofs.Heard.{HasHeardOn}
 
 -- how many bytes came, where these are left
 abbrev pub gone : List ℕ → List ℕ → ℕ
@@ -47,7 +48,7 @@ left_behind bytes rest k within left = elim (cases_lt (length rest) k) [
 -- A step took some, and asks for something or nothing.
 pub step_on : (old mid new : Inlet) (bytes rest : List ℕ) (steps : ℕ) (fed : Fed) → IsLeft old mid bytes rest steps
     → ((limits : Limits) (asked : List Ask) (stream : List ℕ) → HasHeard limits asked stream mid
-    → Feeds limits asked stream rest (Ok fed) new)
+    → Feeds (λ asked stream. HasHeard limits asked stream new) asked stream rest (Ok fed) new)
     → (limits : Limits) (asked : List Ask) (stream : List ℕ) → HasHeard limits asked stream old
     → HasHeardOn limits asked (stream ++ take (gone bytes (drop fed.count rest)) bytes) fed.asked new ×
     (fed.count ≤ length rest)
@@ -65,7 +66,7 @@ pub less_left : (old mid new : Inlet) (bytes rest rest' : List ℕ) (steps steps
     → IsLeft old mid bytes rest steps
     → 0 < length rest → fed.asked ≡ None → is_some new.posed ≡ false → rest' ≡ drop fed.count rest
     → ((limits : Limits) (asked : List Ask) (stream : List ℕ) → HasHeard limits asked stream mid
-    → Feeds limits asked stream rest (Ok fed) new)
+    → Feeds (λ asked stream. HasHeard limits asked stream new) asked stream rest (Ok fed) new)
     → IsLeft old new bytes rest' steps'
 less_left old mid new bytes rest rest' steps steps' fed was some none idle is feeds =
     let left : drop fed.count rest ≡ drop (gone bytes (drop fed.count rest)) bytes = left_behind bytes rest fed.count
@@ -85,7 +86,7 @@ pub asked_on : (old mid new : Inlet) (bytes rest rest' : List ℕ) (steps : ℕ)
     → IsLeft old mid bytes rest steps
     → 0 < length rest → rest' ≡ drop fed.count rest
     → ((limits : Limits) (asked : List Ask) (stream : List ℕ) → HasHeard limits asked stream mid
-    → Feeds limits asked stream rest (Ok fed) new)
+    → Feeds (λ asked stream. HasHeard limits asked stream new) asked stream rest (Ok fed) new)
     → (limits : Limits) (asked : List Ask) (stream : List ℕ) → HasHeard limits asked stream old
     → (gone bytes rest' ≤ length bytes) × (0 < length bytes → only_posed fed.asked new ≡ false → 0 < gone bytes rest')
     × HasHeardOn limits asked (stream ++ take (gone bytes rest') bytes) fed.asked new

@@ -1,24 +1,11 @@
 -- What requests ask for, one after another, by the queue that is open.
-use Rattle.std.specs.Prelude.{◌≡◌, ◌≢◌, ◌&&◌, ℕ, Bool, true, false, not, is_none, is_some, List, [], ◌∷◌, Option, Some, None}
-use Rattle.sk_commands.specs.declared.fault.Fault.TheVariants.{Unknown}
-use Rattle.sk_commands.specs.declared.reply.Reply.TheVariants.{Error, Text}
-use Rattle.sk_commands.specs.declared.session.Queue.{Queue}
-use Rattle.sk_commands.specs.declared.work.Work.TheVariants.{Say}
-use Rattle.sk_commands.specs.Names.{name_of}
-use Rattle.sk_commands.specs.Parsing.{order_of}
-use Rattle.sk_commands.specs.Session.{turn, spoilt}
-use Rattle.sk_channels.specs.declared.rejection.Rejection.TheVariants as rejections
-use Rattle.sk_channels.specs.declared.inlet.Ask.{Ask}
-use Rattle.sk_channels.specs.declared.inlet.Ask.TheVariants.{Do, Reject}
+use Rattle.std.specs.Prelude.{◌≡◌, ◌≢◌, ◌&&◌, ℕ, Bool, true, false, not, is_none, is_some, List, [], ◌∷◌, Option, Some, None, option_map}
+use Rattle.sk_channels.specs.Base.{AllByRecursion, Unknown, Error, Text, Queue, Say, name_of, order_of, turn, spoilt}
+use Rattle.sk_channels.specs.Base.{Ask, Do, Reject, Rejection}
 
 -- what came, one after another: the words of each request, or none where it is beyond the limits
 abbrev pub Requests : Type 0
 Requests = List (Option (List (List ℕ)))
-
--- the queue that is open is not to be carried out
-abbrev pub spoilt_queue : Option Queue → Option Queue
-spoilt_queue None = None
-spoilt_queue (Some queue) = Some (spoilt queue)
 
 -- A command was to be queued, and there was no memory.
 abbrev pub IsUnqueued : Option Queue → Option Queue → Type 0
@@ -29,8 +16,8 @@ IsUnqueued (Some queue) new = new ≡ Some (spoilt queue)
 -- to queue a command, and where a request is beyond the limits, the queue is not to be carried out.
 abbrev pub Asks : Option Queue → Option (List (List ℕ)) → Ask → Option Queue → Type 0
 Asks old (Some words) (Do work) new = (work ≡ (turn old (order_of words)).work) × (new ≡ (turn old (order_of words)).queue)
-Asks old (Some words) (Reject rejections.Memory) new = IsUnqueued old new
-Asks old None (Reject rejections.TooLarge) new = new ≡ spoilt_queue old
+Asks old (Some words) (Reject Rejection.Memory) new = IsUnqueued old new
+Asks old None (Reject Rejection.TooLarge) new = new ≡ option_map spoilt old
 Asks old told other new = ⊥
 
 -- whether a request of these words is the host's to answer: no queue is open, and they name no command
@@ -51,8 +38,7 @@ ComesTo false old told ask new = Asks old told ask new
 abbrev pub with_words : Requests → Requests
 with_words [] = []
 with_words (Some [] ∷ told) = with_words told
-with_words (Some (word ∷ words) ∷ told) = Some (word ∷ words) ∷ with_words told
-with_words (None ∷ told) = None ∷ with_words told
+with_words (one ∷ told) = one ∷ with_words told
 
 -- The same for requests, one after another.
 abbrev pub AskInTurn : Option Queue → Requests → List Ask → Option Queue → Type 0
@@ -64,7 +50,7 @@ AskInTurn old told asked new = ⊥
 abbrev pub asks_of : Option Queue → Requests → List Ask
 asks_of queue [] = []
 asks_of queue (Some words ∷ told) = Do (turn queue (order_of words)).work ∷ asks_of (turn queue (order_of words)).queue told
-asks_of queue (None ∷ told) = Reject rejections.TooLarge ∷ asks_of (spoilt_queue queue) told
+asks_of queue (None ∷ told) = Reject Rejection.TooLarge ∷ asks_of (option_map spoilt queue) told
 
 -- what was asked for, where for what the host told it stands that no command has this name
 abbrev pub untold : Ask → Ask
@@ -73,5 +59,4 @@ untold other = other
 
 -- There was memory to queue each command.
 abbrev pub HadMemory : List Ask → Type 0
-HadMemory [] = Unit {0}
-HadMemory (a ∷ asked) = (a ≢ Reject rejections.Memory) × HadMemory asked
+HadMemory asked = AllByRecursion (λ a. a ≢ Reject Rejection.Memory) asked

@@ -1,21 +1,7 @@
 -- What a channel asked for of the bytes that came.
-use Rattle.std.specs.Prelude.{◌≡◌, ℕ, ◌+◌, ◌-◌, ◌<◌, ◌≤◌, ◌^◌, ◌&&◌, Bool, true, false, is_some, nat_lt, List, [], ◌∷◌, ◌++◌, length, take, slice_get, Option, Some, None, if◌then◌else◌, Result, Ok, Err}
-use Rattle.sk_requests.specs.declared.fault.Fault.{Fault}
-use Rattle.sk_requests.specs.declared.limits.Limits.{Limits}
-use Rattle.sk_requests.specs.declared.reader.Found.{Found}
-use Rattle.sk_requests.specs.declared.reader.Found.TheVariants as finds
-use Rattle.sk_requests.specs.Faults.{HasFault}
-use Rattle.sk_requests.specs.Reading.{words_of}
-use Rattle.sk_requests.specs.Stream.{HasRead, Splits}
-use Rattle.sk_commands.specs.declared.session.Queue.{Queue}
-use Rattle.sk_channels.specs.declared.refusal.Refusal.{Refusal}
-use Rattle.sk_channels.specs.declared.refusal.Refusal.TheVariants.{NoTicket, Full, Memory}
-use Rattle.sk_channels.specs.declared.rejection.Rejection.TheVariants as rejections
-use Rattle.sk_channels.specs.declared.inlet.Ask.{Ask}
-use Rattle.sk_channels.specs.declared.inlet.Ask.TheVariants.{Reject}
-use Rattle.sk_channels.specs.declared.inlet.Asked.{Asked}
-use Rattle.sk_channels.specs.declared.inlet.Fed.{Fed}
-use Rattle.sk_channels.specs.declared.inlet.Inlet.{Inlet}
+use Rattle.std.specs.Prelude.{◌≡◌, ℕ, ◌+◌, ◌-◌, ◌<◌, ◌≤◌, ◌^◌, ◌&&◌, Bool, true, false, is_some, nat_lt, List, [], ◌∷◌, ◌++◌, length, take, slice_get, Option, Some, None, IfSome, if◌then◌else◌, Result, Ok, Err}
+use Rattle.sk_channels.specs.Base.{Fault, Limits, Found, HasFault, words_of, HasRead, Splits, Queue, Refusal, NoTicket}
+use Rattle.sk_channels.specs.Base.{Full, Memory, Ask, Reject, Asked, Fed, Inlet, Rejection}
 use Rattle.sk_channels.specs.Asking.{is_for_host, Requests, with_words, Asks, AskInTurn}
 
 -- with the request that the host is asked, if it is
@@ -23,18 +9,13 @@ abbrev pub with_posed : Requests → Option (List (List ℕ)) → Requests
 with_posed told None = told
 with_posed told (Some words) = told ++ Some words ∷ []
 
--- It is the host's to answer.
-abbrev pub IsHosts : Option Queue → Option (List (List ℕ)) → Type 0
-IsHosts queue None = Unit {0}
-IsHosts queue (Some words) = is_for_host queue words ≡ true
-
 -- The stream is requests for which this was asked (those without words ask for nothing), and the one that the host is asked, if it is;
 -- and then no request that is whole.
 pub record IsOpen (limits : Limits) (asked : List Ask) (stream : List ℕ) (inlet : Inlet) : Type 0 where
   pub told : Requests
   pub read : HasRead limits (with_posed told inlet.posed) stream inlet.reader
   pub asks : AskInTurn None (with_words told) asked inlet.session.queue
-  pub hosts : IsHosts inlet.session.queue inlet.posed
+  pub hosts : IfSome inlet.posed (λ words. is_for_host inlet.session.queue words ≡ true)
 
 -- It is requests for which this was asked, then bytes with a fault, for which it is rejected, and whatever follows.
 pub record IsClosed (limits : Limits) (asked : List Ask) (stream : List ℕ) : Type 0 where
@@ -47,7 +28,7 @@ pub record IsClosed (limits : Limits) (asked : List Ask) (stream : List ℕ) : T
   pub splits : Splits limits told (faulty ++ behind) stream
   pub has : HasFault limits fault faulty
   pub asks : AskInTurn None (with_words told) before queue
-  pub rejects : asked ≡ before ++ Reject (rejections.Fault fault) ∷ []
+  pub rejects : asked ≡ before ++ Reject (Rejection.Fault fault) ∷ []
 
 abbrev pub IsHeard : Bool → Limits → List Ask → List ℕ → Inlet → Type 0
 IsHeard false limits asked stream inlet = IsOpen limits asked stream inlet
@@ -58,10 +39,10 @@ pub record HasHeard (limits : Limits) (asked : List Ask) (stream : List ℕ) (in
   pub heard : IsHeard inlet.closed limits asked stream inlet
   pub tickets : inlet.next ≡ length asked + 1
 
--- The same, with what is asked for now.
-abbrev pub HasHeardOn : Limits → List Ask → List ℕ → Option Asked → Inlet → Type 0
-HasHeardOn limits asked stream None inlet = HasHeard limits asked stream inlet
-HasHeardOn limits asked stream (Some one) inlet = HasHeard limits (asked ++ one.ask ∷ []) stream inlet × (one.ticket ≡ length asked + 1)
+-- What holds of what was asked for and of the stream holds with what is asked for now.
+abbrev pub HoldsWith : (List Ask → List ℕ → Type 0) → List Ask → List ℕ → Option Asked → Type 0
+HoldsWith Holds asked stream None = Holds asked stream
+HoldsWith Holds asked stream (Some one) = Holds (asked ++ one.ask ∷ []) stream × (one.ticket ≡ length asked + 1)
 
 -- whether only the host is asked
 abbrev pub only_posed : Option Asked → Inlet → Bool
@@ -70,12 +51,12 @@ only_posed (Some one) inlet = false
 
 -- What a call with these bytes leaves and answers: so many came, at least one where not only the host is asked, and they end a request
 -- or none. After a refusal no more came.
-abbrev pub Feeds : Limits → List Ask → List ℕ → List ℕ → Result Fed Refusal → Inlet → Type 0
-Feeds limits asked stream bytes (Ok fed) inlet = (fed.count ≤ length bytes) × (0 < length bytes → only_posed fed.asked inlet ≡ false → 0 < fed.count)
-    × HasHeardOn limits asked (stream ++ take fed.count bytes) fed.asked inlet
-Feeds limits asked stream bytes (Err NoTicket) inlet = HasHeard limits asked stream inlet × (length asked + 1 ≡ 2 ^ 64 - 1)
-Feeds limits asked stream bytes (Err Full) inlet = ⊥
-Feeds limits asked stream bytes (Err Memory) inlet = HasHeard limits asked stream inlet
+abbrev pub Feeds : (List Ask → List ℕ → Type 0) → List Ask → List ℕ → List ℕ → Result Fed Refusal → Inlet → Type 0
+Feeds Holds asked stream bytes (Ok fed) inlet = (fed.count ≤ length bytes) × (0 < length bytes → only_posed fed.asked inlet ≡ false → 0 < fed.count)
+    × HoldsWith Holds asked (stream ++ take fed.count bytes) fed.asked
+Feeds Holds asked stream bytes (Err NoTicket) inlet = Holds asked stream × (length asked + 1 ≡ 2 ^ 64 - 1)
+Feeds Holds asked stream bytes (Err Full) inlet = ⊥
+Feeds Holds asked stream bytes (Err Memory) inlet = Holds asked stream
 
 -- A request asks for something, which gets the next ticket.
 pub record IsGiven (old : Inlet) (told : Option (List (List ℕ))) (asked : Option Asked) (new : Inlet) : Type 0 where
@@ -99,9 +80,9 @@ WordsAsk old (word ∷ words) asked new = IsAsked (is_for_host old.session.queue
 
 -- What was found asks for something, if it is a request.
 abbrev pub Finds : Inlet → Found → Option Asked → Inlet → Type 0
-Finds old finds.Part asked new = (asked ≡ None) × (new ≡ old)
-Finds old (finds.Request words) asked new = WordsAsk old (words_of words.items) asked new
-Finds old finds.TooLarge asked new = IsGiven old None asked new
+Finds old Found.Part asked new = (asked ≡ None) × (new ≡ old)
+Finds old (Found.Request words) asked new = WordsAsk old (words_of words.items) asked new
+Finds old Found.TooLarge asked new = IsGiven old None asked new
 
 -- ---- the request that the host is asked
 

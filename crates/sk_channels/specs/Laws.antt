@@ -1,15 +1,7 @@
 -- What holds of all channels.
 use Rattle.std.specs.Prelude.{◌≡◌, ℕ, ◌≤◌, true, false, List, [], ◌∷◌, ◌++◌, flat_map, length, map, Option, Some, None}
-use Rattle.sk_requests.specs.declared.fault.Fault.{Fault}
-use Rattle.sk_requests.specs.declared.limits.Limits.{Limits}
-use Rattle.sk_requests.specs.Stream.{Splits, IsPart}
-use Rattle.sk_channels.specs.declared.rejection.Rejection.TheVariants as rejections
-use Rattle.sk_channels.specs.declared.inlet.Ask.{Ask}
-use Rattle.sk_commands.specs.declared.fault.Fault.TheVariants.{Unknown}
-use Rattle.sk_commands.specs.declared.reply.Reply.TheVariants.{Error}
-use Rattle.sk_commands.specs.declared.work.Work.TheVariants.{Say}
-use Rattle.sk_channels.specs.declared.inlet.Ask.TheVariants.{Do, Reject}
-use Rattle.sk_channels.specs.declared.channel.Channel.{Channel}
+use Rattle.sk_channels.specs.Base.{Fault, Limits, Splits, IsPart, Ask, Unknown, Error, Say, Do, Reject, Channel}
+use Rattle.sk_channels.specs.Base.{Rejection}
 use Rattle.sk_channels.specs.Asking.{Requests, with_words, asks_of, untold, HadMemory}
 use Rattle.sk_channels.specs.Telling.{Told, told_text}
 use Rattle.sk_channels.specs.Serving.{HasServed}
@@ -39,7 +31,7 @@ CutsDontMatter = (limits : Limits) (asked other : List Ask) (stream : List ℕ) 
     → HadMemory asked → HadMemory other
     → (channel.inlet.closed ≡ channel'.inlet.closed → all_asked asked channel ≡ all_asked other channel')
     × (channel.inlet.closed ≡ false → channel'.inlet.closed ≡ true
-    → (fault : Fault) × (all_asked other channel' ≡ all_asked asked channel ++ Reject (rejections.Fault fault) ∷ []))
+    → (fault : Fault) × (all_asked other channel' ≡ all_asked asked channel ++ Reject (Rejection.Fault fault) ∷ []))
 
 -- What was handed over is a front part of what the tickets are told, in order, each once; only tickets that were given are told anything.
 abbrev pub TicketsInOrder : Type 0

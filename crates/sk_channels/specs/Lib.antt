@@ -1,3 +1,4 @@
+pub mod Base
 pub mod Asking
 pub mod Hearing
 pub mod Laws

@@ -1,13 +1,7 @@
 -- What a channel asked for, and what of its replies it handed over.
-use Rattle.std.specs.Prelude.{◌≡◌, ◌⊎◌, false, ℕ, ◌+◌, ◌-◌, ◌<◌, ◌≤◌, ◌^◌, List, [], ◌∷◌, ◌++◌, length, take, Option, Some, None, Result, Ok, Err}
-use Rattle.sk_requests.specs.declared.limits.Limits.{Limits}
-use Rattle.sk_channels.specs.declared.refusal.Refusal.{Refusal}
-use Rattle.sk_channels.specs.declared.refusal.Refusal.TheVariants.{NoTicket, Full, Memory}
-use Rattle.sk_channels.specs.declared.inlet.Ask.{Ask}
-use Rattle.sk_channels.specs.declared.inlet.Asked.{Asked}
-use Rattle.sk_channels.specs.declared.inlet.Fed.{Fed}
-use Rattle.sk_channels.specs.declared.channel.Channel.{Channel}
-use Rattle.sk_channels.specs.Hearing.{only_posed, HasHeard}
+use Rattle.std.specs.Prelude.{◌⊎◌, ℕ, ◌+◌, ◌<◌, ◌≤◌, List, [], ◌∷◌, ◌++◌, length, Some, Result, Ok, Err}
+use Rattle.sk_channels.specs.Base.{Limits, Refusal, NoTicket, Full, Memory, Ask, Fed, Channel}
+use Rattle.sk_channels.specs.Hearing.{Feeds, HasHeard}
 use Rattle.sk_channels.specs.Telling.{Told, refused_up_to, HasTold}
 
 -- The stream came, and this was asked for, in this order, with the tickets 1, 2 and so on. Of these as many tickets were told this,
@@ -17,22 +11,11 @@ pub record HasServed (limits : Limits) (asked : List Ask) (stream : List ℕ) (t
   pub said : HasTold told handed channel.outlet
   pub given : length told ≤ length asked
 
--- The same, with what is asked for now.
-abbrev pub HasServedOn : Limits → List Ask → List ℕ → Option Asked → Told → List ℕ → Channel → Type 0
-HasServedOn limits asked stream None told handed channel = HasServed limits asked stream told handed channel
-HasServedOn limits asked stream (Some one) told handed channel =
-    HasServed limits (asked ++ one.ask ∷ []) stream told handed channel × (one.ticket ≡ length asked + 1)
-
 -- What a call with these bytes leaves and answers: so many came, at least one where not only the host is asked, and they end a
 -- request or none. After a refusal nothing has changed.
 abbrev pub FeedPost : Limits → List Ask → List ℕ → Told → List ℕ → List ℕ → Result Fed Refusal → Channel → Type 0
-FeedPost limits asked stream told handed bytes (Ok fed) channel = (fed.count ≤ length bytes)
-    × (0 < length bytes → only_posed fed.asked channel.inlet ≡ false → 0 < fed.count)
-    × HasServedOn limits asked (stream ++ take fed.count bytes) fed.asked told handed channel
-FeedPost limits asked stream told handed bytes (Err NoTicket) channel =
-    HasServed limits asked stream told handed channel × (length asked + 1 ≡ 2 ^ 64 - 1)
-FeedPost limits asked stream told handed bytes (Err Full) channel = ⊥
-FeedPost limits asked stream told handed bytes (Err Memory) channel = HasServed limits asked stream told handed channel
+FeedPost limits asked stream told handed bytes result channel =
+    Feeds (λ asked stream. HasServed limits asked stream told handed channel) asked stream bytes result channel.inlet
 
 -- A ticket that was given and told nothing is told a text, and those before it that were told nothing that their writes did not reach
 -- the disk. After a refusal nothing has changed: there is no such ticket, more bytes wait than may, or there was no memory.

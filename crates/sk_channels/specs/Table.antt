@@ -1,10 +1,6 @@
 -- Channels by number.
 use Rattle.std.specs.Prelude.{◌≡◌, ◌≢◌, ℕ, ◌<◌, ◌≤◌, Bool, true, false, Option, Some, None, Result, Ok, Err}
-use Rattle.slab.specs.Slab.{get, with_value}
-use Rattle.sk_channels.specs.declared.refusal.Refusal.{Refusal}
-use Rattle.sk_channels.specs.declared.refusal.Refusal.TheVariants.{NoTicket, Full, Memory}
-use Rattle.sk_channels.specs.declared.channel.Channel.{Channel}
-use Rattle.sk_channels.specs.declared.table.Channels.{Channels}
+use Rattle.sk_channels.specs.Base.{get, with_value, Refusal, NoTicket, Full, Memory, Channel, Channels}
 
 -- what has this number: nothing, or a place, where there is a channel or what was one
 abbrev pub place_at : Channels → ℕ → Option (Option Channel)
@@ -21,8 +17,7 @@ channel_at channels number = channel_of (place_at channels number)
 -- a place of what was hung up
 abbrev pub is_hung_up : Option (Option Channel) → Bool
 is_hung_up (Some None) = true
-is_hung_up (Some (Some channel)) = false
-is_hung_up None = false
+is_hung_up other = false
 
 -- a channel is hung up
 abbrev pub hung_up : Option (Option Channel) → Option (Option Channel)
@@ -31,9 +26,8 @@ hung_up (Some place) = Some None
 
 -- what was hung up is no more
 abbrev pub released : Option (Option Channel) → Option (Option Channel)
-released None = None
 released (Some None) = None
-released (Some (Some channel)) = Some (Some channel)
+released place = place
 
 -- with this channel at the number
 abbrev pub with_channel : Channels → ℕ → Channel → Channels

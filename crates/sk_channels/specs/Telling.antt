@@ -1,9 +1,6 @@
 -- What the tickets of a channel were told, and what of it was handed over.
-use Rattle.std.specs.Prelude.{◌≡◌, ℕ, ◌+◌, ◌-◌, ◌<◌, List, [], ◌∷◌, ◌++◌, codes, flat_map, length, replicate, Option, Some, None, Result, Ok, Err}
-use Rattle.sk_requests.specs.Replies.{error_text}
-use Rattle.sk_channels.specs.declared.outlet.Outlet.{Outlet}
-use Rattle.sk_channels.specs.declared.refusal.Refusal.{Refusal}
-use Rattle.sk_channels.specs.declared.refusal.Refusal.TheVariants.{NoTicket, Full, Memory}
+use Rattle.std.specs.Prelude.{◌≡◌, ℕ, ◌+◌, ◌-◌, ◌<◌, List, ◌++◌, codes, flat_map, length, replicate, Option, Some, None, Result, Ok, Err}
+use Rattle.sk_channels.specs.Base.{error_text, Outlet, Refusal, NoTicket, Full, Memory}
 
 -- what the tickets from 1 on were told: each a text, or that its write did not reach the disk
 abbrev pub Told : Type 0
@@ -33,12 +30,7 @@ IsRefused told handed NoTicket outlet = ⊥
 IsRefused told handed Full outlet = HasTold told handed outlet × (outlet.most < length outlet.waiting)
 IsRefused told handed Memory outlet = HasTold told handed outlet
 
--- A ticket is told a text, and those before it that were told nothing that their writes did not reach the disk.
-abbrev pub Tells : Told → List ℕ → ℕ → List ℕ → Result (Unit {0}) Refusal → Outlet → Type 0
-Tells told handed ticket text (Ok _) outlet = HasTold (told ++ (refused_up_to told ticket ++ Some text ∷ [])) handed outlet
-Tells told handed ticket text (Err why) outlet = IsRefused told handed why outlet
-
--- Only those before it are told.
-abbrev pub Refuses : Told → List ℕ → ℕ → Result (Unit {0}) Refusal → Outlet → Type 0
-Refuses told handed ticket (Ok _) outlet = HasTold (told ++ refused_up_to told ticket) handed outlet
-Refuses told handed ticket (Err why) outlet = IsRefused told handed why outlet
+-- The next tickets are told more.
+abbrev pub Tells : Told → List ℕ → Told → Result (Unit {0}) Refusal → Outlet → Type 0
+Tells told handed more (Ok _) outlet = HasTold (told ++ more) handed outlet
+Tells told handed more (Err why) outlet = IsRefused told handed why outlet

@@ -1,10 +1,6 @@
 //! A channel: bytes in, works with tickets, and what the tickets are told, as bytes, in order.
 ghost use Rattle.std.specs.Prelude.{◌≡◌, ◌+◌, ◌-◌, ◌<◌, ◌≤◌, ◌^◌, ◌++◌, ◌∷◌, ℕ, true, List, [], None, is_some, length, drop, take, min, option_map, OnOk};
-ghost use Rattle.sk_requests.specs.declared.limits.Limits.{Limits};
-ghost use Rattle.sk_commands.specs.declared.reply.Reply.TheVariants.{Text};
-ghost use Rattle.sk_commands.specs.declared.work.Work.TheVariants.{Say};
-ghost use Rattle.sk_channels.specs.declared.inlet.Ask.{Ask};
-ghost use Rattle.sk_channels.specs.declared.inlet.Ask.TheVariants.{Do};
+ghost use Rattle.sk_channels.specs.Base.{Limits, Text, Say, Ask, Do};
 ghost use Rattle.sk_channels.specs.Hearing.{posed_ticket, word_at};
 ghost use Rattle.sk_channels.specs.Serving.{FeedPost, HasServed, RefusePost, ReplyPost};
 ghost use Rattle.sk_channels.specs.Telling.{Told};

@@ -1,11 +1,6 @@
 //! The way in: bytes that came to works with tickets.
 ghost use Rattle.std.specs.Prelude.{◌≡◌, ◌+◌, ◌-◌, ◌<◌, ◌≤◌, ◌^◌, ◌++◌, ◌∷◌, ◌||◌, ℕ, true, false, List, [], Option, None, Some, is_some, map, drop, length, option_map, ◌↔◌, IsTrue};
-ghost use Rattle.std.specs.Vec.{vec_items};
-ghost use Rattle.sk_requests.specs.declared.limits.Limits.{Limits};
-ghost use Rattle.sk_channels.specs.declared.inlet.Ask.{Ask};
-ghost use Rattle.sk_commands.specs.declared.reply.Reply.TheVariants.{Text};
-ghost use Rattle.sk_commands.specs.declared.work.Work.TheVariants.{Say};
-ghost use Rattle.sk_channels.specs.declared.inlet.Ask.TheVariants.{Do};
+ghost use Rattle.sk_channels.specs.Base.{vec_items, Limits, Ask, Text, Say, Do};
 ghost use Rattle.sk_channels.specs.Asking.{is_for_host, Asks};
 ghost use Rattle.sk_channels.specs.Hearing.{posed_ticket, word_at, Feeds, Finds, HasHeard, WordsAsk};
 
@@ -213,7 +208,8 @@ impl Inlet {
     fn step(&mut self, bytes: &[u8]) -> Result<Fed, Refusal>
         ensures { (limits : Limits) (asked : List Ask) (stream : List ℕ)
             → HasHeard limits asked stream self.old
-            → Feeds limits asked stream bytes.now result self.new }
+            → Feeds (λ asked stream. HasHeard limits asked stream self.new) asked stream bytes.now
+            result self.new }
     {
         if self.closed {
             return Ok(Fed {
@@ -258,7 +254,8 @@ impl Inlet {
     pub(crate) fn feed(&mut self, bytes: &[u8]) -> Result<Fed, Refusal>
         ensures { (limits : Limits) (asked : List Ask) (stream : List ℕ)
             → HasHeard limits asked stream self.old
-            → Feeds limits asked stream bytes.now result self.new }
+            → Feeds (λ asked stream. HasHeard limits asked stream self.new) asked stream bytes.now
+            result self.new }
     {
         let mut rest = bytes;
         for _step in 0..bytes.len() {

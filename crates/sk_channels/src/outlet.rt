@@ -1,6 +1,6 @@
 //! The way out: what each ticket is told, as bytes, in order.
-ghost use Rattle.std.specs.Prelude.{◌≡◌, ◌+◌, ◌-◌, ◌<◌, ◌≤◌, ◌^◌, ◌++◌, ◌↔◌, ℕ, List, [], length, drop, take, min, flat_map, IfOk, OnOk, IsTrue};
-ghost use Rattle.sk_channels.specs.Telling.{Told, refused, told_text, HasTold, Refuses, Tells};
+ghost use Rattle.std.specs.Prelude.{◌≡◌, ◌+◌, ◌-◌, ◌<◌, ◌≤◌, ◌^◌, ◌++◌, ◌∷◌, ◌↔◌, ℕ, List, [], Some, length, drop, take, min, flat_map, IfOk, OnOk, IsTrue};
+ghost use Rattle.sk_channels.specs.Telling.{Told, refused, refused_up_to, told_text, HasTold, Tells};
 
 use crate::Refusal;
 use crate::waiting::Waiting;
@@ -74,7 +74,7 @@ impl Outlet {
         requires untold { self.old.next ≤ ticket }
         requires last { ticket + 1 < 2 ^ 64 }
         ensures told { (told : Told) (handed : List ℕ) → HasTold told handed self.old
-            → Tells told handed ticket text.now result self.new }
+            → Tells told handed (refused_up_to told ticket ++ Some text.now ∷ []) result self.new }
         ensures room { OnOk result (length self.old.waiting ≤ self.old.most) }
         ensures most { self.new.most ≡ self.old.most }
     {
@@ -91,7 +91,7 @@ impl Outlet {
     #[tactic(auto, using(crate::proofs::Tellings::refuses_on))]
     pub(crate) fn refuse_up_to(&mut self, ticket: u64) -> Result<(), Refusal>
         ensures told { (told : Told) (handed : List ℕ) → HasTold told handed self.old
-            → Refuses told handed ticket result self.new }
+            → Tells told handed (refused_up_to told ticket) result self.new }
         ensures room { OnOk result (self.old.next < ticket
             → length self.old.waiting ≤ self.old.most) }
         ensures most { self.new.most ≡ self.old.most }

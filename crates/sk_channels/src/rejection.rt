@@ -1,6 +1,7 @@
 //! Why what came is not carried out, in the words that clients know.
 ghost use Rattle.std.specs.Prelude.{◌≡◌, IfOk};
-ghost use Rattle.sk_channels.specs.Rejections.{fault_words, rejection_text, rejection_words};
+ghost use Rattle.sk_channels.specs.Base.{error_text};
+ghost use Rattle.sk_channels.specs.Rejections.{fault_words, rejection_words};
 
 use sk_requests::{Fault, reply};
 use std::alloc::{AllocError, Global};
@@ -54,7 +55,7 @@ impl Rejection {
 
     /// The bytes of the reply.
     pub fn text(self, alloc: Global) -> Result<Vec<u8>, AllocError>
-        ensures { IfOk result (λ text. text.items ≡ rejection_text self) }
+        ensures { IfOk result (λ text. text.items ≡ error_text (rejection_words self)) }
     {
         let words = self.words(alloc)?;
         let mut text = Vec::new(alloc);

@@ -1,7 +1,6 @@
 //! Channels by number.
 ghost use Rattle.std.specs.Prelude.{◌≡◌, ◌<◌, ℕ, None, Some};
-ghost use Rattle.std.specs.Borrow.{LendsIf, sem};
-ghost use Rattle.std.specs.Option.{option_copied, option_copied_mut};
+ghost use Rattle.sk_channels.specs.Base.{LendsIf, sem, option_copied, option_copied_mut};
 ghost use Rattle.sk_channels.specs.contracts.table.Channels.{the_row};
 ghost use Rattle.sk_channels.specs.contracts.channel.Channel as channel_row;
 ghost use Rattle.sk_channels.specs.Table.{channel_at, is_hung_up, place_at, with_channel, Connects, HangsUp, Releases};

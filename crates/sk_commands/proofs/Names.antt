@@ -33,7 +33,7 @@ pub use Rattle.std.specs.declared.cmp.Ordering.TheVariants.{Equal, Greater, Less
 pub use Rattle.sk_commands.specs.Law.{asking_for, act, deed}
 pub use Rattle.sk_commands.specs.Names.{text_of, is_alike}
 pub use Rattle.sk_commands.specs.Numbers.{IsNoNumber, number_of, said_as, fits, fitting}
-pub use Rattle.sk_commands.specs.Parsing.{add_of, subtract_by, matching, order_for, is_of_prefix, set_of, runs}
+pub use Rattle.sk_commands.specs.Parsing.{add_or, matching, order_for, is_of_prefix, set_of, runs}
 pub use Rattle.sk_commands.specs.Parsing.{order_named, front, with_options, order_of, subtract_of, plainly, pairs_for}
 pub use Rattle.sk_commands.specs.Parsing.{is_special}
 pub use Rattle.sk_commands.specs.Requests.{work_for, least, IsSaid, with_work, WaitsSaid, IsAsked, AreWithin}

@@ -4,9 +4,9 @@ use Rattle.sk_commands.proofs.Names.{List, [], ◌∷◌, ◌++◌, length, take
 use Rattle.sk_commands.proofs.Names.{if◌then◌else◌, bytes_eq, refl, sym, ap, subst, ◌∙◌, w64, arith, signed_decimal}
 use Rattle.sk_commands.proofs.Names.{list_any, signed_digits_value, decimal_nonempty, parse-signed_decimal}
 use Rattle.sk_commands.proofs.Names.{signed_decimal_injective, bytes_eq-Decides, length-append, get_or-append_seam}
-use Rattle.sk_commands.proofs.Names.{take-append_seam, text_of, fits, said_as, IsNoNumber, add_of, front, is_of_prefix}
+use Rattle.sk_commands.proofs.Names.{take-append_seam, text_of, fits, said_as, IsNoNumber, add_or, front, is_of_prefix}
 use Rattle.sk_commands.proofs.Names.{is_special, matching, order_for, order_named, order_of, pairs_for, plainly, runs}
-use Rattle.sk_commands.proofs.Names.{set_of, subtract_by, subtract_of, with_options, least, words_for, Name, Fault}
+use Rattle.sk_commands.proofs.Names.{set_of, subtract_of, with_options, least, words_for, Name, Fault}
 use Rattle.sk_commands.proofs.Names.{NotInteger, Overflow, Pattern, When, Options, Command, Get, Set, Del, Exists, Add}
 use Rattle.sk_commands.proofs.Names.{Append, StrLen, MGet, MSet, DbSize, KeysWith, FlushAll, Ping, Echo, Wrong, Order}
 use Rattle.sk_commands.proofs.Names.{Run, Multi, Exec, Discard, and_parts, and_from, not-true}
@@ -72,19 +72,19 @@ Again (Ok (Run command)) = order_of (words_for command) ≡ Ok (Run command)
 Again command = Unit {0}
 
 wrong_number : Again (Ok (Run (Wrong NotInteger)))
-wrong_number = says named.IncrBy ([] ∷ [] ∷ []) ∙ ap (λ n. Ok (Run (add_of [] n))) no_number
+wrong_number = says named.IncrBy ([] ∷ [] ∷ []) ∙ ap (λ n. Ok (Run (add_or NotInteger [] n))) no_number
 
 wrong_least : Again (Ok (Run (Wrong Overflow)))
 wrong_least = says named.DecrBy ([] ∷ signed_decimal least ∷ []) ∙ ap (λ n. Ok (Run (subtract_of [] n))) (number_again least refl)
 
 add_fits : (key : List ℕ) (by : ℤ) → fits by ≡ true → Again (Ok (Run (Add key by)))
-add_fits key by f = says named.IncrBy (key ∷ signed_decimal by ∷ []) ∙ ap (λ n. Ok (Run (add_of key n))) (number_again by f)
+add_fits key by f = says named.IncrBy (key ∷ signed_decimal by ∷ []) ∙ ap (λ n. Ok (Run (add_or NotInteger key n))) (number_again by f)
 
-add_again : (key text : List ℕ) (n : Option ℤ) → number_of text ≡ n → Again (Ok (Run (add_of key n)))
+add_again : (key text : List ℕ) (n : Option ℤ) → number_of text ≡ n → Again (Ok (Run (add_or NotInteger key n)))
 add_again key text None e = wrong_number
 add_again key text (Some by) e = add_fits key by (number_fits text by e)
 
-negative_again : (key : List ℕ) (z : ℤ) (b : Bool) → fits z ≡ b → Again (Ok (Run (subtract_by key (if b then Some z else None))))
+negative_again : (key : List ℕ) (z : ℤ) (b : Bool) → fits z ≡ b → Again (Ok (Run (add_or Overflow key (if b then Some z else None))))
 negative_again key z true f = add_fits key z f
 negative_again key z false f = wrong_least
 

@@ -1,10 +1,8 @@
 -- What is replied in the words that clients know.
 use Rattle.std.specs.Prelude.{ℕ, List, ◌++◌, codes}
+use Rattle.sk_commands.specs.Base.{Word, Fault, Unknown, WrongNumber, Syntax, NotInteger, Overflow, TooLong, Pattern}
+use Rattle.sk_commands.specs.Base.{Nested, ExecAlone, DiscardAlone, Aborted}
 use Rattle.sk_commands.specs.Names.{text_of}
-use Rattle.sk_commands.specs.declared.reply.Word.{Word}
-use Rattle.sk_commands.specs.declared.reply.Word.TheVariants as word
-use Rattle.sk_commands.specs.declared.fault.Fault.{Fault}
-use Rattle.sk_commands.specs.declared.fault.Fault.TheVariants.{Unknown, WrongNumber, Syntax, NotInteger, Overflow, TooLong, Pattern, Nested, ExecAlone, DiscardAlone, Aborted}
 
 -- the words of each fault
 abbrev pub words_of : Fault → List ℕ
@@ -22,6 +20,6 @@ words_of Aborted = codes "EXECABORT Transaction discarded because of previous er
 
 -- a reply of one word
 abbrev pub said_by : Word → List ℕ
-said_by word.Ok = codes "OK"
-said_by word.Pong = codes "PONG"
-said_by word.Queued = codes "QUEUED"
+said_by Word.Ok = codes "OK"
+said_by Word.Pong = codes "PONG"
+said_by Word.Queued = codes "QUEUED"

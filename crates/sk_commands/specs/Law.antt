@@ -1,12 +1,6 @@
 -- Commands as the steps of a kernel.
 use Rattle.std.specs.Prelude.{ℕ, List, [], ◌∷◌, Option, Some, None}
-use Rattle.std.specs.Ordering.{nat_cmp}
-use Rattle.std.specs.Cmp.Lexicographic.{slice_cmp}
-use Rattle.sk_record.specs.Step.{Step, Ask, Done}
-use Rattle.sk_record.specs.Run.{System}
-use Rattle.sk_deeds.specs.Deed.{Deed}
-use Rattle.sk_commands.specs.declared.work.Work.{Work}
-use Rattle.sk_commands.specs.declared.work.Answer.{Answer}
+use Rattle.sk_commands.specs.Base.{nat_cmp, slice_cmp, Step, Ask, Done, System, Deed, Work, Answer}
 use Rattle.sk_commands.specs.Table.{Have, Outcome}
 use Rattle.sk_commands.specs.Work.{comes_to, looks_at, with_value}
 

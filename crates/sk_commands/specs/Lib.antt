@@ -1,3 +1,4 @@
+pub mod Base
 pub mod Names
 pub mod Faults
 pub mod Numbers

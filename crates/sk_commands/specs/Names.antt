@@ -1,9 +1,7 @@
 -- The names of commands.
 use Rattle.std.specs.Prelude.{ℕ, Bool, List, Option, codes, find, map, bytes_eq}
-use Rattle.std.specs.Char.{to_ascii_lowercase}
-use Rattle.sk_commands.specs.declared.name.Name.{Name}
-use Rattle.sk_commands.specs.declared.name.Name.TheVariants.{Get, Set, Del, Exists, Incr, Decr, IncrBy, DecrBy, Append, StrLen, GetSet, MGet, MSet, DbSize, Keys, FlushAll, Multi, Exec, Discard, Ping, Echo}
-use Rattle.sk_commands.specs.declared.name.TheConstants.{NAMES}
+use Rattle.sk_commands.specs.Base.{to_ascii_lowercase, Name, Incr, Decr, IncrBy, DecrBy, GetSet, Keys, NAMES}
+use Rattle.sk_commands.specs.declared.name.Name.TheVariants.{Get, Set, Del, Exists, Append, StrLen, MGet, MSet, DbSize, FlushAll, Multi, Exec, Discard, Ping, Echo}
 
 -- each in small letters
 abbrev pub text_of : Name → List ℕ

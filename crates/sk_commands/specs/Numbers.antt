@@ -1,7 +1,6 @@
 -- Integers of 64 bits, and their decimal texts.
 use Rattle.std.specs.Prelude.{◌≡◌, ℕ, ◌^◌, ◌&&◌, ℤ, pos, negsuc, Bool, true, List, Option, Some, None, nat_lt, bytes_eq, if◌then◌else◌}
-use Rattle.std.specs.Fmt.{signed_decimal}
-use Rattle.std.specs.Str.Parse.{signed_digits_value}
+use Rattle.sk_commands.specs.Base.{signed_decimal, signed_digits_value}
 
 -- whether an integer has 64 bits
 abbrev pub fits : ℤ → Bool

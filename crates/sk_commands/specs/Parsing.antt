@@ -1,19 +1,10 @@
 -- What words say: a command, or a word about the queue of a channel.
 use Rattle.std.specs.Prelude.{ℕ, ◌-◌, ◌%◌, ◌==◌, Bool, true, false, not, ◌&&◌, ◌||◌, ℤ, pos, negsuc, neg_ℤ, codes, List, [], ◌∷◌, length, slice_index, take, Option, Some, None, Result, Ok, Err, if◌then◌else◌}
-use Rattle.std.specs.List.{list_any}
+use Rattle.sk_commands.specs.Base.{list_any, Name, Fault, Unknown, WrongNumber, Syntax, NotInteger, Overflow, Pattern}
+use Rattle.sk_commands.specs.Base.{When, Options, Command, Get, Set, Del, Exists, Add, Append, StrLen, MGet, MSet}
+use Rattle.sk_commands.specs.Base.{DbSize, KeysWith, FlushAll, Ping, Echo, Wrong, Order, Run, Multi, Exec, Discard}
 use Rattle.sk_commands.specs.Names.{is_alike, name_of}
 use Rattle.sk_commands.specs.Numbers.{number_of, fitting}
-use Rattle.sk_commands.specs.declared.name.Name.{Name}
-use Rattle.sk_commands.specs.declared.name.Name.TheVariants as named
-use Rattle.sk_commands.specs.declared.fault.Fault.{Fault}
-use Rattle.sk_commands.specs.declared.fault.Fault.TheVariants.{Unknown, WrongNumber, Syntax, NotInteger, Overflow, Pattern}
-use Rattle.sk_commands.specs.declared.command.When.{When}
-use Rattle.sk_commands.specs.declared.command.When.TheVariants as when
-use Rattle.sk_commands.specs.declared.command.Options.{Options}
-use Rattle.sk_commands.specs.declared.command.Command.{Command}
-use Rattle.sk_commands.specs.declared.command.Command.TheVariants.{Get, Set, Del, Exists, Add, Append, StrLen, MGet, MSet, DbSize, KeysWith, FlushAll, Ping, Echo, Wrong}
-use Rattle.sk_commands.specs.declared.command.Order.{Order}
-use Rattle.sk_commands.specs.declared.command.Order.TheVariants.{Run, Multi, Exec, Discard}
 
 -- the command that something good makes
 abbrev pub made : {A : Type 0} → (A → Command) → Result A Fault → Result Command Fault
@@ -33,56 +24,45 @@ module _ (name : Name) where
 
   -- the only word
   abbrev pub one_of : List (List ℕ) → Result (List ℕ) Fault
-  one_of [] = Err (WrongNumber name)
   one_of (a ∷ []) = Ok a
-  one_of (a ∷ b ∷ rest) = Err (WrongNumber name)
+  one_of words = Err (WrongNumber name)
 
   -- the only two
   abbrev pub two_of : List (List ℕ) → Result (List ℕ × List ℕ) Fault
-  two_of [] = Err (WrongNumber name)
-  two_of (a ∷ []) = Err (WrongNumber name)
   two_of (a ∷ b ∷ []) = Ok (a, b)
-  two_of (a ∷ b ∷ c ∷ rest) = Err (WrongNumber name)
+  two_of words = Err (WrongNumber name)
 
   -- all words, of which there is one at least
   abbrev pub some_of : List (List ℕ) → Result (List (List ℕ)) Fault
   some_of [] = Err (WrongNumber name)
   some_of (a ∷ rest) = Ok (a ∷ rest)
 
--- adds what a text says to what a key has
-abbrev pub add_of : List ℕ → Option ℤ → Command
-add_of key None = Wrong NotInteger
-add_of key (Some by) = Add key by
-
-abbrev pub subtract_by : List ℕ → Option ℤ → Command
-subtract_by key None = Wrong Overflow
-subtract_by key (Some by) = Add key by
+-- adds this to what a key has, or tells a fault where there is nothing to add
+abbrev pub add_or : Fault → List ℕ → Option ℤ → Command
+add_or fault key None = Wrong fault
+add_or fault key (Some by) = Add key by
 
 -- takes what a text says off what a key has; there is nothing to add for the least integer
 abbrev pub subtract_of : List ℕ → Option ℤ → Command
 subtract_of key None = Wrong NotInteger
-subtract_of key (Some by) = subtract_by key (fitting (neg_ℤ by))
+subtract_of key (Some by) = add_or Overflow key (fitting (neg_ℤ by))
 
 -- how a key is set where nothing more is said
 abbrev pub plainly : Options
-plainly = record { when = when.Always; gives = false }
+plainly = record { when = When.Always; gives = false }
 
 -- so, and only where the key is absent, or there: not both
-abbrev pub only_absent : Options → When → Option Options
-only_absent options when.Always = Some (record options { when = when.Absent })
-only_absent options when.Absent = Some options
-only_absent options when.Present = None
-
-abbrev pub only_present : Options → When → Option Options
-only_present options when.Always = Some (record options { when = when.Present })
-only_present options when.Absent = None
-only_present options when.Present = Some options
+abbrev pub only : When → Options → When → Option Options
+only wanted options When.Always = Some (record options { when = wanted })
+only When.Absent options When.Absent = Some options
+only When.Present options When.Present = Some options
+only wanted options other = None
 
 -- with what one word more says
 abbrev pub with_option : List ℕ → Options → Option Options
 with_option word options =
-    if is_alike word (codes "nx") then only_absent options options.when
-    else if is_alike word (codes "xx") then only_present options options.when
+    if is_alike word (codes "nx") then only When.Absent options options.when
+    else if is_alike word (codes "xx") then only When.Present options options.when
     else if is_alike word (codes "get") then Some (record options { gives = true }) else None
 
 abbrev pub with_options : List (List ℕ) → Option Options → Option Options
@@ -96,21 +76,19 @@ set_of key value (Some options) = Set key value options
 
 -- a key, what it gets, and options
 abbrev pub set_for : List (List ℕ) → Result Command Fault
-set_for [] = Err (WrongNumber named.Set)
-set_for (key ∷ []) = Err (WrongNumber named.Set)
 set_for (key ∷ value ∷ options) = Ok (set_of key value (with_options options (Some plainly)))
+set_for words = Err (WrongNumber Name.Set)
 
 -- keys, each with what it gets behind it, and one at least
 abbrev pub pairs_for : List (List ℕ) → Bool → Result Command Fault
-pairs_for [] even = Err (WrongNumber named.MSet)
 pairs_for (word ∷ words) true = Ok (MSet (word ∷ words))
-pairs_for (word ∷ words) false = Err (WrongNumber named.MSet)
+pairs_for words even = Err (WrongNumber Name.MSet)
 
 -- no word, or one
 abbrev pub ping_for : List (List ℕ) → Result Command Fault
 ping_for [] = Ok Ping
 ping_for (text ∷ []) = Ok (Echo text)
-ping_for (text ∷ more ∷ words) = Err (WrongNumber named.Ping)
+ping_for (text ∷ more ∷ words) = Err (WrongNumber Name.Ping)
 
 -- a byte that means something in a pattern: * ? [ and \
 abbrev pub is_special : ℕ → Bool
@@ -130,31 +108,31 @@ matching pattern = if is_of_prefix pattern then KeysWith (front pattern) else Wr
 
 -- sets a key, and replies what it had
 abbrev pub exchanged : List ℕ → List ℕ → Command
-exchanged key value = Set key value (record { when = when.Always; gives = true })
+exchanged key value = Set key value (record { when = When.Always; gives = true })
 
 -- what a name says with these words behind it
 abbrev pub order_for : Name → List (List ℕ) → Result Order Fault
-order_for named.Get words = runs (made Get (one_of named.Get words))
-order_for named.Set words = runs (set_for words)
-order_for named.Del words = runs (made Del (some_of named.Del words))
-order_for named.Exists words = runs (made Exists (some_of named.Exists words))
-order_for named.Incr words = runs (made (λ key. Add key (pos 1)) (one_of named.Incr words))
-order_for named.Decr words = runs (made (λ key. Add key (negsuc 0)) (one_of named.Decr words))
-order_for named.IncrBy words = runs (made (λ w. add_of w.0 (number_of w.1)) (two_of named.IncrBy words))
-order_for named.DecrBy words = runs (made (λ w. subtract_of w.0 (number_of w.1)) (two_of named.DecrBy words))
-order_for named.Append words = runs (made (λ w. Append w.0 w.1) (two_of named.Append words))
-order_for named.StrLen words = runs (made StrLen (one_of named.StrLen words))
-order_for named.GetSet words = runs (made (λ w. exchanged w.0 w.1) (two_of named.GetSet words))
-order_for named.MGet words = runs (made MGet (some_of named.MGet words))
-order_for named.MSet words = runs (pairs_for words (length words % 2 == 0))
-order_for named.DbSize words = alone named.DbSize (Run DbSize) words
-order_for named.Keys words = runs (made matching (one_of named.Keys words))
-order_for named.FlushAll words = alone named.FlushAll (Run FlushAll) words
-order_for named.Multi words = alone named.Multi Multi words
-order_for named.Exec words = alone named.Exec Exec words
-order_for named.Discard words = alone named.Discard Discard words
-order_for named.Ping words = runs (ping_for words)
-order_for named.Echo words = runs (made Echo (one_of named.Echo words))
+order_for Name.Get words = runs (made Get (one_of Name.Get words))
+order_for Name.Set words = runs (set_for words)
+order_for Name.Del words = runs (made Del (some_of Name.Del words))
+order_for Name.Exists words = runs (made Exists (some_of Name.Exists words))
+order_for Name.Incr words = runs (made (λ key. Add key (pos 1)) (one_of Name.Incr words))
+order_for Name.Decr words = runs (made (λ key. Add key (negsuc 0)) (one_of Name.Decr words))
+order_for Name.IncrBy words = runs (made (λ w. add_or NotInteger w.0 (number_of w.1)) (two_of Name.IncrBy words))
+order_for Name.DecrBy words = runs (made (λ w. subtract_of w.0 (number_of w.1)) (two_of Name.DecrBy words))
+order_for Name.Append words = runs (made (λ w. Append w.0 w.1) (two_of Name.Append words))
+order_for Name.StrLen words = runs (made StrLen (one_of Name.StrLen words))
+order_for Name.GetSet words = runs (made (λ w. exchanged w.0 w.1) (two_of Name.GetSet words))
+order_for Name.MGet words = runs (made MGet (some_of Name.MGet words))
+order_for Name.MSet words = runs (pairs_for words (length words % 2 == 0))
+order_for Name.DbSize words = alone Name.DbSize (Run DbSize) words
+order_for Name.Keys words = runs (made matching (one_of Name.Keys words))
+order_for Name.FlushAll words = alone Name.FlushAll (Run FlushAll) words
+order_for Name.Multi words = alone Name.Multi Multi words
+order_for Name.Exec words = alone Name.Exec Exec words
+order_for Name.Discard words = alone Name.Discard Discard words
+order_for Name.Ping words = runs (ping_for words)
+order_for Name.Echo words = runs (made Echo (one_of Name.Echo words))
 
 abbrev pub order_named : Option Name → List (List ℕ) → Result Order Fault
 order_named None words = Err Unknown

@@ -1,17 +1,7 @@
 -- The queue of a channel: what each request comes to.
 use Rattle.std.specs.Prelude.{◌≡◌, Bool, true, false, List, [], ◌∷◌, ◌++◌, Option, Some, None, Result, Ok, Err}
-use Rattle.std.specs.declared.alloc.AllocError.{AllocError}
-use Rattle.sk_commands.specs.declared.command.Command.{Command}
-use Rattle.sk_commands.specs.declared.command.Order.{Order}
-use Rattle.sk_commands.specs.declared.command.Order.TheVariants.{Run, Multi, Exec, Discard}
-use Rattle.sk_commands.specs.declared.fault.Fault.{Fault}
-use Rattle.sk_commands.specs.declared.fault.Fault.TheVariants.{Nested, ExecAlone, DiscardAlone, Aborted}
-use Rattle.sk_commands.specs.declared.reply.Word.{Word}
-use Rattle.sk_commands.specs.declared.reply.Word.TheVariants as word
-use Rattle.sk_commands.specs.declared.reply.Reply.TheVariants.{Simple, Error}
-use Rattle.sk_commands.specs.declared.session.Queue.{Queue}
-use Rattle.sk_commands.specs.declared.work.Work.{Work}
-use Rattle.sk_commands.specs.declared.work.Work.TheVariants.{Say, One, Each}
+use Rattle.sk_commands.specs.Base.{AllocError, Command, Order, Run, Multi, Exec, Discard, Fault, Nested, ExecAlone}
+use Rattle.sk_commands.specs.Base.{DiscardAlone, Aborted, Word, Simple, Error, Queue, Work, Say, One, Each}
 
 -- the queue that is open then, and what is to be done
 pub record Turn : Type 0 where
@@ -46,14 +36,14 @@ executes false commands = turns None (Each commands)
 -- what a request comes to: by the queue that is open, if one is, and by what its words say
 abbrev pub turn : Option Queue → Result Order Fault → Turn
 turn None (Ok (Run command)) = turns None (One command)
-turn None (Ok Multi) = says (Some no_commands) word.Ok
+turn None (Ok Multi) = says (Some no_commands) Word.Ok
 turn None (Ok Exec) = refuses None ExecAlone
 turn None (Ok Discard) = refuses None DiscardAlone
 turn None (Err fault) = refuses None fault
-turn (Some queue) (Ok (Run command)) = says (Some (one_more queue command)) word.Queued
+turn (Some queue) (Ok (Run command)) = says (Some (one_more queue command)) Word.Queued
 turn (Some queue) (Ok Multi) = refuses (Some queue) Nested
 turn (Some queue) (Ok Exec) = executes queue.spoiled queue.commands
-turn (Some queue) (Ok Discard) = says None word.Ok
+turn (Some queue) (Ok Discard) = says None Word.Ok
 turn (Some queue) (Err fault) = refuses (Some (spoilt queue)) fault
 
 -- What is left and answered. There may be no memory for a command that is to be queued; then the queue is not to be carried out.

@@ -1,20 +1,10 @@
 -- What each command looks at, writes and replies. DBSIZE, KEYS and FLUSHALL are told of all keys.
 use Rattle.std.specs.Prelude.{◌≡◌, ℕ, ℤ, pos, ◌+ℤ◌, Bool, not, ◌&&◌, List, [], ◌∷◌, ◌++◌, map, filter, length, count_by, ◌==◌, Option, Some, None, is_none, is_some, true, false, unwrap_or, nat_le, bytes_eq, if◌then◌else◌, Result, Ok, Err}
-use Rattle.std.specs.Fmt.{signed_decimal}
-use Rattle.std.specs.Global.{Vec}
-use Rattle.std.specs.declared.alloc.AllocError.{AllocError}
-use Rattle.std.specs.List.{list_any, starts_with}
+use Rattle.sk_commands.specs.Base.{signed_decimal, Vec, AllocError, list_any, starts_with, NotInteger, Overflow}
+use Rattle.sk_commands.specs.Base.{TooLong, Reply, Simple, Error, Integer, Bulk, Null, Array, When, Options, Command}
+use Rattle.sk_commands.specs.Base.{Get, Set, Del, Exists, Add, Append, StrLen, MGet, MSet, DbSize, KeysWith, FlushAll}
+use Rattle.sk_commands.specs.Base.{Ping, Echo, Wrong, VALUE_LIMIT, Word}
 use Rattle.sk_commands.specs.Numbers.{number_of, fitting}
-use Rattle.sk_commands.specs.declared.fault.Fault.TheVariants.{NotInteger, Overflow, TooLong}
-use Rattle.sk_commands.specs.declared.reply.Word.TheVariants as word
-use Rattle.sk_commands.specs.declared.reply.Reply.{Reply}
-use Rattle.sk_commands.specs.declared.reply.Reply.TheVariants.{Simple, Error, Integer, Bulk, Null, Array}
-use Rattle.sk_commands.specs.declared.command.When.{When}
-use Rattle.sk_commands.specs.declared.command.When.TheVariants as when
-use Rattle.sk_commands.specs.declared.command.Options.{Options}
-use Rattle.sk_commands.specs.declared.command.Command.{Command}
-use Rattle.sk_commands.specs.declared.command.Command.TheVariants.{Get, Set, Del, Exists, Add, Append, StrLen, MGet, MSet, DbSize, KeysWith, FlushAll, Ping, Echo, Wrong}
-use Rattle.sk_commands.specs.declared.run.TheConstants.{VALUE_LIMIT}
 
 -- what each key has
 abbrev pub Have : Type 0
@@ -91,14 +81,14 @@ joined key value = if nat_le (length value) VALUE_LIMIT then puts key value (cou
 
 -- whether a key is set
 abbrev pub may_set : When → Option (List ℕ) → Bool
-may_set when.Always has = true
-may_set when.Absent has = is_none has
-may_set when.Present has = is_some has
+may_set When.Always has = true
+may_set When.Absent has = is_none has
+may_set When.Present has = is_some has
 
 -- what it had is replied, or whether it is set
 abbrev pub set_reply : Bool → Bool → Option (List ℕ) → Reply
 set_reply true sets has = shown has
-set_reply false true has = Simple word.Ok
+set_reply false true has = Simple Word.Ok
 set_reply false false has = Null
 
 -- a key gets this, where it may
@@ -111,9 +101,8 @@ set_as key value options has = set key value (may_set options.when has) (set_rep
 
 -- each key gets what stands behind it
 abbrev pub pairs_of : List (List ℕ) → Written
-pairs_of [] = []
-pairs_of (key ∷ []) = []
 pairs_of (key ∷ value ∷ words) = (key, Some value) ∷ pairs_of words
+pairs_of other = []
 
 -- whether a key begins so
 abbrev pub begins_with : List ℕ → List ℕ → Bool
@@ -129,13 +118,12 @@ present has keys = filter (λ key. is_some (has key)) keys
 
 -- they become absent
 abbrev pub flushed : List (List ℕ) → Outcome Reply
-flushed keys = record { written = removals keys; reply = Simple word.Ok }
+flushed keys = record { written = removals keys; reply = Simple Word.Ok }
 
 -- whether it matters for how a key is set, or for the reply, what it has
 abbrev pub is_seen : When → Bool → Bool
-is_seen when.Always gives = gives
-is_seen when.Absent gives = true
-is_seen when.Present gives = true
+is_seen When.Always gives = gives
+is_seen other gives = true
 
 -- The keys that a command looks at; `known` are all keys, of which some commands are told.
 abbrev pub asks : List (List ℕ) → Command → List (List ℕ)
@@ -147,13 +135,10 @@ asks known (Add key by) = key ∷ []
 asks known (Append key more) = key ∷ []
 asks known (StrLen key) = key ∷ []
 asks known (MGet keys) = keys
-asks known (MSet words) = []
 asks known DbSize = known
 asks known (KeysWith prefix) = known
 asks known FlushAll = known
-asks known Ping = []
-asks known (Echo text) = []
-asks known (Wrong fault) = []
+asks known other = []
 
 -- what it writes and replies, by what keys have
 abbrev pub outcome : List (List ℕ) → Command → Have → Outcome Reply
@@ -165,49 +150,30 @@ outcome known (Add key by) has = added key by (number_at (has key))
 outcome known (Append key more) has = joined key (bytes_of (has key) ++ more)
 outcome known (StrLen key) has = replies (counts (length (bytes_of (has key))))
 outcome known (MGet keys) has = replies (Array (map has keys))
-outcome known (MSet words) has = record { written = pairs_of words; reply = Simple word.Ok }
+outcome known (MSet words) has = record { written = pairs_of words; reply = Simple Word.Ok }
 outcome known DbSize has = replies (counts (count_by (λ key. is_some (has key)) known))
 outcome known (KeysWith prefix) has = replies (Array (map Some (listed prefix has known)))
 outcome known FlushAll has = flushed (present has known)
-outcome known Ping has = replies (Simple word.Pong)
+outcome known Ping has = replies (Simple Word.Pong)
 outcome known (Echo text) has = replies (Bulk text)
 outcome known (Wrong fault) has = replies (Error fault)
 
 -- whether it is told of all keys
 abbrev pub is_told_of_all : Command → Bool
-is_told_of_all (Get key) = false
-is_told_of_all (Set key value options) = false
-is_told_of_all (Del keys) = false
-is_told_of_all (Exists keys) = false
-is_told_of_all (Add key by) = false
-is_told_of_all (Append key more) = false
-is_told_of_all (StrLen key) = false
-is_told_of_all (MGet keys) = false
-is_told_of_all (MSet words) = false
 is_told_of_all DbSize = true
 is_told_of_all (KeysWith prefix) = true
 is_told_of_all FlushAll = true
-is_told_of_all Ping = false
-is_told_of_all (Echo text) = false
-is_told_of_all (Wrong fault) = false
+is_told_of_all other = false
 
 -- whether it may write
 abbrev pub may_write : Command → Bool
-may_write (Get key) = false
 may_write (Set key value options) = true
 may_write (Del keys) = true
-may_write (Exists keys) = false
 may_write (Add key by) = true
 may_write (Append key more) = true
-may_write (StrLen key) = false
-may_write (MGet keys) = false
 may_write (MSet words) = true
-may_write DbSize = false
-may_write (KeysWith prefix) = false
 may_write FlushAll = true
-may_write Ping = false
-may_write (Echo text) = false
-may_write (Wrong fault) = false
+may_write other = false
 
 -- the same writes, where keys are kept as vectors
 abbrev pub told : List (Vec ℕ × Option (List ℕ)) → Written

@@ -1,10 +1,8 @@
 -- The bytes of replies.
 use Rattle.std.specs.Prelude.{ℕ, List, ◌++◌, flat_map, length, Option, Some, None}
-use Rattle.sk_requests.specs.Replies.{array_text, bulk_text, error_text, integer_text, null_text, simple_text}
+use Rattle.sk_commands.specs.Base.{array_text, bulk_text, error_text, integer_text, null_text, simple_text, Reply}
+use Rattle.sk_commands.specs.Base.{Simple, Error, Rejected, Text, Integer, Bulk, Null, Array, Answer}
 use Rattle.sk_commands.specs.Faults.{said_by, words_of}
-use Rattle.sk_commands.specs.declared.reply.Reply.{Reply}
-use Rattle.sk_commands.specs.declared.reply.Reply.TheVariants.{Simple, Error, Rejected, Text, Integer, Bulk, Null, Array}
-use Rattle.sk_commands.specs.declared.work.Answer.{Answer}
 use Rattle.sk_commands.specs.declared.work.Answer.TheVariants.{One, Each}
 
 -- what a key has, or that it has nothing

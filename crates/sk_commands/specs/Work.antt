@@ -1,17 +1,7 @@
 -- What is done as one step: a command, or the commands of a queue, one after another.
 use Rattle.std.specs.Prelude.{◌≡◌, ◌≤◌, ℕ, Bool, false, List, [], ◌∷◌, ◌++◌, drop, flat_map, length, map, take, Option, Some, None, bytes_eq, if◌then◌else◌}
-use Rattle.std.specs.Ordering.{nat_cmp}
-use Rattle.std.specs.Cmp.Lexicographic.{slice_cmp}
-use Rattle.std.specs.FinMap.Entries.{by_order}
-use Rattle.std.specs.Global.{Vec}
-use Rattle.std.specs.Vec.{vec_items}
-use Rattle.std.specs.List.{list_any}
-use Rattle.sk_commands.specs.declared.command.Command.{Command}
-use Rattle.sk_commands.specs.declared.reply.Reply.{Reply}
-use Rattle.sk_commands.specs.declared.work.Work.{Work}
-use Rattle.sk_commands.specs.declared.work.Work.TheVariants as works
-use Rattle.sk_commands.specs.declared.work.Answer.{Answer}
-use Rattle.sk_commands.specs.declared.work.Answer.TheVariants as answers
+use Rattle.sk_commands.specs.Base.{nat_cmp, slice_cmp, by_order, Vec, vec_items, list_any, Command, Reply, Work}
+use Rattle.sk_commands.specs.Base.{Answer}
 use Rattle.sk_commands.specs.Table.{asks, is_told_of_all, may_write, outcome, Have, Outcome, Written}
 
 -- a key has this, and the others what they have
@@ -35,7 +25,6 @@ IsPlace keys key (Some i) = (i ≤ length keys)
     × (with_known (map vec_items keys) key ≡ map vec_items (take i keys) ++ key ∷ map vec_items (drop i keys))
 
 -- all keys when this is written
-
 abbrev pub known_after : Written → List (List ℕ) → List (List ℕ)
 known_after [] known = known
 known_after (w ∷ ws) known = known_after ws (with_known known w.0)
@@ -57,24 +46,24 @@ answered answer outcome = record { written = outcome.written; reply = answer out
 
 -- the keys that are looked at
 abbrev pub looks_at : List (List ℕ) → Work → List (List ℕ)
-looks_at known (works.Say reply) = []
-looks_at known (works.One command) = asks known command
-looks_at known (works.Each commands) = flat_map (asks known) commands
+looks_at known (Work.Say reply) = []
+looks_at known (Work.One command) = asks known command
+looks_at known (Work.Each commands) = flat_map (asks known) commands
 
 -- what is written and answered, by what keys have
 abbrev pub comes_to : List (List ℕ) → Work → Have → Outcome Answer
-comes_to known (works.Say reply) has = record { written = []; reply = answers.One reply }
-comes_to known (works.One command) has = answered answers.One (outcome known command has)
-comes_to known (works.Each commands) has = answered answers.Each (each known commands has)
+comes_to known (Work.Say reply) has = record { written = []; reply = Answer.One reply }
+comes_to known (Work.One command) has = answered Answer.One (outcome known command has)
+comes_to known (Work.Each commands) has = answered Answer.Each (each known commands has)
 
 -- whether some of it is told of all keys
 abbrev pub wants_all : Work → Bool
-wants_all (works.Say reply) = false
-wants_all (works.One command) = is_told_of_all command
-wants_all (works.Each commands) = list_any is_told_of_all commands
+wants_all (Work.Say reply) = false
+wants_all (Work.One command) = is_told_of_all command
+wants_all (Work.Each commands) = list_any is_told_of_all commands
 
 -- whether some of it may write
 abbrev pub may_write_some : Work → Bool
-may_write_some (works.Say reply) = false
-may_write_some (works.One command) = may_write command
-may_write_some (works.Each commands) = list_any may_write commands
+may_write_some (Work.Say reply) = false
+may_write_some (Work.One command) = may_write command
+may_write_some (Work.Each commands) = list_any may_write commands

@@ -1,13 +1,6 @@
 //! Commands are steps of a kernel. Each law is the contract of a function that does nothing.
 ghost use Rattle.std.specs.Prelude.{◌≡◌, ℕ, List, None, Ok, Option, Some, [], false, flat_map, map};
-ghost use Rattle.sk_record.specs.Step.{perform};
-ghost use Rattle.sk_deeds.specs.Deed.{effect_of};
-ghost use Rattle.sk_requests.specs.declared.limits.Limits.{Limits};
-ghost use Rattle.sk_requests.specs.Stream.{Splits};
-ghost use Rattle.sk_commands.specs.declared.command.Command.{Command};
-ghost use Rattle.sk_commands.specs.declared.command.Order.TheVariants.{Run};
-ghost use Rattle.sk_commands.specs.declared.session.Queue.{Queue};
-ghost use Rattle.sk_commands.specs.declared.work.Work.{Work};
+ghost use Rattle.sk_commands.specs.Base.{perform, effect_of, Limits, Splits, Command, Run, Queue, Work};
 ghost use Rattle.sk_commands.specs.Table.{asks, is_told_of_all, may_write, outcome, Have};
 ghost use Rattle.sk_commands.specs.Work.{comes_to, may_write_some, wants_all};
 ghost use Rattle.sk_commands.specs.Law.{act, deed};

@@ -1,8 +1,7 @@
 //! Integers of 64 bits, and their decimal texts.
 ghost use Rattle.std.specs.Prelude.{◌≡◌, ◌+ℤ◌, neg_ℤ, true, bytes_eq, IfNone, IfOk, IfSome};
-ghost use Rattle.std.specs.Fmt.{signed_decimal};
+ghost use Rattle.sk_commands.specs.Base.{signed_decimal, signed_digits_value};
 ghost use Rattle.sk_commands.specs.Numbers.{fits, fitting, number_of, IsNoNumber};
-ghost use Rattle.std.specs.Str.Parse.{signed_digits_value};
 
 use crate::ByteString;
 use itoa::Buffer;

@@ -1,10 +1,8 @@
 //! What words say: a command, or a word about the queue of a channel.
 ghost use Rattle.std.specs.Prelude.{◌≡◌, ◌==◌, ◌%◌, Some, length, map};
-ghost use Rattle.std.specs.List.{list_any};
-ghost use Rattle.std.specs.Vec.{vec_items};
+ghost use Rattle.sk_commands.specs.Base.{list_any, vec_items, Append, NotInteger};
 ghost use Rattle.sk_commands.specs.Numbers.{number_of};
-ghost use Rattle.sk_commands.specs.declared.command.Command.TheVariants.{Append};
-ghost use Rattle.sk_commands.specs.Parsing.{add_of, alone, exchanged, is_of_prefix, is_special, made, matching, one_of, order_for, order_of, pairs_for, plainly, set_for, some_of, subtract_of, two_of, with_option, with_options};
+ghost use Rattle.sk_commands.specs.Parsing.{add_or, alone, exchanged, is_of_prefix, is_special, made, matching, one_of, order_for, order_of, pairs_for, plainly, set_for, some_of, subtract_of, two_of, with_option, with_options};
 
 use crate::name::is_alike;
 use crate::number::negative_of;
@@ -55,7 +53,7 @@ fn some(name: Name, words: Vec<Vec<u8>>) -> Result<Keys, Fault>
 
 /// Adds what a text says to what a key has.
 fn add(key: ByteString, text: &ByteString) -> Command
-    ensures { result ≡ add_of key (number_of text.now) }
+    ensures { result ≡ add_or NotInteger key (number_of text.now) }
 {
     match number_of(text.as_slice()) {
         Some(by) => Command::Add(key, by),
@@ -185,7 +183,8 @@ fn matching(pattern: ByteString) -> Command
 /// Adds what the second word says to what the first, a key, has.
 fn increment(name: Name, words: Vec<Vec<u8>>) -> Result<Command, Fault>
     ensures { result
-        ≡ made (λ w. add_of w.0 (number_of w.1)) (two_of name (map vec_items words.items)) }
+        ≡ made (λ w. add_or NotInteger w.0 (number_of w.1))
+        (two_of name (map vec_items words.items)) }
 {
     let (key, text) = two(name, words)?;
     Ok(add(key, &text))

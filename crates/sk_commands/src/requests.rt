@@ -1,12 +1,7 @@
 //! Requests that say what was done, as a log keeps them.
 ghost use Rattle.std.specs.Prelude.{◌≡◌, ◌∷◌, ◌++◌, [], flat_map, length, map, IfOk, OnOk};
-ghost use Rattle.std.specs.Fmt.{signed_decimal};
-ghost use Rattle.std.specs.Vec.{vec_items};
-ghost use Rattle.sk_commands.specs.declared.command.Command.TheVariants.{KeysWith, Set};
-ghost use Rattle.sk_commands.specs.declared.fault.Fault.TheVariants.{Syntax};
-ghost use Rattle.sk_commands.specs.declared.work.Work.TheVariants.{Each};
-ghost use Rattle.sk_requests.specs.Replies.{array_text, bulk_text};
-ghost use Rattle.sk_requests.specs.Request.{array, bulks};
+ghost use Rattle.sk_commands.specs.Base.{signed_decimal, vec_items, KeysWith, Set, Syntax, Each, array_text, bulk_text};
+ghost use Rattle.sk_commands.specs.Base.{array, bulks};
 ghost use Rattle.sk_commands.specs.Names.{text_of};
 ghost use Rattle.sk_commands.specs.Requests.{gives_words, log_text, when_words, words_for, wrong_words};
 

@@ -1,9 +1,6 @@
 //! What commands write and reply.
 ghost use Rattle.std.specs.Prelude.{◌+◌, ◌<◌, ◌≤◌, ◌≡◌, ◌++◌, ◌&&◌, ℕ, List, drop, IfOk, Some, bytes_eq, count_by, is_some, length, map, pos};
-ghost use Rattle.std.specs.Vec.{vec_capacity, vec_items, vec_len};
-ghost use Rattle.std.specs.List.{list_any};
-ghost use Rattle.std.specs.Option.{option_copied};
-ghost use Rattle.sk_commands.specs.declared.reply.Reply.TheVariants.{Array, Simple};
+ghost use Rattle.sk_commands.specs.Base.{vec_capacity, vec_items, vec_len, list_any, option_copied, Array, Simple};
 ghost use Rattle.sk_commands.specs.declared.reply.Word.TheVariants as word;
 ghost use Rattle.sk_commands.specs.Table.{added, begins_with, bytes_of, deleted, flushed, joined, listed, number_at, one_more, outcome, pairs_of, present, puts, set_as, shown, there, CarriesOut};
 

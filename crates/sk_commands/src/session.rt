@@ -1,9 +1,7 @@
 //! The queue of a channel: what is to be done for each of its requests.
 ghost use Rattle.std.specs.Prelude.{◌≡◌, None, Some, is_some, map, IfOk, OnErr, OnOk};
-ghost use Rattle.std.specs.Vec.{vec_items};
-ghost use Rattle.sk_commands.specs.declared.reply.Reply.TheVariants.{Error, Simple};
+ghost use Rattle.sk_commands.specs.Base.{vec_items, Error, Simple, Say};
 ghost use Rattle.sk_commands.specs.declared.reply.Word.TheVariants as word;
-ghost use Rattle.sk_commands.specs.declared.work.Work.TheVariants.{Say};
 ghost use Rattle.sk_commands.specs.Parsing.{order_of};
 ghost use Rattle.sk_commands.specs.Session.{no_commands, one_more, spoilt, turn, Takes};
 

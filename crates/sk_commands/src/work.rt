@@ -1,7 +1,6 @@
 //! What is done as one step: a command, or the commands of a queue, one after another.
 ghost use Rattle.std.specs.Prelude.{◌≡◌, ◌∷◌, ◌++◌, [], bytes_eq, flat_map, map, IfOk, OnErr, OnOk};
-ghost use Rattle.std.specs.List.{list_any};
-ghost use Rattle.std.specs.Vec.{vec_items};
+ghost use Rattle.sk_commands.specs.Base.{list_any, vec_items};
 ghost use Rattle.sk_commands.specs.Table.{asks, is_told_of_all, may_write, outcome, told, CarriesOut};
 ghost use Rattle.sk_commands.specs.Work.{after, comes_to, each, known_after, looks_at, may_write_some, wants_all, with_known, IsPlace};
 

@@ -26,5 +26,5 @@ pub use Rattle.sk_commands.specs.Table.{told, Written, is_among}
 pub use Rattle.sk_commands.specs.Work.{with_value, after}
 pub use Rattle.sk_plain_store.specs.Places.{Places, place_of, entries_of, HavePlaces, has_place, KeepsPlaces}
 pub use Rattle.sk_plain_store.specs.Places.{with_entry}
-pub use Rattle.sk_plain_store.specs.Plain.{written_to, put_in, keys_of, bytes_cmp, Entries, taken_out, held, written_at}
+pub use Rattle.sk_plain_store.specs.Plain.{written_to, keys_of, bytes_cmp, Entries, held, written_at}
 pub use Rattle.std.proofs.lemmas.Option.{same_Some}

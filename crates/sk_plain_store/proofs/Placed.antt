@@ -4,7 +4,7 @@ use Rattle.sk_plain_store.proofs.Names.{length, get_or, take, Option, Some, None
 use Rattle.sk_plain_store.proofs.Names.{◌&&◌, Vec, is_eq, is_lt, match_ordering, Ordering, Less, Equal, Greater}
 use Rattle.sk_plain_store.proofs.Names.{AllByRecursion, IsStrictlySortedBy, remove_entry, set_value, insert_entry}
 use Rattle.sk_plain_store.proofs.Names.{is_at, is_sorted, below_all, sorted_head, sorted_tail, bytes_cmp, held, keys_of}
-use Rattle.sk_plain_store.proofs.Names.{put_in, taken_out, written_at, written_to, Entries, take_more, told, Written}
+use Rattle.sk_plain_store.proofs.Names.{written_at, written_to, Entries, take_more, told, Written}
 use Rattle.sk_plain_store.proofs.Names.{entries_of, has_place, place_of, with_entry, HavePlaces, KeepsPlaces, Places}
 use Rattle.std.specs.Prelude.{not}
 use Rattle.std.specs.Map as pairs
@@ -45,13 +45,13 @@ none_below key (e ∷ es) h =
     let both = below_head (bytes_cmp key e.0) (below_all bytes_cmp key es) h in
     ap (λ o. cond (is_eq o) (Some e.1) (held es key)) both.0 ∙ none_below key es both.1
 
-untouched : (key : List ℕ) (es : Entries) → below_all bytes_cmp key es ≡ true → taken_out key es ≡ es
+untouched : (key : List ℕ) (es : Entries) → below_all bytes_cmp key es ≡ true → written_at key None es ≡ es
 untouched key [] h = refl
 untouched key (e ∷ es) h =
     let both = below_head (bytes_cmp key e.0) (below_all bytes_cmp key es) h in
-    ap (λ o. cond (not (is_eq o)) (e ∷ taken_out key es) (taken_out key es)) both.0 ∙ ap (λ x. e ∷ x) (untouched key es both.1)
+    ap (λ o. cond (not (is_eq o)) (e ∷ written_at key None es) (written_at key None es)) both.0 ∙ ap (λ x. e ∷ x) (untouched key es both.1)
 
-put_first : (key value : List ℕ) (es : Entries) → below_all bytes_cmp key es ≡ true → put_in key value es ≡ (key, value) ∷ es
+put_first : (key value : List ℕ) (es : Entries) → below_all bytes_cmp key es ≡ true → written_at key (Some value) es ≡ (key, value) ∷ es
 put_first key value [] h = refl
 put_first key value (e ∷ es) h = rw ((below_head (bytes_cmp key e.0) (below_all bytes_cmp key es) h).0)
 
@@ -152,7 +152,7 @@ replaced key k None None es e b = sym (untouched key es (subst (λ x. below_all 
 replaced key k None (Some v) es e b =
     ap (λ x. (x, v) ∷ es) (sym (tied_is key k e)) ∙ sym (put_first key v es (subst (λ x. below_all bytes_cmp x es ≡ true) (sym (tied_is key k e)) b))
 replaced key k (Some y) None es e b =
-    sym (ap (λ o. cond (not (is_eq o)) ((k, y) ∷ taken_out key es) (taken_out key es)) e ∙ untouched key es (subst (λ x. below_all bytes_cmp x es ≡ true) (sym (tied_is key k e)) b))
+    sym (ap (λ o. cond (not (is_eq o)) ((k, y) ∷ written_at key None es) (written_at key None es)) e ∙ untouched key es (subst (λ x. below_all bytes_cmp x es ≡ true) (sym (tied_is key k e)) b))
 replaced key k (Some y) (Some v) es e b = rw e
 
 passed : (key k : List ℕ) (has value : Option (List ℕ)) (es : Entries) → bytes_cmp key k ≡ Greater → with_entry k has (written_at key value es) ≡ written_at key value (with_entry k has es)

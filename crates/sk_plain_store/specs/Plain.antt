@@ -26,17 +26,10 @@ held entries key = find bytes_cmp key entries
 abbrev pub keys_of : Entries → List (List ℕ)
 keys_of entries = map (λ e. e.0) entries
 
--- a key gets this, in its place
-abbrev pub put_in : List ℕ → List ℕ → Entries → Entries
-put_in key value entries = put bytes_cmp key value entries
-
--- a key becomes absent
-abbrev pub taken_out : List ℕ → Entries → Entries
-taken_out key entries = where_key bytes_cmp (λ k. not (eq_by_cmp bytes_cmp key k)) entries
-
+-- a key gets this, in its place, or becomes absent
 abbrev pub written_at : List ℕ → Option (List ℕ) → Entries → Entries
-written_at key (Some value) entries = put_in key value entries
-written_at key None entries = taken_out key entries
+written_at key (Some value) entries = put bytes_cmp key value entries
+written_at key None entries = where_key bytes_cmp (λ k. not (eq_by_cmp bytes_cmp key k)) entries
 
 -- keys get these, one after another
 abbrev pub written_to : Written → Entries → Entries

@@ -8,7 +8,7 @@ use Rattle.sk_questions.proofs.Names.{digits_decimal, digits_value-decimal, deci
 use Rattle.sk_questions.proofs.Names.{IsPath, ObjId, Entity, Proc, Sig, Exit, Obj, Link, Copy, FaultKind, words, name}
 use Rattle.sk_questions.proofs.Names.{is_name, pid, short, digits, maker_word, object_word, pid_word, two_levels}
 use Rattle.sk_questions.proofs.Names.{spaced, IsWord, is_bare_word, own, number_is, bare_word, words_again, pid_again}
-use Rattle.sk_questions.proofs.Names.{pid_is_word, halves, maker, object, entity, entity_words, IsMaker, IsObject}
+use Rattle.sk_questions.proofs.Names.{pid_is_word, halves, maker, object, entity, entity_words, IfSome, IsObject}
 use Rattle.sk_questions.proofs.Names.{IsEntity}
 use Rattle.sk_words.specs.declared.fault.FaultKind.TheVariants as kinds
 use Rattle.sk_words.specs.Operands.{one_of, two_of, the_two, both}
@@ -57,7 +57,7 @@ plain_process p lt =
           ] refl
     ] refl
 
-plain_maker : (m : Option ℕ) → IsMaker m → Plain (maker_word m)
+plain_maker : (m : Option ℕ) → IfSome m IsPath → Plain (maker_word m)
 plain_maker None h = record { bare = refl; no_colon = refl }
 plain_maker (Some p) h = plain_process p h.3
 
@@ -83,7 +83,7 @@ no_zero p h =
       | false ↦ λ e. refl
     ] refl
 
-maker_again : (m : Option ℕ) → IsMaker m → maker (maker_word m) ≡ Ok m
+maker_again : (m : Option ℕ) → IfSome m IsPath → maker (maker_word m) ≡ Ok m
 maker_again None h = refl
 maker_again (Some p) h = rw (no_zero p h, pid_again p h) refl
 

@@ -1,6 +1,6 @@
 -- What the proofs of this crate cite from outside of them, passed on from one place. Declares nothing.
 pub use Rattle.std.proofs.Common.{ap, Some, eqb, ◌++◌, length, ℕ, true, ltb, Ok, drop, ◌∷◌, sym, None, Err, ◌≡◌, ◌^◌}
-pub use Rattle.std.proofs.Common.{rules, take, false, Option, ◌<◌, arith, refl, List, Result, [], ◌%◌, ◌∙◌, ◌/◌, get_or}
+pub use Rattle.std.proofs.Common.{rules, take, false, Option, ◌<◌, arith, refl, List, Result, [], ◌%◌, ◌∙◌, ◌/◌, get_or, IfSome}
 pub use Rattle.std.proofs.lemmas.Bool.{or_parts, le-leb, ltb-false, lt-leb, lt-ltb, and_parts, ne_eqb}
 pub use Rattle.std.proofs.lemmas.Fmt.{decimal_nonempty, digits_value-decimal, digits_decimal}
 pub use Rattle.std.proofs.lemmas.List.Folds.{list_all-append, list_any-append}
@@ -15,7 +15,7 @@ pub use Rattle.sk_ids.specs.Pid.{IsPath}
 pub use Rattle.sk_ids.specs.declared.entity.Entity.{Entity}
 pub use Rattle.sk_ids.specs.declared.entity.Entity.TheVariants.{Link, Proc, Copy, Exit, Sig, Obj}
 pub use Rattle.sk_ids.specs.declared.pid.ObjId.{ObjId}
-pub use Rattle.sk_questions.specs.Named.{entity_words, entity_rules, object, IsEntity, IsMaker, maker, halves, entity}
+pub use Rattle.sk_questions.specs.Named.{entity_words, entity_rules, object, IsEntity, maker, halves, entity}
 pub use Rattle.sk_questions.specs.Named.{IsObject}
 pub use Rattle.sk_questions.specs.Questions.{question_rules, no_question}
 pub use Rattle.sk_words.proofs.Numbers.{number_is, own}

@@ -1,5 +1,5 @@
 -- The entity that words name, and the words that name an entity.
-use Rattle.std.specs.Prelude.{ℕ, ◌<◌, ◌^◌, ⊤, List, [], ◌∷◌, ◌==◌, Option, Some, None, Result, Ok, if◌then◌else◌, option_map, codes, bytes_eq}
+use Rattle.std.specs.Prelude.{ℕ, ◌<◌, ◌^◌, IfSome, List, [], ◌∷◌, ◌==◌, Option, Some, None, Result, Ok, if◌then◌else◌, option_map, codes, bytes_eq}
 use Rattle.sk_ids.specs.Name.{IsName}
 use Rattle.sk_ids.specs.Pid.{IsPath}
 use Rattle.sk_ids.specs.declared.pid.ObjId.{ObjId}
@@ -13,14 +13,10 @@ use Rattle.sk_words.specs.Tables.{Rule, rule_in, unknown, by_first}
 
 -- ---- an object, as one word
 
--- with a byte before the first of two halves
-abbrev pub onto_half : ℕ → List ℕ × List ℕ → List ℕ × List ℕ
-onto_half b h = (b ∷ h.0, h.1)
-
 -- what stands before and behind the first colon
 abbrev pub halves : List ℕ → Option (List ℕ × List ℕ)
 halves [] = None
-halves (b ∷ bs) = if b == 58 then Some ([], bs) else option_map (onto_half b) (halves bs)
+halves (b ∷ bs) = if b == 58 then Some ([], bs) else option_map (λ h. (b ∷ h.0, h.1)) (halves bs)
 
 -- the maker, which is 0 where the boot made it
 abbrev pub maker : List ℕ → Result (Option ℕ) FaultKind
@@ -70,12 +66,8 @@ entity_words (Copy n) = codes "copy" ∷ n ∷ []
 
 -- ---- what holds of every entity
 
-abbrev pub IsMaker : Option ℕ → Type 0
-IsMaker None = ⊤
-IsMaker (Some p) = IsPath p
-
 abbrev pub IsObject : ObjId → Type 0
-IsObject o = IsMaker o.maker × (o.count < 2 ^ 32)
+IsObject o = IfSome o.maker IsPath × (o.count < 2 ^ 32)
 
 abbrev pub IsEntity : Entity → Type 0
 IsEntity (Proc p) = IsPath p

@@ -7,26 +7,24 @@ use Rattle.sk_words.specs.Tables.{Rule, rule_in}
 use Rattle.sk_words.specs.Words.{words, first_of}
 use Rattle.sk_questions.specs.Named.{entity}
 use Rattle.sk_questions.specs.declared.question.Question.{Question}
-use Rattle.sk_questions.specs.declared.question.Question.TheVariants as questions
 use Rattle.sk_questions.specs.declared.asked.Asked.{Asked}
-use Rattle.sk_questions.specs.declared.asked.Asked.TheVariants as asks
 
 -- this question is asked
 abbrev pub asking : Question → Option Asked
-asking q = Some (asks.Question q)
+asking q = Some (Asked.Question q)
 
 abbrev pub question_rules : List (List ℕ × Rule (Option Asked))
 question_rules =
-    (codes "value", λ ws. entity ws >>= λ e. Ok (asking (questions.Value e))) ∷
-    (codes "tags", λ ws. entity ws >>= λ e. Ok (asking (questions.Tags e))) ∷
-    (codes "dependents", λ ws. one_of positive ws >>= λ id. Ok (asking (questions.Dependents id))) ∷
-    (codes "terminal", λ ws. one_of index ws >>= λ n. Ok (asking (questions.Terminal n))) ∷
-    (codes "released", λ ws. one_of index ws >>= λ n. Ok (Some (asks.Released n))) ∷
-    (codes "counts", λ ws. none_of ws >>= λ _. Ok (asking questions.Counts)) ∷
-    (codes "trace", λ ws. none_of ws >>= λ _. Ok (asking questions.Trace)) ∷
-    (codes "report", λ ws. none_of ws >>= λ _. Ok (asking questions.Report)) ∷
-    (codes "epoch", λ ws. none_of ws >>= λ _. Ok (Some asks.Epoch)) ∷
-    (codes "lease", λ ws. two_of pid short ws >>= λ x. Ok (Some (asks.Lease x.0 x.1))) ∷
+    (codes "value", λ ws. entity ws >>= λ e. Ok (asking (Question.Value e))) ∷
+    (codes "tags", λ ws. entity ws >>= λ e. Ok (asking (Question.Tags e))) ∷
+    (codes "dependents", λ ws. one_of positive ws >>= λ id. Ok (asking (Question.Dependents id))) ∷
+    (codes "terminal", λ ws. one_of index ws >>= λ n. Ok (asking (Question.Terminal n))) ∷
+    (codes "released", λ ws. one_of index ws >>= λ n. Ok (Some (Asked.Released n))) ∷
+    (codes "counts", λ ws. none_of ws >>= λ _. Ok (asking Question.Counts)) ∷
+    (codes "trace", λ ws. none_of ws >>= λ _. Ok (asking Question.Trace)) ∷
+    (codes "report", λ ws. none_of ws >>= λ _. Ok (asking Question.Report)) ∷
+    (codes "epoch", λ ws. none_of ws >>= λ _. Ok (Some Asked.Epoch)) ∷
+    (codes "lease", λ ws. two_of pid short ws >>= λ x. Ok (Some (Asked.Lease x.0 x.1))) ∷
     []
 
 -- a word that does not ask

@@ -1,13 +1,7 @@
 -- What a crash leaves of a log of segments, and what is recovered of it.
 use Rattle.std.specs.Prelude.{◌≡◌, ◌+◌, ◌-◌, ◌≤◌, ℕ, List, [], ◌∷◌, ◌++◌, length, map, take, Option, Some, None}
-use Rattle.sk_log.specs.Crash.{Crashed}
-use Rattle.sk_log.specs.Segments.{synced_of}
-use Rattle.sk_commands.specs.declared.work.Work.{Work}
-use Rattle.sk_plain_store.specs.Plain.{Entries}
-use Rattle.sk_replay.specs.Frames.{payloads_of, works_in, AreLogged}
-use Rattle.sk_replay.specs.Snapshot.{after_works}
-use Rattle.sk_recovered.specs.declared.heads.Head.{Head}
-use Rattle.sk_recovered.specs.declared.recovered.Found.{Found}
+use Rattle.sk_recovered.specs.Base.{Crashed, synced_of, Work, Entries, payloads_of, works_in, AreLogged, after_works}
+use Rattle.sk_recovered.specs.Base.{Head, Found}
 use Rattle.sk_recovered.specs.Recovered.{IsFound}
 use Rattle.sk_recovered.specs.Segments.{least}
 

@@ -1,13 +1,6 @@
 -- Frames that are carried out, one after another.
-use Rattle.std.specs.Prelude.{◌≡◌, ◌+◌, ℕ, Bool, true, false, List, [], ◌∷◌, ◌++◌, length, Option, Some, None}
-use Rattle.sk_commands.specs.declared.work.Work.{Work}
-use Rattle.sk_plain_store.specs.Plain.{Entries}
-use Rattle.sk_replay.specs.Snapshot.{after_works}
-use Rattle.sk_replay.specs.Frames.{SayAll}
-use Rattle.sk_replay.specs.Works.{log_limits, IsRefused}
-use Rattle.sk_replay.specs.declared.refusal.Refusal.TheVariants.{Memory}
-use Rattle.sk_recovered.specs.declared.frames.Damage.{Damage}
-use Rattle.sk_recovered.specs.declared.frames.Frames.{Frames}
+use Rattle.std.specs.Prelude.{◌≡◌, ◌+◌, ℕ, Bool, List, [], ◌∷◌, ◌++◌, length, Option, Some, None, if◌then◌else◌}
+use Rattle.sk_recovered.specs.Base.{Work, Entries, after_works, SayAll, log_limits, IsRefused, Memory, Damage, Frames}
 
 -- Behind so many frames nothing is left; or a frame that says no works is next, and its number is told.
 abbrev pub IsLeft : ℕ → Option Damage → List (List ℕ) → Type 0
@@ -31,5 +24,4 @@ HasTaken first start payloads frames = IsMade first start payloads frames.store 
 
 -- one payload more, where it counts
 abbrev pub with_one : Bool → List (List ℕ) → List ℕ → List (List ℕ)
-with_one false payloads payload = payloads
-with_one true payloads payload = payloads ++ payload ∷ []
+with_one counts payloads payload = if counts then payloads ++ payload ∷ [] else payloads

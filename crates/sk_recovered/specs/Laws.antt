@@ -1,11 +1,6 @@
 -- What holds of recovery.
 use Rattle.std.specs.Prelude.{◌≡◌, ◌-◌, ◌≤◌, ℕ, List, [], ◌∷◌, length, take, Option, Some, None}
-use Rattle.sk_log.specs.Crash.{ReadsPrefix}
-use Rattle.sk_log.specs.Segments.{joined}
-use Rattle.sk_commands.specs.declared.work.Work.{Work}
-use Rattle.sk_plain_store.specs.Plain.{Entries}
-use Rattle.sk_replay.specs.Frames.{payloads_of, works_in, AreLogged}
-use Rattle.sk_replay.specs.Snapshot.{after_works}
+use Rattle.sk_recovered.specs.Base.{ReadsPrefix, joined, Work, Entries, payloads_of, works_in, AreLogged, after_works}
 use Rattle.sk_recovered.specs.Frames.{IsMade}
 use Rattle.sk_recovered.specs.Segments.{counted, lower, Part}
 

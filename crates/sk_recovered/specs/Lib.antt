@@ -1,3 +1,4 @@
+pub mod Base
 pub mod Segments
 pub mod Frames
 pub mod Recovered

@@ -1,14 +1,6 @@
 -- A plain store that is made again from the segments of a log.
-use Rattle.std.specs.Prelude.{◌≡◌, ◌+◌, ◌==◌, ◌<◌, ℕ, Bool, true, false, List, [], ◌∷◌, ◌++◌, drop, length, Option, Some, None, Result, Ok, Err}
-use Rattle.std.specs.declared.alloc.AllocError.{AllocError}
-use Rattle.sk_log.specs.Frame.{Ends}
-use Rattle.sk_log.specs.Reading.{HasRead}
-use Rattle.sk_plain_store.specs.Plain.{Entries}
-use Rattle.sk_recovered.specs.declared.frames.Damage.{Damage}
-use Rattle.sk_recovered.specs.declared.heads.Head.{Head}
-use Rattle.sk_recovered.specs.declared.recovered.Found.{Found}
-use Rattle.sk_recovered.specs.declared.recovered.Recovered.{Recovered}
-use Rattle.sk_recovered.specs.declared.segment.Segment.{Segment}
+use Rattle.std.specs.Prelude.{◌≡◌, ◌+◌, ◌==◌, ◌<◌, ℕ, Bool, true, false, List, [], ◌∷◌, ◌++◌, drop, length, Option, Result, Ok, Err}
+use Rattle.sk_recovered.specs.Base.{option_map_or, AllocError, Ends, HasRead, Entries, Damage, Head, Found, Recovered, Segment}
 use Rattle.sk_recovered.specs.Frames.{HasTaken, IsMade}
 use Rattle.sk_recovered.specs.Segments.{counted, counting, least, AreRead, Part}
 
@@ -63,8 +55,7 @@ OpenPost old (Err same) = (same ≡ old) × ((start : Entries) (first : ℕ) (he
 
 -- the number of the frame that says no works, or else that of the next
 abbrev pub number_of : Option Damage → ℕ → ℕ
-number_of None next = next
-number_of (Some damage) next = damage.place.number
+number_of damage next = option_map_or (λ d. d.place.number) damage next
 
 -- Of the segments with these heads and bytes just what counts made the store, up to the first frame that says no works, and its number, or
 -- that of the next frame, is told.

@@ -1,11 +1,6 @@
 -- What counts of the segments of a log.
 use Rattle.std.specs.Prelude.{◌≡◌, ◌+◌, ◌-◌, ◌==◌, ◌<◌, ℕ, Bool, true, false, nat_lt, List, [], ◌∷◌, ◌++◌, length, take, Option, Some, None, if◌then◌else◌, IfSome, Result, Ok, Err}
-use Rattle.std.specs.declared.alloc.AllocError.{AllocError}
-use Rattle.sk_log.specs.Crash.{Crashed}
-use Rattle.sk_log.specs.Front.{BeginsAs, SaysNumber}
-use Rattle.sk_log.specs.Frame.{Ends}
-use Rattle.sk_log.specs.Log.{IsLog}
-use Rattle.sk_recovered.specs.declared.heads.Head.{Head}
+use Rattle.sk_recovered.specs.Base.{AllocError, Crashed, BeginsAs, SaysNumber, Ends, IsLog, Head}
 
 -- ---- heads
 
@@ -70,7 +65,6 @@ pub record IsPart (head : Head) (later : List Head) (bytes : List ℕ) (p : Part
 -- The first of these segments have these bytes, and these are their frames.
 abbrev pub AreRead : List Head → List (List ℕ) → List Part → Type 0
 AreRead heads [] [] = Unit {0}
-AreRead heads [] (p ∷ parts) = ⊥
 AreRead heads (bytes ∷ more) [] = ⊥
-AreRead [] (bytes ∷ more) (p ∷ parts) = ⊥
 AreRead (h ∷ heads) (bytes ∷ more) (p ∷ parts) = IsPart h heads bytes p × AreRead heads more parts
+AreRead heads bytes parts = ⊥

@@ -1,11 +1,6 @@
 -- Snapshots that are read again.
 use Rattle.std.specs.Prelude.{◌≡◌, true, ℕ, List, [], ◌∷◌, None}
-use Rattle.std.specs.FinMap.{is_sorted}
-use Rattle.sk_log.specs.Log.{log, AreFrames}
-use Rattle.sk_plain_store.specs.Plain.{bytes_cmp, Entries}
-use Rattle.sk_replay.specs.Snapshot.{IsPiece}
-use Rattle.sk_recovered.specs.declared.heads.Head.{Head}
-use Rattle.sk_recovered.specs.declared.recovered.Found.{Found}
+use Rattle.sk_recovered.specs.Base.{is_sorted, log, AreFrames, bytes_cmp, Entries, IsPiece, Head, Found}
 use Rattle.sk_recovered.specs.Recovered.{IsFound}
 
 -- the head of the one segment that a snapshot is
@@ -17,11 +12,8 @@ abbrev pub ArePieces : Entries → List (List ℕ) → Type 0
 ArePieces entries [] = entries ≡ []
 ArePieces entries (payload ∷ payloads) = (room : ℕ) × (left : Entries) × IsPiece room entries payload left × ArePieces left payloads
 
--- These bytes are the frames of a snapshot of these entries.
-abbrev pub IsSnapshotOf : Entries → List ℕ → Type 0
-IsSnapshotOf entries bytes = (payloads : List (List ℕ)) × ArePieces entries payloads × AreFrames 0 1 payloads × (bytes ≡ log 0 1 payloads)
-
--- What is found of a snapshot's bytes, in pieces of any size, is the entries that it was written of, and no frame is damaged.
+-- What is found of the frames of a snapshot, in pieces of any size, is the entries that it was written of, and no frame is damaged.
 abbrev pub SnapshotsAreRead : Type 0
-SnapshotsAreRead = (entries : Entries) (bytes : List ℕ) (found : Found) → is_sorted bytes_cmp entries ≡ true → IsSnapshotOf entries bytes
+SnapshotsAreRead = (entries : Entries) (bytes : List ℕ) (found : Found) → is_sorted bytes_cmp entries ≡ true
+    → ((payloads : List (List ℕ)) × ArePieces entries payloads × AreFrames 0 1 payloads × (bytes ≡ log 0 1 payloads))
     → IsFound [] 1 snapshot_heads (bytes ∷ []) found → (found.damage ≡ None) × (found.store ≡ entries)

@@ -1,7 +1,6 @@
 //! The frames that count, carried out in a plain store one after another.
 ghost use Rattle.std.specs.Prelude.{◌≡◌, ◌+◌, ◌++◌, ◌∷◌, ℕ, true, List, [], length, OnOk};
-ghost use Rattle.sk_plain_store.specs.Plain.{Entries};
-ghost use Rattle.sk_replay.specs.Snapshot.{after_works};
+ghost use Rattle.sk_recovered.specs.Base.{Entries, after_works};
 ghost use Rattle.sk_recovered.specs.Frames.{with_one, HasTaken};
 
 use sk_commands::Work;

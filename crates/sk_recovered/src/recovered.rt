@@ -1,9 +1,6 @@
 //! A plain store again, behind the segments of a log that were read.
 ghost use Rattle.std.specs.Prelude.{◌≡◌, ℕ, List, []};
-ghost use Rattle.std.specs.List.{slice_get};
-ghost use Rattle.std.specs.Option.{option_map};
-ghost use Rattle.sk_plain_store.specs.Plain.{Entries};
-ghost use Rattle.sk_recovered.specs.declared.heads.Head.{Head};
+ghost use Rattle.sk_recovered.specs.Base.{slice_get, option_map, Entries, Head};
 ghost use Rattle.sk_recovered.specs.Recovered.{number_of, HasRecovered, IsFound, OpenPost};
 
 use crate::frames::{Damage, Frames};

@@ -1,8 +1,6 @@
 //! A segment of a log, which is read in pieces of any size.
 ghost use Rattle.std.specs.Prelude.{◌≡◌, ◌&&◌, ◌++◌, ◌∷◌, ℕ, List, [], length, if◌then◌else◌, IfOk, OnOk};
-ghost use Rattle.sk_log.specs.Frame.{Ends};
-ghost use Rattle.sk_plain_store.specs.Plain.{Entries};
-ghost use Rattle.sk_recovered.specs.declared.heads.Head.{Head};
+ghost use Rattle.sk_recovered.specs.Base.{Ends, Entries, Head};
 ghost use Rattle.sk_recovered.specs.Segments.{is_below};
 ghost use Rattle.sk_recovered.specs.Recovered.{HasRecovered, IsWithin, StepPost};
 ghost use Rattle.sk_recovered.specs.Snapshots.{snapshot_heads};

@@ -32,7 +32,7 @@ pub use Rattle.sk_commands.specs.declared.session.Queue.{Queue}
 pub use Rattle.sk_commands.specs.declared.work.Work.{Work}
 pub use Rattle.sk_commands.specs.declared.work.Work.TheVariants.{Say}
 pub use Rattle.sk_plain_store.proofs.Kept.{bytes_total}
-pub use Rattle.sk_plain_store.specs.Plain.{bytes_cmp, Entries, put_in}
+pub use Rattle.sk_plain_store.specs.Plain.{bytes_cmp, Entries, written_at}
 pub use Rattle.sk_replay.specs.Frames.{ShortIsWithin, SayAll, AreLogged, payloads_of, FramesRestore, works_in}
 pub use Rattle.sk_replay.specs.Snapshot.{set_of, after_works, entries_text, SnapshotsRestore}
 pub use Rattle.sk_replay.specs.Works.{HasCarried, fault_in, IsRefusedBehind, IsAgain, log_limits, IsToldOf, queue_after}

@@ -1,9 +1,9 @@
 -- Snapshots: what a plain store has, written as works that set it.
 use Rattle.std.specs.Prelude.{◌≡◌, ℕ, ◌<◌, ◌≤◌, true, false, List, [], ◌∷◌, flat_map, length, map, take, drop}
+use Rattle.sk_commands.specs.declared.command.When.{When}
 use Rattle.std.specs.FinMap.{is_sorted}
 use Rattle.sk_commands.specs.Requests.{log_text}
 use Rattle.sk_commands.specs.Work.{comes_to}
-use Rattle.sk_commands.specs.declared.command.When.TheVariants as when
 use Rattle.sk_commands.specs.declared.command.Command.TheVariants.{Set}
 use Rattle.sk_commands.specs.declared.work.Work.{Work}
 use Rattle.sk_commands.specs.declared.work.Work.TheVariants.{One}
@@ -19,7 +19,7 @@ after_works (work ∷ works) entries = after_works works (after_work work entrie
 
 -- the work that sets an entry
 abbrev pub set_of : List ℕ × List ℕ → Work
-set_of entry = One (Set entry.0 entry.1 (record { when = when.Always; gives = false }))
+set_of entry = One (Set entry.0 entry.1 (record { when = When.Always; gives = false }))
 
 -- the bytes that a log keeps of works that set entries
 abbrev pub entries_text : Entries → List ℕ

@@ -10,14 +10,13 @@ use Rattle.sk_commands.specs.Parsing.{order_of}
 use Rattle.sk_commands.specs.Session.{turn}
 use Rattle.sk_commands.specs.Requests.{work_for}
 use Rattle.sk_commands.specs.declared.fault.Fault.{Fault}
-use Rattle.sk_commands.specs.declared.reply.Reply.TheVariants.{Simple, Error, Rejected, Text, Integer, Bulk, Null, Array}
+use Rattle.sk_commands.specs.declared.reply.Reply.TheVariants.{Error}
 use Rattle.sk_commands.specs.declared.session.Queue.{Queue}
 use Rattle.sk_commands.specs.declared.work.Work.{Work}
-use Rattle.sk_commands.specs.declared.work.Work.TheVariants.{Say, One, Each}
+use Rattle.sk_commands.specs.declared.work.Work.TheVariants.{Say}
 use Rattle.sk_replay.specs.declared.channel.Channel.{Channel}
 use Rattle.sk_replay.specs.declared.payload.Reading.{Reading}
 use Rattle.sk_replay.specs.declared.refusal.Refusal.{Refusal}
-use Rattle.sk_replay.specs.declared.refusal.Refusal.TheVariants as refusals
 
 -- how large a request of a log may be
 abbrev pub log_limits : Limits
@@ -30,16 +29,8 @@ queue_after queue (words ∷ requests) = queue_after (turn queue (order_of words
 
 -- the fault that is replied, if one is
 abbrev pub fault_in : Work → Option Fault
-fault_in (Say (Simple word)) = None
 fault_in (Say (Error fault)) = Some fault
-fault_in (Say (Rejected words)) = None
-fault_in (Say (Text bytes)) = None
-fault_in (Say (Integer n)) = None
-fault_in (Say (Bulk bytes)) = None
-fault_in (Say Null) = None
-fault_in (Say (Array values)) = None
-fault_in (One command) = None
-fault_in (Each commands) = None
+fault_in other = None
 
 -- No fault is replied to any of these requests of one channel.
 abbrev pub AreTaken : Option Queue → List (List (List ℕ)) → Type 0
@@ -61,24 +52,24 @@ IsToldOf limits told place payload = (place ≤ length payload) × ((rest : List
 
 -- Why a payload is not read: what stands behind its first requests, to none of which a fault is replied.
 abbrev pub IsRefused : Limits → List ℕ → Refusal → Type 0
-IsRefused limits payload (refusals.Request fault place) = (requests : List (List (List ℕ))) × AreTaken None requests
+IsRefused limits payload (Refusal.Request fault place) = (requests : List (List (List ℕ))) × AreTaken None requests
     × IsToldOf limits (map Some requests) place payload
     × ((rest : List ℕ) × Splits limits (map Some requests) rest payload × HasFault limits fault rest)
-IsRefused limits payload (refusals.TooLarge place) = (requests : List (List (List ℕ))) × AreTaken None requests
+IsRefused limits payload (Refusal.TooLarge place) = (requests : List (List (List ℕ))) × AreTaken None requests
     × IsToldOf limits (map Some requests ++ None ∷ []) place payload
-IsRefused limits payload (refusals.Command fault place) = (requests : List (List (List ℕ))) × (words : List (List ℕ)) × AreTaken None requests
+IsRefused limits payload (Refusal.Command fault place) = (requests : List (List (List ℕ))) × (words : List (List ℕ)) × AreTaken None requests
     × IsToldOf limits (map Some (requests ++ words ∷ [])) place payload
     × ((turn (queue_after None requests) (order_of words)).work ≡ Say (Error fault))
-IsRefused limits payload refusals.Cut = (requests : List (List (List ℕ))) × AreTaken None requests
+IsRefused limits payload Refusal.Cut = (requests : List (List (List ℕ))) × AreTaken None requests
     × EndsWithin limits (map Some requests) payload true
-IsRefused limits payload refusals.Open = (requests : List (List (List ℕ))) × AreTaken None requests
+IsRefused limits payload Refusal.Open = (requests : List (List (List ℕ))) × AreTaken None requests
     × Splits limits (map Some requests) [] payload × (is_some (queue_after None requests) ≡ true)
-IsRefused limits payload refusals.Memory = Unit {0}
+IsRefused limits payload Refusal.Memory = Unit {0}
 
 -- what a refusal of the reader is, behind so many bytes
 abbrev pub refused_at : ℕ → ReaderRefusal → Refusal
-refused_at place (reader.Fault fault) = refusals.Request fault place
-refused_at place reader.Memory = refusals.Memory
+refused_at place (reader.Fault fault) = Refusal.Request fault place
+refused_at place reader.Memory = Refusal.Memory
 
 -- What is answered of a payload.
 abbrev pub IsRead : Limits → List ℕ → Result (Vec Work) Refusal → Type 0
@@ -88,7 +79,7 @@ IsRead limits payload (Err refusal) = IsRefused limits payload refusal
 -- Just these works are answered, if there is memory.
 abbrev pub IsAgain : List Work → Result (Vec Work) Refusal → Type 0
 IsAgain works (Ok answer) = answer.items ≡ works
-IsAgain works (Err refusal) = refusal ≡ refusals.Memory
+IsAgain works (Err refusal) = refusal ≡ Refusal.Memory
 
 -- These requests came on the channel, no fault was replied to them, and it has the queue that they leave and the works that are carried out.
 pub record HasCarried (requests : List (List (List ℕ))) (channel : Channel) : Type 0 where
@@ -98,13 +89,10 @@ pub record HasCarried (requests : List (List (List ℕ))) (channel : Channel) : 
 
 -- A fault is replied to a request that came behind these, and is told with this place; or there was no memory.
 abbrev pub IsRefusedBehind : List (List (List ℕ)) → List (List ℕ) → ℕ → Refusal → Type 0
-IsRefusedBehind requests words place (refusals.Command fault behind) =
+IsRefusedBehind requests words place (Refusal.Command fault behind) =
     (behind ≡ place) × ((turn (queue_after None requests) (order_of words)).work ≡ Say (Error fault))
-IsRefusedBehind requests words place refusals.Memory = Unit {0}
-IsRefusedBehind requests words place (refusals.Request fault behind) = ⊥
-IsRefusedBehind requests words place (refusals.TooLarge behind) = ⊥
-IsRefusedBehind requests words place refusals.Cut = ⊥
-IsRefusedBehind requests words place refusals.Open = ⊥
+IsRefusedBehind requests words place Refusal.Memory = Unit {0}
+IsRefusedBehind requests words place other = ⊥
 
 -- So many bytes of the payload were read, and the requests among them came on the channel.
 pub record HasCome (payload : List ℕ) (reading : Reading) : Type 0 where

@@ -46,6 +46,7 @@ pub use Rattle.sk_deeds.specs.Moves.{Moves, Starts}
 pub use Rattle.sk_deeds.specs.Told.{told_more, with_told, moves_of, Told, Does, Tells, Call}
 pub use Rattle.sk_plain_store.proofs.Kept.{bytes_total, stays_in_order, tied_is, bytes_same, knows, holds_written}
 pub use Rattle.sk_plain_store.specs.Plain.{keys_of, bytes_cmp, Entries, written_to, held}
+pub use Rattle.sk_replay.specs.Snapshot.{after_work, after_works}
 pub use Rattle.sk_record.proofs.Chains.{dirt_is, in_from}
 pub use Rattle.sk_record.proofs.Later.{SameOff, dirtied_other, any_same, dirtied_same}
 pub use Rattle.sk_record.proofs.Machine.{own_dirt, has_filter, nil_right}
@@ -72,6 +73,6 @@ pub use Rattle.sk_served.specs.Calls.{IsProper, Kernel, StoreCalls}
 pub use Rattle.sk_served.specs.Known.{HasNoReserved, LeaveOutNothing, KnowsAll, AreTold, IsTold}
 pub use Rattle.sk_served.specs.Laws.{HoldsSame}
 pub use Rattle.sk_served.specs.Names.{NoneTakenNamesReserved, NamesNoReserved, names_reserved, command_names_reserved}
-pub use Rattle.sk_served.specs.Plain.{writing, replies_to, entry_after, after_work, works_after, entries_after}
+pub use Rattle.sk_served.specs.Plain.{writing, replies_to, entry_after, entries_after}
 pub use Rattle.sk_served.specs.Plain.{reply_to}
 pub use Rattle.sk_served.specs.Served.{Opens, Runs, Entry, mark, batch_keys, served, act, logged, Asked, deed}

@@ -1,22 +1,11 @@
 -- The laws of the store's steps.
 use Rattle.std.specs.Prelude.{◌≡◌, ◌<◌, ℕ, true, List, ◌++◌, map, slice_get, Some, Ok}
-use Rattle.std.specs.List.{AllByRecursion}
-use Rattle.std.specs.FinMap.{FinMap, get, is_sorted}
-use Rattle.sk_record.specs.Step.{perform}
-use Rattle.sk_record.specs.Effects.{Dep}
-use Rattle.sk_record.specs.Run.{effects, run}
-use Rattle.sk_record.specs.Trace.{Event, IsSound, record_of}
-use Rattle.sk_record.specs.Release.{said_from}
-use Rattle.sk_record.specs.Machine.{Machine, IsPlainRun}
-use Rattle.sk_deeds.specs.Deed.{effect_of}
-use Rattle.sk_deeds.specs.Told.{with_told, Told}
-use Rattle.sk_commands.specs.declared.work.Work.{Work}
-use Rattle.sk_commands.specs.declared.work.Answer.{Answer}
-use Rattle.sk_commands.specs.Table.{Have}
-use Rattle.sk_plain_store.specs.Plain.{bytes_cmp, held, Entries, Runs as Carries}
+use Rattle.sk_served.specs.Base.{AllByRecursion, FinMap, get, is_sorted, perform, Dep, effects, run, Event, IsSound}
+use Rattle.sk_served.specs.Base.{record_of, said_from, Machine, IsPlainRun, effect_of, with_told, Told, Work, Answer}
+use Rattle.sk_served.specs.Base.{Have, after_work, after_works, bytes_cmp, held, Entries, Carries}
 use Rattle.sk_served.specs.Served.{act, deed, served, Asked, Entry, Opens, Runs}
 use Rattle.sk_served.specs.Names.{NamesNoReserved, NoneTakenNamesReserved}
-use Rattle.sk_served.specs.Plain.{after_work, answer_to, entries_after, replies_to, works_after, writing}
+use Rattle.sk_served.specs.Plain.{answer_to, entries_after, replies_to, writing}
 use Rattle.sk_served.specs.Known.{AreTold, HasNoReserved, LeaveOutNothing}
 
 -- A step does just what its deed says, whatever keys have.
@@ -49,7 +38,7 @@ RunsAsPlainStore = (start : FinMap served.order (List ℕ)) (entries : Entries) 
 
 -- Of what the works of entries leave, those that may write are all.
 abbrev pub WritingIsAll : Type 0
-WritingIsAll = (ns : List Entry) (entries : Entries) → entries_after ns entries ≡ works_after (writing ns) entries
+WritingIsAll = (ns : List Entry) (entries : Entries) → entries_after ns entries ≡ after_works (writing ns) entries
 
 -- What is known of all keys when an entry is taken is known in the plain run of those that are left, whatever failed
 -- since.

@@ -1,3 +1,4 @@
+pub mod Base
 pub mod Served
 pub mod Names
 pub mod Plain

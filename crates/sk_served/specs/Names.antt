@@ -1,13 +1,7 @@
 -- The keys that work names, and that none of them is a batch's.
 use Rattle.std.specs.Prelude.{◌≡◌, ℕ, Bool, false, List, [], ◌∷◌, map}
-use Rattle.std.specs.List.{list_any}
-use Rattle.sk_record.specs.Trace.{Event, Taken, Commit, Fail}
-use Rattle.sk_commands.specs.declared.command.Command.{Command}
-use Rattle.sk_commands.specs.declared.command.Command.TheVariants.{MSet, Set}
-use Rattle.sk_commands.specs.declared.work.Work.{Work}
-use Rattle.sk_commands.specs.declared.work.Work.TheVariants as works
-use Rattle.sk_commands.specs.Table.{asks, pairs_of}
-use Rattle.sk_reserved.specs.Keys.{is_reserved}
+use Rattle.sk_served.specs.Base.{list_any, Event, Taken, Commit, Fail, Command, MSet, Set, Work, asks, pairs_of}
+use Rattle.sk_served.specs.Base.{is_reserved}
 use Rattle.sk_served.specs.Served.{Entry, Opens, Runs}
 
 -- the keys that a command names: those that it looks at, and those that SET and MSET set
@@ -21,9 +15,9 @@ abbrev pub command_names_reserved : Command → Bool
 command_names_reserved command = list_any is_reserved (names_of command)
 
 abbrev pub names_reserved : Work → Bool
-names_reserved (works.Say reply) = false
-names_reserved (works.One command) = command_names_reserved command
-names_reserved (works.Each commands) = list_any command_names_reserved commands
+names_reserved (Work.Say reply) = false
+names_reserved (Work.One command) = command_names_reserved command
+names_reserved (Work.Each commands) = list_any command_names_reserved commands
 
 -- Its work names no key that is a batch's.
 abbrev pub NamesNoReserved : Entry → Type 0
@@ -34,5 +28,4 @@ NamesNoReserved (Runs a) = names_reserved a.work ≡ false
 abbrev pub NoneTakenNamesReserved : List (Event Entry) → Type 0
 NoneTakenNamesReserved [] = Unit {0}
 NoneTakenNamesReserved (Taken n ∷ es) = NamesNoReserved n × NoneTakenNamesReserved es
-NoneTakenNamesReserved (Commit g ∷ es) = NoneTakenNamesReserved es
-NoneTakenNamesReserved (Fail g ∷ es) = NoneTakenNamesReserved es
+NoneTakenNamesReserved (other ∷ es) = NoneTakenNamesReserved es

@@ -1,16 +1,9 @@
 -- A plain store carries out the works of entries, one after another.
 use Rattle.std.specs.Prelude.{ℕ, ◌==◌, List, [], ◌∷◌, ◌++◌, if◌then◌else◌}
-use Rattle.sk_commands.specs.declared.work.Work.{Work}
-use Rattle.sk_commands.specs.declared.work.Answer.{Answer}
-use Rattle.sk_commands.specs.Work.{comes_to, may_write_some}
-use Rattle.sk_plain_store.specs.Plain.{held, keys_of, written_to, Entries}
+use Rattle.sk_served.specs.Base.{after_work, Work, Answer, comes_to, may_write_some, held, keys_of, Entries}
 use Rattle.sk_served.specs.Served.{Entry, Opens, Runs}
 
--- what it holds after some work
-abbrev pub after_work : Work → Entries → Entries
-after_work work entries = written_to (comes_to (keys_of entries) work (held entries)).written entries
-
--- and what it answers
+-- what it answers to some work
 abbrev pub answer_to : Work → Entries → Answer
 answer_to work entries = (comes_to (keys_of entries) work (held entries)).reply
 
@@ -22,11 +15,6 @@ entry_after (Runs a) entries = after_work a.work entries
 abbrev pub entries_after : List Entry → Entries → Entries
 entries_after [] entries = entries
 entries_after (n ∷ ns) entries = entries_after ns (entry_after n entries)
-
--- what it holds after works
-abbrev pub works_after : List Work → Entries → Entries
-works_after [] entries = entries
-works_after (work ∷ works) entries = works_after works (after_work work entries)
 
 -- the works of entries that may write
 abbrev pub writing : List Entry → List Work

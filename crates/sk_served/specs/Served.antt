@@ -1,17 +1,7 @@
 -- The steps of the store: a batch begins; or what a channel asked for is carried out.
 use Rattle.std.specs.Prelude.{ℕ, List, [], ◌∷◌, ◌++◌, Option, Some, None}
-use Rattle.std.specs.Option.{option_map}
-use Rattle.std.specs.Ordering.{nat_cmp}
-use Rattle.std.specs.Cmp.Lexicographic.{slice_cmp}
-use Rattle.sk_record.specs.Step.{Step, Ask, Refuse, Done}
-use Rattle.sk_record.specs.Run.{System}
-use Rattle.sk_deeds.specs.Deed.{Deed, asking}
-use Rattle.sk_reserved.specs.Keys.{batch_key}
-use Rattle.sk_commands.specs.declared.work.Work.{Work}
-use Rattle.sk_commands.specs.declared.work.Answer.{Answer}
-use Rattle.sk_commands.specs.Table.{Have}
-use Rattle.sk_commands.specs.Work.{comes_to, looks_at}
-use Rattle.sk_commands.specs.Law.{act as works}
+use Rattle.sk_served.specs.Base.{option_map, nat_cmp, slice_cmp, Step, Ask, Refuse, Done, System, Deed, asking}
+use Rattle.sk_served.specs.Base.{batch_key, Work, Answer, Have, comes_to, looks_at, works}
 
 -- Work that came on a channel with this ticket, where these keys are known; where it may write, the batch that logs it.
 pub record Asked : Type 0 where

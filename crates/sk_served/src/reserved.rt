@@ -1,9 +1,6 @@
 //! Keys that no command may name: those of batches.
 ghost use Rattle.std.specs.Prelude.{◌≡◌, map};
-ghost use Rattle.std.specs.Vec.{vec_items};
-ghost use Rattle.std.specs.List.{list_any};
-ghost use Rattle.sk_commands.specs.Table.{pairs_of};
-ghost use Rattle.sk_reserved.specs.Keys.{is_reserved};
+ghost use Rattle.sk_served.specs.Base.{vec_items, list_any, pairs_of, is_reserved};
 ghost use Rattle.sk_served.specs.Names.{command_names_reserved, names_reserved};
 
 use sk_commands::{Command, Work};

@@ -21,7 +21,7 @@ pub use Rattle.sk_batched.specs.Batched.{in_batch, Draws, opening, BatchedView, 
 pub use Rattle.sk_batched.specs.Batched.{MayBegin}
 pub use Rattle.sk_batched.specs.InStep.{IsInStep, IsRow, not_yet, AreInRow, tokens_of, alone, open_if, notes_by}
 pub use Rattle.sk_batched.specs.InStep.{open_numbers}
-pub use Rattle.sk_batched.specs.Keys.{is_batch_key, has_reserved_key}
+pub use Rattle.sk_batched.specs.Keys.{has_reserved_key}
 pub use Rattle.sk_batched.specs.Refused.{step_refused}
 pub use Rattle.sk_batched.specs.Runs.{Opens, Runs, kernel_calls, Plain, in_batches, LogsStep, Steps, IsRefused, Hears}
 pub use Rattle.sk_batched.specs.Runs.{opens_first, LetsOut, Cuts, DrawsGuess, BatchesAsPlain, Decides, BatchStep, Stops}

@@ -1,34 +1,12 @@
 -- A kernel whose guesses are batches of a queue, as its callers see it, and what its calls answer and leave.
 use Rattle.std.specs.Prelude.{◌≡◌, ◌⊎◌, ◌&&◌, ◌==◌, ◌+◌, ◌*◌, ◌++◌, ℕ, Bool, true, false, not, nat_lt, nat_le, List, [], ◌∷◌, length, map, Option, Some, None, if◌then◌else◌, Result, Ok, Err}
-use Rattle.std.specs.List.{list_any}
-use Rattle.std.specs.Option.{option_map, option_or}
-use Rattle.std.specs.Global.{Vec}
-use Rattle.sk_record.specs.Notes.{has}
-use Rattle.sk_record.specs.UndoState.{tags_at}
-use Rattle.sk_guesses.specs.Kept.{none_drawn}
-use Rattle.sk_slots.specs.Slots.{look_at, log_at}
-use Rattle.sk_index.specs.Index.{bytes_cmp}
-use Rattle.sk_deeds.specs.Deed.{Deed}
-use Rattle.sk_speculator.specs.Calls.{Commits, FailsIn, Takes}
-use Rattle.sk_speculator.specs.Parts.{Parts, undo_state_of}
-use Rattle.sk_speculator.specs.WholeStep.{WholeStep}
-use Rattle.sk_bytes.specs.Calls.{TellsUndone, Unchanged}
-use Rattle.sk_bytes.specs.Steps.{byte_deed}
-use Rattle.sk_bytes.specs.Told.{ByteView}
-use Rattle.sk_batches.specs.Calls.{append_refused, cause_of as queue_cause_of, new_queue}
-use Rattle.sk_batches.specs.Frames.{frame_refused, FramePost}
-use Rattle.sk_batches.specs.Places.{PlacesView}
-use Rattle.sk_batches.specs.Queue.{QueueView, decided, left}
-use Rattle.sk_batches.specs.declared.frames.Sealed.{Sealed}
-use Rattle.sk_batches.specs.declared.queue.Decision.TheVariants as decision
-use Rattle.sk_batches.specs.declared.refusal.Refusal.{Refusal as Queued}
+use Rattle.sk_batched.specs.Base.{list_any, option_map, option_or, Vec, has, tags_at, none_drawn, look_at, log_at}
+use Rattle.sk_batched.specs.Base.{bytes_cmp, Deed, Commits, FailsIn, Takes, Parts, undo_state_of, WholeStep}
+use Rattle.sk_batched.specs.Base.{TellsUndone, Unchanged, byte_deed, ByteView, append_refused, queue_cause_of}
+use Rattle.sk_batched.specs.Base.{new_queue, frame_refused, FramePost, PlacesView, QueueView, decided, left, Sealed}
+use Rattle.sk_batched.specs.Base.{Queued, Outcome, Logged, Refused, MOST_IN_FLIGHT, Refusal, TooMany, Memory}
+use Rattle.sk_batched.specs.Base.{batch_key, Decision}
 use Rattle.sk_batches.specs.declared.refusal.Refusal.TheVariants as queued
-use Rattle.sk_batched.specs.declared.batched.Outcome.{Outcome}
-use Rattle.sk_batched.specs.declared.batched.Outcome.TheVariants.{Logged, Refused}
-use Rattle.sk_batched.specs.declared.batched.TheConstants.{MOST_IN_FLIGHT}
-use Rattle.sk_batched.specs.declared.refusal.Refusal.{Refusal}
-use Rattle.sk_batched.specs.declared.refusal.Refusal.TheVariants.{TooMany, Memory}
-use Rattle.sk_reserved.specs.Keys.{batch_key}
 use Rattle.sk_batched.specs.Refused.{cause_of, refusal_of, step_refused}
 
 -- the kernel, the queue, and whether the guess of the open batch is drawn
@@ -178,9 +156,9 @@ module _ {V O : Type 0} where
   abbrev pub DecidePost : Option Outcome → BatchedView V O → BatchedView V O → Type 0
   DecidePost None old new = (decided old.queue.batches ≡ None) × (new ≡ old)
   DecidePost (Some (Logged n)) old new =
-      (decided old.queue.batches ≡ Some (decision.Logged n)) × Commits bytes_cmp old.kernel.parts n new.kernel.parts
+      (decided old.queue.batches ≡ Some (Decision.Logged n)) × Commits bytes_cmp old.kernel.parts n new.kernel.parts
       × (new.queue ≡ record old.queue { batches = left old.queue.batches }) × (new.begun ≡ old.begun)
   DecidePost (Some (Refused n keys)) old new =
-      (decided old.queue.batches ≡ Some (decision.Refused n)) × FailsIn bytes_cmp old.kernel.parts n new.kernel.parts
+      (decided old.queue.batches ≡ Some (Decision.Refused n)) × FailsIn bytes_cmp old.kernel.parts n new.kernel.parts
       × TellsUndone old.kernel.parts n keys 0 new.kernel.undone
       × (new.queue ≡ record old.queue { batches = left old.queue.batches }) × (new.begun ≡ old.begun)

@@ -1,13 +1,6 @@
 -- What holds between calls: the undecided guesses are just the undecided batches, with the open one where its guess is drawn.
 use Rattle.std.specs.Prelude.{◌≡◌, ◌==◌, ◌+◌, ◌≤◌, ◌%◌, ◌++◌, ℕ, Bool, true, false, List, [], ◌∷◌, length, map, None, if◌then◌else◌}
-use Rattle.sk_record.specs.Notes.{Note}
-use Rattle.sk_record.specs.UndoState.{Open}
-use Rattle.sk_guesses.specs.Token.{Token}
-use Rattle.sk_slots.specs.Slots.{look_at, log_at}
-use Rattle.sk_index.specs.Index.{bytes_cmp}
-use Rattle.sk_speculator.specs.Parts.{Parts}
-use Rattle.sk_batches.specs.Queue.{QueueView}
-use Rattle.sk_reserved.specs.Keys.{batch_key}
+use Rattle.sk_batched.specs.Base.{Note, Open, Token, look_at, log_at, bytes_cmp, Parts, QueueView, batch_key}
 
 -- the open batch, where its guess is drawn
 abbrev pub open_if : Bool → ℕ → List ℕ

@@ -1,3 +1,4 @@
+pub mod Base
 pub mod Keys
 pub mod Refused
 pub mod Batched

@@ -1,12 +1,8 @@
 -- Why a step is not taken or logged.
 use Rattle.std.specs.Prelude.{ℕ, Option, Some, None, if◌then◌else◌}
-use Rattle.std.specs.Global.{Vec}
-use Rattle.sk_speculator.specs.WholeStep.{WholeStep}
-use Rattle.sk_bytes.specs.Calls.{has_long_key}
-use Rattle.sk_batches.specs.declared.refusal.Refusal.{Refusal as Queued}
+use Rattle.sk_batched.specs.Base.{Vec, WholeStep, has_long_key, Queued, Refusal, LongKey, Reserved, Stopped, Full}
+use Rattle.sk_batched.specs.Base.{Memory}
 use Rattle.sk_batches.specs.declared.refusal.Refusal.TheVariants as queued
-use Rattle.sk_batched.specs.declared.refusal.Refusal.{Refusal}
-use Rattle.sk_batched.specs.declared.refusal.Refusal.TheVariants.{LongKey, Reserved, Stopped, Full, Memory}
 use Rattle.sk_batched.specs.Keys.{has_reserved_key}
 
 -- what the queue says against one record more

@@ -1,27 +1,11 @@
 -- Calls one after another, and what the kernel inside is told: steps, guesses, commits and failures, each of which is an event of one trace.
 use Rattle.std.specs.Prelude.{◌≡◌, ◌+◌, ◌↔◌, ℕ, Bool, true, false, List, [], ◌∷◌, ◌++◌, map, Option, Some, None, Ok}
-use Rattle.std.specs.List.{list_any, Contains}
-use Rattle.std.specs.FinMap.{FinMap, empty}
-use Rattle.sk_record.specs.Step.{Step, Ask, Refuse, Done, perform}
-use Rattle.sk_record.specs.Run.{System}
-use Rattle.sk_record.specs.Trace.{Taken, Commit, Fail}
-use Rattle.sk_record.specs.Machine.{IsPlainRun}
-use Rattle.sk_record.specs.declared.status.Status.{Status}
-use Rattle.sk_record.specs.declared.status.Status.TheVariants.{Committed, Failed}
-use Rattle.sk_guesses.specs.Kept.{AreStatuses}
-use Rattle.sk_slots.specs.Slots.{look_at}
-use Rattle.sk_index.specs.Index.{bytes_cmp}
-use Rattle.sk_deeds.specs.Deed.{Deed, effect_of}
-use Rattle.sk_deeds.specs.Told.{Told, told_more, with_told}
-use Rattle.sk_speculator.specs.Calls.{Commits, FailsIn, Takes}
-use Rattle.sk_speculator.specs.Law.{Call as KernelCall, Does, Tells, events_of, TakesOut}
-use Rattle.sk_speculator.specs.Parts.{machine_of}
-use Rattle.sk_batches.specs.Queue.{QueueView, after_take, after_word, cut_due, after_cut, decided, left}
-use Rattle.sk_batches.specs.declared.batch.Stage.{Stage}
-use Rattle.sk_batches.specs.declared.queue.Cut.{Cut}
-use Rattle.sk_batches.specs.declared.queue.Decision.{Decision}
+use Rattle.sk_batched.specs.Base.{list_any, Contains, empty, Step, Ask, Refuse, Done, perform, System, Taken}
+use Rattle.sk_batched.specs.Base.{Commit, Fail, IsPlainRun, Status, Committed, Failed, AreStatuses, look_at, bytes_cmp}
+use Rattle.sk_batched.specs.Base.{Deed, effect_of, Told, told_more, with_told, Commits, FailsIn, Takes, KernelCall}
+use Rattle.sk_batched.specs.Base.{Does, Tells, events_of, TakesOut, machine_of, QueueView, after_take, after_word}
+use Rattle.sk_batched.specs.Base.{cut_due, after_cut, decided, left, Stage, Cut, Decision, batch_key, is_reserved}
 use Rattle.sk_batches.specs.declared.queue.Decision.TheVariants.{Logged, Refused}
-use Rattle.sk_reserved.specs.Keys.{batch_key, is_reserved}
 use Rattle.sk_batched.specs.Batched.{is_full, Begins, BatchedView, Draws, IsNew, Logs, Stays}
 
 -- ---- the steps that the kernel takes
@@ -46,8 +30,7 @@ module _ {V O F N : Type 0} (own : System (List ℕ) V (ℕ × O) F N) where
 
   abbrev pub mark_of : BatchStep N → Option ℕ
   mark_of (Opens number) = Some number
-  mark_of (Plain n) = None
-  mark_of (InBatch number n) = None
+  mark_of other = None
 
   -- a caller's step function, with batches
   abbrev pub in_batches : System (List ℕ) V (ℕ × O) F (BatchStep N)

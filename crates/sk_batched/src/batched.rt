@@ -1,20 +1,9 @@
 //! A kernel whose guesses are batches of a queue.
 ghost use Rattle.std.specs.Prelude.{◌≡◌, ◌+◌, ◌*◌, ◌≤◌, [], ◌∷◌, ◌++◌, ◌==◌, ◌&&◌, not, ℕ, true, false, is_err, None, Some, IfErr, IfOk, IfSome, OnErr, OnOk, length};
-ghost use Rattle.std.specs.Int.NonZero.{non_zero_u16_get};
-ghost use Rattle.sk_record.specs.Notes.{has};
-ghost use Rattle.sk_record.specs.Machine.{released};
-ghost use Rattle.sk_record.specs.UndoState.{numbers};
-ghost use Rattle.sk_guesses.specs.Kept.{struck_with};
-ghost use Rattle.sk_outputs.specs.Said.{said_at};
-ghost use Rattle.sk_index.specs.Index.{bytes_cmp};
-ghost use Rattle.sk_speculator.specs.Calls.{Commits, FailsIn, Takes};
-ghost use Rattle.sk_speculator.specs.Law.{TakesOut};
-ghost use Rattle.sk_bytes.specs.Calls.{TellsUndone};
-ghost use Rattle.sk_bytes.specs.Steps.{byte_deed};
-ghost use Rattle.sk_batches.specs.Calls.{CutPost, WordPost};
-ghost use Rattle.sk_batches.specs.Frames.{FramePost};
-ghost use Rattle.sk_batches.specs.Queue.{cut_due};
-ghost use Rattle.sk_batches.specs.declared.batch.Stage.TheVariants.{Synced, Failed};
+ghost use Rattle.sk_batched.specs.Base.{non_zero_u16_get, has, released, numbers, struck_with, said_at, bytes_cmp};
+ghost use Rattle.sk_batched.specs.Base.{Commits, FailsIn, Takes, TakesOut, TellsUndone, byte_deed, CutPost, WordPost};
+ghost use Rattle.sk_batched.specs.Base.{FramePost, cut_due, Synced};
+ghost use Rattle.sk_batches.specs.declared.batch.Stage.TheVariants.{Failed};
 ghost use Rattle.sk_batched.specs.Keys.{has_reserved_key};
 ghost use Rattle.sk_batched.specs.Refused.{cause_of, step_refused};
 ghost use Rattle.sk_batched.specs.Batched.{capped, in_batch, is_full, is_touched, log_refused, Appends, Begins, DecidePost, IsEmpty, IsKept, IsNew, IsStill, LogPost, MayBegin, NextPost, RunsInBatch, Stays, TakePost};

@@ -1,7 +1,8 @@
 //! What is against a step, whatever memory there is.
 ghost use Rattle.std.specs.Prelude.{◌≡◌, None, Some, IfErr, OnOk};
 ghost use Rattle.sk_bytes.specs.Calls.{has_long_key, is_long};
-ghost use Rattle.sk_batched.specs.Keys.{has_reserved_key, is_batch_key};
+ghost use Rattle.sk_batched.specs.Base.{is_reserved};
+ghost use Rattle.sk_batched.specs.Keys.{has_reserved_key};
 ghost use Rattle.sk_batched.specs.Refused.{cause_of, step_refused};
 
 use crate::Refusal;
@@ -49,7 +50,7 @@ fn has_long_key<V, O>(step: &ByteStep<V, O>) -> bool
 
 /// Whether a key begins as those of batches do.
 fn is_batch_key(key: &Vec<u8>) -> bool
-    ensures { result ≡ is_batch_key key.now }
+    ensures { result ≡ is_reserved key.now.items }
 {
     is_reserved(key.as_slice())
 }

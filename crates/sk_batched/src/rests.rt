@@ -1,7 +1,6 @@
 //! What a step rests on before it is taken.
 ghost use Rattle.std.specs.Prelude.{◌≡◌, ◌&&◌, ◌||◌, ◌==◌, ℕ, not, IfOk, OnOk};
-ghost use Rattle.sk_record.specs.Notes.{has};
-ghost use Rattle.sk_bytes.specs.Steps.{byte_deed};
+ghost use Rattle.sk_batched.specs.Base.{has, byte_deed};
 ghost use Rattle.sk_batched.specs.Batched.{is_touched};
 
 use sk_bytes::{ByteStep, Bytes};

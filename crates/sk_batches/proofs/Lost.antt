@@ -6,7 +6,7 @@ use Rattle.sk_batches.proofs.Names.{sum_by-append, sum_by-filter_both, Stage, Ke
 use Rattle.sk_batches.proofs.Names.{Batch, Cut, RecordView, is_struck, kept, but_last, QueueView, send, tell, awaits}
 use Rattle.sk_batches.proofs.Names.{cut_off, is_kept, is_decided, left, Call, Appends, Withdraws, Takes, Syncs, Fails}
 use Rattle.sk_batches.proofs.Names.{Decides, Cuts, Stops, Happens, Runs, Story, story_after, with_decided}
-use Rattle.sk_batches.proofs.Names.{with_oldest, struck, struck_of, struck_in, records_in, LosesNothing}
+use Rattle.sk_batches.proofs.Names.{with_oldest, struck, struck_of, records_in, LosesNothing, flat_map}
 
 module _ (p : RecordView → Bool) where
   count : List RecordView → ℕ
@@ -38,10 +38,10 @@ module _ (p : RecordView → Bool) where
   one_cut : (c : Cut) (b : Batch) → count_by p (struck_of c b) + count_by p (cut_off c b).records ≡ count_by p b.records
   one_cut c b = grind (arith, nat_tests, count_split c.first c.last b.records)
 
-  all_cut : (c : Cut) (bs : List Batch) → count_by p (struck_in c bs) + count_by p (records_in (map (cut_off c) bs)) ≡ count_by p (records_in bs)
+  all_cut : (c : Cut) (bs : List Batch) → count_by p (flat_map (struck_of c) bs) + count_by p (records_in (map (cut_off c) bs)) ≡ count_by p (records_in bs)
   all_cut c [] = omega arith
   all_cut c (b ∷ bs) =
-      let one = count_append (struck_of c b) (struck_in c bs) in
+      let one = count_append (struck_of c b) (flat_map (struck_of c) bs) in
       let two = count_append (cut_off c b).records (records_in (map (cut_off c) bs)) in
       grind (arith, nat_tests, one_cut c b, all_cut c bs, one, two, count_append b.records (records_in bs))
 
@@ -88,8 +88,8 @@ module _ (p : RecordView → Bool) where
       subst (λ x. AreCounted x s) (sym h.1) (omega (arith, so, all))
   step q s Decides m h so = grind (arith, nat_tests, decided_counted q.batches s (count_by p q.records) so)
   step q s (Cuts cut) m h so =
-      let one = count_append s.refused (struck_in cut q.batches ++ struck cut q.records) in
-      let two = count_append (struck_in cut q.batches) (struck cut q.records) in
+      let one = count_append s.refused (flat_map (struck_of cut) q.batches ++ struck cut q.records) in
+      let two = count_append (flat_map (struck_of cut) q.batches) (struck cut q.records) in
       grind (arith, nat_tests, all_cut cut q.batches, count_split cut.first cut.last q.records, one, two)
   step q s Stops m h so = subst (λ x. AreCounted x s) (sym h) so
 

@@ -1,7 +1,7 @@
 -- What the proofs of this crate cite from outside of them, passed on from one place. Declares nothing.
 pub use Rattle.std.proofs.Common.{Some, Bool, subst, inr, Ok, ◌∷◌, ◌&&◌, inl, Err, zero, ◌≡◌, rules, ◌-◌, ◌+◌, Option}
 pub use Rattle.std.proofs.Common.{arith, map, List, ap, ◌++◌, length, append_assoc, ◌||◌, ℕ, true, ltb, drop, sym}
-pub use Rattle.std.proofs.Common.{None, suc, ◌≤◌, take, false, ◌<◌, refl, [], Result, ◌∙◌, not, cond}
+pub use Rattle.std.proofs.Common.{None, suc, ◌≤◌, take, false, ◌<◌, refl, [], Result, ◌∙◌, not, cond, flat_map}
 pub use Rattle.std.proofs.Math.Numerals.{suc-eq-add-one}
 pub use Rattle.std.proofs.Math.Seq.{drop-length, take-append-add, drop-append-add, drop-append_seam, drop-cons}
 pub use Rattle.std.proofs.Math.Seq.{take-append_seam}
@@ -29,7 +29,7 @@ pub use Rattle.sk_batches.specs.Queue.{is_kept, QueueView, tell, is_sent, send, 
 pub use Rattle.sk_batches.specs.Queue.{kept_records, is_decided, decision_of, first_failed, is_taken, left, cut_off}
 pub use Rattle.sk_batches.specs.Records.{kept, is_struck, but_last, payload, RecordView}
 pub use Rattle.sk_batches.specs.Runs.{Story, story_after, Decides, Runs, Syncs, KeepsTheRest, synced_after, Stops}
-pub use Rattle.sk_batches.specs.Runs.{Fails, struck_in, NoneIsKept, struck_of, Appends, records_in, behind, Rise}
+pub use Rattle.sk_batches.specs.Runs.{Fails, NoneIsKept, struck_of, Appends, records_in, Rise}
 pub use Rattle.sk_batches.specs.Runs.{behind_of, has, LogsWhatIsSynced, Happens, Call, with_oldest, LosesNothing}
 pub use Rattle.sk_batches.specs.Runs.{Withdraws, Takes, DecidesInOrder, struck, with_decided, Cuts}
 pub use Rattle.sk_batches.specs.declared.batch.Batch.{Batch}

@@ -1,7 +1,7 @@
 -- What a cut leaves for the next frame.
 use Rattle.sk_batches.proofs.Names.{◌≡◌, ℕ, true, false, not, cond, List, [], ◌∷◌, ◌++◌, map, refl, sym, ◌∙◌, ap, ◌==◌}
 use Rattle.sk_batches.proofs.Names.{nat_lt, filter-append, Kept, Refused, Batch, Cut, RecordView, is_struck, kept}
-use Rattle.sk_batches.proofs.Names.{cut_off, kept_of, kept_records, behind, behind_of, KeepsTheRest}
+use Rattle.sk_batches.proofs.Names.{cut_off, flat_map, kept_of, kept_records, behind_of, KeepsTheRest}
 
 kept_append : (first last : ℕ) (rs qs : List RecordView) → kept first last (rs ++ qs) ≡ kept first last rs ++ kept first last qs
 kept_append first last rs qs = filter-append (λ r. not (is_struck first last r)) rs qs
@@ -23,13 +23,13 @@ one_left c b none =
           ≡ kept c.first c.last (cond t [] b.records)) [ true ↦ refl | false ↦ refl ]
     ]
 
-all_left : (c : Cut) (bs : List Batch) → kept_records bs ≡ [] → kept_records (map (cut_off c) bs) ≡ kept c.first c.last (behind c.frame bs)
+all_left : (c : Cut) (bs : List Batch) → kept_records bs ≡ [] → kept_records (map (cut_off c) bs) ≡ kept c.first c.last (flat_map (behind_of c.frame) bs)
 all_left c [] none = refl
 all_left c (b ∷ bs) none =
     (λ k. one_left c b (front_none (kept_of b) (kept_records bs) none) k ++ all_left c bs (back_none (kept_of b) (kept_records bs) none) k)
-    ∙ sym (kept_append c.first c.last (behind_of c.frame b) (behind c.frame bs))
+    ∙ sym (kept_append c.first c.last (behind_of c.frame b) (flat_map (behind_of c.frame) bs))
 
 pub keeps_the_rest : KeepsTheRest
 keeps_the_rest c q none =
     ap (λ rs. rs ++ kept c.first c.last q.records) (all_left c q.batches none)
-    ∙ sym (kept_append c.first c.last (behind c.frame q.batches) q.records)
+    ∙ sym (kept_append c.first c.last (flat_map (behind_of c.frame) q.batches) q.records)

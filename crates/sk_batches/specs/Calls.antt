@@ -1,14 +1,9 @@
 -- What the calls of a queue answer, and what they leave.
 use Rattle.std.specs.Prelude.{◌≡◌, ◌||◌, ◌==◌, ◌+◌, ◌++◌, ◌∷◌, ℕ, Bool, true, false, nat_lt, nat_le, List, [], length, drop, Option, Some, None, if◌then◌else◌, Result, Ok, Err}
-use Rattle.std.specs.List.{list_any}
-use Rattle.sk_batches.specs.declared.batch.Stage.{Stage}
-use Rattle.sk_batches.specs.declared.queue.Cut.{Cut}
-use Rattle.sk_batches.specs.declared.queue.Taken.{Taken}
-use Rattle.sk_batches.specs.declared.refusal.Refusal.{Refusal}
-use Rattle.sk_batches.specs.declared.refusal.Refusal.TheVariants.{Stopped, Full, Nothing, Busy, NoNumber, Short, Unknown, NoCut, Memory}
+use Rattle.sk_batches.specs.Base.{list_any, Stage, Cut, Taken, Refusal, Stopped, Full, Nothing, Busy, NoNumber, Short}
+use Rattle.sk_batches.specs.Base.{Unknown, NoCut, Memory, NUMBER_LIMIT}
 use Rattle.sk_batches.specs.Records.{payload}
 use Rattle.sk_batches.specs.Queue.{QueueView, is_failed, in_flight, undecided, next_records, after_take, is_awaited, after_word, cut_due, after_cut}
-use Rattle.sk_log.specs.declared.frame.TheConstants.{NUMBER_LIMIT}
 
 -- nothing has happened
 abbrev pub new_queue : ℕ → ℕ → ℕ → QueueView

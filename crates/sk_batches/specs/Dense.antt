@@ -1,11 +1,6 @@
 -- Where the batches of a queue stand in the log, and which of them a cut takes away.
 use Rattle.std.specs.Prelude.{◌≡◌, ◌&&◌, ◌==◌, ◌+◌, ◌<◌, ◌≤◌, ℕ, Bool, true, false, nat_le, List, [], ◌∷◌, length, Some}
-use Rattle.std.specs.List.{list_any, AllByRecursion}
-use Rattle.sk_log.specs.declared.frame.TheConstants.{NUMBER_LIMIT}
-use Rattle.sk_batches.specs.declared.batch.Batch.{Batch}
-use Rattle.sk_batches.specs.declared.batch.Stage.{Stage}
-use Rattle.sk_batches.specs.declared.batch.Stage.TheVariants.{Kept, Refused}
-use Rattle.sk_batches.specs.declared.queue.Cut.{Cut}
+use Rattle.sk_batches.specs.Base.{list_any, AllByRecursion, NUMBER_LIMIT, Batch, Stage, Kept, Refused, Cut}
 use Rattle.sk_batches.specs.Calls.{new_queue}
 use Rattle.sk_batches.specs.Queue.{cut_due, is_decided, is_failed, is_kept, is_taken, QueueView}
 use Rattle.sk_batches.specs.Runs.{no_story, Call, Runs, Story}

@@ -1,18 +1,10 @@
 -- The next frame of a queue, whole, and where it is to be written.
 use Rattle.std.specs.Prelude.{◌≡◌, ◌+◌, ◌-◌, ◌++◌, ℕ, nat_lt, List, length, drop, Option, Some, None, if◌then◌else◌, Result, Ok, Err}
-use Rattle.sk_log.specs.Frame.{frame}
-use Rattle.sk_batches.specs.declared.frames.Sealed.{Sealed}
-use Rattle.sk_batches.specs.declared.refusal.Refusal.{Refusal}
-use Rattle.sk_batches.specs.declared.refusal.Refusal.TheVariants.{Full, Short}
+use Rattle.sk_batches.specs.Base.{frame, option_or, Sealed, Refusal, Full, Short}
 use Rattle.sk_batches.specs.Records.{payload}
 use Rattle.sk_batches.specs.Queue.{QueueView, next_records, after_take}
 use Rattle.sk_batches.specs.Calls.{take_refused, cause_of}
 use Rattle.sk_batches.specs.Places.{PlacesView, behind, has_room}
-
--- the first of two causes
-abbrev pub first_cause : Option Refusal → Option Refusal → Option Refusal
-first_cause None other = other
-first_cause (Some why) other = Some why
 
 -- the bytes of the next frame's payload
 abbrev pub next_payload : QueueView → List ℕ
@@ -22,7 +14,7 @@ next_payload q = payload (next_records q)
 -- than one may be or its segment has no room for it
 abbrev pub frame_refused : QueueView → PlacesView → ℕ → Option Refusal
 frame_refused q p room =
-    first_cause (take_refused q (room - 24)) (if nat_lt room 24 then Some Short else if has_room p (length (next_payload q)) then None else Some Full)
+    option_or (take_refused q (room - 24)) (if nat_lt room 24 then Some Short else if has_room p (length (next_payload q)) then None else Some Full)
 
 -- its number, and where it is to be written
 abbrev pub sealed_of : QueueView → PlacesView → Sealed

@@ -1,3 +1,4 @@
+pub mod Base
 pub mod Records
 pub mod Queue
 pub mod Calls

@@ -1,8 +1,6 @@
 -- Where frames stand in the segments of a log.
 use Rattle.std.specs.Prelude.{◌≡◌, ◌+◌, ◌<◌, ◌≤◌, ◌^◌, ◌&&◌, ℕ, Bool, nat_lt, nat_le, Option, Some, None, if◌then◌else◌, Result, Ok, Err}
-use Rattle.sk_batches.specs.declared.refusal.Refusal.{Refusal}
-use Rattle.sk_batches.specs.declared.refusal.Refusal.TheVariants.{Full, NoNumber}
-use Rattle.sk_batches.specs.declared.places.Place.{Place}
+use Rattle.sk_batches.specs.Base.{Refusal, Full, NoNumber, Place}
 
 -- how many bytes a segment has, the segment of the next frame, and where it begins there
 pub record PlacesView : Type 0 where

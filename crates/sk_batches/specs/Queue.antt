@@ -1,14 +1,8 @@
 -- A queue of batches: what is in flight, what is decided, and what a cut leaves.
 use Rattle.std.specs.Prelude.{◌&&◌, ◌==◌, ◌+◌, ◌-◌, ℕ, Bool, true, false, nat_lt, List, [], ◌∷◌, ◌++◌, length, map, Option, Some, None, if◌then◌else◌}
-use Rattle.std.specs.List.{list_any, sum_by}
-use Rattle.sk_batches.specs.declared.batch.Stage.{Stage}
-use Rattle.sk_batches.specs.declared.batch.Stage.TheVariants.{Kept, Sent, Synced, Failed, Refused}
-use Rattle.sk_batches.specs.declared.batch.Batch.{Batch}
-use Rattle.sk_batches.specs.declared.queue.Cut.{Cut}
-use Rattle.sk_batches.specs.declared.queue.Decision.{Decision}
-use Rattle.sk_batches.specs.declared.queue.Decision.TheVariants as decision
+use Rattle.sk_batches.specs.Base.{list_any, sum_by, Stage, Kept, Sent, Synced, Failed, Refused, Batch, Cut, Decision}
+use Rattle.sk_batches.specs.Base.{NUMBER_LIMIT}
 use Rattle.sk_batches.specs.Records.{RecordView, kept, payload}
-use Rattle.sk_log.specs.declared.frame.TheConstants.{NUMBER_LIMIT}
 
 -- how many frames may be in flight and how many bytes undecided; the numbers of the open batch and of the next frame; whether a cut
 -- was not done; the batches that were sent or are to be sent again, the oldest first; and the records of the open batch
@@ -39,10 +33,9 @@ is_refused other = false
 
 -- whether a frame was sent and is not decided, whatever was told of it
 abbrev pub is_taken : Stage → Bool
-is_taken Sent = true
-is_taken Synced = true
-is_taken Failed = true
-is_taken other = false
+is_taken Kept = false
+is_taken Refused = false
+is_taken other = true
 
 -- ---- what is in flight
 
@@ -110,8 +103,8 @@ after_word frame stage q = record q { batches = map (tell frame stage) q.batches
 
 -- a batch whose frame was told as synced is decided once it is the oldest; one that is refused, too
 abbrev pub decision_of : Stage → ℕ → Option Decision
-decision_of Synced number = Some (decision.Logged number)
-decision_of Refused number = Some (decision.Refused number)
+decision_of Synced number = Some (Decision.Logged number)
+decision_of Refused number = Some (Decision.Refused number)
 decision_of other number = None
 
 abbrev pub decided : List Batch → Option Decision

@@ -1,14 +1,9 @@
 -- Calls of a queue, one after another, and what they come to.
-use Rattle.std.specs.Prelude.{◌≡◌, ◌==◌, ◌+◌, ◌-◌, ◌<◌, ◌≤◌, ◌++◌, ◌∷◌, ℕ, Bool, true, nat_lt, List, [], length, drop, count_by, Some, if◌then◌else◌}
-use Rattle.std.specs.List.{filter, list_any}
-use Rattle.sk_batches.specs.declared.batch.Stage.{Stage}
-use Rattle.sk_batches.specs.declared.batch.Stage.TheVariants.{Synced, Failed, Refused}
-use Rattle.sk_batches.specs.declared.batch.Batch.{Batch}
-use Rattle.sk_batches.specs.declared.queue.Cut.{Cut}
+use Rattle.std.specs.Prelude.{◌≡◌, ◌==◌, ◌+◌, ◌-◌, ◌<◌, ◌≤◌, ◌++◌, ◌∷◌, ℕ, Bool, true, nat_lt, List, [], length, drop, flat_map, count_by, Some, if◌then◌else◌}
+use Rattle.sk_batches.specs.Base.{filter, list_any, Stage, Synced, Failed, Refused, Batch, Cut, NUMBER_LIMIT}
 use Rattle.sk_batches.specs.Records.{RecordView, is_struck, kept, but_last}
 use Rattle.sk_batches.specs.Queue.{QueueView, is_awaited, after_word, after_take, left, cut_due, after_cut, kept_records, next_records}
 use Rattle.sk_batches.specs.Calls.{new_queue}
-use Rattle.sk_log.specs.declared.frame.TheConstants.{NUMBER_LIMIT}
 
 -- a call that was not refused
 pub data Call : Type 0 where
@@ -64,23 +59,17 @@ struck c rs = filter (λ r. is_struck c.first c.last r) rs
 abbrev pub struck_of : Cut → Batch → List RecordView
 struck_of c b = if nat_lt b.frame c.frame then [] else if b.frame == c.frame then [] else struck c b.records
 
-abbrev pub struck_in : Cut → List Batch → List RecordView
-struck_in c [] = []
-struck_in c (b ∷ bs) = struck_of c b ++ struck_in c bs
-
 abbrev pub synced_after : Cut → List ℕ → List ℕ
 synced_after c synced = c.frame ∷ filter (λ frame. nat_lt frame c.frame) synced
 
 abbrev pub story_after : QueueView → Call → Story → Story
 story_after q (Appends added) s = record s { appended = s.appended ++ added ∷ [] }
 story_after q Withdraws s = record s { withdrawn = s.withdrawn ++ drop (length q.records - 1) q.records }
-story_after q Takes s = s
 story_after q (Syncs frame) s = record s { synced = frame ∷ s.synced }
-story_after q (Fails frame) s = s
 story_after q Decides s = with_decided q.batches s
 story_after q (Cuts cut) s = record s
-    { synced = synced_after cut s.synced; refused = s.refused ++ (struck_in cut q.batches ++ struck cut q.records) }
-story_after q Stops s = s
+    { synced = synced_after cut s.synced; refused = s.refused ++ (flat_map (struck_of cut) q.batches ++ struck cut q.records) }
+story_after q other s = s
 
 -- any calls, one after another
 abbrev pub Runs : QueueView → Story → List Call → QueueView → Story → Type 0
@@ -119,18 +108,14 @@ LosesNothing = (most most_bytes frame : ℕ) (cs : List Call) (q : QueueView) (s
     → Runs (new_queue most most_bytes frame) no_story cs q s
     → count_by p s.appended ≡ count_by p s.logged + (count_by p s.refused + (count_by p s.withdrawn + (count_by p (records_in q.batches) + count_by p q.records)))
 
--- the records behind the frame that is cut off
+-- the records of a batch behind the frame that is cut off
 abbrev pub behind_of : ℕ → Batch → List RecordView
 behind_of frame b = if nat_lt b.frame frame then [] else if b.frame == frame then [] else b.records
-
-abbrev pub behind : ℕ → List Batch → List RecordView
-behind frame [] = []
-behind frame (b ∷ bs) = behind_of frame b ++ behind frame bs
 
 -- a cut leaves for the next frame just the records behind what it cuts off that don't rest on it, in their order
 abbrev pub KeepsTheRest : Type 0
 KeepsTheRest = (c : Cut) (q : QueueView) → kept_records q.batches ≡ []
-    → next_records (after_cut c q) ≡ kept c.first c.last (behind c.frame q.batches ++ q.records)
+    → next_records (after_cut c q) ≡ kept c.first c.last (flat_map (behind_of c.frame) q.batches ++ q.records)
 
 -- where a cut is due none is to be sent again
 abbrev pub NoneIsKept : Type 0

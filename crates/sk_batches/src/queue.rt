@@ -1,11 +1,9 @@
 //! A queue of batches.
 ghost use Rattle.std.specs.Prelude.{◌≡◌, ◌+◌, ◌<◌, ◌≤◌, ◌^◌, ◌++◌, length, drop, None, Some, OnOk, IfErr};
-ghost use Rattle.std.specs.Int.NonZero.{non_zero_u16_get};
-ghost use Rattle.std.specs.List.{list_any};
+ghost use Rattle.sk_batches.specs.Base.{non_zero_u16_get, list_any, Synced, Failed};
 ghost use Rattle.sk_batches.specs.Records.{but_last, payload};
 ghost use Rattle.sk_batches.specs.Queue.{cut_due, decided, in_flight, is_refused, kept_records, left, next_records, past, undecided};
 ghost use Rattle.sk_batches.specs.Calls.{append_refused, cause_of, new_queue, take_refused, AppendPost, CutPost, TakePost, WordPost};
-ghost use Rattle.sk_batches.specs.declared.batch.Stage.TheVariants.{Synced, Failed};
 
 use crate::Refusal;
 use crate::batch::{Batch, Stage};

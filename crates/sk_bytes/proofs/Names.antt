@@ -23,7 +23,7 @@ pub use Rattle.std.specs.Vec.{vec_items, vec_capacity}
 pub use Rattle.std.specs.declared.cmp.Ordering.{Ordering}
 pub use Rattle.std.specs.declared.cmp.Ordering.TheVariants.{Less}
 pub use Rattle.sk_bytes.specs.Calls.{refusal_of, TellsUndone, AreOnce, Counts, Unchanged, RefusesGuess, resting_on}
-pub use Rattle.sk_bytes.specs.Calls.{HasPlaces, has_long_key, is_long, CommitPost, RefusesNext}
+pub use Rattle.sk_bytes.specs.Calls.{HasPlaces, has_long_key, is_long, RefusesNext}
 pub use Rattle.sk_bytes.specs.Numbers.{exchanged, AreNames, LetsGo, names, listed, Gains, ListsAbsent}
 pub use Rattle.sk_bytes.specs.Steps.{deed_in, IsAsItWas, IsHandedOver, byte_deed, Swaps}
 pub use Rattle.sk_bytes.specs.Told.{with_string, told_of, UsedBut, slots_told, ByteView, IsTold, AllRest, slot_shown}

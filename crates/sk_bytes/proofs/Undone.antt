@@ -4,7 +4,7 @@ use Rattle.sk_bytes.proofs.Names.{Ok, refl, sym, ◌∙◌, ap, subst, ◌||◌,
 use Rattle.sk_bytes.proofs.Names.{eq-eqb, ne_eqb, or_left, or_right, is_in, has, last_tags, Token, at_key, log_at}
 use Rattle.sk_bytes.proofs.Names.{Numbered, bytes_cmp, number_of, string_of, some_none, Parts, Commits, FailsIn}
 use Rattle.sk_bytes.proofs.Names.{Forgets, TookBack, Committed, Undone, told_of, strings_of, with_string, ByteView}
-use Rattle.sk_bytes.proofs.Names.{Fits, IsTwoWay, CommitPost, TellsUndone}
+use Rattle.sk_bytes.proofs.Names.{Fits, IsTwoWay, TellsUndone}
 use Rattle.sk_speculator.specs.Calls as inner
 use Rattle.sk_speculator.specs.declared.decided.Committed.TheVariants as commit
 use Rattle.sk_speculator.specs.declared.decided.Failed.TheVariants as failure
@@ -110,7 +110,7 @@ module _ {V O : Type 0} (es : Numbered) (a b : Parts ℕ V O) (fits : Fits es a)
   fits_decided commit.Done post = fits_committed es a b fits token.id post.1
   fits_decided commit.Gone post = fits_forgot es a b fits token.id post.1
 
-  pub commit_told : (r : Committed) (old new : ByteView V O) → told_of es a ≡ old.parts → told_of es b ≡ new.parts → inner.CommitPost nat_cmp a token (Ok r) b → CommitPost old token (Ok r) new
+  pub commit_told : (r : Committed) (old new : ByteView V O) → told_of es a ≡ old.parts → told_of es b ≡ new.parts → inner.CommitPost nat_cmp a token (Ok r) b → inner.CommitPost bytes_cmp old.parts token (Ok r) new.parts
   commit_told commit.Done old new from to post = (
     post.0 ∙ ap (λ (m : Parts _ _ _). m.guesses.kernel) from,
     subst (λ (m : Parts _ _ _). Commits bytes_cmp m token.id new.parts) from

@@ -1,26 +1,10 @@
 -- What the calls over byte strings promise: what those of the kernel over any keys promise, at the order of byte strings.
 use Rattle.std.specs.Prelude.{◌≡◌, ◌||◌, ℕ, Bool, true, false, nat_lt, List, [], ◌∷◌, length, Some, None, Result, Ok, Err}
-use Rattle.std.specs.List.{filter, list_any}
-use Rattle.std.specs.Global.{Vec}
-use Rattle.sk_record.specs.Effects.{is_in}
-use Rattle.sk_record.specs.Notes.{has}
-use Rattle.sk_record.specs.UndoState.{tags_at}
-use Rattle.sk_guesses.specs.Kept.{struck_with}
-use Rattle.sk_guesses.specs.Token.{Token}
-use Rattle.sk_slots.specs.Slots.{look_at, log_at}
-use Rattle.sk_index.specs.Index.{bytes_cmp, number_of}
-use Rattle.sk_speculator.specs.Parts.{Parts, undo_state_of, IsSame}
-use Rattle.sk_speculator.specs.Calls.{Commits, FailsIn, Forgets, IsStranger, Refuses}
-use Rattle.sk_speculator.specs.WholeStep.{WholeStep}
-use Rattle.sk_speculator.specs.declared.decided.Committed.{Committed}
-use Rattle.sk_speculator.specs.declared.decided.Committed.TheVariants as commit
-use Rattle.sk_speculator.specs.declared.refusal.Refusal.{Refusal as Inner}
+use Rattle.sk_bytes.specs.Base.{filter, list_any, Vec, is_in, has, tags_at, struck_with, Token, look_at, log_at}
+use Rattle.sk_bytes.specs.Base.{bytes_cmp, number_of, Parts, undo_state_of, IsSame, FailsIn, Forgets}
+use Rattle.sk_bytes.specs.Base.{IsStranger, Refuses, WholeStep, Inner, KEY_LIMIT, Unmade, Refusal, LongKey}
+use Rattle.sk_bytes.specs.Base.{LongValue, TooMany, NoNumber, Memory}
 use Rattle.sk_speculator.specs.declared.refusal.Refusal.TheVariants as inner
-use Rattle.sk_bytes.specs.declared.bytes.TheConstants.{KEY_LIMIT}
-use Rattle.sk_bytes.specs.declared.bytes.Unmade.{Unmade}
-use Rattle.sk_bytes.specs.declared.bytes.Unmade.TheVariants as unmade
-use Rattle.sk_bytes.specs.declared.refusal.Refusal.{Refusal}
-use Rattle.sk_bytes.specs.declared.refusal.Refusal.TheVariants.{LongKey, LongValue, TooMany, NoNumber, Memory}
 use Rattle.sk_bytes.specs.Numbers.{names}
 use Rattle.sk_bytes.specs.Told.{ByteView, IsTwoWay}
 
@@ -93,15 +77,10 @@ module _ {V O : Type 0} where
     pub count : many ≡ length undone
     pub struck : more ≡ length (struck_with g old.opens)
 
-  -- an undecided guess is committed; of one that was struck nothing is left; any other token comes back
-  abbrev pub CommitPost : ByteView V O → Token → Result Committed Token → ByteView V O → Type 0
-  CommitPost old token (Ok commit.Done) new = (token.kernel ≡ old.parts.guesses.kernel) × Commits bytes_cmp old.parts token.id new.parts
-  CommitPost old token (Ok commit.Gone) new = (token.kernel ≡ old.parts.guesses.kernel) × Forgets bytes_cmp old.parts token.id new.parts
-  CommitPost old token (Err back) new = IsStranger old.parts token × (back ≡ token) × (new.parts ≡ old.parts)
-
-  -- the same with a failure, which says how many keys it took back, told one by one from then on, and how many guesses it struck
+  -- an undecided guess fails, which says how many keys it took back, told one by one from then on, and how many guesses it struck; of one
+  -- that was struck nothing is left; any other token comes back
   abbrev pub FailPost : ByteView V O → Token → Result Unmade Token → ByteView V O → Type 0
-  FailPost old token (Ok (unmade.Done keys struck)) new =
+  FailPost old token (Ok (Unmade.Done keys struck)) new =
       (token.kernel ≡ old.parts.guesses.kernel) × TellsUndone old.parts token.id keys struck new.undone × FailsIn bytes_cmp old.parts token.id new.parts
-  FailPost old token (Ok unmade.Gone) new = (token.kernel ≡ old.parts.guesses.kernel) × Forgets bytes_cmp old.parts token.id new.parts
+  FailPost old token (Ok Unmade.Gone) new = (token.kernel ≡ old.parts.guesses.kernel) × Forgets bytes_cmp old.parts token.id new.parts
   FailPost old token (Err back) new = IsStranger old.parts token × (back ≡ token) × (new.parts ≡ old.parts)

@@ -1,3 +1,4 @@
+pub mod Base
 pub mod Told
 pub mod Numbers
 pub mod Steps

@@ -1,12 +1,6 @@
 -- Numbers for the keys of a step, and what is left of them.
 use Rattle.std.specs.Prelude.{◌≡◌, ◌⊎◌, ◌&&◌, ℕ, Bool, true, List, [], ◌∷◌, map, Option, Some, None, is_none, if◌then◌else◌, Result, Ok, Err}
-use Rattle.std.specs.Ordering.{nat_cmp}
-use Rattle.std.specs.Global.{Vec}
-use Rattle.sk_record.specs.Effects.{is_in}
-use Rattle.sk_record.specs.Notes.{has, last_tags}
-use Rattle.sk_slots.specs.Slot.{SlotView}
-use Rattle.sk_slots.specs.Slots.{look_at, log_at}
-use Rattle.sk_index.specs.Index.{Numbered, string_of}
+use Rattle.sk_bytes.specs.Base.{nat_cmp, Vec, is_in, has, last_tags, SlotView, look_at, log_at, Numbered, string_of}
 use Rattle.sk_bytes.specs.Told.{slot_shown, IsTwoWay}
 
 -- of some numbers those are given back of whose keys nothing is known; all others stay whose they were
@@ -31,9 +25,8 @@ pub record Gains (old : Numbered) (loose : List ℕ) (new : Numbered) : Type 0 w
 -- each of these has the number beside it
 abbrev pub AreNames : {B K : Type 0} → (B → Option K) → List B → List K → Type 0
 AreNames key [] [] = Unit {0}
-AreNames key [] (k ∷ ks) = ⊥
-AreNames key (b ∷ bs) [] = ⊥
 AreNames key (b ∷ bs) (k ∷ ks) = (key b ≡ Some k) × AreNames key bs ks
+AreNames key bs ks = ⊥
 
 -- what has names, without what stands behind them
 abbrev pub names : {A V : Type 0} → List (A × V) → List A
@@ -41,6 +34,5 @@ names ws = map (λ w. w.0) ws
 
 -- with what stands behind others, place by place
 abbrev pub exchanged : {A B V : Type 0} → List (A × V) → List (B × V) → List (A × V)
-exchanged [] rs = []
-exchanged (l ∷ ls) [] = l ∷ ls
 exchanged (l ∷ ls) (r ∷ rs) = (l.0, r.1) ∷ exchanged ls rs
+exchanged ls rs = ls

@@ -1,9 +1,6 @@
 -- A step over byte strings, and the step over numbers that it is handed over as.
 use Rattle.std.specs.Prelude.{◌≡◌, ℕ, List, length, map, None}
-use Rattle.std.specs.Vec.{vec_capacity, vec_items}
-use Rattle.std.specs.Global.{Vec}
-use Rattle.sk_deeds.specs.Deed.{Deed}
-use Rattle.sk_speculator.specs.WholeStep.{WholeStep}
+use Rattle.sk_bytes.specs.Base.{vec_capacity, vec_items, Vec, Deed, WholeStep}
 use Rattle.sk_bytes.specs.Numbers.{exchanged}
 
 module _ {V O : Type 0} where

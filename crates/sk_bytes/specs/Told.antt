@@ -1,15 +1,8 @@
 -- What a kernel over numbers is, told of the byte strings that have them.
 use Rattle.std.specs.Prelude.{◌≡◌, ℕ, true, false, List, [], ◌∷◌, Option, Some, None, refl}
-use Rattle.std.specs.Coded.{Coded, code_by, coded×, coded_ℕ, coded_list}
-use Rattle.std.specs.Ordering.{nat_cmp}
-use Rattle.std.specs.FinMap.{FinMap, empty, entries}
-use Rattle.sk_record.specs.Run.{put}
-use Rattle.sk_record.specs.Effects.{is_in}
-use Rattle.sk_record.specs.Notes.{Note}
-use Rattle.sk_slots.specs.Slot.{SlotView}
-use Rattle.sk_slots.specs.Slots.{look_at, log_at}
-use Rattle.sk_index.specs.Index.{Numbered, bytes_cmp, number_of, string_of}
-use Rattle.sk_speculator.specs.Parts.{Parts, parts_code, IsWhole}
+use Rattle.sk_bytes.specs.Base.{Coded, code_by, coded×, coded_ℕ, coded_list, nat_cmp, FinMap, empty, entries, put}
+use Rattle.sk_bytes.specs.Base.{is_in, Note, SlotView, look_at, log_at, Numbered, bytes_cmp, number_of, string_of}
+use Rattle.sk_bytes.specs.Base.{Parts, parts_code, IsWhole}
 
 module _ {V : Type 0} where
   -- a slot with this, where there is anything

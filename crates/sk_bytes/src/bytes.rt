@@ -1,23 +1,12 @@
 //! The kernel over byte strings.
 ghost use Rattle.std.specs.Prelude.{◌≡◌, ◌==◌, ◌≤◌, ◌∷◌, ℕ, List, [], true, false, None, Some, get_or, length, IfErr, IfOk, IfSome, OnErr, OnOk};
-ghost use Rattle.std.specs.Int.NonZero.{non_zero_u16_get};
-ghost use Rattle.std.specs.List.{slice_get};
-ghost use Rattle.std.specs.Option.{option_copied, option_map};
-ghost use Rattle.sk_guesses.specs.Kept.{known, none_drawn};
-ghost use Rattle.sk_record.specs.Machine.{released};
-ghost use Rattle.sk_record.specs.UndoState.{numbers, tags_at};
-ghost use Rattle.sk_outputs.specs.Said.{said_at, first_of, waiting_of};
-ghost use Rattle.sk_slots.specs.Slots.{look_at, log_at};
-ghost use Rattle.sk_speculator.specs.Calls.{next_of, Refuses, Takes};
-ghost use Rattle.sk_speculator.specs.Emptied.{IsEmptied};
-ghost use Rattle.sk_speculator.specs.Parts.{undo_state_of};
+ghost use Rattle.sk_bytes.specs.Base.{non_zero_u16_get, slice_get, option_copied, option_map, known, none_drawn};
+ghost use Rattle.sk_bytes.specs.Base.{released, numbers, tags_at, said_at, first_of, waiting_of, look_at, log_at};
+ghost use Rattle.sk_bytes.specs.Base.{next_of, Refuses, Takes, IsEmptied, undo_state_of, bytes_cmp, string_of, at_key};
+ghost use Rattle.sk_bytes.specs.Base.{CommitPost, LongKey, vec_capacity};
 ghost use Rattle.sk_speculator.specs.declared.refusal.Refusal.TheVariants as inner;
-ghost use Rattle.sk_index.specs.Index.{bytes_cmp, string_of};
-ghost use Rattle.sk_renamed.specs.Renamed.{at_key};
-ghost use Rattle.sk_bytes.specs.Calls.{CommitPost, Counts, FailPost, has_long_key, is_long, resting_on, HasPlaces, RefusesGuess, RefusesNext, RefusesStep, Unchanged};
+ghost use Rattle.sk_bytes.specs.Calls.{Counts, FailPost, has_long_key, is_long, resting_on, HasPlaces, RefusesGuess, RefusesNext, RefusesStep, Unchanged};
 ghost use Rattle.sk_bytes.specs.Steps.{byte_deed, IsAsItWas};
-ghost use Rattle.sk_bytes.specs.declared.refusal.Refusal.TheVariants.{LongKey};
-ghost use Rattle.std.specs.Vec.{vec_capacity};
 
 use crate::Refusal;
 use crate::keys::Keys;
@@ -345,7 +334,7 @@ impl<V: Drop, O: Drop> Bytes<V, O> {
 
     /// Commits a guess: nothing rests on it any more. It is never refused for want of memory.
     pub fn commit(&mut self, guess: Guess) -> Result<Committed, Guess>
-        ensures { CommitPost self.old guess result self.new }
+        ensures { CommitPost bytes_cmp self.old.parts guess result self.new.parts }
     {
         self.keys.let_go(&self.kernel);
         let absent = absent_dependents(&self.kernel, self.keys.index.alloc(), guess.id());

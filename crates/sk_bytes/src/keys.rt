@@ -1,10 +1,6 @@
 //! The keys that have numbers, and the step that is handed over with them.
 ghost use Rattle.std.specs.Prelude.{◌≡◌, ℕ, [], true, false, None, length, OnErr, OnOk};
-ghost use Rattle.std.specs.Ordering.{nat_cmp};
-ghost use Rattle.sk_record.specs.Effects.{is_in};
-ghost use Rattle.sk_renamed.specs.Renamed.{IsDeed};
-ghost use Rattle.sk_slots.specs.Slots.{log_at};
-ghost use Rattle.sk_index.specs.Index.{number_of};
+ghost use Rattle.sk_bytes.specs.Base.{nat_cmp, is_in, IsDeed, log_at, number_of};
 ghost use Rattle.sk_bytes.specs.Steps.{byte_deed, deed_in};
 ghost use Rattle.sk_bytes.specs.Told.{slot_shown, AllRest, IsTwoWay};
 ghost use Rattle.sk_bytes.specs.Numbers.{names, Gains, LetsGo};

@@ -1,8 +1,6 @@
 //! The law of the kernel over byte strings. It is the contract of a function that does nothing.
 ghost use Rattle.std.specs.Prelude.{◌≡◌, ℕ, List};
-ghost use Rattle.sk_record.specs.Run.{System};
-ghost use Rattle.sk_index.specs.Index.{bytes_cmp};
-ghost use Rattle.sk_speculator.specs.Law.{OwnRunsAsPlain};
+ghost use Rattle.sk_bytes.specs.Base.{System, bytes_cmp, OwnRunsAsPlain};
 
 /// For whatever step function over byte strings: if what is handed in is what it asked for, wrote and said on the values that are
 /// there, then after any list of steps, guesses, commits, failures and takings of output all is that of the plain run of the steps

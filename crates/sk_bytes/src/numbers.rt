@@ -1,12 +1,7 @@
 //! Numbers for the keys of a step, and what becomes of them behind it.
 ghost use Rattle.std.specs.Prelude.{◌≡◌, ◌∷◌, ◌++◌, ◌<◌, ℕ, true, [], None, Some, is_none, length, map, IfOk, OnErr, OnOk};
-ghost use Rattle.std.specs.List.{list_any};
-ghost use Rattle.std.specs.Ordering.{nat_cmp};
-ghost use Rattle.std.specs.Vec.{vec_capacity, vec_items, vec_len};
-ghost use Rattle.sk_record.specs.Effects.{is_in};
-ghost use Rattle.sk_renamed.specs.Renamed.{at_key, keys_of};
-ghost use Rattle.sk_slots.specs.Slots.{look_at, log_at};
-ghost use Rattle.sk_index.specs.Index.{number_of};
+ghost use Rattle.sk_bytes.specs.Base.{list_any, nat_cmp, vec_capacity, vec_items, vec_len, is_in, at_key, keys_of};
+ghost use Rattle.sk_bytes.specs.Base.{look_at, log_at, number_of};
 ghost use Rattle.sk_bytes.specs.Told.{slot_shown, AllRest, IsTwoWay};
 ghost use Rattle.sk_bytes.specs.Numbers.{exchanged, listed, names, AreNames, Gains, LetsGo, ListsAbsent};
 

@@ -36,7 +36,7 @@ module _ {V O : Type 0} (old : ByteView V O) (ts us : List Token) (t : Token) (p
       let none = stranger own in
       true≢false (sym out ∙ (λ i. none.0 i || none.1 i))
 
-  pub commit_met : (result : Result Committed Token) (s : Token) (new : ByteView V O) → CommitPost old t result new → result ≡ Err s → ⊥
+  pub commit_met : (result : Result Committed Token) (s : Token) (new : ByteView V O) → CommitPost bytes_cmp old.parts t result new.parts → result ≡ Err s → ⊥
   commit_met (Ok c) s new h e = absurd cc
   commit_met (Err back) s new h e = no_stranger h.0
 
@@ -44,7 +44,7 @@ module _ {V O : Type 0} (old : ByteView V O) (ts us : List Token) (t : Token) (p
   fail_met (Ok c) s new h e = absurd cc
   fail_met (Err back) s new h e = no_stranger h.0
 
-  pub commit_holds : (result : Result Committed Token) (o : Committed) (new : ByteView V O) → CommitPost old t result new → result ≡ Ok o → AreHeld new.parts us
+  pub commit_holds : (result : Result Committed Token) (o : Committed) (new : ByteView V O) → CommitPost bytes_cmp old.parts t result new.parts → result ≡ Ok o → AreHeld new.parts us
   commit_holds (Ok commit.Done) o new h e =
       committed old.parts new.parts ts us held t.id without_it bytes_cmp (subst (λ (v : KeptView). AllByRecursion (λ (u : Token). u.kernel ≡ v.kernel) us) (sym h.1.guesses) left) h.1
   commit_holds (Ok commit.Gone) o new h e =

@@ -21,7 +21,7 @@ pub use Rattle.std.specs.Result.{result_ok}
 pub use Rattle.std.specs.Vec.{vec_items}
 pub use Rattle.std.specs.declared.cmp.Ordering.{Ordering}
 pub use Rattle.std.specs.declared.cmp.Ordering.TheVariants.{Equal, Greater, Less}
-pub use Rattle.sk_bytes.specs.Calls.{FailPost, has_long_key, is_long, CommitPost}
+pub use Rattle.sk_bytes.specs.Calls.{FailPost, has_long_key, is_long}
 pub use Rattle.sk_bytes.specs.Steps.{byte_deed}
 pub use Rattle.sk_bytes.specs.Told.{ByteView}
 pub use Rattle.sk_bytes.specs.declared.bytes.Unmade.{Unmade}
@@ -45,7 +45,7 @@ pub use Rattle.sk_record.specs.Notes.{without, has}
 pub use Rattle.sk_record.specs.UndoState.{still_open, not_struck, numbers, Open}
 pub use Rattle.sk_record.specs.declared.status.Status.{Status}
 pub use Rattle.sk_record.specs.declared.status.Status.TheVariants.{Failed, Struck}
-pub use Rattle.sk_speculator.specs.Calls.{next_of, Forgets, FailsIn, Commits, IsStranger, Takes}
+pub use Rattle.sk_speculator.specs.Calls.{next_of, CommitPost, Forgets, FailsIn, Commits, IsStranger, Takes}
 pub use Rattle.sk_speculator.specs.Parts.{Parts}
 pub use Rattle.sk_speculator.specs.WholeStep.{WholeStep}
 pub use Rattle.sk_speculator.specs.declared.decided.Committed.{Committed}

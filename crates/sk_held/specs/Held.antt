@@ -6,15 +6,15 @@ use Rattle.sk_guesses.specs.Token.{Token}
 use Rattle.sk_slots.specs.Slots.{look_at, log_at}
 use Rattle.sk_index.specs.Index.{bytes_cmp}
 use Rattle.sk_deeds.specs.Deed.{Deed}
-use Rattle.sk_speculator.specs.Calls.{next_of, Refuses, Takes}
+use Rattle.sk_speculator.specs.Calls.{next_of, CommitPost, Refuses, Takes}
 use Rattle.sk_speculator.specs.declared.decided.Committed.{Committed}
 use Rattle.sk_speculator.specs.declared.refusal.Refusal.TheVariants as inner
 use Rattle.sk_bytes.specs.declared.bytes.TheConstants.{KEY_LIMIT}
 use Rattle.sk_bytes.specs.declared.bytes.Unmade.{Unmade}
 use Rattle.sk_bytes.specs.declared.refusal.Refusal.{Refusal}
-use Rattle.sk_bytes.specs.declared.refusal.Refusal.TheVariants.{LongKey, LongValue, TooMany, NoNumber, Memory}
+use Rattle.sk_bytes.specs.declared.refusal.Refusal.TheVariants.{LongKey, LongValue, Memory}
 use Rattle.sk_bytes.specs.Told.{ByteView}
-use Rattle.sk_bytes.specs.Calls.{CommitPost, FailPost, Unchanged}
+use Rattle.sk_bytes.specs.Calls.{FailPost, RefusesNext, Unchanged}
 use Rattle.sk_held.specs.declared.output.Output.{Output}
 use Rattle.sk_held.specs.declared.parts.TheConstants.{VALUE_LIMIT}
 
@@ -113,10 +113,8 @@ pub record Stays (old new : HeldView) : Type 0 where
 
 -- why no guess is drawn: as many are undecided as may be; or the last number is drawn; or there is no memory
 abbrev pub RefusesGuess : HeldView → Refusal → Type 0
-RefusesGuess h TooMany = Refuses h.kernel.parts inner.TooMany
-RefusesGuess h NoNumber = Refuses h.kernel.parts inner.NoNumber
 RefusesGuess h Memory = Refuses h.kernel.parts inner.Memory
-RefusesGuess h other = ⊥
+RefusesGuess h other = RefusesNext h.kernel.parts other
 
 abbrev pub StepPost : Result (Unit {0}) Refusal → HeldView → HeldView → Type 0
 StepPost (Ok _) old new = TakesWritten old None new
@@ -140,7 +138,7 @@ HasNone old g new = (known old.kernel.parts.guesses old.kernel.parts.opens g ≡
 abbrev pub CommitsBy : Option Committed → ℕ → HeldView → HeldView → Type 0
 CommitsBy None g old new = HasNone old g new
 CommitsBy (Some committed) g old new =
-    CommitPost old.kernel (token_of old g) (Ok committed) new.kernel × (new ≡ record old { kernel = new.kernel })
+    CommitPost bytes_cmp old.kernel.parts (token_of old g) (Ok committed) new.kernel.parts × (new ≡ record old { kernel = new.kernel })
 
 abbrev pub FailsBy : Option Unmade → ℕ → HeldView → HeldView → Type 0
 FailsBy None g old new = HasNone old g new

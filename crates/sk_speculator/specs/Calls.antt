@@ -1,27 +1,11 @@
 -- What a step and a decision make of a kernel. The statuses of guesses are not kept: each call is told for all that agree with what is.
 use Rattle.std.specs.Prelude.{◌≡◌, ◌++◌, ◌+◌, ◌≤◌, ℕ, true, false, length, nat_le, Option, Some, None, Result, Ok, Err}
-use Rattle.std.specs.List.Sorted.{IsStrictlySortedBy}
-use Rattle.std.specs.declared.cmp.Ordering.{Ordering}
-use Rattle.sk_ids.specs.declared.guess.TheConstants.{LAST_GUESS}
-use Rattle.sk_record.specs.Effects.{is_in}
-use Rattle.sk_record.specs.Notes.{has, without}
-use Rattle.sk_record.specs.Trace.{marks}
-use Rattle.sk_record.specs.UndoState.{numbers, not_struck, still_open, tags_at}
-use Rattle.sk_record.specs.Machine.{Fails, with_drawn, with_failure, with_status}
-use Rattle.sk_record.specs.Merged.{MergedCommits, MergedTakes}
-use Rattle.sk_record.specs.declared.status.Status.{Status}
-use Rattle.sk_record.specs.declared.status.Status.TheVariants as status_as
-use Rattle.sk_guesses.specs.Kept.{KeptView, AreStatuses, one_drawn, struck_with, with_struck}
-use Rattle.sk_guesses.specs.Token.{Token}
-use Rattle.sk_deeds.specs.Deed.{Deed, again}
+use Rattle.sk_speculator.specs.Base.{IsStrictlySortedBy, Ordering, LAST_GUESS, is_in, has, without, marks, numbers}
+use Rattle.sk_speculator.specs.Base.{not_struck, still_open, tags_at, Fails, with_drawn, with_failure, with_status}
+use Rattle.sk_speculator.specs.Base.{MergedCommits, MergedTakes, Status, KeptView, AreStatuses, one_drawn, struck_with}
+use Rattle.sk_speculator.specs.Base.{with_struck, Token, Deed, again, Committed, Failed, Undone, Refusal, TooMany}
+use Rattle.sk_speculator.specs.Base.{NoNumber, Memory}
 use Rattle.sk_speculator.specs.Parts.{Parts, machine_of, undo_state_of}
-use Rattle.sk_speculator.specs.declared.decided.Committed.{Committed}
-use Rattle.sk_speculator.specs.declared.decided.Committed.TheVariants as commit
-use Rattle.sk_speculator.specs.declared.decided.Failed.{Failed}
-use Rattle.sk_speculator.specs.declared.decided.Failed.TheVariants as failure
-use Rattle.sk_speculator.specs.declared.decided.Undone.{Undone}
-use Rattle.sk_speculator.specs.declared.refusal.Refusal.{Refusal}
-use Rattle.sk_speculator.specs.declared.refusal.Refusal.TheVariants.{TooMany, NoNumber, Memory}
 
 -- with one guess more, where a step draws one
 abbrev pub drawn_by : Option ℕ → KeptView → KeptView
@@ -43,8 +27,8 @@ module _ {K V O : Type 0} (R : K → K → Ordering) where
   -- an undecided guess is committed
   pub record Commits (a : Parts K V O) (g : ℕ) (b : Parts K V O) : Type 0 where
     pub undecided : has g (numbers a.opens) ≡ true
-    pub commits : (status : ℕ → Option Status) → AreStatuses a.guesses a.opens status → MergedCommits (machine_of R a status) g (machine_of R b (with_status g status_as.Committed status))
-    pub agrees : (status : ℕ → Option Status) → AreStatuses a.guesses a.opens status → AreStatuses b.guesses b.opens (with_status g status_as.Committed status)
+    pub commits : (status : ℕ → Option Status) → AreStatuses a.guesses a.opens status → MergedCommits (machine_of R a status) g (machine_of R b (with_status g Status.Committed status))
+    pub agrees : (status : ℕ → Option Status) → AreStatuses a.guesses a.opens status → AreStatuses b.guesses b.opens (with_status g Status.Committed status)
     pub guesses : b.guesses ≡ a.guesses
     pub opens : b.opens ≡ still_open g a.opens
 
@@ -74,14 +58,14 @@ IsStranger m token = token.kernel ≡ m.guesses.kernel → (has token.id (number
 module _ {K V O : Type 0} (R : K → K → Ordering) where
   -- an undecided guess is committed; of one that was struck nothing is left; any other token comes back
   abbrev pub CommitPost : Parts K V O → Token → Result Committed Token → Parts K V O → Type 0
-  CommitPost old token (Ok commit.Done) new = (token.kernel ≡ old.guesses.kernel) × Commits R old token.id new
-  CommitPost old token (Ok commit.Gone) new = (token.kernel ≡ old.guesses.kernel) × Forgets R old token.id new
+  CommitPost old token (Ok Committed.Done) new = (token.kernel ≡ old.guesses.kernel) × Commits R old token.id new
+  CommitPost old token (Ok Committed.Gone) new = (token.kernel ≡ old.guesses.kernel) × Forgets R old token.id new
   CommitPost old token (Err back) new = IsStranger old token × (back ≡ token) × (new ≡ old)
 
   -- the same with a failure, which tells what it took back
   abbrev pub FailPost : Parts K V O → Token → Result (Failed K) Token → Parts K V O → Type 0
-  FailPost old token (Ok (failure.Done undone)) new = (token.kernel ≡ old.guesses.kernel) × TookBack R old token.id undone × FailsIn R old token.id new
-  FailPost old token (Ok failure.Gone) new = (token.kernel ≡ old.guesses.kernel) × Forgets R old token.id new
+  FailPost old token (Ok (Failed.Done undone)) new = (token.kernel ≡ old.guesses.kernel) × TookBack R old token.id undone × FailsIn R old token.id new
+  FailPost old token (Ok Failed.Gone) new = (token.kernel ≡ old.guesses.kernel) × Forgets R old token.id new
   FailPost old token (Err back) new = IsStranger old token × (back ≡ token) × (new ≡ old)
 
 -- why no guess is drawn: as many are undecided as may be; or the last number is drawn; or there is no memory

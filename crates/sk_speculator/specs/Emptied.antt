@@ -1,7 +1,6 @@
 -- What a step that was taken leaves of the buffers that it was handed in with.
 use Rattle.std.specs.Prelude.{◌≡◌, [], None}
-use Rattle.std.specs.Vec.{vec_capacity}
-use Rattle.sk_speculator.specs.declared.step.Step.{Step}
+use Rattle.sk_speculator.specs.Base.{vec_capacity, Step}
 
 -- they are empty, and have their room
 pub record IsEmptied {K V O I W U : Type 0} (old new : Step K V O I W U) : Type 0 where

@@ -1,17 +1,8 @@
 -- The calls of a kernel over its user's own step function, one after another, and what they come to.
 use Rattle.std.specs.Prelude.{◌≡◌, ◌==◌, ◌⊎◌, ℕ, false, List, [], ◌∷◌, Option, Some, None, Ok}
-use Rattle.std.specs.FinMap.{FinMap, IsAntisymmetric, get}
-use Rattle.std.specs.Cmp.{IsTotalOrder}
-use Rattle.sk_record.specs.Step.{perform}
-use Rattle.sk_record.specs.Run.{System}
-use Rattle.sk_record.specs.Trace.{Event, Taken, Commit, Fail}
-use Rattle.sk_record.specs.Machine.{IsPlainRun}
-use Rattle.sk_record.specs.declared.status.Status.{Status}
-use Rattle.sk_guesses.specs.Kept.{AreStatuses}
-use Rattle.sk_deeds.specs.Deed.{Deed, effect_of}
-use Rattle.sk_deeds.specs.Told.{Told, told_more, with_told}
-use Rattle.sk_slots.specs.Slots.{look_at, log_at}
-use Rattle.sk_outputs.specs.Said.{said_at}
+use Rattle.sk_speculator.specs.Base.{FinMap, IsAntisymmetric, get, IsTotalOrder, perform, System, Event, Taken, Commit}
+use Rattle.sk_speculator.specs.Base.{Fail, IsPlainRun, Status, AreStatuses, Deed, effect_of, Told, told_more}
+use Rattle.sk_speculator.specs.Base.{with_told, look_at, log_at, said_at}
 use Rattle.sk_speculator.specs.Parts.{Parts, machine_of}
 use Rattle.sk_speculator.specs.Calls.{next_of, Takes, Commits, FailsIn, Forgets}
 
@@ -25,8 +16,7 @@ pub data Call (N O : Type 0) : Type 0 where
 abbrev pub events_of : {N O : Type 0} → List (Call N O) → List (Event N)
 events_of [] = []
 events_of (Does e ∷ cs) = e ∷ events_of cs
-events_of (Tells t output ∷ cs) = events_of cs
-events_of (Returns g ∷ cs) = events_of cs
+events_of (other ∷ cs) = events_of cs
 
 -- the first output of a channel is taken out; all else stays
 pub record TakesOut {K V O : Type 0} (a : Parts K V O) (t : ℕ) (output : O) (b : Parts K V O) : Type 0 where

@@ -1,3 +1,4 @@
+pub mod Base
 pub mod Parts
 pub mod Calls
 pub mod Emptied

@@ -1,25 +1,10 @@
 -- What a kernel keeps, and the machine of records that it is.
 use Rattle.std.specs.Prelude.{◌≡◌, ℕ, Bool, List, [], ◌∷◌, ◌++◌, Option, Some, None, refl, if◌then◌else◌}
-use Rattle.std.specs.Ordering.{eq_by_cmp}
-use Rattle.std.specs.List.{list_any}
-use Rattle.std.specs.Coded.{Coded, code_by, coded×, coded_ℕ, coded_list}
-use Rattle.std.specs.declared.cmp.Ordering.{Ordering}
-use Rattle.std.specs.FinMap.{FinMap}
-use Rattle.sk_record.specs.Effects.{is_in, written_value}
-use Rattle.sk_record.specs.Notes.{has, noted, last_tags}
-use Rattle.sk_record.specs.Trace.{Event}
-use Rattle.sk_record.specs.UndoState.{Open, UndoState}
-use Rattle.sk_record.specs.Machine.{Machine}
-use Rattle.sk_record.specs.Merged.{Merges, MergedStands}
-use Rattle.sk_record.specs.declared.status.Status.{Status}
-use Rattle.sk_guesses.specs.Dependents.{tags_by, AllExact}
-use Rattle.sk_guesses.specs.Kept.{KeptView, AreStatuses, keys_of}
-use Rattle.sk_guesses.specs.Opens.{OpenGuess}
-use Rattle.sk_deeds.specs.Deed.{Deed, Entry, again}
-use Rattle.sk_deeds.specs.Told.{Told, with_told}
-use Rattle.sk_slots.specs.Slot.{SlotView, slot_code}
-use Rattle.sk_slots.specs.Slots.{look_at, log_at, AllSettled}
-use Rattle.sk_outputs.specs.Said.{Said, one_code, said_at}
+use Rattle.sk_speculator.specs.Base.{eq_by_cmp, list_any, Coded, code_by, coded×, coded_ℕ, coded_list, Ordering}
+use Rattle.sk_speculator.specs.Base.{FinMap, is_in, written_value, has, noted, last_tags, Event, Open, UndoState}
+use Rattle.sk_speculator.specs.Base.{Machine, Merges, MergedStands, Status, tags_by, AllExact, KeptView, AreStatuses}
+use Rattle.sk_speculator.specs.Base.{keys_of, OpenGuess, Deed, Entry, again, Told, with_told, SlotView, slot_code}
+use Rattle.sk_speculator.specs.Base.{look_at, log_at, AllSettled, Said, one_code, said_at}
 
 -- what each key has with its notes, what is kept of guesses, the undecided ones with the guesses that their own steps rest on, and the
 -- outputs that were not taken out

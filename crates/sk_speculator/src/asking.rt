@@ -1,14 +1,8 @@
 //! What a step asks for before it is taken, so that nothing can be refused then, and its taking.
 ghost use Rattle.std.specs.Prelude.{◌≡◌, ◌||◌, ℕ, true, [], None, Some, is_some, length, IfOk, IfSome, OnErr, OnOk};
-ghost use Rattle.std.specs.List.Sorted.{IsStrictlySortedBy};
-ghost use Rattle.std.specs.Ordering.{nat_cmp};
-ghost use Rattle.sk_guesses.specs.Dependents.{tags_by, with_tags, AllExact, Covers};
-ghost use Rattle.sk_guesses.specs.Kept.{keys_of, HasKeptRoom};
-ghost use Rattle.sk_guesses.specs.Opens.{opens_of};
-ghost use Rattle.sk_record.specs.Effects.{is_in, is_marked};
-ghost use Rattle.sk_outputs.specs.Said.{HasRoom};
-ghost use Rattle.sk_record.specs.Notes.{has};
-ghost use Rattle.sk_slots.specs.Slots.{look_at, log_at, AllSettled, IsReady, SettledBut};
+ghost use Rattle.sk_speculator.specs.Base.{IsStrictlySortedBy, nat_cmp, tags_by, with_tags, AllExact, Covers, keys_of};
+ghost use Rattle.sk_speculator.specs.Base.{HasKeptRoom, opens_of, is_in, is_marked, HasRoom, has, look_at, log_at};
+ghost use Rattle.sk_speculator.specs.Base.{AllSettled, IsReady, SettledBut};
 ghost use Rattle.sk_speculator.specs.Parts.{any_rests, made_by, says, Performed};
 ghost use Rattle.sk_speculator.specs.Emptied.{IsEmptied};
 

@@ -1,10 +1,7 @@
 //! The lists of what rests on each undecided guess, as steps and failures change them.
 ghost use Rattle.std.specs.Prelude.{◌≡◌, ℕ, [], true, OnErr, OnOk};
-ghost use Rattle.sk_guesses.specs.Dependents.{tags_by, with_tags, AllAlmostExact, AllExact, Covers, Depends};
-ghost use Rattle.sk_guesses.specs.Kept.{keys_of};
-ghost use Rattle.sk_guesses.specs.Opens.{opens_of};
-ghost use Rattle.sk_record.specs.Notes.{has, last_tags};
-ghost use Rattle.sk_slots.specs.Slots.{log_at};
+ghost use Rattle.sk_speculator.specs.Base.{tags_by, with_tags, AllAlmostExact, AllExact, Covers, Depends, keys_of};
+ghost use Rattle.sk_speculator.specs.Base.{opens_of, has, last_tags, log_at};
 
 use sk_guesses::OpenGuesses;
 use sk_ids::TagSet;

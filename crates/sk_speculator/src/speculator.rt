@@ -1,22 +1,12 @@
 //! The kernel.
 ghost use Rattle.std.specs.Prelude.{◌≡◌, ◌≢◌, ◌==◌, ◌<◌, ◌∷◌, ◌&&◌, ℕ, [], true, false, None, Some, Option, is_some, is_none, length, get_or, IfErr, IfOk, IfSome, OnErr, OnOk};
-ghost use Rattle.std.specs.List.Sorted.{IsStrictlySortedBy};
-ghost use Rattle.std.specs.Int.NonZero.{non_zero_u16_get};
-ghost use Rattle.std.specs.Map.Iter.{ShowsInOrder, deref};
-ghost use Rattle.std.specs.List.{slice_get};
-ghost use Rattle.std.specs.Option.{option_copied, option_map};
-ghost use Rattle.sk_guesses.specs.Kept.{known, none_drawn, AreStatuses};
-ghost use Rattle.sk_record.specs.Effects.{is_in};
-ghost use Rattle.sk_record.specs.Machine.{released};
-ghost use Rattle.sk_record.specs.Notes.{has};
-ghost use Rattle.sk_record.specs.UndoState.{numbers, tags_at};
-ghost use Rattle.sk_record.specs.declared.status.Status.{Status};
-ghost use Rattle.sk_outputs.specs.Said.{said_at, first_of, waiting_of};
-ghost use Rattle.sk_slots.specs.Slots.{look_at, log_at};
+ghost use Rattle.sk_speculator.specs.Base.{IsStrictlySortedBy, non_zero_u16_get, ShowsInOrder, deref, slice_get};
+ghost use Rattle.sk_speculator.specs.Base.{option_copied, option_map, known, none_drawn, AreStatuses, is_in, released};
+ghost use Rattle.sk_speculator.specs.Base.{has, numbers, tags_at, Status, said_at, first_of, waiting_of, look_at};
+ghost use Rattle.sk_speculator.specs.Base.{log_at, Memory};
 ghost use Rattle.sk_speculator.specs.Calls.{next_of, Commits, CommitPost, FailsIn, FailPost, Refuses, Takes, TookBack};
 ghost use Rattle.sk_speculator.specs.Emptied.{IsEmptied};
 ghost use Rattle.sk_speculator.specs.Parts.{deed, machine_of, made_by, undo_state_of, IsSame};
-ghost use Rattle.sk_speculator.specs.declared.refusal.Refusal.TheVariants.{Memory};
 
 use crate::asking::{StepTags, ask, perform};
 use crate::lists::{relieve_all, tags_of};

@@ -1,9 +1,6 @@
 //! The writes of a step: the guesses that their keys rest on, the room for their notes, and the writes themselves.
 ghost use Rattle.std.specs.Prelude.{◌≡◌, ◌||◌, ◌∷◌, ℕ, Option, true, [], None, IfOk, OnOk};
-ghost use Rattle.sk_guesses.specs.Kept.{keys_of};
-ghost use Rattle.sk_record.specs.Effects.{is_in};
-ghost use Rattle.sk_record.specs.Notes.{has};
-ghost use Rattle.sk_slots.specs.Slots.{look_at, log_at, AllSettled, IsReady, SettledBut};
+ghost use Rattle.sk_speculator.specs.Base.{keys_of, is_in, has, look_at, log_at, AllSettled, IsReady, SettledBut};
 ghost use Rattle.sk_speculator.specs.Parts.{any_rests, made_by, Performed};
 
 use sk_ids::TagSet;

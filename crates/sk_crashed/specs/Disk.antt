@@ -1,5 +1,5 @@
 -- What a disk may have of a log after a crash, and what a start reads of it.
-use Rattle.std.specs.Prelude.{◌≡◌, ℕ, Bool, true, false, List, [], ◌∷◌, Option, Some, Ok}
+use Rattle.std.specs.Prelude.{◌≡◌, ℕ, Bool, List, [], ◌∷◌, Option, Some, Ok, if◌then◌else◌}
 use Rattle.sk_log.specs.Crash.{Crashed}
 use Rattle.sk_log.specs.Front.{BeginsAs}
 use Rattle.sk_batches.specs.Queue.{cut_due}
@@ -35,13 +35,9 @@ IsLeft next cs s disk = AreLeft (synced cs) (cut_due s.batched.queue) (written n
 
 -- ---- what is read
 
-abbrev pub with_bytes : Bool → List ℕ → List (List ℕ) → List (List ℕ)
-with_bytes false bytes later = later
-with_bytes true bytes later = bytes ∷ later
-
 -- The fronts of these segments were added to the heads, one after another, and of those with a head these bytes are read.
 abbrev pub AreAdded : List Head → List Stored → List Head → List (List ℕ) → Type 0
 AreAdded old [] heads bytes = (heads ≡ old) × (bytes ≡ [])
 AreAdded old (d ∷ ds) heads bytes =
     (front : List ℕ) × (there : Bool) × (mid : List Head) × (later : List (List ℕ)) × BeginsAs d.bytes front
-    × AddsHead d.segment front old (Ok there) mid × (bytes ≡ with_bytes there d.bytes later) × AreAdded mid ds heads later
+    × AddsHead d.segment front old (Ok there) mid × (bytes ≡ (if there then d.bytes ∷ later else later)) × AreAdded mid ds heads later

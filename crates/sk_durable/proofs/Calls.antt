@@ -5,7 +5,7 @@ use Rattle.sk_durable.proofs.Names.{flat_map, inl, inr, refl, sym, ◌∙◌, ap
 use Rattle.sk_durable.proofs.Names.{append-nil, list_any-append, is_marked, has, marks, tags_at, bytes_cmp, TakesOut}
 use Rattle.sk_durable.proofs.Names.{undo_state_of, Stays, Requests, Answer, Work, answer_text, comes_to}
 use Rattle.sk_durable.proofs.Names.{names_reserved, Asked, Channel, Ask, Do, OneAsked, FedBytes, Channels, only_posed}
-use Rattle.sk_durable.proofs.Names.{posed_ticket, Feeds, HasServed, HasServedOn, channel_at, with_channel, Told}
+use Rattle.sk_durable.proofs.Names.{posed_ticket, Feeds, HasServed, HoldsWith, channel_at, with_channel, Told}
 use Rattle.sk_durable.proofs.Names.{NotDone, LongKey, Full, Memory, End, Asker, error, long_key_words, told_work}
 use Rattle.sk_durable.proofs.Names.{work_of, channel_refused, ahead_of, asked_by, batch_for, deed_now, has_now}
 use Rattle.sk_durable.proofs.Names.{touched, Batches, CarryPost, IsNotDone, IsTold, asked_for, came, first_answer}
@@ -132,7 +132,8 @@ IsServed bytes result before after = (limits : Requests) (asked : List Ask) (str
     → HasServed limits asked stream told handed before → Feeds limits asked stream told handed bytes result after
 
 past_on : (limits : Requests) (after : Channel) (one : Option OneAsked) (p : Past) (more : List ℕ)
-    → HasServedOn limits p.asked (p.stream ++ more) one p.told p.handed after → (p : Past) × HasPast limits p after
+    → HoldsWith (λ asked stream. HasServed limits asked stream p.told p.handed after) p.asked (p.stream ++ more) one
+    → (p : Past) × HasPast limits p after
 past_on limits after None p more has = (came more p, has)
 past_on limits after (Some one) p more has = (asked_for more one.ask p, has.0)
 
@@ -166,12 +167,12 @@ module _ (looks : Bool) (t : ℕ) (bytes : List ℕ) (a : StoreView) (before aft
 
     hears : fed.asked ≡ None → Goes (came (take fed.count bytes)) before after
     hears none limits p has =
-        subst (λ one. HasServedOn limits p.asked (p.stream ++ take fed.count bytes) one p.told p.handed after) none
+        subst (HoldsWith (λ asked stream. HasServed limits asked stream p.told p.handed after) p.asked (p.stream ++ take fed.count bytes)) none
         (served limits p.asked p.stream p.told p.handed has).2
 
     asks : (one : OneAsked) → fed.asked ≡ Some one → (limits : Requests) (p : Past) → HasPast limits p before → HasPast limits (asked_for (take fed.count bytes) one.ask p) after × (one.ticket ≡ length p.asked + 1)
     asks one some limits p has =
-        subst (λ asked. HasServedOn limits p.asked (p.stream ++ take fed.count bytes) asked p.told p.handed after) some
+        subst (HoldsWith (λ asked stream. HasServed limits asked stream p.told p.handed after) p.asked (p.stream ++ take fed.count bytes)) some
         (served limits p.asked p.stream p.told p.handed has).2
 
     pub part_fed : fed.asked ≡ None → (posed : Bool) → posed ≡ is_some after.inlet.posed

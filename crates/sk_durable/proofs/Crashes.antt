@@ -3,7 +3,7 @@ use Rattle.std.proofs.lemmas.Bool.Decides.{nat_tests}
 use Rattle.sk_durable.proofs.Names.{◌≡◌, ℕ, ◌+◌, ◌-◌, ◌^◌, ◌<◌, Bool, true, false, cond, List, [], ◌∷◌, ◌++◌, length}
 use Rattle.sk_durable.proofs.Names.{map, take, zero, suc, Option, Some, None, inl, inr, refl, sym, ◌∙◌, ap, subst}
 use Rattle.sk_durable.proofs.Names.{arith, nat_lt, Contains, option_or, false≢true, Contains-append_cases}
-use Rattle.sk_durable.proofs.Names.{Contains-push_cases, Contains-push, kept, Why, take_refused, first_cause}
+use Rattle.sk_durable.proofs.Names.{Contains-push_cases, Contains-push, kept, Why, take_refused}
 use Rattle.sk_durable.proofs.Names.{frame_refused, next_payload, has_room, PlacesView, next_records, QueueView}
 use Rattle.sk_durable.proofs.Names.{payload, RecordView, is_full, Channel, Ask, Do, Reject, Inlet, Rejection}
 use Rattle.sk_durable.proofs.Names.{is_hosts, with_words, AskInTurn, Asks, ComesTo, IsHeard, Text, Queue, Answer}
@@ -42,7 +42,7 @@ no_room true room is = cc
 no_room false true is = refl
 no_room false false is = cc
 
-second_none : (o p : Option Why) → first_cause o p ≡ None → p ≡ None
+second_none : (o p : Option Why) → option_or o p ≡ None → p ≡ None
 second_none None p is = is
 second_none (Some w) p is = cc
 

@@ -63,7 +63,7 @@ pub use Rattle.sk_batches.proofs.Order.{cut_number, sent_number}
 pub use Rattle.sk_batches.proofs.Synced.{logs_what_is_synced, failed_unkept, sent_unkept, stays_below, decided_synced}
 pub use Rattle.sk_batches.specs.Calls.{new_queue, append_refused, is_busy, take_refused, has_no_number, WordPost}
 pub use Rattle.sk_batches.specs.Dense.{IsRange, AreDense, IsBehind, IsAtCut}
-pub use Rattle.sk_batches.specs.Frames.{frame_refused, first_cause, next_payload}
+pub use Rattle.sk_batches.specs.Frames.{frame_refused, next_payload}
 pub use Rattle.sk_batches.specs.Places.{has_room, PlacesView, next_segment}
 pub use Rattle.sk_batches.specs.Queue.{open_batch, is_kept, is_awaited, is_sent, is_decided, is_taken, left}
 pub use Rattle.sk_batches.specs.Queue.{next_records, decided as decided_batch, after_take, kept_of, is_failed}
@@ -83,8 +83,8 @@ pub use Rattle.sk_bytes.specs.Steps.{byte_deed}
 pub use Rattle.sk_bytes.specs.Told.{IsTwoWay}
 pub use Rattle.sk_bytes.specs.declared.bytes.TheConstants.{KEY_LIMIT}
 pub use Rattle.sk_channels.specs.Asking.{AskInTurn, ComesTo, with_words, is_hosts, Asks}
-pub use Rattle.sk_channels.specs.Hearing.{IsHeard, posed_ticket, only_posed}
-pub use Rattle.sk_channels.specs.Serving.{RefusePost, FeedPost as Feeds, ReplyPost, HasServedOn, HasServed}
+pub use Rattle.sk_channels.specs.Hearing.{HoldsWith, IsHeard, posed_ticket, only_posed}
+pub use Rattle.sk_channels.specs.Serving.{RefusePost, FeedPost as Feeds, ReplyPost, HasServed}
 pub use Rattle.sk_channels.specs.Table.{hung_up, place_at, channel_of, with_channel, KeepsOthers, channel_at}
 pub use Rattle.sk_channels.specs.Telling.{Told, refused, refused_up_to}
 pub use Rattle.sk_channels.specs.declared.channel.Channel.{Channel}
@@ -122,14 +122,13 @@ pub use Rattle.sk_durable.specs.Laws.{LetsGoJustWhatMay, IsAnswered, ChannelsLet
 pub use Rattle.sk_durable.specs.Laws.{TicketsAreToldRight, IsGone, HasDone, CrashesAreRecovered, said_to as says_to}
 pub use Rattle.sk_durable.specs.Laws.{IsLogged, Waits, LoggedIsOnDisk, MapIsPlain, AnswersArePlain}
 pub use Rattle.sk_durable.specs.Limits.{are_sound}
-pub use Rattle.sk_durable.specs.Posts.{RefusedPost, PosedPost, LetGoPost, OutputPost, TakePost, SyncedPost, Sweeps}
-pub use Rattle.sk_durable.specs.Posts.{is_posed, AllLetGo, HandsOver, HasNoneReady, TellPost, has_refused}
+pub use Rattle.sk_durable.specs.Posts.{RefusedPost, PosedPost, LetGoPost, OutputPost, TakePost, Sweeps}
+pub use Rattle.sk_durable.specs.Posts.{is_posed, HandsOver, HasNoneReady, TellPost, has_refused}
 pub use Rattle.sk_durable.specs.Posts.{RestorePost, BringPost, LearnPost, LetsGo, TryPost, ReadyPost, FreesIfLast}
 pub use Rattle.sk_durable.specs.Posts.{MayFeed, IsStray, end_of, CutPost, HoldsTooMany, AnswerPost, IsHeldUp}
 pub use Rattle.sk_durable.specs.Posts.{ConnectPost, drops, StopsThere, IsReady, tells, HangUpPost, TurnPost}
-pub use Rattle.sk_durable.specs.Posts.{FailedPost}
 pub use Rattle.sk_durable.specs.Refused.{channel_refused}
-pub use Rattle.sk_durable.specs.Store.{Past, Becomes, was_told, has_refusals, HasFirstTicket, IsNew, bound, asked_for}
+pub use Rattle.sk_durable.specs.Store.{Past, Becomes, was_told, has_refusals, IsNew, bound, asked_for}
 pub use Rattle.sk_durable.specs.Store.{was_refused, HasPast, no_past, StoreView, came, was_handed, Goes, HavePasts}
 pub use Rattle.sk_durable.specs.Store.{first_answer}
 pub use Rattle.sk_durable.specs.Works.{CarryPost, against, Kernel, touched, batch_for, LetsOut, TakesAlone, has_now}

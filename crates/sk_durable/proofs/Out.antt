@@ -9,7 +9,7 @@ use Rattle.sk_durable.proofs.Names.{channel_at, with_channel, Told, Answer, answ
 use Rattle.sk_durable.proofs.Names.{NoTicket, DecisionDue, channel_refused, Batches, bound, first_answer}
 use Rattle.sk_durable.proofs.Names.{has_refusals, was_handed, was_refused, was_told, Becomes, HasPast, HavePasts}
 use Rattle.sk_durable.proofs.Names.{Past, StoreView, Call, Cuts, Drops, Frees, Hands, Refuses, Tells, Does, Passes}
-use Rattle.sk_durable.proofs.Names.{SameBatches, Serves, drops, tells, AllLetGo, BringPost, CutPost, FreesIfLast}
+use Rattle.sk_durable.proofs.Names.{SameBatches, Serves, drops, tells, AllByRecursion, BringPost, CutPost, FreesIfLast}
 use Rattle.sk_durable.proofs.Names.{HandsOver, HasNoneReady, HoldsTooMany, IsHeldUp, IsReady, IsStray, LearnPost}
 use Rattle.sk_durable.proofs.Names.{LetGoPost, LetsGo, ReadyPost, RefusedPost, StopsThere, Sweeps, TurnPost}
 use Rattle.std.specs.List.{slice_get}
@@ -306,11 +306,11 @@ there_brought t (Err why) a b c post there is = cc
 
 -- ---- what is let go of
 
-drops_let_go : (t : ℕ) (xs : List (ℕ × Answer)) → AllLetGo (drops t xs)
+drops_let_go : (t : ℕ) (xs : List (ℕ × Answer)) → AllByRecursion LetsGo (drops t xs)
 drops_let_go t [] = tt
 drops_let_go t (x ∷ xs) = (tt, drops_let_go t xs)
 
-all_append : (cs ds : List Call) → AllLetGo cs → AllLetGo ds → AllLetGo (cs ++ ds)
+all_append : (cs ds : List Call) → AllByRecursion LetsGo cs → AllByRecursion LetsGo ds → AllByRecursion LetsGo (cs ++ ds)
 all_append [] ds all more = more
 all_append (c ∷ cs) ds (lets, all) more = (lets, all_append cs ds all more)
 
@@ -336,7 +336,7 @@ none_ready_then a b (Drops u ticket answer) does lets none t = grind (arith, nat
 none_ready_then a b (Frees u) does lets none t = grind (arith, nat_tests)
 none_ready_then a b other does lets none t = absurd lets
 
-none_ready_after : (a b : StoreView) (cs : List Call) → Serves a cs b → AllLetGo cs → ((t : ℕ) → HasNoneReady t a)
+none_ready_after : (a b : StoreView) (cs : List Call) → Serves a cs b → AllByRecursion LetsGo cs → ((t : ℕ) → HasNoneReady t a)
     → (t : ℕ) → HasNoneReady t b
 none_ready_after a b [] is all none t = subst (λ s. HasNoneReady t s) is (none t)
 none_ready_after a b (c ∷ cs) (m, does, serves) (lets, all) none t =

@@ -2,7 +2,7 @@
 use Rattle.sk_durable.proofs.Names.{arith, ◌≡◌, ℕ, ◌<◌, ◌≤◌, Bool, true, false, List, [], ◌∷◌, ◌++◌, length, Option}
 use Rattle.sk_durable.proofs.Names.{Some, None, inl, inr, refl, ◌∙◌, ap, subst, ◌==◌, nat_le, nat_lt, if◌then◌else◌}
 use Rattle.sk_durable.proofs.Names.{option_or, leb-false, or_parts, NUMBER_LIMIT, Synced, Failed, Why, has_no_number}
-use Rattle.sk_durable.proofs.Names.{is_busy, take_refused, first_cause, frame_refused, is_awaited, next_records}
+use Rattle.sk_durable.proofs.Names.{is_busy, take_refused, frame_refused, is_awaited, next_records}
 use Rattle.sk_durable.proofs.Names.{QueueView, Batch, Cut, new_queue, AreDense, IsRange, cut_due, no_story}
 use Rattle.sk_durable.proofs.Names.{cuts_a_range, frames_are_dense, decided_synced, logs_what_is_synced, payload}
 use Rattle.sk_durable.proofs.Names.{RecordView, story_after, Story, Logged, Work, log_text, may_write_some, Asked}
@@ -38,10 +38,6 @@ no_frame_why : (stopped none busy numberless short : Bool)
     → numberless ≡ false
 no_frame_why false false false false short is = refl
 no_frame_why stopped none busy numberless short is = cc
-
-none_first : (o p : Option Why) → first_cause o p ≡ None → o ≡ None
-none_first None p is = refl
-none_first (Some w) p is = cc
 
 pub or_none_first : (o p : Option Why) → option_or o p ≡ None → o ≡ None
 or_none_first None p is = refl
@@ -123,7 +119,7 @@ next a m story (Hands t bytes) cs s (passes, is) rest = stays a m story _ s (ap 
     (rest story.synced)
 next a m story Draws cs s (room, draws, is, places) rest = stays a m story _ s draws.1 (rest story.synced)
 next a m story (Sends sealed records) cs s (room, filled, (none, draws, begun, framed), these, is) rest =
-    let free = none_first (take_refused a.batched.queue (length room - 24)) _
+    let free = or_none_first (take_refused a.batched.queue (length room - 24)) _
     (or_none_first (frame_refused a.batched.queue a.places (length room)) _ none) in
     goes a m story _ s queues.Takes (numbered a.batched.queue (length room - 24) free, framed.2) refl
     (rest story.synced)

@@ -12,7 +12,7 @@ use Rattle.sk_durable.proofs.Names.{deed_now, has_now, Batches, IsNotRestored, K
 use Rattle.sk_durable.proofs.Names.{LetsOut, Restores, RestorePost, IsNew, StoreView}
 use Rattle.std.proofs.lemmas.Bool.Decides.{nat_tests}
 use Rattle.sk_durable.proofs.Tagged.{ok_or}
-use Rattle.sk_served.specs.Plain.{after_work}
+use Rattle.sk_replay.specs.Snapshot.{after_work}
 use Rattle.sk_durable.specs.Works as works
 
 abbrev Told : Type 0

@@ -1,12 +1,6 @@
 -- What is carried out for what a channel asked for.
 use Rattle.std.specs.Prelude.{ℕ, List, codes, if◌then◌else◌}
-use Rattle.sk_commands.specs.declared.reply.Reply.TheVariants.{Rejected, Text}
-use Rattle.sk_commands.specs.declared.work.Work.{Work}
-use Rattle.sk_commands.specs.declared.work.Work.TheVariants.{Say}
-use Rattle.sk_served.specs.Names.{names_reserved}
-use Rattle.sk_channels.specs.declared.inlet.Ask.{Ask}
-use Rattle.sk_channels.specs.declared.inlet.Ask.TheVariants.{Do, Reject}
-use Rattle.sk_channels.specs.Rejections.{rejection_words}
+use Rattle.sk_durable.specs.Base.{Rejected, Text, Work, Say, names_reserved, Ask, Do, Reject, rejection_words}
 
 -- the words of the errors for keys that no command may name
 abbrev pub reserved_words : List ℕ

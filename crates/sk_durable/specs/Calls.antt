@@ -1,30 +1,11 @@
 -- What a store does, one thing after another.
 use Rattle.std.specs.Prelude.{◌≡◌, ◌⊎◌, ◌+◌, ◌<◌, ◌≤◌, ℕ, true, false, List, [], ◌∷◌, length, Some, None, Ok}
-use Rattle.std.specs.List.{list_any}
-use Rattle.sk_speculator.specs.Law.{TakesOut}
-use Rattle.sk_batches.specs.Calls.{word_refused}
-use Rattle.sk_batches.specs.Places.{next_segment}
-use Rattle.sk_batches.specs.Queue.{after_cut, after_word, cut_due, is_refused, next_records, QueueView}
-use Rattle.sk_batches.specs.Records.{RecordView}
-use Rattle.sk_batches.specs.declared.batch.Stage.{Stage}
-use Rattle.sk_batches.specs.declared.batch.Stage.TheVariants.{Synced, Failed}
-use Rattle.sk_batches.specs.declared.frames.Sealed.{Sealed}
-use Rattle.sk_batches.specs.declared.queue.Cut.{Cut}
-use Rattle.sk_batched.specs.Batched.{is_full, Begins, DecidePost, NextPost, Stays}
-use Rattle.sk_batched.specs.declared.batched.Outcome.{Outcome}
-use Rattle.sk_channels.specs.declared.channel.Channel.{Channel}
-use Rattle.sk_channels.specs.declared.inlet.Ask.{Ask}
+use Rattle.sk_durable.specs.Base.{list_any, TakesOut, word_refused, next_segment, after_cut, after_word, cut_due}
+use Rattle.sk_durable.specs.Base.{is_refused, next_records, RecordView, Stage, Synced, Failed, Sealed, Cut}
+use Rattle.sk_durable.specs.Base.{is_full, Begins, DecidePost, NextPost, Stays, Outcome, Channel, Ask, channel_at}
+use Rattle.sk_durable.specs.Base.{KeepsAll, Answer, Work, answer_text, Requests, names_reserved, Asked, NotDone}
+use Rattle.sk_durable.specs.Base.{LongKey, Asker}
 use Rattle.sk_channels.specs.Table as table
-use Rattle.sk_channels.specs.Table.{channel_at, KeepsAll}
-use Rattle.sk_commands.specs.declared.work.Answer.{Answer}
-use Rattle.sk_commands.specs.declared.work.Work.{Work}
-use Rattle.sk_commands.specs.Texts.{answer_text}
-use Rattle.sk_requests.specs.declared.limits.Limits.{Limits as Requests}
-use Rattle.sk_served.specs.Names.{names_reserved}
-use Rattle.sk_served.specs.Served.{Asked}
-use Rattle.sk_durable.specs.declared.refusal.NotDone.{NotDone}
-use Rattle.sk_durable.specs.declared.refusal.NotDone.TheVariants.{LongKey}
-use Rattle.sk_durable.specs.declared.works.Asker.{Asker}
 use Rattle.sk_durable.specs.Asked.{error, long_key_words, work_of}
 use Rattle.sk_durable.specs.Works.{against, asked_by, Batches, CarriesOut, IsNotDone, IsTold, KnowsIfTold}
 use Rattle.sk_durable.specs.Store.{asked_for, bound, came, first_answer, no_past, was_handed, was_refused, was_told, Becomes, Goes, HasPast, Past, StoreView}
@@ -108,11 +89,6 @@ pub record IsDone (b : Batches) (ask : Ask) (asked : Asked) (answer : Answer) (r
 abbrev pub LeavesIt : Batches → Asker → Ask → NotDone → Batches → Type 0
 LeavesIt b asker ask why c = (seen : Batches) × Stays b seen × (work : Work) × IsFor b asker ask work × IsNotDone why seen asker work c
 
--- ---- the queue
-
-abbrev pub ChangesQueue : (QueueView → QueueView) → StoreView → StoreView → Type 0
-ChangesQueue change a b = b ≡ record a { batched = record a.batched { queue = change a.batched.queue } }
-
 -- ---- each call
 
 abbrev pub Does : StoreView → Call → StoreView → Type 0
@@ -139,7 +115,7 @@ Does a (Sends sealed records) b = (room : List ℕ) × (filled : List ℕ) × Ne
 Does a Turns b = (segment : ℕ) × (next_segment a.places ≡ Some segment)
     × (b ≡ record a { places = record a.places { segment = segment; offset = 0 } })
 Does a (Learns frame stage) b = ((stage ≡ Synced) ⊎ (stage ≡ Failed)) × (word_refused a.batched.queue frame ≡ None)
-    × ChangesQueue (after_word frame stage) a b
+    × (b ≡ record a { batched = record a.batched { queue = after_word frame stage a.batched.queue } })
 Does a (Cuts cut) b = (a.batched.queue.stopped ≡ false) × (cut_due a.batched.queue ≡ Some cut)
     × ((segment : ℕ) × (next_segment a.places ≡ Some segment)
     × (b ≡ record a {

@@ -1,16 +1,7 @@
 -- What came of all that a store did.
 use Rattle.std.specs.Prelude.{◌==◌, ◌-◌, ℕ, Bool, false, is_some, List, [], ◌∷◌, ◌++◌, flat_map, map, take, Some, if◌then◌else◌}
-use Rattle.std.specs.List.{filter}
-use Rattle.sk_batches.specs.declared.batch.Stage.TheVariants as stages
-use Rattle.sk_batches.specs.Queue.{is_refused}
-use Rattle.sk_batches.specs.Records.{RecordView}
-use Rattle.sk_batches.specs.Runs.{synced_after}
-use Rattle.sk_batched.specs.declared.batched.Outcome.TheVariants.{Logged as LoggedBatch, Refused}
-use Rattle.sk_record.specs.Trace.{Commit, Event, Fail}
-use Rattle.sk_rests.specs.Logged.{failed_in, kept, Logged}
-use Rattle.sk_commands.specs.declared.work.Answer.{Answer}
-use Rattle.sk_commands.specs.Texts.{answer_text}
-use Rattle.sk_served.specs.Served.{Entry, Opens, Runs}
+use Rattle.sk_durable.specs.Base.{filter, is_refused, RecordView, synced_after, LoggedBatch, Refused, Commit, Event}
+use Rattle.sk_durable.specs.Base.{Fail, failed_in, kept, Logged, Answer, answer_text, Entry, Opens, Runs, Stage}
 use Rattle.sk_durable.specs.Store.{asked_for, came, no_past, was_handed, was_refused, was_told, Past, StoreView}
 use Rattle.sk_durable.specs.Calls.{Call, Connects, Hears, Carries, Declines, Tells, Refuses, Hands, Sends, Learns, Cuts, Decides}
 
@@ -83,7 +74,7 @@ stands_on t cs = kept (failed cs) (carried_from t [] cs)
 -- ---- the log
 
 abbrev pub synced_by : Call → List ℕ → List ℕ
-synced_by (Learns frame stages.Synced) synced = frame ∷ synced
+synced_by (Learns frame Stage.Synced) synced = frame ∷ synced
 synced_by (Cuts cut) synced = synced_after cut synced
 synced_by other synced = synced
 

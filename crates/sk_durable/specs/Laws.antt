@@ -1,23 +1,9 @@
 -- The theorem: what goes out, what is there and what a crash leaves, after any calls.
 use Rattle.std.specs.Prelude.{◌≡◌, ◌⊎◌, ◌==◌, ◌+◌, ◌-◌, ◌<◌, ◌≤◌, ℕ, true, false, List, [], ◌∷◌, ◌++◌, flat_map, length, map, take, Option, Some, None, slice_get, if◌then◌else◌}
-use Rattle.std.specs.List.{Contains}
-use Rattle.sk_record.specs.Notes.{has}
-use Rattle.sk_batches.specs.Records.{payload, RecordView}
+use Rattle.sk_durable.specs.Base.{Contains, has, payload, RecordView, Channel, Ask, channel_at, Answer, Work, log_text}
+use Rattle.sk_durable.specs.Base.{answer_text, held, Entries, SayAll, after_works, entries_after, replies_to, Asked}
+use Rattle.sk_durable.specs.Base.{Runs, Limits, Next}
 use Rattle.sk_batched.specs.declared.batched.Outcome.TheVariants.{Logged}
-use Rattle.sk_channels.specs.declared.channel.Channel.{Channel}
-use Rattle.sk_channels.specs.declared.inlet.Ask.{Ask}
-use Rattle.sk_channels.specs.Table.{channel_at}
-use Rattle.sk_commands.specs.declared.work.Answer.{Answer}
-use Rattle.sk_commands.specs.declared.work.Work.{Work}
-use Rattle.sk_commands.specs.Requests.{log_text}
-use Rattle.sk_commands.specs.Texts.{answer_text}
-use Rattle.sk_plain_store.specs.Plain.{held, Entries}
-use Rattle.sk_replay.specs.Frames.{SayAll}
-use Rattle.sk_replay.specs.Snapshot.{after_works}
-use Rattle.sk_served.specs.Plain.{entries_after, replies_to}
-use Rattle.sk_served.specs.Served.{Asked, Runs}
-use Rattle.sk_durable.specs.declared.limits.Limits.{Limits}
-use Rattle.sk_durable.specs.declared.store.Next.{Next}
 use Rattle.sk_durable.specs.Asked.{error, long_key_words, work_of}
 use Rattle.sk_durable.specs.Works.{has_now}
 use Rattle.sk_durable.specs.Store.{first_answer, has_refusals, HasPast, IsNew, StoreView}

@@ -1,41 +1,12 @@
 -- What each call of a store answers, and what it leaves.
-use Rattle.std.specs.Prelude.{◌≡◌, ◌≢◌, ◌⊎◌, ◌||◌, ◌+◌, ◌-◌, ◌<◌, ◌≤◌, ◌^◌, ℕ, Bool, true, false, is_some, nat_le, min, List, [], ◌∷◌, ◌++◌, length, map, take, drop, Option, Some, None, Result, Ok, Err}
-use Rattle.std.specs.List.{list_any}
-use Rattle.sk_record.specs.Machine.{released}
-use Rattle.sk_outputs.specs.Said.{said_at}
-use Rattle.sk_log.specs.Frame.{frame}
-use Rattle.sk_batches.specs.Calls.{word_refused}
-use Rattle.sk_batches.specs.Places.{next_segment}
-use Rattle.sk_batches.specs.Queue.{cut_due, is_refused, undecided}
-use Rattle.sk_batches.specs.declared.batch.Stage.{Stage}
-use Rattle.sk_batches.specs.declared.batch.Stage.TheVariants as stages
-use Rattle.sk_batches.specs.declared.frames.Sealed.{Sealed}
-use Rattle.sk_batches.specs.declared.queue.Cut.{Cut}
-use Rattle.sk_batches.specs.declared.refusal.Refusal.{Refusal as Queued}
+use Rattle.std.specs.Prelude.{◌≡◌, ◌≢◌, ◌⊎◌, ◌||◌, ◌+◌, ◌-◌, ◌<◌, ◌≤◌, ◌^◌, ℕ, Bool, true, false, is_some, nat_le, min, List, [], ◌++◌, length, map, take, drop, Option, Some, None, Result, Ok, Err}
+use Rattle.sk_durable.specs.Base.{list_any, AllByRecursion, released, said_at, frame, word_refused, next_segment, cut_due, is_refused}
+use Rattle.sk_durable.specs.Base.{undecided, Stage, Sealed, Cut, Queued, NextPost, Outcome, Channel, Ask, Do}
+use Rattle.sk_durable.specs.Base.{posed_ticket, channel_at, Answer, Work, answer_text, Entries, Requests, after_work}
+use Rattle.sk_durable.specs.Base.{Asked, NotDone, Refusal, NoChannel, DecisionDue, Full, NoTicket, Memory, End, Fed}
+use Rattle.sk_durable.specs.Base.{Next, Asker}
 use Rattle.sk_batches.specs.declared.refusal.Refusal.TheVariants as queued
-use Rattle.sk_batched.specs.Batched.{NextPost}
-use Rattle.sk_batched.specs.declared.batched.Outcome.{Outcome}
 use Rattle.sk_batches.specs.Queue as queues
-use Rattle.sk_channels.specs.declared.channel.Channel.{Channel}
-use Rattle.sk_channels.specs.declared.inlet.Ask.{Ask}
-use Rattle.sk_channels.specs.declared.inlet.Ask.TheVariants.{Do}
-use Rattle.sk_channels.specs.Hearing.{posed_ticket}
-use Rattle.sk_channels.specs.Table.{channel_at}
-use Rattle.sk_commands.specs.declared.work.Answer.{Answer}
-use Rattle.sk_commands.specs.declared.work.Work.{Work}
-use Rattle.sk_commands.specs.Texts.{answer_text}
-use Rattle.sk_plain_store.specs.Plain.{Entries}
-use Rattle.sk_requests.specs.declared.limits.Limits.{Limits as Requests}
-use Rattle.sk_served.specs.Plain.{after_work}
-use Rattle.sk_served.specs.Served.{Asked}
-use Rattle.sk_durable.specs.declared.refusal.NotDone.{NotDone}
-use Rattle.sk_durable.specs.declared.refusal.Refusal.{Refusal}
-use Rattle.sk_durable.specs.declared.refusal.Refusal.TheVariants.{NoChannel, DecisionDue, Full, NoTicket, Memory}
-use Rattle.sk_durable.specs.declared.store.End.{End}
-use Rattle.sk_durable.specs.declared.store.End.TheVariants as ends
-use Rattle.sk_durable.specs.declared.store.Fed.{Fed}
-use Rattle.sk_durable.specs.declared.store.Next.{Next}
-use Rattle.sk_durable.specs.declared.works.Asker.{Asker}
 use Rattle.sk_durable.specs.Asked.{told_work}
 use Rattle.sk_durable.specs.Works.{ahead_of}
 use Rattle.sk_durable.specs.Store.{first_answer, has_refusals, HasPast, IsNew, Past, StoreView}
@@ -89,9 +60,9 @@ TryPost looks asker ask (Ok ahead) a b = (asked : Asked) × (answer : Answer) ×
 TryPost looks asker ask (Err why) a b = LeavesIt a.batched asker ask why b.batched × (b ≡ record a { batched = b.batched })
 
 abbrev pub AnswerPost : Bool → Asker → Ask → End → StoreView → StoreView → Type 0
-AnswerPost looks asker ask ends.Done a b = (asked : Asked) × (answer : Answer) × (rests : List ℕ) × (asked.channel ≡ asker.channel) × (asked.ticket ≡ asker.ticket)
+AnswerPost looks asker ask End.Done a b = (asked : Asked) × (answer : Answer) × (rests : List ℕ) × (asked.channel ≡ asker.channel) × (asked.ticket ≡ asker.ticket)
     × IsDone a.batched ask asked answer rests b.batched × (b ≡ record a { batched = b.batched; ahead = ahead_of looks answer })
-AnswerPost looks asker ask (ends.NotDone why) a b = LeavesIt a.batched asker ask why b.batched × (b ≡ record a { batched = b.batched })
+AnswerPost looks asker ask (End.NotDone why) a b = LeavesIt a.batched asker ask why b.batched × (b ≡ record a { batched = b.batched })
 AnswerPost looks asker ask other a b = ⊥
 
 -- whether the host is asked on a channel
@@ -101,14 +72,14 @@ is_posed (Some channel) = is_some channel.inlet.posed
 
 -- what became of bytes that end no request that is carried out
 abbrev pub end_of : Bool → End
-end_of true = ends.Asked
-end_of false = ends.Part
+end_of true = End.Asked
+end_of false = End.Part
 
 -- these bytes came, and what they end became this; its answer is told ahead, where it is looked at
 abbrev pub Ends : Bool → ℕ → List ℕ → End → StoreView → StoreView → Type 0
-Ends looks t bytes ends.Done a b = (ask : Ask) × (asked : Asked) × (answer : Answer) × (rests : List ℕ)
+Ends looks t bytes End.Done a b = (ask : Ask) × (asked : Asked) × (answer : Answer) × (rests : List ℕ)
     × Does a (Carries t bytes ask asked answer rests) b × (b.ahead ≡ ahead_of looks answer)
-Ends looks t bytes (ends.NotDone why) a b = (ask : Ask) × (ticket : ℕ) × Does a (Declines t bytes ask ticket why) b × (b.ahead ≡ a.ahead)
+Ends looks t bytes (End.NotDone why) a b = (ask : Ask) × (ticket : ℕ) × Does a (Declines t bytes ask ticket why) b × (b.ahead ≡ a.ahead)
 Ends looks t bytes other a b = Does a (Hears t bytes) b × (other ≡ end_of (is_posed (channel_at b.channels t))) × (b.ahead ≡ a.ahead)
 
 -- a channel has given its last ticket
@@ -130,7 +101,7 @@ MayFeed a = (has_refused a ≡ false) × (is_at_limit a ≡ false)
 
 -- so many bytes came, and what they end became this; after a refusal nothing is seen to have changed
 abbrev pub TakePost : Bool → ℕ → List ℕ → Result Fed Refusal → StoreView → StoreView → Type 0
-TakePost looks t bytes (Ok fed) a b = MayFeed a × (fed.count ≤ length bytes) × (0 < length bytes → fed.end ≢ ends.Asked → 0 < fed.count)
+TakePost looks t bytes (Ok fed) a b = MayFeed a × (fed.count ≤ length bytes) × (0 < length bytes → fed.end ≢ End.Asked → 0 < fed.count)
     × Ends looks t (take fed.count bytes) fed.end a b
 TakePost looks t bytes (Err DecisionDue) a b = (has_refused a ≡ true) × (b ≡ a)
 TakePost looks t bytes (Err Full) a b = (has_refused a ≡ false) × (is_at_limit a ≡ true) × (b ≡ a)
@@ -218,13 +189,9 @@ LetsGo (Drops t ticket answer) = Unit {0}
 LetsGo (Frees t) = Unit {0}
 LetsGo other = ⊥
 
-abbrev pub AllLetGo : List Call → Type 0
-AllLetGo [] = Unit {0}
-AllLetGo (c ∷ cs) = LetsGo c × AllLetGo cs
-
 -- of channels that were hung up some answers are dropped
 abbrev pub Sweeps : StoreView → StoreView → Type 0
-Sweeps a b = (cs : List Call) × Serves a cs b × AllLetGo cs
+Sweeps a b = (cs : List Call) × Serves a cs b × AllByRecursion LetsGo cs
 
 -- what it has for this channel: tickets that are told that nothing was done, or an answer that may go out
 abbrev pub IsReady : ℕ → StoreView → Type 0
@@ -249,16 +216,10 @@ abbrev pub TurnPost : Result (Unit {0}) Queued → StoreView → StoreView → T
 TurnPost (Ok _) a b = Does a Turns b
 TurnPost (Err why) a b = (next_segment a.places ≡ None) × (why ≡ queued.NoNumber) × (b ≡ a)
 
--- the host's word on a frame
+-- the host's word on a frame: it is on the disk, or was not written, and its batches are to be cut off; or it is `Unknown`
 abbrev pub LearnPost : Stage → ℕ → Result (Unit {0}) Queued → StoreView → StoreView → Type 0
 LearnPost stage number (Ok _) a b = Does a (Learns number stage) b
 LearnPost stage number (Err why) a b = (word_refused a.batched.queue number ≡ Some why) × (b ≡ a)
-
-abbrev pub SyncedPost : ℕ → Result (Unit {0}) Queued → StoreView → StoreView → Type 0
-SyncedPost number result a b = LearnPost stages.Synced number result a b
-
-abbrev pub FailedPost : ℕ → Result (Unit {0}) Queued → StoreView → StoreView → Type 0
-FailedPost number result a b = LearnPost stages.Failed number result a b
 
 -- the frame that makes the cut stands at the front of the room; it is to be written at the front of the next segment
 abbrev pub CutFramePost : Result Sealed Queued → List ℕ → List ℕ → StoreView → Type 0

@@ -1,31 +1,10 @@
 -- A store, as its callers see it; and what came on its channels.
 use Rattle.std.specs.Prelude.{◌≡◌, ◌+◌, ◌*◌, ℕ, Bool, true, false, nat_lt, List, [], ◌∷◌, ◌++◌, Option, Some, None}
-use Rattle.std.specs.FinMap.{is_sorted}
-use Rattle.std.specs.List.{slice_get}
-use Rattle.std.specs.Int.NonZero.{non_zero_u16_get}
-use Rattle.std.specs.Option.{option_map}
-use Rattle.sk_record.specs.UndoState.{tags_at}
-use Rattle.sk_guesses.specs.Kept.{none_drawn}
-use Rattle.sk_slots.specs.Slots.{log_at}
-use Rattle.sk_outputs.specs.Said.{said_at, first_of}
-use Rattle.sk_speculator.specs.Parts.{undo_state_of}
-use Rattle.sk_index.specs.Index.{bytes_cmp}
-use Rattle.sk_batches.specs.Calls.{new_queue}
-use Rattle.sk_batches.specs.Places.{places_at, PlacesView}
-use Rattle.sk_batched.specs.Batched.{capped}
-use Rattle.sk_plain_store.specs.Plain.{held, Entries}
-use Rattle.sk_served.specs.Known.{HasNoReserved}
-use Rattle.sk_requests.specs.declared.limits.Limits.{Limits as Requests}
-use Rattle.sk_channels.specs.declared.channel.Channel.{Channel}
-use Rattle.sk_channels.specs.declared.inlet.Ask.{Ask}
+use Rattle.sk_durable.specs.Base.{is_sorted, slice_get, non_zero_u16_get, tags_at, none_drawn, log_at}
+use Rattle.sk_durable.specs.Base.{said_at, first_of, undo_state_of, bytes_cmp, new_queue, places_at, PlacesView}
+use Rattle.sk_durable.specs.Base.{capped, held, Entries, HasNoReserved, Requests, Channel, Ask, word_at, HasServed}
+use Rattle.sk_durable.specs.Base.{channel_at, place_at, with_channel, refused_up_to, Told, Answer, Limits, Next}
 use Rattle.sk_channels.specs.declared.table.Channels.{Channels}
-use Rattle.sk_channels.specs.Hearing.{word_at}
-use Rattle.sk_channels.specs.Serving.{HasServed}
-use Rattle.sk_channels.specs.Table.{channel_at, place_at, with_channel}
-use Rattle.sk_channels.specs.Telling.{refused_up_to, Told}
-use Rattle.sk_commands.specs.declared.work.Answer.{Answer}
-use Rattle.sk_durable.specs.declared.limits.Limits.{Limits}
-use Rattle.sk_durable.specs.declared.store.Next.{Next}
 use Rattle.sk_durable.specs.Works.{has_now, Batches}
 
 -- what it takes, its kernel with the queue of batches, its channels, where the next frame stands, and what is told ahead of what was
@@ -126,9 +105,3 @@ bound channel (Some told) = told.0
 abbrev pub has_refusals : Option Channel → Option (ℕ × Answer) → Bool
 has_refusals None first = false
 has_refusals (Some channel) first = nat_lt channel.outlet.next (bound channel first)
-
-abbrev pub HasRefusals : StoreView → ℕ → Bool → Type 0
-HasRefusals s t result = result ≡ has_refusals (channel_at s.channels t) (first_answer s t)
-
-abbrev pub HasFirstTicket : StoreView → ℕ → Option ℕ → Type 0
-HasFirstTicket s t result = result ≡ option_map (λ told. told.0) (first_answer s t)

@@ -1,36 +1,11 @@
 -- Works that are carried out by what keys have at once, in the open batch where they may write.
-use Rattle.std.specs.Prelude.{◌≡◌, ◌⊎◌, ◌||◌, ℕ, Bool, true, false, nat_lt, List, [], ◌∷◌, ◌++◌, length, map, Option, Some, None, if◌then◌else◌, Result, Ok, Err}
-use Rattle.std.specs.List.{list_any}
-use Rattle.std.specs.List.Sorted.{IsStrictlySortedBy}
-use Rattle.std.specs.Option.{option_map, option_or}
-use Rattle.std.specs.Global.{Vec}
-use Rattle.sk_record.specs.Effects.{is_marked}
-use Rattle.sk_record.specs.Machine.{released}
-use Rattle.sk_record.specs.Notes.{has}
-use Rattle.sk_deeds.specs.Deed.{Deed}
-use Rattle.sk_slots.specs.Slots.{look_at, log_at}
-use Rattle.sk_outputs.specs.Said.{said_at}
-use Rattle.sk_index.specs.Index.{bytes_cmp}
-use Rattle.sk_speculator.specs.Calls.{Takes}
-use Rattle.sk_speculator.specs.Law.{TakesOut}
-use Rattle.sk_speculator.specs.WholeStep.{WholeStep}
-use Rattle.sk_bytes.specs.declared.bytes.TheConstants.{KEY_LIMIT}
-use Rattle.sk_bytes.specs.Steps.{byte_deed}
-use Rattle.sk_bytes.specs.Told.{ByteView}
-use Rattle.sk_batches.specs.Calls.{append_refused}
-use Rattle.sk_batched.specs.Batched.{is_full, is_touched, BatchedView, Begins, Logs, Stays}
-use Rattle.sk_reserved.specs.Keys.{is_reserved}
-use Rattle.sk_batched.specs.Refused.{refusal_of}
-use Rattle.sk_commands.specs.declared.work.Work.{Work}
-use Rattle.sk_commands.specs.declared.work.Answer.{Answer}
-use Rattle.sk_commands.specs.Requests.{log_text}
-use Rattle.sk_commands.specs.Table.{is_among, Have}
-use Rattle.sk_commands.specs.Texts.{answer_text}
-use Rattle.sk_commands.specs.Work.{comes_to, may_write_some, wants_all}
-use Rattle.sk_served.specs.Served.{deed, Asked, Runs}
-use Rattle.sk_durable.specs.declared.refusal.NotDone.{NotDone}
-use Rattle.sk_durable.specs.declared.refusal.NotDone.TheVariants.{LongKey, TooMany, Memory}
-use Rattle.sk_durable.specs.declared.works.Asker.{Asker}
+use Rattle.std.specs.Prelude.{◌≡◌, ◌⊎◌, ◌||◌, ℕ, Bool, true, false, nat_lt, List, [], ◌++◌, length, map, Option, Some, None, if◌then◌else◌, Result, Ok, Err}
+use Rattle.sk_durable.specs.Base.{list_any, LeavesOut, option_map, option_or, Vec, is_marked, released, has}
+use Rattle.sk_durable.specs.Base.{Deed, look_at, log_at, said_at, bytes_cmp, Takes, TakesOut, WholeStep, KEY_LIMIT}
+use Rattle.sk_durable.specs.Base.{byte_deed, ByteView, append_refused, is_full, is_touched, BatchedView, Begins, Logs}
+use Rattle.sk_durable.specs.Base.{Stays, is_reserved, refusal_of, Work, Answer, log_text, Have, answer_text}
+use Rattle.sk_durable.specs.Base.{comes_to, may_write_some, wants_all, deed, Asked, Runs, NotDone, LongKey, TooMany, Asker}
+use Rattle.sk_durable.specs.declared.refusal.NotDone.TheVariants.{Memory}
 use Rattle.sk_durable.specs.Refused.{step_refused}
 
 -- a kernel over byte strings whose outputs are tickets with answers, and the queue of its batches
@@ -49,15 +24,9 @@ has_now kernel = look_at bytes_cmp kernel.parts.slots
 
 -- ---- all keys, for work that is told of them
 
--- with one key more, unless it is reserved
-abbrev pub KnowsMore : List ℕ → List (List ℕ) → List (List ℕ) → Type 0
-KnowsMore key old new = new ≡ (if is_reserved key then old else old ++ key ∷ [])
-
 -- The keys rise by their bytes, and each that is not among them is absent and rests on nothing, but for reserved ones.
 abbrev pub LacksNone : Kernel → List (List ℕ) → Type 0
-LacksNone kernel known = IsStrictlySortedBy bytes_cmp known
-    × ((key : List ℕ) → is_reserved key ≡ false → is_among key known ≡ false
-    → (has_now kernel key ≡ None) × (log_at bytes_cmp kernel.parts.slots key ≡ []))
+LacksNone kernel known = LeavesOut (λ key. (has_now kernel key ≡ None) × (log_at bytes_cmp kernel.parts.slots key ≡ [])) known
 
 abbrev pub KnowsIfTold : Kernel → Work → List (List ℕ) → Type 0
 KnowsIfTold kernel work known = wants_all work ≡ true → LacksNone kernel known

@@ -1,9 +1,7 @@
 //! All keys, for commands that are told of them.
-ghost use Rattle.std.specs.Prelude.{◌≡◌, [], map, IfOk, OnErr, OnOk};
-ghost use Rattle.std.specs.Vec.{vec_items};
-ghost use Rattle.sk_commands.specs.Work.{with_known};
-ghost use Rattle.sk_reserved.specs.Keys.{is_reserved};
-ghost use Rattle.sk_durable.specs.Works.{KnowsMore, LacksNone};
+ghost use Rattle.std.specs.Prelude.{◌≡◌, [], ◌∷◌, ◌++◌, if◌then◌else◌, map, IfOk, OnErr, OnOk};
+ghost use Rattle.sk_durable.specs.Base.{vec_items, with_known, is_reserved};
+ghost use Rattle.sk_durable.specs.Works.{LacksNone};
 
 use crate::Told;
 use sk_bytes::Bytes;
@@ -13,7 +11,9 @@ use std::alloc::{AllocError, Global};
 
 /// Adds a copy of a key, unless it is one of a batch.
 fn add_key(alloc: Global, key: &[u8], keys: &mut Vec<Vec<u8>>) -> Result<(), AllocError>
-    ensures { OnOk result (KnowsMore key.now (map vec_items keys.old.items) (map vec_items keys.new.items)) }
+    ensures { OnOk result (map vec_items keys.new.items
+        ≡ (if is_reserved key.now then map vec_items keys.old.items
+        else map vec_items keys.old.items ++ key.now ∷ [])) }
 {
     if !is_reserved(key) {
         keys.push(Vec::from_slice(alloc, key)?)?;

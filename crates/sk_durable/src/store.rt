@@ -1,19 +1,11 @@
 //! The store.
 ghost use Rattle.std.specs.Prelude.{◌≡◌, ◌+◌, [], true, false, length, option_map, None};
-ghost use Rattle.std.specs.Option.{option_copied};
-ghost use Rattle.sk_slots.specs.Slots.{look_at};
-ghost use Rattle.sk_index.specs.Index.{bytes_cmp};
-ghost use Rattle.sk_batches.specs.Frames.{next_payload};
-ghost use Rattle.sk_batches.specs.Queue.{cut_due, in_flight, undecided};
-ghost use Rattle.sk_requests.specs.Replies.{error_text};
-ghost use Rattle.sk_commands.specs.Faults.{words_of};
-ghost use Rattle.sk_commands.specs.declared.fault.Fault.TheVariants.{Unknown};
-ghost use Rattle.sk_served.specs.Names.{names_reserved};
-ghost use Rattle.sk_channels.specs.Table.{channel_at};
+ghost use Rattle.sk_durable.specs.Base.{option_copied, look_at, bytes_cmp, next_payload, cut_due, in_flight, undecided};
+ghost use Rattle.sk_durable.specs.Base.{error_text, words_of, Failed, Synced, Unknown, names_reserved, channel_at};
 ghost use Rattle.sk_durable.specs.Limits.{are_sound};
-ghost use Rattle.sk_durable.specs.Posts.{AnswerPost, BringAnswersPost, BringPost, ConnectPost, CutFramePost, CutPost, DecidePost, FailedPost, FeedAheadPost, FeedPost, FramePost, HangUpPost, LetGoPost, OutputPost, PosedPost, ReadyPost, RefusedPost, RestorePost, SyncedPost, TakePost, TellPost, TryPost, TurnPost, end_of, is_at_limit};
+ghost use Rattle.sk_durable.specs.Posts.{AnswerPost, BringAnswersPost, BringPost, ConnectPost, CutFramePost, CutPost, DecidePost, FeedAheadPost, FeedPost, FramePost, HangUpPost, LearnPost, LetGoPost, OutputPost, PosedPost, ReadyPost, RefusedPost, RestorePost, TakePost, TellPost, TryPost, TurnPost, end_of, is_at_limit};
 ghost use Rattle.sk_durable.specs.Works.{CarryPost};
-ghost use Rattle.sk_durable.specs.Store.{asked_at, is_closed, rests_on_at, HasFirstTicket, HasRefusals, IsNew};
+ghost use Rattle.sk_durable.specs.Store.{asked_at, first_answer, has_refusals, is_closed, rests_on_at, IsNew};
 
 use crate::asked::{UNKNOWN, text, too_long, work_of};
 use crate::works::{Asker, Batches, NOBODY, WorkStep, carry_out, restore};
@@ -375,7 +367,7 @@ impl Store {
 
     /// The ticket of the first answer of a channel, whether it waits or not.
     fn first_ticket(&self, channel: u16) -> Option<u64>
-        ensures { HasFirstTicket self.now channel result }
+        ensures { result ≡ option_map (λ told. told.0) (first_answer self.now channel) }
     {
         match self.batched.kernel().first(channel) {
             Some(answer) => Some(answer.ticket()),
@@ -385,7 +377,8 @@ impl Store {
 
     /// Whether tickets before the first answer, or all that are left where there is none, were told nothing.
     fn has_refusals(&mut self, channel: u16) -> bool
-        ensures refusals { HasRefusals self.old channel result }
+        ensures refusals { result ≡ has_refusals (channel_at self.old.channels channel)
+            (first_answer self.old channel) }
         ensures same { self.new ≡ self.old }
     {
         let first = self.first_ticket(channel);
@@ -459,14 +452,14 @@ impl Store {
 
     /// The host says that a frame is synced. It is decided once all before it are.
     pub fn synced(&mut self, frame: u64) -> Result<(), sk_batches::Refusal>
-        ensures { SyncedPost frame result self.old self.new }
+        ensures { LearnPost Synced frame result self.old self.new }
     {
         self.batched.synced(frame)
     }
 
     /// The host says that a frame failed. Nothing is decided past it.
     pub fn failed(&mut self, frame: u64) -> Result<(), sk_batches::Refusal>
-        ensures { FailedPost frame result self.old self.new }
+        ensures { LearnPost Failed frame result self.old self.new }
     {
         self.batched.failed(frame)
     }

@@ -1,9 +1,6 @@
 //! Works that are carried out at once, and logged in the open batch where they may write.
 ghost use Rattle.std.specs.Prelude.{◌≡◌, [], false, None, IfOk, OnErr, OnOk, map};
-ghost use Rattle.std.specs.Vec.{vec_items};
-ghost use Rattle.sk_commands.specs.Work.{wants_all};
-ghost use Rattle.sk_served.specs.Names.{names_reserved};
-ghost use Rattle.sk_batched.specs.Batched.{IsEmpty, Stays};
+ghost use Rattle.sk_durable.specs.Base.{vec_items, wants_all, names_reserved, IsEmpty, Stays};
 ghost use Rattle.sk_durable.specs.Works.{ahead_in, CarryPost, IsHanded, KnowsIfTold, RestorePost, TakesAlone};
 
 use crate::known::known_keys;

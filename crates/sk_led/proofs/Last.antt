@@ -4,7 +4,7 @@ use Rattle.sk_led.proofs.Names.{length, map, Some, None, Ok, Err, Option, option
 use Rattle.sk_led.proofs.Names.{subst, arith, if◌then◌else◌, list_any, list_any-append, or_right, eq-eqb, false≢true}
 use Rattle.sk_led.proofs.Names.{serves_on, Batch, Stage, QueueView, after_take, awaits, cut_due, first_failed}
 use Rattle.sk_led.proofs.Names.{is_awaited, is_decided, is_failed, last_in, left, next_records, open_batch}
-use Rattle.sk_led.proofs.Names.{queue_decided, send, tell, word_refused, Cut, Decision, decision_of, first_cause}
+use Rattle.sk_led.proofs.Names.{queue_decided, send, tell, word_refused, Cut, Decision, decision_of}
 use Rattle.sk_led.proofs.Names.{PlacesView, Refusal, Sealed, Stays, AfterNoFrame, all_stays, place_at, next_refused}
 use Rattle.sk_led.proofs.Names.{queue_cause_of, Call, Cuts, Decides, Draws, Learns, Rests, Sends, Turns, StoreDoes}
 use Rattle.sk_led.proofs.Names.{StoreView, FramePost, any_failed, AreLast, DoesLast, IsAgainst, ◌^◌, ◌-◌, is_some}
@@ -113,7 +113,7 @@ fails_now a b frame does =
 -- the first cause against it, by what is so
 abbrev cause : (stopped none busy number short head room full : Bool) → Option Refusal
 cause stopped none busy number short head room full = option_or
-    (first_cause (if stopped then Some refusals.Stopped
+    (option_or (if stopped then Some refusals.Stopped
     else if none then Some refusals.Nothing
     else if busy then Some refusals.Busy
     else if number then Some refusals.NoNumber

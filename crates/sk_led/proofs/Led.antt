@@ -107,8 +107,9 @@ replies_rest_on_engine read moves w r gap limits next start cs s runs done led t
     (lets.out command ticket number answer stands said out rests)
 
 pub leaders_go_on : LeadersGoOn
-leaders_go_on read moves w r gap limits next start cs s runs done led values are ends works said =
-    found_at read moves w r gap limits next start cs s runs done led values are ends works said
+leaders_go_on read moves w start r runs its =
+    found_at read moves w r.leadership r.gap r.limits r.next start r.calls r.store runs its.done its.led
+    r.values its.found its.ends r.works its.says
 
 -- ---- what was refused
 
@@ -139,12 +140,12 @@ logged_stands cs s entry at =
     (to_filter (λ (c : Command). not (is_struck gone c)) (carried cs) r.0 came.0 (fewer gone more r.0 came.1)))
 
 pub refused_is_nowhere : RefusedIsNowhere
-refused_is_nowhere read moves w r gap limits next start cs s runs done led values are ends works said t k channel connected refused =
-    let found = leaders_go_on read moves w r gap limits next start cs s runs done led values are ends works said in (
-      (tickets_are_told_right limits next start cs s done t channel connected).refused k refused,
+refused_is_nowhere read moves w start r runs its t k channel connected refused =
+    let found = leaders_go_on read moves w start r runs its in (
+      (tickets_are_told_right r.limits r.next start r.calls r.store its.done t channel connected).refused k refused,
       record {
-        order = take found.count (logged cs s);
+        order = take found.count (logged r.calls r.store);
         left_is = found.map_is;
-        among = λ entry at. logged_stands cs s entry (in_front found.count (logged cs s) entry at);
+        among = λ entry at. logged_stands r.calls r.store entry (in_front found.count (logged r.calls r.store) entry at);
       },
     )

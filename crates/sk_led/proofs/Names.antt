@@ -80,7 +80,7 @@ pub use Rattle.sk_batched.specs.Batched.{next_refused, AfterNoFrame, Stays, MayB
 pub use Rattle.sk_led.specs.Winding.{any_failed, AreLast, DoesLast, DecidesAll, FailPost, IsAgainst, TakePost}
 pub use Rattle.sk_led.specs.Winding.{WindUpPost, WoundUpIsLed}
 pub use Rattle.std.specs.Option.{option_or}
-pub use Rattle.sk_batches.specs.Frames.{first_cause, frame_refused}
+pub use Rattle.sk_batches.specs.Frames.{frame_refused}
 pub use Rattle.sk_batches.specs.declared.frames.Sealed.{Sealed}
 pub use Rattle.sk_channels.specs.Table.{place_at}
 pub use Rattle.sk_durable.proofs.Calls.{all_stays, serves_on}

@@ -11,9 +11,7 @@ joined (x ∷ xs) ys start = joined xs ys (entry_after x start)
 pub one_order : OneOrder
 one_order read moves w start end [] runs reigns = ([], reigns, refl)
 one_order read moves w start end (r ∷ rs) runs reigns =
-    let its = reigns.0 in
-    let found = leaders_go_on read moves w r.leadership r.gap r.limits r.next start r.calls r.store runs its.done
-    its.led r.values its.found its.ends r.works its.says in
+    let found = leaders_go_on read moves w start r runs reigns.0 in
     let rest = one_order read moves w (after_works r.works start) end rs runs reigns.1 in
     let front = take found.count (logged r.calls r.store) in
     let is : end ≡ entries_after (front ++ rest.0) start =

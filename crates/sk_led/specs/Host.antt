@@ -1,19 +1,9 @@
 -- A host that serves a store beside an engine, and lets nothing old out.
-use Rattle.std.specs.Prelude.{◌≡◌, ◌==◌, ◌<◌, ◌≤◌, ◌≢◌, ℕ, Bool, true, false, List, [], ◌∷◌, ◌++◌, if◌then◌else◌}
-use Rattle.std.specs.List.{list_any}
-use Rattle.sk_channels.specs.declared.inlet.Ask.{Ask}
-use Rattle.sk_commands.specs.declared.work.Answer.{Answer}
-use Rattle.sk_plain_store.specs.Plain.{Entries}
-use Rattle.sk_served.specs.Served.{Asked}
-use Rattle.sk_durable.specs.declared.limits.Limits.{Limits}
-use Rattle.sk_durable.specs.declared.store.Next.{Next}
+use Rattle.std.specs.Prelude.{◌≡◌, ◌==◌, ◌<◌, ◌≤◌, ◌≢◌, ℕ, Bool, true, false, List, [], ◌∷◌, ◌++◌, flat_map, if◌then◌else◌}
+use Rattle.sk_led.specs.Base.{list_any, Ask, Answer, Entries, Asked, Limits, Next, Call, Carries, Connects, Tells}
+use Rattle.sk_led.specs.Base.{HasDone, IsLogged, StoreView, HasDecided, ServesFrom, World, new_hosted, Calls, Hosted}
+use Rattle.sk_led.specs.Base.{HostDoes, Step, may_tell, CarriesOut, IsHeld, RoundCall, RoundDoes}
 use Rattle.sk_durable.specs.Calls as calls
-use Rattle.sk_durable.specs.Calls.{Call, Carries, Connects, Tells}
-use Rattle.sk_durable.specs.Laws.{HasDone, IsLogged}
-use Rattle.sk_durable.specs.Store.{StoreView}
-use Rattle.sk_engine.specs.Moves.{HasDecided, ServesFrom, World}
-use Rattle.sk_engine.specs.Newest.{new_hosted, Calls, Hosted, HostDoes, Step}
-use Rattle.sk_engine.specs.Rounds.{may_tell, CarriesOut, IsHeld, RoundCall, RoundDoes}
 use Rattle.sk_led.specs.Laws.{IsInEngine}
 use Rattle.sk_led.specs.Led.{IsLed}
 
@@ -52,8 +42,7 @@ called_by (Goes (Calls call)) = call ∷ []
 called_by other = []
 
 abbrev pub called : List Act → List RoundCall
-called [] = []
-called (a ∷ acts) = called_by a ++ called acts
+called acts = flat_map called_by acts
 
 -- whether the channel is connected anew
 abbrev pub connects : ℕ → Act → Bool

@@ -1,27 +1,10 @@
 -- What the engine has of a store, for ever, and what a later leadership begins with.
 use Rattle.std.specs.Prelude.{◌≡◌, ◌≢◌, ◌+◌, ◌<◌, ◌≤◌, ℕ, true, false, List, [], ◌∷◌, ◌++◌, length, map, Some, None, slice_get}
-use Rattle.std.specs.List.{Contains}
-use Rattle.sk_record.specs.Notes.{has}
-use Rattle.sk_batches.specs.Records.{payload, RecordView}
-use Rattle.sk_batched.specs.declared.batched.Outcome.TheVariants.{Logged}
-use Rattle.sk_channels.specs.declared.channel.Channel.{Channel}
-use Rattle.sk_channels.specs.Table.{channel_at}
-use Rattle.sk_commands.specs.declared.work.Answer.{Answer}
-use Rattle.sk_commands.specs.declared.work.Work.{Work}
-use Rattle.sk_commands.specs.Requests.{log_text}
-use Rattle.sk_plain_store.specs.Plain.{Entries}
-use Rattle.sk_replay.specs.Frames.{SayAll}
-use Rattle.sk_replay.specs.Snapshot.{after_works}
-use Rattle.sk_served.specs.Plain.{entries_after}
-use Rattle.sk_served.specs.Served.{Asked, Entry, Runs}
-use Rattle.sk_durable.specs.declared.limits.Limits.{Limits}
-use Rattle.sk_durable.specs.declared.store.Next.{Next}
-use Rattle.sk_durable.specs.Calls.{Call, Decides}
-use Rattle.sk_durable.specs.History.{entries, past, stands, stands_on, Command}
-use Rattle.sk_durable.specs.Laws.{HasDone, IsGone, IsLogged, IsRecovered}
-use Rattle.sk_durable.specs.Posts.{HasNoneReady}
-use Rattle.sk_durable.specs.Store.{first_answer, has_refusals, StoreView}
-use Rattle.sk_engine.specs.Moves.{new_world, owner_of, whole, Happens, Move, Reads, Runs as Moves, World}
+use Rattle.sk_led.specs.Base.{Contains, has, payload, RecordView, Logged, Channel, channel_at, Answer, Work, log_text}
+use Rattle.sk_led.specs.Base.{Entries, SayAll, after_works, entries_after, Asked, Entry, Runs, Limits, Next, Call}
+use Rattle.sk_led.specs.Base.{Decides, entries, past, stands, stands_on, Command, HasDone, IsGone, IsLogged}
+use Rattle.sk_led.specs.Base.{IsRecovered, HasNoneReady, first_answer, has_refusals, StoreView, new_world, owner_of}
+use Rattle.sk_led.specs.Base.{whole, Happens, Move, Reads, Moves, World}
 use Rattle.sk_led.specs.Led.{IsLed}
 
 -- When the batch was told as logged, all that it logs stood under one number of the engine, sent by this leadership. It stands there
@@ -57,14 +40,30 @@ abbrev pub AreOf : World → ℕ → ℕ → List (List ℕ) → Type 0
 AreOf w leadership number [] = Unit {0}
 AreOf w leadership number (v ∷ vs) = (whole w number ≡ Some v) × (owner_of v ≡ leadership) × AreOf w leadership (number + 1) vs
 
+-- The store of one leadership: what it did, and what is found of it in the engine, with the works that this says.
+pub record Reign : Type 0 where
+  pub leadership : ℕ
+  pub gap : ℕ
+  pub limits : Limits
+  pub next : Next
+  pub calls : List Call
+  pub store : StoreView
+  pub values : List (List ℕ)
+  pub works : List Work
+
+-- It began with these entries, and had its log in the engine.
+pub record IsReign (payload_in : List ℕ → List ℕ) (w : World) (start : Entries) (r : Reign) : Type 0 where
+  pub done : HasDone r.limits r.next start r.calls r.store
+  pub led : IsLed payload_in w r.leadership r.gap r.next r.calls
+  pub found : AreOf w r.leadership r.next.frame r.values
+  pub ends : (u : List ℕ) → whole w (r.next.frame + length r.values) ≡ Some u → owner_of u ≢ r.leadership
+  pub says : SayAll (map payload_in r.values) r.works
+
 -- What is found of a leadership's frames, as far as they go, says works that leave what the first of its logged commands leave of the
 -- store that it began with, with all that a batch logs which was told as logged.
 abbrev pub LeadersGoOn : Type 0
-LeadersGoOn = (payload_in : List ℕ → List ℕ) (moves : List Move) (w : World) (leadership gap : ℕ) (limits : Limits) (next : Next)
-    (start : Entries) (cs : List Call) (s : StoreView) → Moves new_world moves w → HasDone limits next start cs s
-    → IsLed payload_in w leadership gap next cs → (values : List (List ℕ)) → AreOf w leadership next.frame values
-    → ((u : List ℕ) → whole w (next.frame + length values) ≡ Some u → owner_of u ≢ leadership)
-    → (works : List Work) → SayAll (map payload_in values) works → IsRecovered start cs s (after_works works start)
+LeadersGoOn = (payload_in : List ℕ → List ℕ) (moves : List Move) (w : World) (start : Entries) (r : Reign) → Moves new_world moves w
+    → IsReign payload_in w start r → IsRecovered start r.calls r.store (after_works r.works start)
 
 -- Just some of these commands, one after another, leave this.
 pub record AreLeft (start : Entries) (those : List Entry) (left : Entries) : Type 0 where
@@ -75,13 +74,10 @@ pub record AreLeft (start : Entries) (those : List Entry) (left : Entries) : Typ
 -- Where a ticket was told that nothing was done, no command with it stands; and what is found of the leadership's frames is what commands
 -- leave that stand.
 abbrev pub RefusedIsNowhere : Type 0
-RefusedIsNowhere = (payload_in : List ℕ → List ℕ) (moves : List Move) (w : World) (leadership gap : ℕ) (limits : Limits) (next : Next)
-    (start : Entries) (cs : List Call) (s : StoreView) → Moves new_world moves w → HasDone limits next start cs s
-    → IsLed payload_in w leadership gap next cs → (values : List (List ℕ)) → AreOf w leadership next.frame values
-    → ((u : List ℕ) → whole w (next.frame + length values) ≡ Some u → owner_of u ≢ leadership)
-    → (works : List Work) → SayAll (map payload_in values) works
-    → (t k : ℕ) (channel : Channel) → channel_at s.channels t ≡ Some channel → slice_get (past t cs).told k ≡ Some None
-    → IsGone t cs (k + 1) × AreLeft start (entries (stands cs)) (after_works works start)
+RefusedIsNowhere = (payload_in : List ℕ → List ℕ) (moves : List Move) (w : World) (start : Entries) (r : Reign) → Moves new_world moves w
+    → IsReign payload_in w start r → (t k : ℕ) (channel : Channel) → channel_at r.store.channels t ≡ Some channel
+    → slice_get (past t r.calls).told k ≡ Some None
+    → IsGone t r.calls (k + 1) × AreLeft start (entries (stands r.calls)) (after_works r.works start)
 
 -- Once no batch is undecided, and all was told that may be, each ticket that was given was told: so a store that is wound up keeps nobody
 -- waiting.

@@ -1,13 +1,7 @@
 -- A store that one leadership serves, and that is wound up once the leadership is over.
 use Rattle.std.specs.Prelude.{◌≡◌, ◌⊎◌, ◌-◌, ◌<◌, ◌≤◌, ℕ, true, List, [], ◌∷◌, ◌++◌, Some, slice_get}
-use Rattle.sk_record.specs.Notes.{has}
-use Rattle.sk_batches.specs.declared.batch.Stage.TheVariants.{Synced}
-use Rattle.sk_batches.specs.Records.{payload, RecordView}
-use Rattle.sk_durable.specs.declared.store.Next.{Next}
-use Rattle.sk_durable.specs.Calls.{Call, Cuts, Learns}
-use Rattle.sk_durable.specs.History.{frames, synced}
-use Rattle.sk_engine.specs.Moves.{batch_of, Has, ServesFrom, WasLost, WasSynced, World}
-use Rattle.sk_engine.specs.Newest.{WasSent}
+use Rattle.sk_led.specs.Base.{has, Synced, payload, RecordView, Next, Call, Cuts, Learns, frames, synced, batch_of}
+use Rattle.sk_led.specs.Base.{Has, ServesFrom, WasLost, WasSynced, World, WasSent}
 
 -- no cut was made
 abbrev pub AreUncut : List Call → Type 0

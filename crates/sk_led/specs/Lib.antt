@@ -1,3 +1,4 @@
+pub mod Base
 pub mod Led
 pub mod Laws
 pub mod Order

@@ -1,25 +1,10 @@
 -- How a store is wound up, and how it ends.
 use Rattle.std.specs.Prelude.{◌≡◌, ◌⊎◌, ◌≢◌, ◌≤◌, ℕ, Bool, true, false, List, [], ◌∷◌, ◌++◌, Some, None, Result, Ok, Err}
-use Rattle.std.specs.List.{list_any, Contains}
-use Rattle.sk_batches.specs.declared.batch.Batch.{Batch}
-use Rattle.sk_batches.specs.declared.batch.Stage.TheVariants.{Failed}
-use Rattle.sk_batches.specs.declared.frames.Sealed.{Sealed}
-use Rattle.sk_batches.specs.declared.refusal.Refusal.{Refusal}
-use Rattle.sk_batches.specs.declared.refusal.Refusal.TheVariants.{Stopped, Full, Nothing, Busy, NoNumber, Short, NoCut, Memory}
-use Rattle.sk_batches.specs.Calls.{word_refused}
-use Rattle.sk_batches.specs.Frames.{frame_refused}
-use Rattle.sk_batches.specs.Places.{next_segment}
-use Rattle.sk_batches.specs.Queue.{cut_due, decided, in_flight, is_failed, next_records}
-use Rattle.sk_batches.specs.Records.{RecordView}
-use Rattle.sk_batched.specs.Batched.{next_refused}
-use Rattle.sk_plain_store.specs.Plain.{Entries}
-use Rattle.sk_durable.specs.declared.limits.Limits.{Limits}
-use Rattle.sk_durable.specs.declared.store.Next.{Next}
-use Rattle.sk_durable.specs.Calls.{Call, Cuts, Decides, Does, Draws, Learns, Rests, Sends, Serves, Turns}
-use Rattle.sk_durable.specs.Laws.{HasDone}
-use Rattle.sk_durable.specs.Store.{StoreView}
-use Rattle.sk_engine.specs.Moves.{batch_of, World}
-use Rattle.sk_engine.specs.Newest.{WasSent}
+use Rattle.sk_led.specs.Base.{list_any, Contains, Batch, Failed, Sealed, Refusal, Stopped, Full, Nothing, Busy}
+use Rattle.sk_led.specs.Base.{NoNumber, Short, NoCut, Memory, word_refused, frame_refused, next_segment, cut_due}
+use Rattle.sk_led.specs.Base.{decided, in_flight, is_failed, next_records, RecordView, next_refused, Entries, Limits}
+use Rattle.sk_led.specs.Base.{Next, Call, Cuts, Decides, Does, Draws, Learns, Rests, Sends, Serves, Turns, HasDone}
+use Rattle.sk_led.specs.Base.{StoreView, batch_of, World, WasSent}
 use Rattle.sk_led.specs.Led.{IsGivenUp, IsLeading, IsLed}
 
 -- Only this: frames are cut off and batches decided; the log goes on in the next segment; and a frame that is taken is told as failed at

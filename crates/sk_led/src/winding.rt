@@ -1,9 +1,6 @@
 //! The end of a store whose leadership is over.
 ghost use Rattle.std.specs.Prelude.{◌≡◌, length, None};
-ghost use Rattle.sk_batches.specs.Calls.{word_refused};
-ghost use Rattle.sk_batches.specs.Queue.{decided};
-ghost use Rattle.sk_batches.specs.declared.batch.Stage.TheVariants.{Failed};
-ghost use Rattle.sk_durable.specs.Calls.{Does, Learns};
+ghost use Rattle.sk_led.specs.Base.{word_refused, decided, Failed, Does, Learns};
 ghost use Rattle.sk_led.specs.Winding.{DecidesAll, FailPost, TakePost, WindUpPost};
 
 use sk_batches::{Refusal, Sealed};

@@ -1,18 +1,16 @@
 -- A store that goes on behind what was read of its log.
-use Rattle.std.specs.Prelude.{◌≡◌, ◌⊎◌, ◌||◌, ◌+◌, ◌<◌, ◌≤◌, ◌^◌, ℕ, Bool, true, false, nat_lt, List, [], ◌∷◌, ◌++◌, drop, length, map, Result, Ok, Err}
+use Rattle.std.specs.Prelude.{◌≡◌, ◌⊎◌, ◌||◌, ◌+◌, ◌<◌, ◌≤◌, ◌^◌, ℕ, Bool, true, false, nat_lt, List, [], ◌++◌, drop, length, Result, Ok, Err}
 use Rattle.std.specs.List.{list_any}
 use Rattle.sk_log.specs.Frame.{frame}
 use Rattle.sk_bytes.specs.declared.bytes.TheConstants.{KEY_LIMIT}
 use Rattle.sk_batches.specs.declared.frames.Sealed.{Sealed}
 use Rattle.sk_plain_store.specs.Plain.{keys_of, Entries}
-use Rattle.sk_replay.specs.Snapshot.{after_work, after_works, set_of}
 use Rattle.sk_reserved.specs.Keys.{is_reserved}
 use Rattle.sk_durable.specs.declared.limits.Limits.{Limits}
 use Rattle.sk_durable.specs.declared.store.Next.{Next}
 use Rattle.sk_durable.specs.Limits.{are_sound}
 use Rattle.sk_durable.specs.Store.{IsNew, StoreView}
 use Rattle.sk_reopened.specs.declared.refusal.Refusal.{Refusal}
-use Rattle.sk_reopened.specs.declared.refusal.Refusal.TheVariants as refusals
 use Rattle.sk_reopened.specs.declared.opening.Last.{Last}
 use Rattle.sk_reopened.specs.declared.opening.Reopened.{Reopened}
 
@@ -25,21 +23,13 @@ has_wrong entries = list_any is_wrong (keys_of entries)
 
 -- ---- entries are set
 
--- A new store has the entry more.
-abbrev pub SetPost : List ℕ × List ℕ → Result (Unit {0}) Refusal → StoreView → StoreView → Type 0
-SetPost entry (Ok _) a b = (is_wrong entry.0 ≡ false)
-    × ((next : Next) (start : Entries) → IsNew a.limits next start a → IsNew a.limits next (after_work (set_of entry) start) b)
-SetPost entry (Err refusals.Key) a b = is_wrong entry.0 ≡ true
-SetPost entry (Err refusals.Memory) a b = Unit {0}
-SetPost entry (Err other) a b = ⊥
-
--- It has these, one after another.
-abbrev pub FillPost : Entries → Result (Unit {0}) Refusal → StoreView → StoreView → Type 0
-FillPost entries (Ok _) a b = (has_wrong entries ≡ false)
-    × ((next : Next) (start : Entries) → IsNew a.limits next start a → IsNew a.limits next (after_works (map set_of entries) start) b)
-FillPost entries (Err refusals.Key) a b = has_wrong entries ≡ true
-FillPost entries (Err refusals.Memory) a b = Unit {0}
-FillPost entries (Err other) a b = ⊥
+-- A new store has more entries, unless one has a wrong key: those that it has come to these.
+abbrev pub SetPost : Bool → (Entries → Entries) → Result (Unit {0}) Refusal → StoreView → StoreView → Type 0
+SetPost wrong more (Ok _) a b = (wrong ≡ false)
+    × ((next : Next) (start : Entries) → IsNew a.limits next start a → IsNew a.limits next (more start) b)
+SetPost wrong more (Err Refusal.Key) a b = wrong ≡ true
+SetPost wrong more (Err Refusal.Memory) a b = Unit {0}
+SetPost wrong more (Err other) a b = ⊥
 
 -- ---- where the log goes on
 
@@ -60,8 +50,8 @@ next_of last = record { frame = last.frame + 1; segment = last.segment + 1; offs
 
 abbrev pub HeadPost : Last → ℕ → Result Sealed Refusal → Type 0
 HeadPost last room (Ok head) = HasNumbers last × (24 ≤ room) × (head ≡ head_of last)
-HeadPost last room (Err refusals.NoNumber) = HasNone last
-HeadPost last room (Err refusals.Short) = HasNumbers last × (room < 24)
+HeadPost last room (Err Refusal.NoNumber) = HasNone last
+HeadPost last room (Err Refusal.Short) = HasNumbers last × (room < 24)
 HeadPost last room (Err other) = ⊥
 
 -- ---- a store goes on
@@ -78,11 +68,11 @@ pub record Reopens (limits : Limits) (last : Last) (entries : Entries) (opened :
 
 -- the first cause against it
 abbrev pub IsAgainst : Refusal → Limits → Last → Entries → List ℕ → Type 0
-IsAgainst refusals.Limits limits last entries room = are_sound limits ≡ false
-IsAgainst refusals.NoNumber limits last entries room = (are_sound limits ≡ true) × HasNone last
-IsAgainst refusals.Short limits last entries room = (are_sound limits ≡ true) × HasNumbers last × (length room < 24)
-IsAgainst refusals.Key limits last entries room = (are_sound limits ≡ true) × HasNumbers last × (24 ≤ length room) × (has_wrong entries ≡ true)
-IsAgainst refusals.Memory limits last entries room = (are_sound limits ≡ true) × HasNumbers last × (24 ≤ length room)
+IsAgainst Refusal.Limits limits last entries room = are_sound limits ≡ false
+IsAgainst Refusal.NoNumber limits last entries room = (are_sound limits ≡ true) × HasNone last
+IsAgainst Refusal.Short limits last entries room = (are_sound limits ≡ true) × HasNumbers last × (length room < 24)
+IsAgainst Refusal.Key limits last entries room = (are_sound limits ≡ true) × HasNumbers last × (24 ≤ length room) × (has_wrong entries ≡ true)
+IsAgainst Refusal.Memory limits last entries room = (are_sound limits ≡ true) × HasNumbers last × (24 ≤ length room)
 
 abbrev pub ReopenPost : Limits → Last → Entries → Result Reopened Refusal → List ℕ → List ℕ → Type 0
 ReopenPost limits last entries (Ok opened) room filled = Reopens limits last entries opened room filled

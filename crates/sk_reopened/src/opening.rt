@@ -1,9 +1,9 @@
 //! The opening of a store behind what was read of its log.
-ghost use Rattle.std.specs.Prelude.{◌≡◌, ◌≤◌, length, true, false, IfErr, IfOk, OnOk};
+ghost use Rattle.std.specs.Prelude.{◌≡◌, ◌≤◌, length, map, true, false, IfErr, IfOk, OnOk};
 ghost use Rattle.std.specs.FinMap.{is_sorted};
 ghost use Rattle.sk_plain_store.specs.Plain.{bytes_cmp};
-ghost use Rattle.sk_replay.specs.Snapshot.{set_of};
-ghost use Rattle.sk_reopened.specs.Reopened.{has_wrong, head_of, is_wrong, FillPost, HasNumbers, HeadPost, ReopenPost, SetPost};
+ghost use Rattle.sk_replay.specs.Snapshot.{after_work, after_works, set_of};
+ghost use Rattle.sk_reopened.specs.Reopened.{has_wrong, head_of, is_wrong, HasNumbers, HeadPost, ReopenPost, SetPost};
 
 use crate::Refusal;
 use sk_batches::Sealed;
@@ -55,7 +55,7 @@ fn set_of(alloc: Global, entry: &(ByteString, ByteString)) -> Result<Work, Alloc
 
 /// The store has an entry more, unless no store has such a key.
 fn set(alloc: Global, store: &mut Store, entry: &(ByteString, ByteString)) -> Result<(), Refusal>
-    ensures { SetPost entry.now result store.old store.new }
+    ensures { SetPost (is_wrong entry.now.0) (after_work (set_of entry.now)) result store.old store.new }
 {
     if is_wrong(entry.0.as_slice()) {
         return Err(Refusal::Key);
@@ -76,7 +76,8 @@ fn fill(
     store: &mut Store,
     entries: &[(ByteString, ByteString)],
 ) -> Result<(), Refusal>
-    ensures { FillPost entries.now result store.old store.new }
+    ensures { SetPost (has_wrong entries.now) (after_works (map set_of entries.now)) result
+        store.old store.new }
 {
     for entry in entries {
         set(alloc, store, entry)?;

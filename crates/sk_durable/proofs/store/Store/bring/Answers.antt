@@ -1,6 +1,6 @@
 -- The tickets before the first answer that waits are told that nothing was done.
 use Rattle.sk_durable.proofs.Names.{◌≡◌, None, Some, sym, ◌∙◌, ap, refl, rules, subst, unwrap_or, err_from_is_err_and}
-use Rattle.sk_durable.proofs.Names.{channel_at, with_channel, the_view, bound, first_answer, HasFirstTicket, Serves}
+use Rattle.sk_durable.proofs.Names.{channel_at, with_channel, the_view, bound, first_answer, option_map, Serves}
 use Rattle.sk_durable.proofs.Names.{tells, HasNoneReady}
 use Rattle.sk_durable.proofs.Out.{bound_is, not_refused, refused_pasts, refuses_one}
 use Rattle.sk_durable.proofs.store.Store.bring.Goals as goal
@@ -47,7 +47,7 @@ returns-in_err-refuse_up_to c =
     the_view (record c.self.inside
     { channels = with_channel c.self.inside.channels c.args.channel c.refuse_up_to.new.self }) in
     let there : channel_at c.self.inside.channels c.args.channel ≡ Some to = search rules in
-    let first : HasFirstTicket old c.args.channel c.first_ticket-first.result = search rules in
+    let first : c.first_ticket-first.result ≡ option_map (λ told. told.0) (first_answer old c.args.channel) = search rules in
     let ticket : c.unwrap_or.result ≡ unwrap_or c.first_ticket-first.result to.inlet.next = search rules in
     let is : c.unwrap_or.result ≡ bound to (first_answer old c.args.channel) =
     ticket ∙ ap (λ o. unwrap_or o to.inlet.next) first ∙ bound_is to (first_answer old c.args.channel) in
@@ -71,7 +71,7 @@ returns c =
     the_view (record c.self.inside
     { channels = with_channel c.self.inside.channels c.args.channel c.refuse_up_to.new.self }) in
     let there : channel_at c.self.inside.channels c.args.channel ≡ Some to = search rules in
-    let first : HasFirstTicket old c.args.channel c.first_ticket-first.result = search rules in
+    let first : c.first_ticket-first.result ≡ option_map (λ told. told.0) (first_answer old c.args.channel) = search rules in
     let ticket : c.unwrap_or.result ≡ unwrap_or c.first_ticket-first.result to.inlet.next = search rules in
     let is : c.unwrap_or.result ≡ bound to (first_answer old c.args.channel) =
     ticket ∙ ap (λ o. unwrap_or o to.inlet.next) first ∙ bound_is to (first_answer old c.args.channel) in (

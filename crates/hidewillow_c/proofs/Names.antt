@@ -2,9 +2,8 @@
 pub use Rattle.std.proofs.Common.{Some, subst, rules}
 pub use Rattle.std.proofs.Common.{◌≡◌, Option, sym, None}
 pub use Rattle.sk_handles.specs.Asked.{CountsKernel}
-pub use Rattle.sk_handles.specs.DeskCalls.{CountsDesk}
+pub use Rattle.sk_handles.specs.DeskCalls.{desk_kernel}
 pub use Rattle.sk_handles.specs.Handles.{Does, Tells as TellsHeld}
-pub use Rattle.sk_handles.specs.PlayCalls.{CountsPlay}
 pub use Rattle.sk_handles.specs.Reopening.{OpensStore, StoreOpens}
 pub use Rattle.sk_handles.specs.StoreCalls.{HangsUp}
 pub use Rattle.sk_handles.specs.Told.{opened}

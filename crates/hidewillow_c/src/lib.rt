@@ -1,21 +1,22 @@
 //! The library for C: a kernel or a world behind a handle, called by the lines of a section.
 #![tactic(auto)]
 
-ghost use Rattle.std.specs.Prelude.{◌≡◌, None};
+ghost use Rattle.std.specs.Prelude.{◌≡◌, None, Some};
 ghost use Rattle.std.specs.Str.Lines.{lines};
 ghost use Rattle.sk_scenario.specs.Scenario.{scenario_of};
 ghost use Rattle.sk_handles.specs.Opening.{opening, Opens};
-ghost use Rattle.sk_handles.specs.PlayCalls.{CountsPlay, EndsEpoch, ShowsPlay, TakesLine};
-ghost use Rattle.sk_handles.specs.Handles.{Does, Tells};
-ghost use Rattle.sk_handles.specs.Asked.{report_shown, value_shown, tags_shown, terminal_shown, released_text};
+ghost use Rattle.sk_handles.specs.PlayCalls.{EndsEpoch, TakesLine};
+ghost use Rattle.sk_handles.specs.Handles.{Does, DoesAs, Tells};
+ghost use Rattle.sk_handles.specs.Asked.{report_shown, value_shown, tags_shown, terminal_shown, released_text, CountsKernel, ShowsIn};
+ghost use Rattle.sk_talk.specs.Played.{kernel_of, report_of};
 ghost use Rattle.sk_engine.specs.Rounds.{may_tell, CarriesOut, Loses, RoundDoes};
 ghost use Rattle.sk_engine.specs.Told.{batch_told, fence_told, lead_told, round_told};
 ghost use Rattle.sk_handles.specs.EngineCalls.{batch_answer_of, fence_answer_of, lead_answer_of, round_answer_of, word_told};
 ghost use Rattle.sk_handles.specs.Faults.{TellsFault};
-ghost use Rattle.sk_handles.specs.Leases.{ClientLeases, LeasesAs, PlayLeases};
+ghost use Rattle.sk_handles.specs.Leases.{ClientLeases, PlayLeases};
 ghost use Rattle.sk_messages.specs.Replies.{reply_of};
 ghost use Rattle.sk_words.specs.Operands.{pid};
-ghost use Rattle.sk_handles.specs.DeskCalls.{desk_in, kernel_report, kernel_tags, kernel_terminal, kernel_value, BeginsEpoch, CountsDesk, Gives, LeavesText, SendsRequest, ShowsKernel, TellsPending, TurnsAs};
+ghost use Rattle.sk_handles.specs.DeskCalls.{desk_in, desk_kernel, left_text, BeginsEpoch, Gives, SendsRequest, TakesTurn, TellsPending};
 ghost use Rattle.sk_handles.specs.Reading.{EndsWith, GivesPiece, ReadingOpens, TakesHead, TakesPiece};
 ghost use Rattle.sk_handles.specs.Reopening.{StoreOpens};
 ghost use Rattle.sk_requests.specs.Replies.{error_text};
@@ -23,7 +24,8 @@ ghost use Rattle.sk_commands.specs.Faults.{words_of};
 ghost use Rattle.sk_commands.specs.declared.fault.Fault.TheVariants.{Unknown};
 ghost use Rattle.sk_handles.specs.RoundCalls.{SaysStill, TakesRound};
 ghost use Rattle.sk_handles.specs.StoreCalls as durable;
-ghost use Rattle.sk_handles.specs.StoreCalls.{Connects, CountsStore, CutsOff, Decides, Feeds, FeedsAhead, HangsUp, NextReady, OutputsTo, SendsHead, ShowsAhead, ShowsAsked, ShowsValue, Syncs, TakesFrame, TellsClosed, TellsCut, TellsReply, TellsRests, Turns, WindsUp};
+ghost use Rattle.sk_handles.specs.StoreCalls.{Connects, CountsStore, CutsOff, Decides, Feeds, FeedsAhead, HangsUp, NextReady, OutputsTo, SendsHead, ShowsAhead, ShowsAsked, Syncs, TakesFrame, TellsClosed, TellsCut, TellsReply, Turns, WindsUp};
+ghost use Rattle.sk_durable.specs.Store.{rests_on_at};
 ghost use Rattle.sk_handles.specs.OwnCalls.{tag_at, undone_at, value_of, Clears, Commits, CountsOwn, Fails, Guesses, Looks, OwnOpens, Puts, Releases, Removes, Says, ShowsKept, Steps, TellsTag};
 
 use sk_counts::Counts;
@@ -101,7 +103,7 @@ pub extern "C" fn hidewillow_line(
 /// Shows the report in the room, as far as that reaches.
 #[unsafe(no_mangle)]
 pub extern "C" fn hidewillow_report(alloc: Global, handle: &mut Handle, room: &mut [u8]) -> Told
-    ensures { Tells (ShowsPlay report_shown room.old room.new) (room.new ≡ room.old) result handle.old.held
+    ensures { Tells (ShowsIn report_of Some room.old room.new) (room.new ≡ room.old) result handle.old.held
         handle.new.held }
 {
     with!(handle, alloc, play => tell_report(&play, alloc, room))
@@ -115,8 +117,8 @@ pub extern "C" fn hidewillow_value(
     name: &[u8],
     room: &mut [u8],
 ) -> Told
-    ensures { Tells (ShowsPlay (value_shown name.now) room.old room.new) (room.new ≡ room.old) result handle.old.held
-        handle.new.held }
+    ensures { Tells (ShowsIn kernel_of (value_shown name.now) room.old room.new) (room.new ≡ room.old)
+        result handle.old.held handle.new.held }
 {
     with!(handle, alloc, play => tell_value(&play, alloc, name, room))
 }
@@ -129,8 +131,8 @@ pub extern "C" fn hidewillow_tags(
     name: &[u8],
     room: &mut [u8],
 ) -> Told
-    ensures { Tells (ShowsPlay (tags_shown name.now) room.old room.new) (room.new ≡ room.old) result handle.old.held
-        handle.new.held }
+    ensures { Tells (ShowsIn kernel_of (tags_shown name.now) room.old room.new) (room.new ≡ room.old)
+        result handle.old.held handle.new.held }
 {
     with!(handle, alloc, play => tell_tags(&play, alloc, name, room))
 }
@@ -143,8 +145,8 @@ pub extern "C" fn hidewillow_terminal(
     number: u16,
     room: &mut [u8],
 ) -> Told
-    ensures { Tells (ShowsPlay (terminal_shown number) room.old room.new) (room.new ≡ room.old) result handle.old.held
-        handle.new.held }
+    ensures { Tells (ShowsIn kernel_of (terminal_shown number) room.old room.new) (room.new ≡ room.old)
+        result handle.old.held handle.new.held }
 {
     with!(handle, alloc, play => tell_terminal(&play, alloc, number, room))
 }
@@ -180,7 +182,7 @@ pub extern "C" fn hidewillow_lease(
     name: &[u8],
     count: u32,
 ) -> Told
-    ensures { Does (LeasesAs PlayLeases (pid name.now) count) (Unit {0}) result handle.old.held
+    ensures { Does (DoesAs (PlayLeases count) (pid name.now)) (Unit {0}) result handle.old.held
         handle.new.held }
 {
     with!(handle, alloc, play => tell_lease(&mut play, name, count))
@@ -189,7 +191,7 @@ pub extern "C" fn hidewillow_lease(
 /// Counts the guesses and the steps so far.
 #[unsafe(no_mangle)]
 pub extern "C" fn hidewillow_counts(alloc: Global, handle: &mut Handle, counts: &mut Counts) -> Told
-    ensures { Tells (CountsPlay counts.old counts.new) (counts.new ≡ counts.old) result
+    ensures { Tells (CountsKernel kernel_of counts.old counts.new) (counts.new ≡ counts.old) result
         handle.old.held handle.new.held }
 {
     with!(handle, alloc, play => tell_counts(&play, alloc, counts))
@@ -748,7 +750,7 @@ pub extern "C" fn hidewillow_store_value(
     key: &[u8],
     room: &mut [u8],
 ) -> Told
-    ensures { Tells (ShowsValue key.now room.old room.new) (room.new ≡ room.old) result
+    ensures { Tells (ShowsKept (durable.value_at key.now) room.old room.new) (room.new ≡ room.old) result
         store.old.held store.new.held }
 {
     with!(store, alloc, held => store_calls::tell_value(&held, key, room))
@@ -762,7 +764,7 @@ pub extern "C" fn hidewillow_store_rests_on(
     key: &[u8],
     place: usize,
 ) -> Told
-    ensures { Tells (TellsRests key.now place) (Unit {0}) result store.old.held store.new.held }
+    ensures { Tells (TellsTag (rests_on_at key.now place)) (Unit {0}) result store.old.held store.new.held }
 {
     with!(store, alloc, held => store_calls::tell_rests_on(&held, key, place))
 }
@@ -811,7 +813,7 @@ pub extern "C" fn hidewillow_desk_open(alloc: Global, desk: &mut DeskHandle, tex
 /// Takes a turn of the process of this name.
 #[unsafe(no_mangle)]
 pub extern "C" fn hidewillow_desk_turn(alloc: Global, desk: &mut DeskHandle, name: &[u8]) -> Told
-    ensures { Does (TurnsAs (pid name.now)) (Unit {0}) result desk.old.held desk.new.held }
+    ensures { Does (DoesAs TakesTurn (pid name.now)) (Unit {0}) result desk.old.held desk.new.held }
 {
     with!(desk, alloc, client => client.turn(name))
 }
@@ -824,7 +826,7 @@ pub extern "C" fn hidewillow_desk_lease(
     name: &[u8],
     count: u32,
 ) -> Told
-    ensures { Does (LeasesAs ClientLeases (pid name.now) count) (Unit {0}) result
+    ensures { Does (DoesAs (ClientLeases count) (pid name.now)) (Unit {0}) result
         desk.old.held desk.new.held }
 {
     with!(desk, alloc, client => client.lease(name, count))
@@ -876,7 +878,8 @@ pub extern "C" fn hidewillow_desk_left(
     place: usize,
     room: &mut [u8],
 ) -> Told
-    ensures { Tells (LeavesText number place room.old room.new) (room.new ≡ room.old) result desk.old.held desk.new.held }
+    ensures { Tells (ShowsKept (left_text number place) room.old room.new) (room.new ≡ room.old) result
+        desk.old.held desk.new.held }
 {
     with!(desk, alloc, client => client.tell_left(number, place, room))
 }
@@ -888,7 +891,8 @@ pub extern "C" fn hidewillow_desk_report(
     desk: &mut DeskHandle,
     room: &mut [u8],
 ) -> Told
-    ensures { Tells (ShowsKernel kernel_report room.old room.new) (room.new ≡ room.old) result desk.old.held desk.new.held }
+    ensures { Tells (ShowsIn desk_kernel report_shown room.old room.new) (room.new ≡ room.old) result
+        desk.old.held desk.new.held }
 {
     with!(desk, alloc, client => client.tell_report(alloc, room))
 }
@@ -901,7 +905,8 @@ pub extern "C" fn hidewillow_desk_value(
     name: &[u8],
     room: &mut [u8],
 ) -> Told
-    ensures { Tells (ShowsKernel (kernel_value name.now) room.old room.new) (room.new ≡ room.old) result desk.old.held desk.new.held }
+    ensures { Tells (ShowsIn desk_kernel (value_shown name.now) room.old room.new) (room.new ≡ room.old)
+        result desk.old.held desk.new.held }
 {
     with!(desk, alloc, client => client.tell_value(alloc, name, room))
 }
@@ -914,7 +919,8 @@ pub extern "C" fn hidewillow_desk_tags(
     name: &[u8],
     room: &mut [u8],
 ) -> Told
-    ensures { Tells (ShowsKernel (kernel_tags name.now) room.old room.new) (room.new ≡ room.old) result desk.old.held desk.new.held }
+    ensures { Tells (ShowsIn desk_kernel (tags_shown name.now) room.old room.new) (room.new ≡ room.old)
+        result desk.old.held desk.new.held }
 {
     with!(desk, alloc, client => client.tell_tags(alloc, name, room))
 }
@@ -927,7 +933,8 @@ pub extern "C" fn hidewillow_desk_terminal(
     number: u16,
     room: &mut [u8],
 ) -> Told
-    ensures { Tells (ShowsKernel (kernel_terminal number) room.old room.new) (room.new ≡ room.old) result desk.old.held desk.new.held }
+    ensures { Tells (ShowsIn desk_kernel (terminal_shown number) room.old room.new) (room.new ≡ room.old)
+        result desk.old.held desk.new.held }
 {
     with!(desk, alloc, client => client.tell_terminal(alloc, number, room))
 }
@@ -939,7 +946,8 @@ pub extern "C" fn hidewillow_desk_counts(
     desk: &mut DeskHandle,
     counts: &mut Counts,
 ) -> Told
-    ensures { Tells (CountsDesk counts.old counts.new) (counts.new ≡ counts.old) result desk.old.held desk.new.held }
+    ensures { Tells (CountsKernel desk_kernel counts.old counts.new) (counts.new ≡ counts.old) result
+        desk.old.held desk.new.held }
 {
     with!(desk, alloc, client => client.tell_counts(alloc, counts))
 }

@@ -2,6 +2,7 @@
 pub use Rattle.std.proofs.Common.{Some, subst, zero, rules, ◌^◌, ◌-◌, arith, ap, ◌++◌, length, length-append, suc, ◌≤◌}
 pub use Rattle.std.proofs.Common.{take, false, refl, lit<, [], Ok, ◌∷◌, Err, ◌≡◌, ◌+◌, Option, List, ℕ, true, sym, None}
 pub use Rattle.std.proofs.Common.{◌<◌, Result, ◌∙◌, IsSomeAnd}
+pub use Rattle.std.specs.Prelude.{option_and_then}
 pub use Rattle.std.specs.Str.Lines.{lines}
 pub use Rattle.std.proofs.Math.Nat.{min-le_left, min-le_right}
 pub use Rattle.std.proofs.alloc.Global.TheLaws.{the_within as global_within, lowers as global_lowers}
@@ -20,7 +21,7 @@ pub use Rattle.core.proofs.cell.Inside.{Good, one}
 pub use Rattle.core.proofs.option.Made.{Some-of, none_of}
 pub use Rattle.core.specs.Ptr.{points_to}
 pub use mathlib.Core.Logic.{inr, inl}
-pub use Rattle.sk_handles.specs.Asked.{Reads, value_text, tags_text_of, ShowsText, of_named, ShowsRead}
+pub use Rattle.sk_handles.specs.Asked.{Reads, value_text, tags_text_of, ShowsText, ShowsRead}
 pub use Rattle.sk_handles.specs.DeskCalls.{client_in}
 pub use Rattle.sk_handles.specs.Faults.{placed, IsPlaced}
 pub use Rattle.sk_handles.specs.Kept.{cell_at, heap, kept_at}
@@ -61,6 +62,7 @@ pub use Rattle.sk_requests.specs.Lines.{said, head}
 pub use Rattle.sk_requests.specs.Request.{bulk, bulks}
 pub use Rattle.sk_scenario.specs.Scenario.{scenario_view, section_view}
 pub use Rattle.sk_talk.specs.Asked.{named}
+pub use Rattle.sk_talk.specs.Played.{kernel_of}
 pub use Rattle.sk_words.specs.declared.fault.Fault.{Fault}
 pub use base.Fml.{ftrue, flft}
 pub use base.Fraction.{full_share}

@@ -1,58 +1,35 @@
 -- What is asked of what is at play, and what is told of it.
-use Rattle.std.specs.Prelude.{◌≡◌, ◌⊎◌, ⊤, ℕ, List, Option, Some, None, Result, Ok, Err}
+use Rattle.std.specs.Prelude.{◌≡◌, ◌⊎◌, ⊤, ℕ, List, Option, Some, None, Result, Ok, Err, option_and_then}
+use Rattle.sk_handles.specs.Base.{slice_get, option_map, Vec, Global, Entity, KernelView, state_at, tags_at}
+use Rattle.sk_handles.specs.Base.{AreCounts, Counts, Stop, tags_text, gathered, report_text, terminal_said, named, released_in}
+use Rattle.sk_handles.specs.Base.{kernel_of, Play, SHOWN, ABSENT, MEMORY, Told}
 use Rattle.std.specs.FinMap as map
-use Rattle.std.specs.List.{slice_get}
-use Rattle.std.specs.declared.vec.Vec.{Vec}
-use Rattle.std.specs.declared.alloc.Global.{Global}
-use Rattle.sk_ids.specs.declared.entity.Entity.{Entity}
-use Rattle.sk_store.specs.declared.entity_state.EntityState.{EntityState}
-use Rattle.sk_kernel.specs.Kernel.{KernelView, state_at, tags_at}
-use Rattle.sk_counts.specs.Counts.{AreCounts}
-use Rattle.sk_counts.specs.declared.counts.Counts.{Counts}
-use Rattle.sk_report.specs.declared.stop.Stop.{Stop}
-use Rattle.sk_report.specs.Printed.{tags_text}
-use Rattle.sk_report.specs.Directories.{gathered}
-use Rattle.sk_report.specs.Report.{terminal_said}
-use Rattle.sk_talk.specs.Asked.{named}
-use Rattle.sk_talk.specs.HandedOut.{released_in}
-use Rattle.sk_talk.specs.Played.{kernel_of, report_of}
-use Rattle.sk_talk.specs.declared.play.Play.{Play}
-use Rattle.sk_handles.specs.declared.codes.TheConstants.{SHOWN, ABSENT, MEMORY}
-use Rattle.sk_handles.specs.declared.told.Told.{Told}
 use Rattle.sk_handles.specs.Told.{just, texted, put}
 
--- ---- of an entity that is named
-
-abbrev pub of_named : (Entity → Option (List ℕ)) → Option Entity → Option (List ℕ)
-of_named text None = None
-of_named text (Some e) = text e
+-- ---- of an entity
 
 -- what it has, as the report prints it
-abbrev pub stored_shown : (Entity → Option EntityState) → List Entity → Entity → Option EntityState → Option (List ℕ)
-stored_shown look es e None = None
-stored_shown look es e (Some s) = Some (gathered look es e s)
-
 abbrev pub value_text : KernelView → Entity → Option (List ℕ)
-value_text k e = stored_shown (map.get (state_at k)) (map.keys (state_at k)) e (map.get (state_at k) e)
+value_text k e = option_map (gathered (map.get (state_at k)) (map.keys (state_at k)) e) (map.get (state_at k) e)
 
 -- the undecided guesses that it rests on
 abbrev pub tags_text_of : KernelView → Entity → Option (List ℕ)
 tags_text_of k e = Some (tags_text (tags_at k e))
 
--- ---- the texts that are shown; where there is none, what was asked for is absent
+-- ---- the texts of a kernel that are shown; where there is none, what was asked for is absent
 
-abbrev pub report_shown : Play → Option (List ℕ)
-report_shown p = Some (report_of p)
+abbrev pub report_shown : KernelView → Option (List ℕ)
+report_shown k = Some (report_text k)
 
-unfoldable pub value_shown : List ℕ → Play → Option (List ℕ)
-value_shown name p = of_named (value_text (kernel_of p)) (named (kernel_of p) name)
+unfoldable pub value_shown : List ℕ → KernelView → Option (List ℕ)
+value_shown name k = option_and_then (value_text k) (named k name)
 
-unfoldable pub tags_shown : List ℕ → Play → Option (List ℕ)
-tags_shown name p = of_named (tags_text_of (kernel_of p)) (named (kernel_of p) name)
+unfoldable pub tags_shown : List ℕ → KernelView → Option (List ℕ)
+tags_shown name k = option_and_then (tags_text_of k) (named k name)
 
 -- the lines of a terminal, as the report has them
-abbrev pub terminal_shown : ℕ → Play → Option (List ℕ)
-terminal_shown number p = Some (terminal_said (kernel_of p) number)
+abbrev pub terminal_shown : ℕ → KernelView → Option (List ℕ)
+terminal_shown number k = Some (terminal_said k number)
 
 -- the text at a place among those that a terminal has released
 abbrev pub released_text : ℕ → ℕ → Play → Option (List ℕ)
@@ -78,6 +55,13 @@ ShowsText told (Some text) old new =
     ((told ≡ texted (just SHOWN 0) text) × (new ≡ put text old)) ⊎ ((told ≡ just MEMORY 0) × (new ≡ old))
 ShowsText told None old new = ((told ≡ just ABSENT 0) × (new ≡ old)) ⊎ ((told ≡ just MEMORY 0) × (new ≡ old))
 
--- the counts of a kernel; without memory they are as they were
-abbrev pub CountsKernel : Told → KernelView → Counts → Counts → Type 0
-CountsKernel told k old new = ((told ≡ just SHOWN 0) × AreCounts k new) ⊎ ((told ≡ just MEMORY 0) × (new ≡ old))
+-- ---- of what is held, which has something
+
+-- such a text of that is shown
+abbrev pub ShowsIn : {S X : Type 0} → (S → X) → (X → Option (List ℕ)) → List ℕ → List ℕ → Told → S → Type 0
+ShowsIn has text room_old room_new told held = ShowsText told (text (has held)) room_old room_new
+
+-- the counts of its kernel; without memory they are as they were
+abbrev pub CountsKernel : {S : Type 0} → (S → KernelView) → Counts → Counts → Told → S → Type 0
+CountsKernel kernel old new told held =
+    ((told ≡ just SHOWN 0) × AreCounts (kernel held) new) ⊎ ((told ≡ just MEMORY 0) × (new ≡ old))

@@ -1,17 +1,7 @@
 -- What is told of the fault of a text.
 use Rattle.std.specs.Prelude.{◌≡◌, ◌⊎◌, ℕ, ◌+◌, min, List, length, Option, Some, None, Result, Ok, Err}
-use Rattle.sk_words.specs.declared.fault.Fault.{Fault}
-use Rattle.sk_words.specs.declared.fault.FaultKind.{FaultKind}
-use Rattle.sk_words.specs.declared.fault.FaultKind.TheVariants as kinds
-use Rattle.sk_scenario.specs.Scenario.{ScenarioView, Says}
-use Rattle.sk_scenario.specs.declared.scenario.Scenario.{Scenario}
-use Rattle.sk_faults.specs.declared.part.Part.{Part}
-use Rattle.sk_faults.specs.declared.part.Part.TheVariants.{Declarations}
-use Rattle.sk_faults.specs.Details.{IsTold}
-use Rattle.sk_faults.specs.Parts.{line_at}
-use Rattle.sk_handles.specs.declared.codes.TheConstants.{ABSENT, FAULT, MEMORY}
-use Rattle.sk_handles.specs.declared.faults.FaultPlace.{FaultPlace}
-use Rattle.sk_handles.specs.declared.told.Told.{Told}
+use Rattle.sk_handles.specs.Base.{Fault, FaultKind, ScenarioView, Says, Scenario, Part, Declarations, IsTold, line_at}
+use Rattle.sk_handles.specs.Base.{ABSENT, FAULT, MEMORY, FaultPlace, Told}
 use Rattle.sk_handles.specs.Told.{just, kind_number, put, texted}
 
 -- a fault at a word of so many bytes, which has so many bytes before it in its line
@@ -26,8 +16,8 @@ IsPlaced f (Some x) place = (start : ℕ) × (word : List ℕ) × IsTold f.kind 
 -- want of memory is told alone, any other fault with its line, its place, and some text, which is in the room
 abbrev pub TellsFound : Fault → List (List ℕ) → Told → FaultPlace → FaultPlace → List ℕ → List ℕ → Type 0
 TellsFound f ls told old new room_old room_new =
-    ((f.kind ≡ kinds.Memory) × (told ≡ just MEMORY 0) × (new ≡ old) × (room_new ≡ room_old))
-    ⊎ ((f.kind ≡ kinds.Memory → ⊥) × IsPlaced f (line_at Declarations f.line ls) new
+    ((f.kind ≡ FaultKind.Memory) × (told ≡ just MEMORY 0) × (new ≡ old) × (room_new ≡ room_old))
+    ⊎ ((f.kind ≡ FaultKind.Memory → ⊥) × IsPlaced f (line_at Declarations f.line ls) new
     × ((text : List ℕ) × (told ≡ texted (just FAULT f.line) text) × (room_new ≡ put text room_old)))
 
 abbrev pub TellsRead : Result Scenario Fault → List (List ℕ) → Told → FaultPlace → FaultPlace → List ℕ → List ℕ → Type 0

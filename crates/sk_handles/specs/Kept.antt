@@ -1,12 +1,6 @@
 -- What a kept box and a cell own.
 use Rattle.std.specs.Prelude.{Option, Some, None}
-use Rattle.std.specs.Coded.{Coded, coded_option}
-use base.Fml.{Fml, feq}
-use denote.RattleType.{RattleType}
-use denote.RawPtr.{Ptr, null_ptr}
-use Rattle.std.specs.declared.alloc.Global.{Global}
-use Rattle.std.specs.contracts.impls.GlobalAllocator.TheImpl.{ghosts}
-use Rattle.std_alloc.specs.Box.Ownership.{box_owns}
+use Rattle.sk_handles.specs.Base.{Coded, coded_option, Fml, feq, RattleType, Ptr, null_ptr, Global, ghosts, box_owns}
 
 -- a value at a place, and the right to free its block
 abbrev pub heap : Global

@@ -1,3 +1,4 @@
+pub mod Base
 pub mod Kept
 pub mod Told
 pub mod Opening

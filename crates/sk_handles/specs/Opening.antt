@@ -1,15 +1,7 @@
 -- What a text opens: what its declarations say, at its start.
 use Rattle.std.specs.Prelude.{◌≡◌, ℕ, List, Option, Some, None, Result, Ok, Err, IsOk}
-use Rattle.std.specs.Str.Lines.{lines}
-use Rattle.sk_words.specs.declared.fault.Fault.{Fault}
-use Rattle.sk_scenario.specs.Scenario.{ScenarioView, Says, scenario_of}
-use Rattle.sk_talk.specs.Played.{opened_in}
-use Rattle.sk_talk.specs.declared.play.Play.{Play}
+use Rattle.sk_handles.specs.Base.{lines, Fault, ScenarioView, Says, scenario_of, opened_in, Play, HELD, Told, Unopened}
 use Rattle.sk_handles.specs.Told.{just, opened, unopened}
-use Rattle.sk_handles.specs.declared.codes.TheConstants.{HELD}
-use Rattle.sk_handles.specs.declared.told.Told.{Told}
-use Rattle.sk_handles.specs.declared.told.Unopened.{Unopened}
-use Rattle.sk_handles.specs.declared.told.Unopened.TheVariants as unopens
 
 abbrev pub opening : ScenarioView → Option Play
 opening s = opened_in s.declarations s.section
@@ -21,9 +13,9 @@ OpenedBy declares held (Err f) = ⊥
 
 -- Why a text of these lines opens nothing: a fault that is told of it, its section, or want of memory, where it has no fault.
 abbrev pub UnopenedBy : {S : Type 0} → (ScenarioView → Option S) → Unopened → Result ScenarioView Fault → List (List ℕ) → Type 0
-UnopenedBy declares (unopens.Fault f) said text = Says (Err f) said text
-UnopenedBy declares unopens.Section said text = (s : ScenarioView) × (said ≡ Ok s) × (declares s ≡ None)
-UnopenedBy declares unopens.Memory said text = IsOk said
+UnopenedBy declares (Unopened.Fault f) said text = Says (Err f) said text
+UnopenedBy declares Unopened.Section said text = (s : ScenarioView) × (said ≡ Ok s) × (declares s ≡ None)
+UnopenedBy declares Unopened.Memory said text = IsOk said
 
 -- a text is opened where nothing is held: what it declares is held then, or it is told why nothing is
 abbrev pub Opens : {S : Type 0} → (ScenarioView → Option S) → Told → List ℕ → Option S → Option S → Type 0

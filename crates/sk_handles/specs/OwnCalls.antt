@@ -1,28 +1,15 @@
 -- What the calls of a kernel over its caller's own byte strings do, and what they are told.
-use Rattle.std.specs.Prelude.{◌≡◌, ◌⊎◌, ◌==◌, ℕ, false, List, [], length, nat_le, get_or, Option, Some, None, Result, Ok, Err, if◌then◌else◌}
-use Rattle.std.specs.List.{slice_get}
-use Rattle.std.specs.Option.{option_map}
-use Rattle.std.specs.Vec.{vec_items}
-use denote.Ref.{Bor}
-use Rattle.sk_record.specs.Machine.{released}
-use Rattle.sk_record.specs.UndoState.{numbers, tags_at}
-use Rattle.sk_slots.specs.Slots.{look_at}
-use Rattle.sk_outputs.specs.Said.{said_at}
-use Rattle.sk_index.specs.Index.{bytes_cmp}
-use Rattle.sk_speculator.specs.Calls.{next_of}
-use Rattle.sk_speculator.specs.Parts.{undo_state_of}
-use Rattle.sk_speculator.specs.declared.decided.Committed.{Committed}
-use Rattle.sk_speculator.specs.declared.decided.Committed.TheVariants as commit
-use Rattle.sk_bytes.specs.declared.bytes.Unmade.{Unmade}
-use Rattle.sk_bytes.specs.declared.bytes.Unmade.TheVariants as unmade
+use Rattle.std.specs.Prelude.{◌≡◌, ◌⊎◌, ◌==◌, ℕ, false, List, [], length, nat_le, get_or, Option, Some, None, Result, if◌then◌else◌}
+use Rattle.sk_handles.specs.Base.{slice_get, option_map, option_map_or, vec_items, released, numbers, look_at, said_at}
+use Rattle.sk_handles.specs.Base.{bytes_cmp, next_of, undo_state_of, Committed, Unmade, LongKey, LongValue, TooMany}
+use Rattle.sk_handles.specs.Base.{NoNumber, HeldView, no_step, CommitsBy, FailsBy, GuessPost, IsNew, LooksPost}
+use Rattle.sk_handles.specs.Base.{PutsPost, SaysPost, StepPost, WritesPost, but_first, first_of, MayBring, ABSENT}
+use Rattle.sk_handles.specs.Base.{DONE, GONE, GUESSED, HELD, MEMORY, NO_TOKEN, REFUSED, SHOWN, STEPPED, WRITTEN}
+use Rattle.sk_handles.specs.Base.{OwnCounts, Told}
+use Rattle.sk_record.specs.UndoState.{tags_at}
 use Rattle.sk_bytes.specs.declared.refusal.Refusal.{Refusal}
-use Rattle.sk_bytes.specs.declared.refusal.Refusal.TheVariants.{LongKey, LongValue, TooMany, NoNumber, Memory}
-use Rattle.sk_held.specs.Held.{HeldView, no_step, CommitsBy, FailsBy, GuessPost, IsNew, LooksPost, PutsPost, SaysPost, StepPost, WritesPost}
-use Rattle.sk_held.specs.Outputs.{but_first, first_of, MayBring}
-use Rattle.sk_handles.specs.declared.codes.TheConstants.{ABSENT, DONE, GONE, GUESSED, HELD, MEMORY, NO_TOKEN, REFUSED, SHOWN, STEPPED, WRITTEN}
-use Rattle.sk_handles.specs.declared.own_calls.OwnCounts.{OwnCounts}
-use Rattle.sk_handles.specs.declared.told.Told.{Told}
-use Rattle.sk_handles.specs.Told.{just, opened, put, texted}
+use Rattle.sk_bytes.specs.declared.refusal.Refusal.TheVariants.{Memory}
+use Rattle.sk_handles.specs.Told.{just, opened, put, texted, told_by}
 
 -- ---- what is told
 
@@ -34,31 +21,18 @@ refused NoNumber = just REFUSED 4
 refused Memory = just MEMORY 0
 
 abbrev pub part_told : Result (Unit {0}) Refusal → Told
-part_told (Ok _) = just WRITTEN 0
-part_told (Err why) = refused why
-
-abbrev pub step_told : Result (Unit {0}) Refusal → Told
-step_told (Ok _) = just STEPPED 0
-step_told (Err why) = refused why
-
-abbrev pub guess_told : Result ℕ Refusal → Told
-guess_told (Ok g) = just GUESSED g
-guess_told (Err why) = refused why
+part_told did = told_by (λ _. just WRITTEN 0) refused did
 
 abbrev pub commit_told : Option Committed → Told
 commit_told None = just NO_TOKEN 0
-commit_told (Some commit.Done) = just DONE 0
-commit_told (Some commit.Gone) = just GONE 0
+commit_told (Some Committed.Done) = just DONE 0
+commit_told (Some Committed.Gone) = just GONE 0
 
 -- how many keys a failure took back, and how many guesses it struck
 abbrev pub fail_told : Option Unmade → Told
 fail_told None = just NO_TOKEN 0
-fail_told (Some (unmade.Done keys struck)) = record { answer = DONE; number = keys; bytes = struck }
-fail_told (Some unmade.Gone) = just GONE 0
-
-abbrev pub tag_told : Option ℕ → Told
-tag_told None = just ABSENT 0
-tag_told (Some g) = just SHOWN g
+fail_told (Some (Unmade.Done keys struck)) = record { answer = DONE; number = keys; bytes = struck }
+fail_told (Some Unmade.Gone) = just GONE 0
 
 -- ---- what is done
 
@@ -78,10 +52,10 @@ abbrev pub Says : ℕ → List ℕ → Told → HeldView → HeldView → Type 0
 Says channel output told old new = (did : Result (Unit {0}) Refusal) × (told ≡ part_told did) × SaysPost did channel output old new
 
 abbrev pub Steps : Told → HeldView → HeldView → Type 0
-Steps told old new = (did : Result (Unit {0}) Refusal) × (told ≡ step_told did) × StepPost did old new
+Steps told old new = (did : Result (Unit {0}) Refusal) × (told ≡ told_by (λ _. just STEPPED 0) refused did) × StepPost did old new
 
 abbrev pub Guesses : Told → HeldView → HeldView → Type 0
-Guesses told old new = (did : Result ℕ Refusal) × (told ≡ guess_told did) × GuessPost did old new
+Guesses told old new = (did : Result ℕ Refusal) × (told ≡ told_by (just GUESSED) refused did) × GuessPost did old new
 
 abbrev pub Commits : ℕ → Told → HeldView → HeldView → Type 0
 Commits guess told old new = (did : Option Committed) × (told ≡ commit_told did) × CommitsBy did guess old new
@@ -90,9 +64,6 @@ abbrev pub Fails : ℕ → Told → HeldView → HeldView → Type 0
 Fails guess told old new = (did : Option Unmade) × (told ≡ fail_told did) × FailsBy did guess old new
 
 -- ---- what is shown
-
-abbrev pub bytes_in : Option (Bor (List ℕ)) → Option (List ℕ)
-bytes_in bytes = option_map (λ b. b.now) bytes
 
 -- bytes are in the room, or there are none
 abbrev pub ShowsBytes : Told → Option (List ℕ) → List ℕ → List ℕ → Type 0
@@ -136,19 +107,16 @@ pub record AreOwnCounts (h : HeldView) (counts : OwnCounts) : Type 0 where
 
 -- ---- of what a handle holds
 
--- why no kernel is opened: no guess could be drawn in it; or else there is no memory
-abbrev pub own_unopened : ℕ → Told
-own_unopened limit = if limit == 0 then just REFUSED 5 else just MEMORY 0
-
--- where nothing is held, a new kernel is held then, in which a guess can be drawn, or it is told why not
+-- where nothing is held, a new kernel is held then, in which a guess can be drawn; or it is told that none could be drawn in it, or else
+-- that there is no memory
 abbrev pub OwnOpens : ℕ → ℕ → Told → Option HeldView → Option HeldView → Type 0
 OwnOpens number limit told (Some old) new = (told ≡ just HELD 0) × (new ≡ Some old)
 OwnOpens number limit told None (Some h) = (told ≡ opened) × ((limit == 0) ≡ false) × IsNew number limit h
-OwnOpens number limit told None None = told ≡ own_unopened limit
+OwnOpens number limit told None None = told ≡ (if limit == 0 then just REFUSED 5 else just MEMORY 0)
 
--- a guess of it is told
-abbrev pub TellsTag : (HeldView → Option ℕ) → Told → HeldView → Type 0
-TellsTag tag told h = told ≡ tag_told (tag h)
+-- a guess, or a batch, of what is held is told, or there is none
+abbrev pub TellsTag : {S : Type 0} → (S → Option ℕ) → Told → S → Type 0
+TellsTag tag told held = told ≡ option_map_or (just SHOWN) (tag held) (just ABSENT 0)
 
 abbrev pub CountsOwn : OwnCounts → Told → HeldView → Type 0
 CountsOwn counts told h = (told ≡ just SHOWN 0) × AreOwnCounts h counts

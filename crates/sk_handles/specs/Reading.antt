@@ -1,35 +1,13 @@
 -- A log that is read again, whose bytes come in pieces.
-use Rattle.std.specs.Prelude.{◌≡◌, ◌⊎◌, ◌||◌, ◌+◌, ◌-◌, ◌<◌, ◌≤◌, ◌^◌, ℕ, Bool, true, false, is_some, min, nat_lt, List, [], ◌∷◌, ◌++◌, drop, length, Option, Some, None, IfSome, Result, Ok, Err}
-use Rattle.std.specs.List.{slice_get}
-use Rattle.std.specs.Option.{option_map}
-use Rattle.std.specs.declared.alloc.AllocError.{AllocError}
-use Rattle.sk_log.specs.Frame.{frame}
-use Rattle.sk_plain_store.specs.Plain.{Entries}
-use Rattle.sk_replay.specs.Snapshot.{IsPiece}
-use Rattle.sk_recovered.specs.Recovered.{HasRecovered, IsFound, IsWithin}
-use Rattle.sk_recovered.specs.Segments.{AddsHead}
-use Rattle.sk_recovered.specs.Snapshots.{snapshot_heads}
-use Rattle.sk_recovered.specs.declared.heads.Head.{Head}
-use Rattle.sk_recovered.specs.declared.recovered.Found.{Found}
-use Rattle.sk_recovered.specs.declared.recovered.Recovered.{Recovered}
-use Rattle.sk_recovered.specs.declared.segment.Segment.{Segment}
-use Rattle.sk_handles.specs.declared.codes.TheConstants.{ABSENT, DONE, HELD, MEMORY, REFUSED, SHOWN}
-use Rattle.sk_handles.specs.declared.reading.Anew.{Anew}
-use Rattle.sk_handles.specs.declared.reading.Anew.TheVariants as anews
-use Rattle.sk_handles.specs.declared.reading.NoPiece.{NoPiece}
-use Rattle.sk_handles.specs.declared.reading.NoPiece.TheVariants as pieces
-use Rattle.sk_handles.specs.declared.reading.ReadCounts.{ReadCounts}
-use Rattle.sk_handles.specs.declared.reading.Reading.{Reading}
-use Rattle.sk_handles.specs.declared.reading.Stage.{Stage}
-use Rattle.sk_handles.specs.declared.reading.Stage.TheVariants as stages
-use Rattle.sk_handles.specs.declared.reading.Way.{Way}
-use Rattle.sk_handles.specs.declared.reading.Way.TheVariants as ways
-use Rattle.sk_handles.specs.declared.told.Told.{Told}
-use Rattle.sk_handles.specs.Told.{just, opened}
+use Rattle.std.specs.Prelude.{◌≡◌, ◌⊎◌, ◌||◌, ◌+◌, ◌-◌, ◌<◌, ◌≤◌, ◌^◌, ℕ, Bool, true, false, is_some, min, nat_lt, List, [], ◌∷◌, ◌++◌, drop, length, Option, Some, None, IfSome, Result, Ok, Err, if◌then◌else◌}
+use Rattle.sk_handles.specs.Base.{slice_get, option_map, AllocError, frame, Entries, IsPiece, HasRecovered, IsFound}
+use Rattle.sk_handles.specs.Base.{IsWithin, AddsHead, snapshot_heads, Head, Found, Recovered, Segment, ABSENT, DONE}
+use Rattle.sk_handles.specs.Base.{HELD, MEMORY, REFUSED, SHOWN, Anew, NoPiece, ReadCounts, Reading, Stage, Way, Told}
+use Rattle.sk_handles.specs.Told.{just, opened, told_by}
 
 -- nothing came; of the segments the first frame has this number
 abbrev pub anew : ℕ → Reading
-anew first = record { stage = stages.Nothing; first = first; last = 0; segment = 0; left = 0; zeros = 0; next = 0; pieces = 1 }
+anew first = record { stage = Stage.Nothing; first = first; last = 0; segment = 0; left = 0; zeros = 0; next = 0; pieces = 1 }
 
 -- a call that is not of this part of a recovery
 abbrev pub order_refused : Told
@@ -37,8 +15,8 @@ order_refused = just REFUSED 14
 
 -- what is told where all begins anew
 abbrev pub anew_told : Anew → Told
-anew_told anews.Memory = just MEMORY 0
-anew_told anews.NoSnapshot = just REFUSED 15
+anew_told Anew.Memory = just MEMORY 0
+anew_told Anew.NoSnapshot = just REFUSED 15
 
 -- whether no crash left this: a frame says no works, or more was dropped than may have been in flight
 abbrev pub is_damaged : ℕ → Found → Bool
@@ -57,84 +35,71 @@ FindsOf s found = (bytes : List ℕ) → HasCome s bytes → IsFound [] 1 snapsh
 -- It sets these entries; or it is damaged, or something stands behind its frames, and it is none.
 abbrev pub Sets : Segment → Result Entries Anew → Type 0
 Sets s (Ok entries) = (found : Found) × FindsOf s found × (is_damaged 0 found ≡ false) × (entries ≡ found.store)
-Sets s (Err anews.NoSnapshot) = (found : Found) × FindsOf s found × (is_damaged 0 found ≡ true)
-Sets s (Err anews.Memory) = Unit {0}
+Sets s (Err Anew.NoSnapshot) = (found : Found) × FindsOf s found × (is_damaged 0 found ≡ true)
+Sets s (Err Anew.Memory) = Unit {0}
 
 -- a piece more of a snapshot of which this came
 abbrev pub StartsOn : (List ℕ → Type 0) → List ℕ → Told → Reading → Reading → Type 0
 StartsOn came piece told old new =
-    ((told ≡ just DONE 0) × ((s : Segment) × (new ≡ record old { stage = stages.Start s })
+    ((told ≡ just DONE 0) × ((s : Segment) × (new ≡ record old { stage = Stage.Start s })
     × ((bytes : List ℕ) → came bytes → HasCome s (bytes ++ piece))))
     ⊎ ((told ≡ just MEMORY 0) × (new ≡ anew old.first))
 
-abbrev pub TakesStartAt : Stage → List ℕ → Told → Reading → Reading → Type 0
-TakesStartAt stages.Nothing piece told old new = StartsOn (λ bytes. bytes ≡ []) piece told old new
-TakesStartAt (stages.Start s) piece told old new = StartsOn (HasCome s) piece told old new
-TakesStartAt other piece told old new = (told ≡ order_refused) × (new ≡ old)
-
 -- A snapshot comes before all else.
-abbrev pub TakesStart : List ℕ → Told → Reading → Reading → Type 0
-TakesStart piece told old new = TakesStartAt old.stage piece told old new
+abbrev pub TakesStartAt : Stage → List ℕ → Told → Reading → Reading → Type 0
+TakesStartAt Stage.Nothing piece told old new = StartsOn (λ bytes. bytes ≡ []) piece told old new
+TakesStartAt (Stage.Start s) piece told old new = StartsOn (HasCome s) piece told old new
+TakesStartAt other piece told old new = (told ≡ order_refused) × (new ≡ old)
 
 -- ---- segments begin
 
 abbrev pub BeginsOf : Result Entries Anew → Result (Unit {0}) Anew → Reading → Reading → Type 0
-BeginsOf (Ok entries) did old new = (did ≡ Ok tt) × (new ≡ record old { stage = stages.Heads entries [] })
+BeginsOf (Ok entries) did old new = (did ≡ Ok tt) × (new ≡ record old { stage = Stage.Heads entries [] })
 BeginsOf (Err why) did old new = (did ≡ Err why) × (new ≡ anew old.first)
 
+-- The heads of segments come, behind what a snapshot set, if one came; what is none is refused.
 abbrev pub BeginsAt : Stage → Result (Unit {0}) Anew → Reading → Reading → Type 0
-BeginsAt stages.Nothing did old new = BeginsOf (Ok []) did old new
-BeginsAt (stages.Start s) did old new = (set : Result Entries Anew) × Sets s set × BeginsOf set did old new
+BeginsAt Stage.Nothing did old new = BeginsOf (Ok []) did old new
+BeginsAt (Stage.Start s) did old new = (set : Result Entries Anew) × Sets s set × BeginsOf set did old new
 BeginsAt other did old new = (did ≡ Ok tt) × (new ≡ old)
 
--- The heads of segments come, behind what a snapshot set, if one came; what is none is refused.
-abbrev pub Begins : Result (Unit {0}) Anew → Reading → Reading → Type 0
-Begins did old new = BeginsAt old.stage did old new
+-- where it is refused, that is told, and this is so; else this is done next
+abbrev pub Then : Result (Unit {0}) Anew → (Told → Reading → Reading → Type 0) → Type 0 → Told → Reading → Reading → Type 0
+Then (Ok _) next same told old new = next told old new
+Then (Err why) next same told old new = (told ≡ anew_told why) × (new ≡ old) × same
 
--- where it is refused, that is told; else this is done next
-abbrev pub Then : Result (Unit {0}) Anew → (Told → Reading → Reading → Type 0) → Told → Reading → Reading → Type 0
-Then (Ok _) next told old new = next told old new
-Then (Err why) next told old new = (told ≡ anew_told why) × (new ≡ old)
-
-abbrev pub BeginsThen : (Told → Reading → Reading → Type 0) → Told → Reading → Reading → Type 0
-BeginsThen next told old new = (did : Result (Unit {0}) Anew) × (begun : Reading) × Begins did old begun × Then did next told begun new
+abbrev pub BeginsThen : (Told → Reading → Reading → Type 0) → Type 0 → Told → Reading → Reading → Type 0
+BeginsThen next same told old new =
+    (did : Result (Unit {0}) Anew) × (begun : Reading) × BeginsAt old.stage did old begun × Then did next same told begun new
 
 -- ---- heads
 
-abbrev pub head_told : Result Bool AllocError → Told
-head_told (Ok true) = just DONE 0
-head_told (Ok false) = just ABSENT 0
-head_told (Err out_of_memory) = just MEMORY 0
-
 abbrev pub with_heads : Result Bool AllocError → ℕ → Entries → List Head → Reading → Reading
-with_heads (Ok is_whole) segment start heads read = record read { stage = stages.Heads start heads; last = segment }
-with_heads (Err out_of_memory) segment start heads read = record read { stage = stages.Heads start heads }
+with_heads (Ok is_whole) segment start heads read = record read { stage = Stage.Heads start heads; last = segment }
+with_heads (Err out_of_memory) segment start heads read = record read { stage = Stage.Heads start heads }
 
 -- while heads come this one comes behind the others, if it is whole
 abbrev pub AddsTo : Stage → ℕ → List ℕ → Told → Reading → Reading → Type 0
-AddsTo (stages.Heads start heads) segment bytes told old new = (did : Result Bool AllocError) × (more : List Head)
-    × AddsHead segment bytes heads did more × (told ≡ head_told did) × (new ≡ with_heads did segment start more old)
+AddsTo (Stage.Heads start heads) segment bytes told old new = (did : Result Bool AllocError) × (more : List Head)
+    × AddsHead segment bytes heads did more × (told ≡ told_by (λ whole. just (if whole then DONE else ABSENT) 0) (λ _. just MEMORY 0) did)
+    × (new ≡ with_heads did segment start more old)
 AddsTo other segment bytes told old new = (told ≡ order_refused) × (new ≡ old)
-
-abbrev pub TakesNextHead : ℕ → List ℕ → Told → Reading → Reading → Type 0
-TakesNextHead segment bytes told old new = AddsTo old.stage segment bytes told old new
 
 -- segments come by rising number
 abbrev pub TakesHead : ℕ → List ℕ → Told → Reading → Reading → Type 0
 TakesHead segment bytes told old new = ((segment ≤ old.last) × (told ≡ order_refused) × (new ≡ old))
-    ⊎ ((old.last < segment) × BeginsThen (TakesNextHead segment bytes) told old new)
+    ⊎ ((old.last < segment) × BeginsThen (λ told begun. AddsTo begun.stage segment bytes told begun) (Unit {0}) told old new)
 
 -- ---- segments
 
 -- The heads are those of a log whose first frame has this number and stands behind these entries, and these bytes of its first segments came.
 abbrev pub HoldsFrom : ℕ → Stage → Entries → List Head → List (List ℕ) → Type 0
-HoldsFrom first stages.Nothing start heads bytes = ⊥
-HoldsFrom first (stages.Start s) start heads bytes = ⊥
-HoldsFrom first (stages.Heads entries some) start heads bytes = (entries ≡ start) × (some ≡ heads) × (bytes ≡ [])
-HoldsFrom first (stages.Between read) start heads bytes = HasRecovered start first heads bytes read
-HoldsFrom first (stages.Within s) start heads bytes = (before : List (List ℕ)) × (came : List ℕ) × (bytes ≡ before ++ came ∷ [])
+HoldsFrom first (Stage.Heads entries some) start heads bytes = (entries ≡ start) × (some ≡ heads) × (bytes ≡ [])
+HoldsFrom first (Stage.Between read) start heads bytes = HasRecovered start first heads bytes read
+HoldsFrom first (Stage.Within s) start heads bytes = (before : List (List ℕ)) × (came : List ℕ) × (bytes ≡ before ++ came ∷ [])
     × IsWithin start first heads before came s
-HoldsFrom first (stages.Found entries) start heads bytes = (found : Found) × IsFound start first heads bytes found × (entries ≡ found.store)
+HoldsFrom first (Stage.Found entries) start heads bytes = (found : Found) × IsFound start first heads bytes found × (entries ≡ found.store)
+HoldsFrom first other start heads bytes = ⊥
 
 abbrev pub Holds : Reading → Entries → List Head → List (List ℕ) → Type 0
 Holds read start heads bytes = HoldsFrom read.first read.stage start heads bytes
@@ -145,18 +110,18 @@ next_number heads opened = option_map (λ h. h.segment) (slice_get heads opened)
 
 -- where a segment comes: its bytes are of the one that comes, it is the next, it has no head, or another comes first
 abbrev pub GoesOn : ℕ → Recovered → Way → Type 0
-GoesOn segment read (ways.On s) = (next_number read.heads read.opened ≡ Some segment)
+GoesOn segment read (Way.On s) = (next_number read.heads read.opened ≡ Some segment)
     × ((start : Entries) (first : ℕ) (heads : List Head) (bytes : List (List ℕ)) → HasRecovered start first heads bytes read
     → IsWithin start first heads bytes [] s)
-GoesOn segment read (ways.Past same) = (same ≡ read) × IfSome (next_number read.heads read.opened) (λ next. segment < next)
-GoesOn segment read (ways.Not stage) = stage ≡ stages.Between read
+GoesOn segment read (Way.Past same) = (same ≡ read) × IfSome (next_number read.heads read.opened) (λ next. segment < next)
+GoesOn segment read (Way.Not stage) = stage ≡ Stage.Between read
 
 abbrev pub GoesTo : ℕ → ℕ → Stage → Way → Type 0
-GoesTo last segment stage (ways.On s) = ((segment ≡ last) × (stage ≡ stages.Within s))
-    ⊎ ((last < segment) × ((read : Recovered) × (stage ≡ stages.Between read) × GoesOn segment read (ways.On s)))
-GoesTo last segment stage (ways.Past read) = (last < segment) × (stage ≡ stages.Between read)
+GoesTo last segment stage (Way.On s) = ((segment ≡ last) × (stage ≡ Stage.Within s))
+    ⊎ ((last < segment) × ((read : Recovered) × (stage ≡ Stage.Between read) × GoesOn segment read (Way.On s)))
+GoesTo last segment stage (Way.Past read) = (last < segment) × (stage ≡ Stage.Between read)
     × IfSome (next_number read.heads read.opened) (λ next. segment < next)
-GoesTo last segment stage (ways.Not same) = same ≡ stage
+GoesTo last segment stage (Way.Not same) = same ≡ stage
 
 -- what stands in a segment without a head changes nothing that is known
 abbrev pub Lets : Recovered → Recovered → Reading → Reading → Type 0
@@ -183,8 +148,8 @@ TakesAt segment piece told old new =
 
 -- The number 0 is that of a snapshot.
 abbrev pub TakesPiece : ℕ → List ℕ → Told → Reading → Reading → Type 0
-TakesPiece segment piece told old new = ((segment ≡ 0) × TakesStart piece told old new)
-    ⊎ ((0 < segment) × BeginsThen (TakesAt segment piece) told old new)
+TakesPiece segment piece told old new = ((segment ≡ 0) × TakesStartAt old.stage piece told old new)
+    ⊎ ((0 < segment) × BeginsThen (TakesAt segment piece) (Unit {0}) told old new)
 
 -- ---- the end
 
@@ -204,7 +169,7 @@ abbrev pub Finds : Reading → Found → Type 0
 Finds old found = (start : Entries) (heads : List Head) (bytes : List (List ℕ)) → Holds old start heads bytes → IsFound start old.first heads bytes found
 
 abbrev pub found_at : ℕ → Found → Reading → Reading
-found_at last found read = record read { stage = stages.Found found.store; last = last; next = found.number }
+found_at last found read = record read { stage = Stage.Found found.store; last = last; next = found.number }
 
 -- It is kept; or it is damaged, and is not; without memory it is not told either.
 abbrev pub Keeps : Found → ℕ → ℕ → ReadCounts → ReadCounts → Told → Reading → Reading → Type 0
@@ -222,14 +187,9 @@ EndsAt in_flight counts counted told old new =
     ⊎ ((told ≡ order_refused) × (new.last ≡ old.last) × (counted ≡ counts)
     × ((start : Entries) (heads : List Head) (bytes : List (List ℕ)) → Holds old start heads bytes → Holds new start heads bytes))
 
-abbrev pub EndsThen : Result (Unit {0}) Anew → ℕ → ReadCounts → ReadCounts → Told → Reading → Reading → Type 0
-EndsThen (Ok _) in_flight counts counted told old new = EndsAt in_flight counts counted told old new
-EndsThen (Err why) in_flight counts counted told old new = (told ≡ anew_told why) × (new ≡ old) × (counted ≡ counts)
-
 -- Where what came is no snapshot nothing is counted.
 abbrev pub EndsWith : ℕ → ReadCounts → ReadCounts → Told → Reading → Reading → Type 0
-EndsWith in_flight counts counted told old new = (did : Result (Unit {0}) Anew) × (begun : Reading) × Begins did old begun
-    × EndsThen did in_flight counts counted told begun new
+EndsWith in_flight counts counted = BeginsThen (EndsAt in_flight counts counted) (counted ≡ counts)
 
 -- ---- pieces of a snapshot
 
@@ -250,13 +210,13 @@ pub record Begin (entry : List ℕ × List ℕ) (entries : Entries) : Type 0 whe
 -- so it is for the next entry; or none is left
 abbrev pub NextIs : Entries → ℕ → Result ℕ NoPiece → Type 0
 NextIs entries room (Ok most) = (entry : List ℕ × List ℕ) × Begin entry entries × MostIs entry room (Some most)
-NextIs entries room (Err pieces.Short) = (entry : List ℕ × List ℕ) × Begin entry entries × MostIs entry room None
-NextIs entries room (Err pieces.Done) = entries ≡ []
+NextIs entries room (Err NoPiece.Short) = (entry : List ℕ × List ℕ) × Begin entry entries × MostIs entry room None
+NextIs entries room (Err NoPiece.Done) = entries ≡ []
 
 -- what is told where no piece is made
 abbrev pub no_piece : NoPiece → Told
-no_piece pieces.Done = just ABSENT 0
-no_piece pieces.Short = just REFUSED 9
+no_piece NoPiece.Done = just ABSENT 0
+no_piece NoPiece.Short = just REFUSED 9
 
 -- The next entries, as many as have room, are set by a frame of segment 0 with this number, which stands in the room, and the others are left.
 pub record IsGiven (number most len : ℕ) (entries left : Entries) (room filled : List ℕ) : Type 0 where
@@ -273,13 +233,11 @@ GivesBy (Ok most) entries room filled told old new =
     ((2 ^ 56 ≤ old.pieces) × (told ≡ just REFUSED 8) × (new ≡ old) × (filled ≡ room))
     ⊎ ((told ≡ just MEMORY 0) × (new ≡ old) × (filled ≡ room))
     ⊎ ((len : ℕ) × (left : Entries) × IsGiven old.pieces most len entries left room filled × (told ≡ record (just SHOWN 0) { bytes = len })
-    × (new ≡ record old { stage = stages.Found left; pieces = old.pieces + 1 }))
-
-abbrev pub GivesOf : Entries → List ℕ → List ℕ → Told → Reading → Reading → Type 0
-GivesOf entries room filled told old new = (did : Result ℕ NoPiece) × NextIs entries (length room) did × GivesBy did entries room filled told old new
+    × (new ≡ record old { stage = Stage.Found left; pieces = old.pieces + 1 }))
 
 abbrev pub GivesAt : Stage → List ℕ → List ℕ → Told → Reading → Reading → Type 0
-GivesAt (stages.Found entries) room filled told old new = GivesOf entries room filled told old new
+GivesAt (Stage.Found entries) room filled told old new =
+    (did : Result ℕ NoPiece) × NextIs entries (length room) did × GivesBy did entries room filled told old new
 GivesAt other room filled told old new = (told ≡ order_refused) × (new ≡ old) × (filled ≡ room)
 
 abbrev pub GivesPiece : List ℕ → List ℕ → Told → Reading → Reading → Type 0

@@ -1,22 +1,9 @@
 -- The opening of a store behind a log that was read.
-use Rattle.std.specs.Prelude.{◌≡◌, ◌≢◌, ◌⊎◌, ℕ, List, Option, Some, None}
-use Rattle.std.specs.Int.NonZero.{non_zero_u16_get}
-use Rattle.sk_plain_store.specs.Plain.{Entries}
-use Rattle.sk_durable.specs.declared.limits.Limits.{Limits}
-use Rattle.sk_durable.specs.Store.{StoreView}
-use Rattle.sk_reopened.specs.Reopened.{IsAgainst, Reopens}
+use Rattle.std.specs.Prelude.{◌≡◌, ◌⊎◌, ℕ, List, Option, Some, None}
+use Rattle.sk_handles.specs.Base.{non_zero_u16_get, Entries, Limits, StoreView, IsAgainst, Reopens, Last, Reopened}
+use Rattle.sk_handles.specs.Base.{CLOSED, HELD, MEMORY, REFUSED, Reading, Stage, NotOpened, Order, Refused}
+use Rattle.sk_handles.specs.Base.{StoreLimits, FramePlace, Told}
 use Rattle.sk_reopened.specs.declared.refusal.Refusal.TheVariants as refusals
-use Rattle.sk_reopened.specs.declared.opening.Last.{Last}
-use Rattle.sk_reopened.specs.declared.opening.Reopened.{Reopened}
-use Rattle.sk_handles.specs.declared.codes.TheConstants.{CLOSED, HELD, MEMORY, REFUSED}
-use Rattle.sk_handles.specs.declared.reading.Reading.{Reading}
-use Rattle.sk_handles.specs.declared.reading.Stage.TheVariants as stages
-use Rattle.sk_handles.specs.declared.reading.Stage.{Stage}
-use Rattle.sk_handles.specs.declared.reopening.NotOpened.{NotOpened}
-use Rattle.sk_handles.specs.declared.reopening.NotOpened.TheVariants.{Order, Refused}
-use Rattle.sk_handles.specs.declared.reopening.StoreLimits.{StoreLimits}
-use Rattle.sk_handles.specs.declared.store_calls.FramePlace.{FramePlace}
-use Rattle.sk_handles.specs.declared.told.Told.{Told}
 use Rattle.sk_handles.specs.StoreCalls.{place_of}
 use Rattle.sk_handles.specs.Told.{just, opened}
 
@@ -42,7 +29,7 @@ pub record AreGiven (given : StoreLimits) (limits : Limits) : Type 0 where
 
 -- these entries were found, and none of them was given as a snapshot
 abbrev pub HasFound : Reading → Entries → Type 0
-HasFound read entries = (read.stage ≡ stages.Found entries) × (read.pieces ≡ 1)
+HasFound read entries = (read.stage ≡ Stage.Found entries) × (read.pieces ≡ 1)
 
 abbrev pub last_of : Reading → Last
 last_of read = record { frame = read.next; segment = read.last }
@@ -52,7 +39,7 @@ abbrev pub OpensStore : StoreLimits → Reading → StoreView → List ℕ → L
 OpensStore given read store room filled place = (limits : Limits) × AreGiven given limits × (entries : Entries) × HasFound read entries
     × (opened : Reopened) × Reopens limits (last_of read) entries opened room filled × (store ≡ opened.store) × (place ≡ place_of opened.head)
 
--- why none is opened
+-- why none is opened; only without memory the room may have the head
 abbrev pub IsCause : NotOpened → StoreLimits → Reading → List ℕ → List ℕ → Type 0
 IsCause Order given read room filled = ((entries : Entries) → HasFound read entries → ⊥) × (filled ≡ room)
 IsCause (Refused refusals.Limits) given read room filled = ((given.in_flight ≡ 0)
@@ -61,10 +48,6 @@ IsCause (Refused refusals.Limits) given read room filled = ((given.in_flight ≡
 IsCause (Refused refusals.Memory) given read room filled = Unit {0}
 IsCause (Refused why) given read room filled = ((limits : Limits) × AreGiven given limits × (entries : Entries) × HasFound read entries
     × IsAgainst why limits (last_of read) entries room) × (filled ≡ room)
-
--- and its place is not told; only without memory the room may have the head
-abbrev pub IsNotOpened : NotOpened → StoreLimits → Reading → List ℕ → List ℕ → FramePlace → FramePlace → Type 0
-IsNotOpened why given read room filled old new = IsCause why given read room filled × (new ≡ old)
 
 -- ---- of what the handles hold
 
@@ -79,4 +62,4 @@ StoreOpens given told None store None read' room filled old new =
 StoreOpens given told None (Some store) (Some read) read' room filled old new =
     (told ≡ opened) × (read' ≡ None) × OpensStore given read store room filled new
 StoreOpens given told None None (Some read) read' room filled old new = (read' ≡ Some read)
-    × ((why : NotOpened) × (told ≡ not_opened why) × IsNotOpened why given read room filled old new)
+    × ((why : NotOpened) × (told ≡ not_opened why) × IsCause why given read room filled × (new ≡ old))

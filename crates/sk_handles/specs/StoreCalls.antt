@@ -1,42 +1,27 @@
 -- What the calls of a store do, and what they are told.
-use Rattle.std.specs.Prelude.{◌≡◌, ◌+◌, ◌==◌, ℕ, Bool, true, false, not, List, length, Option, Some, None, if◌then◌else◌, Result, Ok, Err}
-use Rattle.sk_slots.specs.Slots.{look_at}
-use Rattle.sk_index.specs.Index.{bytes_cmp}
-use Rattle.sk_batches.specs.Frames.{next_payload}
-use Rattle.sk_batches.specs.Queue.{cut_due, in_flight, undecided}
-use Rattle.sk_batches.specs.declared.frames.Sealed.{Sealed}
-use Rattle.sk_batches.specs.declared.queue.Cut.{Cut}
-use Rattle.sk_batches.specs.declared.refusal.Refusal.{Refusal as Queued}
+use Rattle.std.specs.Prelude.{◌≡◌, ◌+◌, ◌==◌, ℕ, not, List, length, Option, Some, None, if◌then◌else◌, Result, Ok, Err}
+use Rattle.sk_handles.specs.Base.{option_map_or, look_at, bytes_cmp, next_payload, cut_due, in_flight, undecided}
+use Rattle.sk_handles.specs.Base.{Sealed, Cut, Queued, Outcome, channel_at, End, Fed, ConnectPost, CutFramePost}
+use Rattle.sk_handles.specs.Base.{CutPost, DecidePost, FeedAheadPost, FeedPost, FramePost, HangUpPost, LearnPost}
+use Rattle.sk_handles.specs.Base.{OutputPost, ReadyPost, TellPost, asked_at, is_closed, StoreView, WindUpPost, ABSENT}
+use Rattle.sk_handles.specs.Base.{COMMITTED, DONE, FAILED, MEMORY, REFUSED, SHOWN, CutOff, FramePlace, StoreCounts}
+use Rattle.sk_handles.specs.Base.{Told, NotDone}
+use Rattle.sk_batches.specs.declared.batch.Stage.TheVariants as stages
 use Rattle.sk_batches.specs.declared.refusal.Refusal.TheVariants as queued
-use Rattle.sk_batched.specs.declared.batched.Outcome.{Outcome}
-use Rattle.sk_batched.specs.declared.batched.Outcome.TheVariants as outcomes
-use Rattle.sk_channels.specs.Table.{channel_at}
-use Rattle.sk_durable.specs.declared.refusal.NotDone.TheVariants as undone
 use Rattle.sk_durable.specs.declared.refusal.Refusal.{Refusal}
-use Rattle.sk_durable.specs.declared.refusal.Refusal.TheVariants as refusals
-use Rattle.sk_durable.specs.declared.store.End.{End}
-use Rattle.sk_durable.specs.declared.store.End.TheVariants as ends
-use Rattle.sk_durable.specs.declared.store.Fed.{Fed}
-use Rattle.sk_durable.specs.Posts.{ConnectPost, CutFramePost, CutPost, DecidePost, FailedPost, FeedAheadPost, FeedPost, FramePost, HangUpPost, OutputPost, ReadyPost, SyncedPost, TellPost, TurnPost}
-use Rattle.sk_durable.specs.Store.{asked_at, is_closed, rests_on_at, StoreView}
-use Rattle.sk_led.specs.Winding.{WindUpPost}
-use Rattle.sk_handles.specs.declared.codes.TheConstants.{ABSENT, COMMITTED, DONE, FAILED, MEMORY, REFUSED, SHOWN}
-use Rattle.sk_handles.specs.declared.store_calls.CutOff.{CutOff}
-use Rattle.sk_handles.specs.declared.store_calls.FramePlace.{FramePlace}
-use Rattle.sk_handles.specs.declared.store_calls.StoreCounts.{StoreCounts}
-use Rattle.sk_handles.specs.declared.told.Told.{Told}
-use Rattle.sk_handles.specs.OwnCalls.{tag_told, ShowsBytes}
-use Rattle.sk_handles.specs.Told.{just}
+use Rattle.sk_durable.specs.Posts.{TurnPost}
+use Rattle.sk_handles.specs.OwnCalls.{ShowsBytes}
+use Rattle.sk_handles.specs.Told.{just, told_by}
 
 -- ---- what is told
 
 -- of channels
 abbrev pub store_refused : Refusal → Told
-store_refused refusals.NoChannel = just REFUSED 1
-store_refused refusals.DecisionDue = just REFUSED 2
-store_refused refusals.Full = just REFUSED 3
-store_refused refusals.NoTicket = just REFUSED 4
-store_refused refusals.Memory = just MEMORY 0
+store_refused Refusal.NoChannel = just REFUSED 1
+store_refused Refusal.DecisionDue = just REFUSED 2
+store_refused Refusal.Full = just REFUSED 3
+store_refused Refusal.NoTicket = just REFUSED 4
+store_refused Refusal.Memory = just MEMORY 0
 
 -- of frames
 abbrev pub queue_refused : Queued → Told
@@ -50,50 +35,32 @@ queue_refused queued.Unknown = just REFUSED 10
 queue_refused queued.NoCut = just REFUSED 11
 queue_refused queued.Memory = just MEMORY 0
 
-abbrev pub channel_told : Result ℕ Refusal → Told
-channel_told (Ok channel) = just DONE channel
-channel_told (Err why) = store_refused why
-
 -- the number of what became of a request: it is not whole yet, it was carried out, why nothing of it was done, or the host is asked
 abbrev pub end_number : End → ℕ
-end_number ends.Part = 0
-end_number ends.Done = 1
-end_number (ends.NotDone undone.LongKey) = 2
-end_number (ends.NotDone undone.Stopped) = 3
-end_number (ends.NotDone undone.Full) = 4
-end_number (ends.NotDone undone.TooMany) = 5
-end_number (ends.NotDone undone.Memory) = 6
-end_number ends.Asked = 7
+end_number End.Part = 0
+end_number End.Done = 1
+end_number (End.NotDone NotDone.LongKey) = 2
+end_number (End.NotDone NotDone.Stopped) = 3
+end_number (End.NotDone NotDone.Full) = 4
+end_number (End.NotDone NotDone.TooMany) = 5
+end_number (End.NotDone NotDone.Memory) = 6
+end_number End.Asked = 7
 
 -- how many bytes were taken, and what became of the request that they end
 abbrev pub fed_told : Result Fed Refusal → Told
-fed_told (Ok fed) = record { answer = DONE; number = end_number fed.end; bytes = fed.count }
-fed_told (Err why) = store_refused why
-
-abbrev pub reply_told : Result (Unit {0}) Refusal → Told
-reply_told (Ok _) = just DONE 0
-reply_told (Err why) = store_refused why
-
-abbrev pub closed_told : Bool → Told
-closed_told closed = just DONE (if closed then 1 else 0)
+fed_told did = told_by (λ fed. record { answer = DONE; number = end_number fed.end; bytes = fed.count }) store_refused did
 
 -- how many bytes were moved
 abbrev pub output_told : Result ℕ Refusal → Told
-output_told (Ok count) = record { answer = DONE; number = 0; bytes = count }
-output_told (Err why) = store_refused why
-
-abbrev pub ready_told : Option ℕ → Told
-ready_told (Some channel) = just DONE channel
-ready_told None = just ABSENT 0
+output_told did = told_by (λ count. record { answer = DONE; number = 0; bytes = count }) store_refused did
 
 abbrev pub done_told : Result (Unit {0}) Queued → Told
-done_told (Ok _) = just DONE 0
-done_told (Err why) = queue_refused why
+done_told did = told_by (λ _. just DONE 0) queue_refused did
 
 -- the batch; of one that is refused also how many keys were taken back
 abbrev pub outcome_told : Option Outcome → Told
-outcome_told (Some (outcomes.Logged batch)) = just COMMITTED batch
-outcome_told (Some (outcomes.Refused batch keys)) = record { answer = FAILED; number = batch; bytes = keys }
+outcome_told (Some (Outcome.Logged batch)) = just COMMITTED batch
+outcome_told (Some (Outcome.Refused batch keys)) = record { answer = FAILED; number = batch; bytes = keys }
 outcome_told None = just ABSENT 0
 
 -- ---- where a frame is to be written
@@ -109,7 +76,7 @@ IsDone (Err why) told old new = (told ≡ queue_refused why) × (new ≡ old)
 -- ---- what is done
 
 abbrev pub Connects : Told → StoreView → StoreView → Type 0
-Connects told a b = (did : Result ℕ Refusal) × (told ≡ channel_told did) × ConnectPost did a b
+Connects told a b = (did : Result ℕ Refusal) × (told ≡ told_by (just DONE) store_refused did) × ConnectPost did a b
 
 pub record HangsUp (channel : ℕ) (told : Told) (a b : StoreView) : Type 0 where
   pub told_is : told ≡ just DONE 0
@@ -123,7 +90,7 @@ FeedsAhead channel bytes told a b = (did : Result Fed Refusal) × (told ≡ fed_
 
 -- the host tells the reply to what it is asked
 abbrev pub TellsReply : ℕ → List ℕ → Told → StoreView → StoreView → Type 0
-TellsReply channel text told a b = (did : Result (Unit {0}) Refusal) × (told ≡ reply_told did) × TellPost channel text did a b
+TellsReply channel text told a b = (did : Result (Unit {0}) Refusal) × (told ≡ told_by (λ _. just DONE 0) store_refused did) × TellPost channel text did a b
 
 abbrev pub ShowsAhead : List ℕ → List ℕ → Told → StoreView → Type 0
 ShowsAhead room filled told a = ShowsBytes told a.ahead room filled
@@ -131,14 +98,11 @@ ShowsAhead room filled told a = ShowsBytes told a.ahead room filled
 abbrev pub ShowsAsked : ℕ → ℕ → List ℕ → List ℕ → Told → StoreView → Type 0
 ShowsAsked channel place room filled told a = ShowsBytes told (asked_at place (channel_at a.channels channel)) room filled
 
-abbrev pub is_closed_at : ℕ → StoreView → Bool
-is_closed_at channel a = is_closed (channel_at a.channels channel)
-
 abbrev pub OutputsTo : ℕ → List ℕ → List ℕ → Told → StoreView → StoreView → Type 0
 OutputsTo channel room filled told a b = (did : Result ℕ Refusal) × (told ≡ output_told did) × OutputPost channel did room filled a b
 
 abbrev pub NextReady : Told → StoreView → StoreView → Type 0
-NextReady told a b = (did : Option ℕ) × (told ≡ ready_told did) × ReadyPost did a b
+NextReady told a b = (did : Option ℕ) × (told ≡ option_map_or (just DONE) did (just ABSENT 0)) × ReadyPost did a b
 
 abbrev pub TakesFrame : List ℕ → List ℕ → FramePlace → FramePlace → Told → StoreView → StoreView → Type 0
 TakesFrame room filled old new told a b = (did : Result Sealed Queued) × IsDone did told old new × FramePost did room filled a b
@@ -147,10 +111,10 @@ abbrev pub Turns : Told → StoreView → StoreView → Type 0
 Turns told a b = (did : Result (Unit {0}) Queued) × (told ≡ done_told did) × TurnPost did a b
 
 abbrev pub Syncs : ℕ → Told → StoreView → StoreView → Type 0
-Syncs frame told a b = (did : Result (Unit {0}) Queued) × (told ≡ done_told did) × SyncedPost frame did a b
+Syncs frame told a b = (did : Result (Unit {0}) Queued) × (told ≡ done_told did) × LearnPost stages.Synced frame did a b
 
 abbrev pub Fails : ℕ → Told → StoreView → StoreView → Type 0
-Fails frame told a b = (did : Result (Unit {0}) Queued) × (told ≡ done_told did) × FailedPost frame did a b
+Fails frame told a b = (did : Result (Unit {0}) Queued) × (told ≡ done_told did) × LearnPost stages.Failed frame did a b
 
 -- the cut that is due is told, or there is none
 abbrev pub CutIs : Option Cut → Told → CutOff → CutOff → Type 0
@@ -189,13 +153,7 @@ pub record AreStoreCounts (a : StoreView) (counts : StoreCounts) : Type 0 where
   pub answers : counts.answers ≡ length a.batched.kernel.parts.said
 
 abbrev pub TellsClosed : ℕ → Told → StoreView → Type 0
-TellsClosed channel told a = told ≡ closed_told (is_closed_at channel a)
-
-abbrev pub ShowsValue : List ℕ → List ℕ → List ℕ → Told → StoreView → Type 0
-ShowsValue key room filled told a = ShowsBytes told (value_at key a) room filled
-
-abbrev pub TellsRests : List ℕ → ℕ → Told → StoreView → Type 0
-TellsRests key place told a = told ≡ tag_told (rests_on_at key place a)
+TellsClosed channel told a = told ≡ just DONE (if is_closed (channel_at a.channels channel) then 1 else 0)
 
 abbrev pub CountsStore : StoreCounts → Told → StoreView → Type 0
 CountsStore counts told a = (told ≡ just SHOWN 0) × AreStoreCounts a counts

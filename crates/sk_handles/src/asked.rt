@@ -1,9 +1,7 @@
 //! What is asked of what is at play, which changes nothing.
-ghost use Rattle.std.specs.Prelude.{◌≡◌, Some};
-ghost use Rattle.sk_report.specs.Report.{terminal_said};
-ghost use Rattle.sk_talk.specs.Asked.{named};
-ghost use Rattle.sk_talk.specs.Played.{kernel_of};
-ghost use Rattle.sk_handles.specs.Asked.{of_named, value_text, tags_text_of, released_text, report_shown, value_shown, tags_shown, terminal_shown, Reads, ShowsText, ShowsRead, CountsKernel};
+ghost use Rattle.std.specs.Prelude.{option_and_then, Some};
+ghost use Rattle.sk_handles.specs.Base.{terminal_said, named, kernel_of, report_of};
+ghost use Rattle.sk_handles.specs.Asked.{value_text, tags_text_of, released_text, value_shown, tags_shown, terminal_shown, Reads, ShowsText, ShowsRead, CountsKernel};
 ghost use Rattle.sk_handles.specs.OwnCalls.{ShowsBytes};
 
 use crate::codes::{ABSENT, MEMORY, SHOWN};
@@ -19,13 +17,13 @@ use std::io::Write;
 
 /// Shows the report in the room.
 pub fn tell_report(play: &Play, alloc: Global, room: &mut [u8]) -> Told
-    ensures { ShowsText result (report_shown play.now) room.old room.new }
+    ensures { ShowsText result (Some (report_of play.now)) room.old room.new }
 {
     shown(report(play, alloc), room)
 }
 
 fn report(play: &Play, alloc: Global) -> Result<Option<Vec<u8>>, Stop>
-    ensures { Reads result (report_shown play.now) }
+    ensures { Reads result (Some (report_of play.now)) }
 {
     let text = play.report(alloc)?;
     Ok(Some(text))
@@ -33,21 +31,21 @@ fn report(play: &Play, alloc: Global) -> Result<Option<Vec<u8>>, Stop>
 
 /// Shows what an entity has that the report names so.
 pub fn tell_value(play: &Play, alloc: Global, name: &[u8], room: &mut [u8]) -> Told
-    ensures { ShowsText result (value_shown name.now play.now) room.old room.new }
+    ensures { ShowsText result (value_shown name.now (kernel_of play.now)) room.old room.new }
 {
     shown(value(alloc, play.kernel(), name), room)
 }
 
 /// Shows the undecided guesses that an entity rests on, which the report names so.
 pub fn tell_tags(play: &Play, alloc: Global, name: &[u8], room: &mut [u8]) -> Told
-    ensures { ShowsText result (tags_shown name.now play.now) room.old room.new }
+    ensures { ShowsText result (tags_shown name.now (kernel_of play.now)) room.old room.new }
 {
     shown(tags(alloc, play.kernel(), name), room)
 }
 
 /// Shows what a terminal has released, and how many texts wait.
 pub fn tell_terminal(play: &Play, alloc: Global, number: u16, room: &mut [u8]) -> Told
-    ensures { ShowsText result (terminal_shown number play.now) room.old room.new }
+    ensures { ShowsText result (terminal_shown number (kernel_of play.now)) room.old room.new }
 {
     shown(terminal(alloc, play.kernel(), number), room)
 }
@@ -65,7 +63,7 @@ pub fn tell_released(play: &Play, number: u16, place: usize, room: &mut [u8]) ->
 
 /// Counts the guesses and the steps so far.
 pub fn tell_counts(play: &Play, alloc: Global, counts: &mut Counts) -> Told
-    ensures { CountsKernel result (kernel_of play.now) counts.old counts.new }
+    ensures { CountsKernel kernel_of counts.old counts.new result play.now }
 {
     match Counts::of(alloc, play.kernel()) {
         Ok(counted) => {
@@ -77,7 +75,7 @@ pub fn tell_counts(play: &Play, alloc: Global, counts: &mut Counts) -> Told
 }
 
 pub(crate) fn value(alloc: Global, kernel: &Kernel, name: &[u8]) -> Result<Option<Vec<u8>>, Stop>
-    ensures { Reads result (of_named (value_text kernel.now) (named kernel.now name.now)) }
+    ensures { Reads result (option_and_then (value_text kernel.now) (named kernel.now name.now)) }
 {
     match named(alloc, kernel, name) {
         Ok(Some(entity)) => value_of(alloc, kernel, entity),
@@ -99,7 +97,7 @@ fn value_of(alloc: Global, kernel: &Kernel, entity: Entity) -> Result<Option<Vec
 }
 
 pub(crate) fn tags(alloc: Global, kernel: &Kernel, name: &[u8]) -> Result<Option<Vec<u8>>, Stop>
-    ensures { Reads result (of_named (tags_text_of kernel.now) (named kernel.now name.now)) }
+    ensures { Reads result (option_and_then (tags_text_of kernel.now) (named kernel.now name.now)) }
 {
     match named(alloc, kernel, name) {
         Ok(Some(entity)) => tags_of(alloc, kernel, entity),

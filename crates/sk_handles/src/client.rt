@@ -1,15 +1,14 @@
 //! A desk whose server is elsewhere: its requests go out as bytes, and replies come as bytes.
 ghost use Rattle.std.specs.Prelude.{◌≡◌, IfOk, MatchResult};
-ghost use Rattle.std.specs.Str.Lines.{lines};
+ghost use Rattle.sk_handles.specs.Base.{lines, scenario_of, section_view, pid, reply_of, request_bytes};
 ghost use Rattle.sk_scenario.specs.Scenario as scenarios;
-ghost use Rattle.sk_scenario.specs.Scenario.{scenario_of, section_view};
-ghost use Rattle.sk_words.specs.Operands.{pid};
-ghost use Rattle.sk_messages.specs.Replies.{reply_of};
-ghost use Rattle.sk_messages.specs.Requests.{request_bytes};
-ghost use Rattle.sk_handles.specs.Asked.{CountsKernel, Reads, ShowsText};
-ghost use Rattle.sk_handles.specs.DeskCalls.{client_in, desk_in, epoch_refused, given_told, is_unsent, kernel_report, kernel_tags, kernel_terminal, kernel_value, left_text, taken, turn_told, BeginsEpoch, Gives, GivesReply, GivesTo, SendsRequest, ShowsLeft, ShowsRequest, TakesTurn, TellsPending, TurnsAs};
+ghost use Rattle.sk_handles.specs.Asked.{report_shown, tags_shown, terminal_shown, value_shown, CountsKernel, Reads, ShowsText};
+ghost use Rattle.sk_handles.specs.DeskCalls.{back_told, client_in, desk_in, desk_kernel, epoch_refused, is_unsent, left_text, taken, turn_told, BeginsEpoch, Gives, GivesReply, GivesTo, SendsRequest, ShowsRequest, TakesTurn, TellsPending};
+ghost use Rattle.sk_handles.specs.Handles.{DoesAs};
 ghost use Rattle.sk_handles.specs.Opening.{OpenedBy, UnopenedBy};
-ghost use Rattle.sk_handles.specs.Leases.{ClientLeases, LeasesAs};
+ghost use Rattle.sk_handles.specs.Leases.{ClientLeases};
+ghost use Rattle.sk_handles.specs.OwnCalls.{ShowsBytes};
+ghost use Rattle.sk_handles.specs.Told.{told_by, told_of_given};
 
 use crate::asked::{shown, tags, terminal, value};
 use crate::codes::{ABSENT, DONE, FAULT, IDLE, MEMORY, REFUSED, SHOWN};
@@ -115,7 +114,7 @@ fn of_turn(turn: Result<Turn, Refusal>) -> Told
 }
 
 fn of_given(given: Result<Given, (Reply, ReplyRefusal)>) -> Told
-    ensures { result ≡ given_told given }
+    ensures { result ≡ told_by told_of_given (λ back. back_told back.1) given }
 {
     match given {
         Ok(given) => Told::of_given(given),
@@ -144,7 +143,7 @@ fn bytes_of(alloc: Global, request: &Request) -> Result<Vec<u8>, AllocError>
 }
 
 fn report(alloc: Global, kernel: &Kernel) -> Result<Option<Vec<u8>>, Stop>
-    ensures { Reads result (kernel_report kernel.now) }
+    ensures { Reads result (report_shown kernel.now) }
 {
     let mut text = Vec::new(alloc);
     write_report(alloc, kernel, &mut text)?;
@@ -160,7 +159,7 @@ impl Client {
 
     /// Takes a turn of the process of this name.
     pub fn turn(&mut self, name: &[u8]) -> Told
-        ensures { TurnsAs (pid name.now) result self.old self.new }
+        ensures { DoesAs TakesTurn (pid name.now) result self.old self.new }
     {
         let pid: Result<Pid, FaultKind> = Operand::read(name);
         match pid {
@@ -170,7 +169,7 @@ impl Client {
     }
 
     fn run_lease(&mut self, pid: Pid, count: u32) -> Told
-        ensures { ClientLeases pid count result self.old self.new }
+        ensures { ClientLeases count pid result self.old self.new }
     {
         match lease_at_desk(&mut self.desk, pid, count) {
             Ok(told) => Told::of_lease(told),
@@ -180,7 +179,7 @@ impl Client {
 
     /// Has the process of this name do up to so many private instructions away from its kernel.
     pub fn lease(&mut self, name: &[u8], count: u32) -> Told
-        ensures { LeasesAs ClientLeases (pid name.now) count result self.old self.new }
+        ensures { DoesAs (ClientLeases count) (pid name.now) result self.old self.new }
     {
         let pid: Result<Pid, FaultKind> = Operand::read(name);
         match pid {
@@ -282,7 +281,7 @@ impl Client {
 
     /// Shows the text at a place among those that a terminal had released when the last epoch ended.
     pub fn tell_left(&self, number: u16, place: usize, room: &mut [u8]) -> Told
-        ensures { ShowsLeft (left_text number place self.now.left) result room.old room.new }
+        ensures { ShowsBytes result (left_text number place self.now) room.old room.new }
     {
         let Some(texts) = &self.left else {
             return Told::of(ABSENT, 0);
@@ -296,28 +295,28 @@ impl Client {
 
     /// Shows the report of the kernel.
     pub fn tell_report(&self, alloc: Global, room: &mut [u8]) -> Told
-        ensures { ShowsText result (kernel_report self.now.desk.kernel) room.old room.new }
+        ensures { ShowsText result (report_shown self.now.desk.kernel) room.old room.new }
     {
         shown(report(alloc, self.desk.kernel()), room)
     }
 
     /// Shows what an entity has that the report names so.
     pub fn tell_value(&self, alloc: Global, name: &[u8], room: &mut [u8]) -> Told
-        ensures { ShowsText result (kernel_value name.now self.now.desk.kernel) room.old room.new }
+        ensures { ShowsText result (value_shown name.now self.now.desk.kernel) room.old room.new }
     {
         shown(value(alloc, self.desk.kernel(), name), room)
     }
 
     /// Shows the undecided guesses that an entity rests on, which the report names so.
     pub fn tell_tags(&self, alloc: Global, name: &[u8], room: &mut [u8]) -> Told
-        ensures { ShowsText result (kernel_tags name.now self.now.desk.kernel) room.old room.new }
+        ensures { ShowsText result (tags_shown name.now self.now.desk.kernel) room.old room.new }
     {
         shown(tags(alloc, self.desk.kernel(), name), room)
     }
 
     /// Shows what a terminal has released in this epoch, and how many texts wait.
     pub fn tell_terminal(&self, alloc: Global, number: u16, room: &mut [u8]) -> Told
-        ensures { ShowsText result (kernel_terminal number self.now.desk.kernel) room.old
+        ensures { ShowsText result (terminal_shown number self.now.desk.kernel) room.old
             room.new }
     {
         shown(terminal(alloc, self.desk.kernel(), number), room)
@@ -325,7 +324,7 @@ impl Client {
 
     /// Counts the guesses and the steps of this epoch.
     pub fn tell_counts(&self, alloc: Global, counts: &mut Counts) -> Told
-        ensures { CountsKernel result self.now.desk.kernel counts.old counts.new }
+        ensures { CountsKernel desk_kernel counts.old counts.new result self.now }
     {
         match Counts::of(alloc, self.desk.kernel()) {
             Ok(counted) => {

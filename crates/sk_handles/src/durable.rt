@@ -1,8 +1,7 @@
 //! What C holds of a store.
 ghost use Rattle.std.specs.Prelude.{◌≡◌, Option};
+ghost use Rattle.sk_handles.specs.Base.{the_row, StoreView};
 ghost use Rattle.sk_handles.specs.Kept.{cell_at, cell_code};
-ghost use Rattle.sk_durable.specs.contracts.store.Store.{the_row};
-ghost use Rattle.sk_durable.specs.Store.{StoreView};
 
 use crate::cell::Cell;
 use crate::holds::Holds;

@@ -1,7 +1,6 @@
 //! Where the fault of a text stands.
 ghost use Rattle.std.specs.Prelude.{◌≡◌, ℕ, List, length};
-ghost use Rattle.std.specs.Str.Lines.{lines};
-ghost use Rattle.sk_scenario.specs.Scenario.{scenario_of};
+ghost use Rattle.sk_handles.specs.Base.{lines, scenario_of};
 ghost use Rattle.sk_handles.specs.Faults.{placed, TellsFault, TellsFound};
 ghost use Rattle.sk_handles.specs.Told.{put};
 

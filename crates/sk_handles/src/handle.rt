@@ -1,8 +1,8 @@
 //! What C holds.
 ghost use Rattle.std.specs.Prelude.{◌≡◌, Option};
+ghost use Rattle.sk_handles.specs.Base.{PlayView};
 ghost use Rattle.sk_handles.specs.Kept.{cell_at, cell_code};
 ghost use Rattle.sk_talk.specs.contracts.play.Play.{the_row};
-ghost use Rattle.sk_talk.specs.declared.play.Play.{Play as PlayView};
 
 use crate::cell::Cell;
 use crate::holds::Holds;

@@ -1,11 +1,10 @@
 //! What a text opens, and what its lines are told.
 ghost use Rattle.std.specs.Prelude.{MatchResult};
-ghost use Rattle.std.specs.Str.Lines.{lines};
-ghost use Rattle.sk_scenario.specs.Scenario.{scenario_of};
+ghost use Rattle.sk_handles.specs.Base.{lines, scenario_of, pid};
 ghost use Rattle.sk_handles.specs.Opening.{opening, OpenedBy, UnopenedBy};
 ghost use Rattle.sk_handles.specs.PlayCalls.{EndsEpoch, TakesLine, TellsLine};
-ghost use Rattle.sk_handles.specs.Leases.{LeasesAs, PlayLeases};
-ghost use Rattle.sk_words.specs.Operands.{pid};
+ghost use Rattle.sk_handles.specs.Handles.{DoesAs};
+ghost use Rattle.sk_handles.specs.Leases.{PlayLeases};
 
 use crate::codes::MEMORY;
 use crate::room::put;
@@ -68,7 +67,7 @@ pub fn tell_epoch(play: &mut Play) -> Told
 }
 
 fn lease(play: &mut Play, pid: Pid, count: u32) -> Told
-    ensures { PlayLeases pid count result play.old play.new }
+    ensures { PlayLeases count pid result play.old play.new }
 {
     match play.lease(pid, count) {
         Ok(told) => Told::of_lease(told),
@@ -78,7 +77,7 @@ fn lease(play: &mut Play, pid: Pid, count: u32) -> Told
 
 /// Has the process of this name do up to so many private instructions away from its kernel.
 pub fn tell_lease(play: &mut Play, name: &[u8], count: u32) -> Told
-    ensures { LeasesAs PlayLeases (pid name.now) count result play.old play.new }
+    ensures { DoesAs (PlayLeases count) (pid name.now) result play.old play.new }
 {
     let pid: Result<Pid, FaultKind> = Operand::read(name);
     match pid {

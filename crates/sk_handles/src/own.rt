@@ -1,8 +1,8 @@
 //! What C holds of a kernel over its caller's own byte strings.
 ghost use Rattle.std.specs.Prelude.{◌≡◌, Option};
+ghost use Rattle.sk_handles.specs.Base.{HeldView};
 ghost use Rattle.sk_handles.specs.Kept.{cell_at, cell_code};
 ghost use Rattle.sk_held.specs.contracts.held.Held.{the_row};
-ghost use Rattle.sk_held.specs.Held.{HeldView};
 
 use crate::cell::Cell;
 use crate::holds::Holds;

@@ -1,8 +1,8 @@
 //! What the calls of a kernel over its caller's own byte strings do, and what they are told.
-ghost use Rattle.std.specs.Prelude.{◌≡◌};
-ghost use Rattle.sk_handles.specs.OwnCalls.{commit_told, fail_told, guess_told, part_told, refused, step_told, tag_told, AreOwnCounts, Commits, Fails, Guesses, Looks, Puts, Releases, Removes, Says, ShowsBytes, Steps};
+ghost use Rattle.std.specs.Prelude.{◌≡◌, option_map};
+ghost use Rattle.sk_handles.specs.OwnCalls.{commit_told, fail_told, part_told, refused, AreOwnCounts, Commits, Fails, Guesses, Looks, Puts, Releases, Removes, Says, ShowsBytes, Steps, TellsTag};
 ghost use Rattle.sk_handles.specs.OwnCalls as own;
-ghost use Rattle.sk_handles.specs.Told.{just};
+ghost use Rattle.sk_handles.specs.Told.{just, told_by};
 
 use crate::codes::{
     ABSENT, DONE, GONE, GUESSED, MEMORY, NO_TOKEN, REFUSED, SHOWN, STEPPED, WRITTEN,
@@ -38,7 +38,7 @@ fn of_part(did: Result<(), Refusal>) -> Told
 }
 
 fn of_step(did: Result<(), Refusal>) -> Told
-    ensures { result ≡ step_told did }
+    ensures { result ≡ told_by (λ _. just STEPPED 0) refused did }
 {
     match did {
         Ok(()) => Told::of(STEPPED, 0),
@@ -47,7 +47,7 @@ fn of_step(did: Result<(), Refusal>) -> Told
 }
 
 fn of_guess(did: Result<GuessId, Refusal>) -> Told
-    ensures { result ≡ guess_told did }
+    ensures { result ≡ told_by (just GUESSED) refused did }
 {
     match did {
         Ok(id) => Told::of(GUESSED, id.number()),
@@ -77,7 +77,7 @@ fn of_fail(did: Option<Unmade>) -> Told
 
 /// Shows bytes in the room, if there are any to show.
 fn shown(bytes: Option<&[u8]>, room: &mut [u8]) -> Told
-    ensures { ShowsBytes result (own.bytes_in bytes.entry) room.old room.new }
+    ensures { ShowsBytes result (option_map (λ b. b.now) bytes.entry) room.old room.new }
 {
     match bytes {
         Some(bytes) => {
@@ -155,7 +155,7 @@ pub fn tell_value(held: &Held, key: &[u8], room: &mut [u8]) -> Told
 
 /// The guess at a place among those that a key rests on.
 pub fn tell_tag(held: &Held, key: &[u8], place: usize) -> Told
-    ensures { result ≡ tag_told (own.tag_at key.now place held.now) }
+    ensures { TellsTag (own.tag_at key.now place) result held.now }
 {
     match held.kernel().tags_of(key).ids().get(place) {
         Some(id) => Told::of(SHOWN, id.number()),

@@ -1,9 +1,7 @@
 //! A log that is read again, whose bytes come in pieces.
 ghost use Rattle.std.specs.Prelude.{◌≡◌, ◌+◌, ◌<◌, ◌≤◌, ◌^◌, ◌++◌, ℕ, drop, length, take, List, Ok, IfOk, OnErr};
-ghost use Rattle.sk_log.specs.Frame.{frame};
-ghost use Rattle.sk_plain_store.specs.Plain.{Entries};
-ghost use Rattle.sk_handles.specs.Reading.{anew, anew_told, is_damaged, no_piece, order_refused, AddsTo, Begins, EndsAt, EndsWith, GivesPiece, GoesOn, GoesTo, HasCome, HoldsFrom, IsGiven, Keeps, Lets, MostIs, NextIs, Sets, StartsOn, TakesAt, TakesHead, TakesPiece, TakesStart};
-ghost use Rattle.sk_recovered.specs.declared.heads.Head.{Head};
+ghost use Rattle.sk_handles.specs.Base.{frame, Entries, Head};
+ghost use Rattle.sk_handles.specs.Reading.{anew, anew_told, is_damaged, no_piece, order_refused, AddsTo, BeginsAt, EndsAt, EndsWith, GivesPiece, GoesOn, GoesTo, HasCome, HoldsFrom, IsGiven, Keeps, Lets, MostIs, NextIs, Sets, StartsOn, TakesAt, TakesHead, TakesPiece, TakesStartAt};
 
 use crate::codes::{ABSENT, DONE, MEMORY, REFUSED, SHOWN};
 use crate::told::Told;
@@ -287,7 +285,7 @@ impl Reading {
     /// Where a snapshot came it is done: the heads of the segments come, behind what it sets. Of what is no snapshot, and
     /// without memory, all begins anew.
     fn begin(&mut self, alloc: Global) -> Result<(), Anew>
-        ensures { Begins result self.old self.new }
+        ensures { BeginsAt self.old.stage result self.old self.new }
     {
         match replace(&mut self.stage, Stage::Nothing) {
             Stage::Nothing => {
@@ -329,7 +327,7 @@ impl Reading {
 
     /// The same, where nothing else came. Without memory all begins anew.
     fn feed_snapshot(&mut self, alloc: Global, piece: &[u8]) -> Told
-        ensures { TakesStart piece.now result self.old self.new }
+        ensures { TakesStartAt self.old.stage piece.now result self.old self.new }
     {
         match replace(&mut self.stage, Stage::Nothing) {
             Stage::Nothing => match Segment::of_snapshot(alloc) {

@@ -1,6 +1,6 @@
 //! The opening of a store behind a log that was read.
 ghost use Rattle.std.specs.Prelude.{◌≡◌, MatchOption, MatchResult};
-ghost use Rattle.sk_handles.specs.Reopening.{not_opened, AreGiven, IsNotOpened, OpensStore};
+ghost use Rattle.sk_handles.specs.Reopening.{not_opened, AreGiven, IsCause, OpensStore};
 
 use crate::codes::{MEMORY, REFUSED};
 use crate::reading::{Reading, Stage};
@@ -77,7 +77,7 @@ pub fn opened(
 ) -> Result<Box<Store>, NotOpened>
     ensures { MatchResult result
         (λ store. OpensStore limits.now read.now store.value room.old room.new place.new)
-        (λ why. IsNotOpened why limits.now read.now room.old room.new place.old place.new) }
+        (λ why. IsCause why limits.now read.now room.old room.new × (place.new ≡ place.old)) }
 {
     let Stage::Found(entries) = &read.stage else {
         return Err(NotOpened::Order);

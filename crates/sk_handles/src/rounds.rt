@@ -1,6 +1,7 @@
 //! What calls of rounds are told. The host has the rounds, and no handle: each call is one of `sk_engine`.
 ghost use Rattle.std.specs.Prelude.{◌≡◌};
-ghost use Rattle.sk_handles.specs.RoundCalls.{round_refused, still_told, taken_told, SaysStill, TakesRound};
+ghost use Rattle.sk_handles.specs.RoundCalls.{round_refused, SaysStill, TakesRound};
+ghost use Rattle.sk_handles.specs.Told.{just, told_by};
 
 use crate::codes::{DONE, REFUSED};
 use crate::told::Told;
@@ -19,7 +20,7 @@ fn round_refused(why: RoundRefusal) -> Told
 }
 
 fn of_taken(did: Result<u64, RoundRefusal>) -> Told
-    ensures { result ≡ taken_told did }
+    ensures { result ≡ told_by (just DONE) round_refused did }
 {
     match did {
         Ok(round) => Told::of(DONE, round),
@@ -28,7 +29,7 @@ fn of_taken(did: Result<u64, RoundRefusal>) -> Told
 }
 
 fn of_still(did: Result<(), RoundRefusal>) -> Told
-    ensures { result ≡ still_told did }
+    ensures { result ≡ told_by (λ _. just DONE 0) round_refused did }
 {
     match did {
         Ok(()) => Told::of(DONE, 0),

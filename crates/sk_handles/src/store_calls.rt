@@ -1,10 +1,10 @@
 //! What the calls of a store do, and what they are told.
-ghost use Rattle.std.specs.Prelude.{◌≡◌};
-ghost use Rattle.sk_requests.specs.Replies.{error_text};
-ghost use Rattle.sk_commands.specs.Faults.{words_of};
+ghost use Rattle.std.specs.Prelude.{◌≡◌, if◌then◌else◌};
+ghost use Rattle.sk_handles.specs.Base.{option_map_or, error_text, rests_on_at, words_of};
 ghost use Rattle.sk_commands.specs.declared.fault.Fault.TheVariants.{Unknown};
-ghost use Rattle.sk_handles.specs.StoreCalls.{channel_told, closed_told, done_told, end_number, fed_told, output_told, outcome_told, place_of, queue_refused, ready_told, reply_told, store_refused, AreStoreCounts, Connects, CutsOff, Decides, Feeds, FeedsAhead, HangsUp, Fails, IsDone, NextReady, OutputsTo, SendsHead, ShowsAhead, ShowsAsked, ShowsValue, Syncs, TakesFrame, TellsClosed, TellsCut, TellsReply, TellsRests, Turns, WindsUp};
-ghost use Rattle.sk_handles.specs.Told.{just};
+ghost use Rattle.sk_handles.specs.StoreCalls.{done_told, end_number, fed_told, output_told, outcome_told, place_of, queue_refused, store_refused, value_at, AreStoreCounts, Connects, CutsOff, Decides, Feeds, FeedsAhead, HangsUp, Fails, IsDone, NextReady, OutputsTo, SendsHead, ShowsAhead, ShowsAsked, Syncs, TakesFrame, TellsClosed, TellsCut, TellsReply, Turns, WindsUp};
+ghost use Rattle.sk_handles.specs.OwnCalls.{ShowsBytes, TellsTag};
+ghost use Rattle.sk_handles.specs.Told.{just, told_by};
 
 use crate::codes::{ABSENT, COMMITTED, DONE, FAILED, MEMORY, REFUSED, SHOWN};
 use crate::room::put;
@@ -75,7 +75,7 @@ fn queue_refused(why: Queued) -> Told
 }
 
 fn of_channel(did: Result<u16, Refusal>) -> Told
-    ensures { result ≡ channel_told did }
+    ensures { result ≡ told_by (just DONE) store_refused did }
 {
     match did {
         Ok(channel) => Told::of(DONE, u64::from(channel)),
@@ -109,7 +109,7 @@ fn of_fed(did: Result<Fed, Refusal>) -> Told
 }
 
 fn of_told(did: Result<(), Refusal>) -> Told
-    ensures { result ≡ reply_told did }
+    ensures { result ≡ told_by (λ _. just DONE 0) store_refused did }
 {
     match did {
         Ok(()) => Told::of(DONE, 0),
@@ -118,7 +118,7 @@ fn of_told(did: Result<(), Refusal>) -> Told
 }
 
 fn of_closed(is_closed: bool) -> Told
-    ensures { result ≡ closed_told is_closed }
+    ensures { result ≡ just DONE (if is_closed then 1 else 0) }
 {
     Told::of(DONE, u64::from(is_closed))
 }
@@ -133,7 +133,7 @@ fn of_output(did: Result<usize, Refusal>) -> Told
 }
 
 fn of_ready(channel: Option<u16>) -> Told
-    ensures { result ≡ ready_told channel }
+    ensures { result ≡ option_map_or (just DONE) channel (just ABSENT 0) }
 {
     match channel {
         Some(channel) => Told::of(DONE, u64::from(channel)),
@@ -339,7 +339,7 @@ pub fn decide(store: &mut Store) -> Told
 
 /// Shows what a key has.
 pub fn tell_value(store: &Store, key: &[u8], room: &mut [u8]) -> Told
-    ensures { ShowsValue key.now room.old room.new result store.now }
+    ensures { ShowsBytes result (value_at key.now store.now) room.old room.new }
 {
     match store.value(key) {
         Some(value) => {
@@ -352,7 +352,7 @@ pub fn tell_value(store: &Store, key: &[u8], room: &mut [u8]) -> Told
 
 /// The batch at a place among those that a key rests on.
 pub fn tell_rests_on(store: &Store, key: &[u8], place: usize) -> Told
-    ensures { TellsRests key.now place result store.now }
+    ensures { TellsTag (rests_on_at key.now place) result store.now }
 {
     match store.rests_on(key, place) {
         Some(batch) => Told::of(SHOWN, batch),

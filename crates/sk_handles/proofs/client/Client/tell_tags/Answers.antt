@@ -1,11 +1,11 @@
 -- What is read of the kernel is shown.
-use Rattle.sk_handles.proofs.Names.{subst, KernelView, named, of_named, tags_text_of, Reads}
-use Rattle.sk_handles.specs.DeskCalls.{kernel_tags}
+use Rattle.sk_handles.proofs.Names.{subst, KernelView, option_and_then, named, tags_text_of, Reads}
+use Rattle.sk_handles.specs.Asked.{tags_shown}
 use Rattle.sk_handles.proofs.Shown.{text_is_shown}
 use Rattle.sk_handles.proofs.client.Client.tell_tags.Goals as goal
 
 pub returns : goal.returns
-unfolding kernel_tags
+unfolding tags_shown
 returns c =
-    let reads = subst (λ (k : KernelView). Reads c.tags.result (of_named (tags_text_of k) (named k c.args.name.now))) c.kernel.ensures c.tags.ensures in
-    text_is_shown c.shown.result c.tags.result (kernel_tags c.args.name.now c.args.self.now.desk.kernel) c.args.room.now c.shown.new.room reads c.shown.ensures
+    let reads = subst (λ (k : KernelView). Reads c.tags.result (option_and_then (tags_text_of k) (named k c.args.name.now))) c.kernel.ensures c.tags.ensures in
+    text_is_shown c.shown.result c.tags.result (tags_shown c.args.name.now c.args.self.now.desk.kernel) c.args.room.now c.shown.new.room reads c.shown.ensures

@@ -1,11 +1,11 @@
 -- What is read of the kernel is shown.
-use Rattle.sk_handles.proofs.Names.{subst, KernelView, named, of_named, value_text, Reads}
-use Rattle.sk_handles.specs.DeskCalls.{kernel_value}
+use Rattle.sk_handles.proofs.Names.{subst, KernelView, option_and_then, named, value_text, Reads}
+use Rattle.sk_handles.specs.Asked.{value_shown}
 use Rattle.sk_handles.proofs.Shown.{text_is_shown}
 use Rattle.sk_handles.proofs.client.Client.tell_value.Goals as goal
 
 pub returns : goal.returns
-unfolding kernel_value
+unfolding value_shown
 returns c =
-    let reads = subst (λ (k : KernelView). Reads c.value.result (of_named (value_text k) (named k c.args.name.now))) c.kernel.ensures c.value.ensures in
-    text_is_shown c.shown.result c.value.result (kernel_value c.args.name.now c.args.self.now.desk.kernel) c.args.room.now c.shown.new.room reads c.shown.ensures
+    let reads = subst (λ (k : KernelView). Reads c.value.result (option_and_then (value_text k) (named k c.args.name.now))) c.kernel.ensures c.value.ensures in
+    text_is_shown c.shown.result c.value.result (value_shown c.args.name.now c.args.self.now.desk.kernel) c.args.room.now c.shown.new.room reads c.shown.ensures

@@ -1,5 +1,5 @@
 //! A finite map by entities.
-ghost use Rattle.std.specs.Prelude.{◌≡◌, ◌<◌, ◌^◌, ◌++◌, OnOk, OnErr, OnSome, IfOk, Some};
+ghost use Rattle.std.specs.Prelude.{◌≡◌, ◌<◌, ◌^◌, ◌++◌, [], OnOk, OnErr, OnSome, IfOk, Some};
 ghost use Rattle.sk_undo.specs.Base.{option_copied, option_copied_mut, LendsSo, sem, IsStrictlySortedBy, nat_cmp};
 ghost use Rattle.sk_undo.specs.Base.{entity_cmp, object_cmp, Proc, Sig, Exit, Obj, Copy, seen, FitsAt, changed};
 ghost use Rattle.sk_undo.specs.Base.{CanBecome, IsReadable, became, process_in, name_order};
@@ -257,12 +257,11 @@ impl<V> EntityMap<V> {
         links.saturating_add(self.copies.len())
     }
 
-    /// The entities that have a value, by their order, each once.
-    pub(crate) fn entities(&self) -> Result<Vec<Entity>, AllocError>
-        ensures rest { IfOk result (λ all. all.items ≡ map.keys self.now) }
-        ensures rising { IfOk result (λ all. IsStrictlySortedBy entity_cmp all.items) }
+    /// Lists the entities that have a value, by their order, each once.
+    fn list(&self, all: &mut Vec<Entity>) -> Result<(), AllocError>
+        requires { all.old.items ≡ [] }
+        ensures { OnOk result (all.new.items ≡ map.keys self.now) }
     {
-        let mut all = Vec::with_capacity(self.alloc(), self.len())?;
         for process in self.processes.keys() {
             all.push(Entity::Proc(process.pid))?;
         }
@@ -281,6 +280,16 @@ impl<V> EntityMap<V> {
         for copy in self.copies.keys() {
             all.push(Entity::Copy(*copy))?;
         }
+        Ok(())
+    }
+
+    /// The entities that have a value, by their order, each once.
+    pub(crate) fn entities(&self) -> Result<Vec<Entity>, AllocError>
+        ensures rest { IfOk result (λ all. all.items ≡ map.keys self.now) }
+        ensures rising { IfOk result (λ all. IsStrictlySortedBy entity_cmp all.items) }
+    {
+        let mut all = Vec::with_capacity(self.alloc(), self.len())?;
+        self.list(&mut all)?;
         Ok(all)
     }
 

@@ -96,6 +96,22 @@ fn move_over(store: &mut Store, logs: &mut Logs, entity: &Entity) -> Result<(), 
     Ok(())
 }
 
+/// Moves what these entities have, which are all that there are, into slots of which nothing is noted.
+fn move_all(store: &mut Store, logs: &mut Logs, entities: &[Entity]) -> Result<(), AllocError>
+    requires none { logs.old ≡ record { slots = map.empty; tags = [] } }
+    requires rising { IsStrictlySortedBy entity_cmp entities.now }
+    requires all { (e : Entity) → is_in entity_cmp entities.now e ≡ is_some (map.get store.old e) }
+    ensures values { OnOk result ((e : Entity) → look_at logs.new.slots e ≡ map.get store.old e) }
+    ensures logs { OnOk result ((e : Entity) → log_at logs.new.slots e ≡ []) }
+    ensures bare { OnOk result (NoneBare logs.new.slots) }
+    ensures tags { logs.new.tags ≡ [] }
+{
+    for entity in entities {
+        move_over(store, logs, entity)?;
+    }
+    Ok(())
+}
+
 impl Logs {
     /// No entity has anything.
     pub fn new(alloc: Global) -> Logs
@@ -118,9 +134,7 @@ impl Logs {
     {
         let mut logs = Logs::new(store.alloc());
         let entities = store.entities()?;
-        for entity in &entities {
-            move_over(&mut store, &mut logs, entity)?;
-        }
+        move_all(&mut store, &mut logs, entities.as_slice())?;
         Ok(logs)
     }
 

@@ -4,7 +4,7 @@ use Rattle.std.specs.List.{flat_map}
 use Rattle.sk_undo.specs.Kinds.{link_of, lifted}
 use Rattle.sk_store.specs.Present.{shown}
 use Rattle.sk_undo.specs.Present.{shown_at}
-use Rattle.sk_undo.proofs.entries.present.Given as goal
+use Rattle.sk_undo.proofs.entries.list.Given as goal
 
 abbrev pub invariant-loop-process : goal.invariant-loop-process
 invariant-loop-process l =

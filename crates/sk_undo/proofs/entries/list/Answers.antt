@@ -7,7 +7,7 @@ use Rattle.sk_store.specs.Present.{shown}
 use Rattle.sk_undo.specs.Present.{shown_at}
 use Rattle.sk_undo.proofs.ByKind.{all_added, one_by_one}
 use Rattle.sk_undo.proofs.Listed.{one_kind}
-use Rattle.sk_undo.proofs.entries.present.Goals as goal
+use Rattle.sk_undo.proofs.entries.list.Goals as goal
 
 -- of a kind of which nothing is left
 none_left : {K : Type 0} (f : K → Entity) (left : List (K × SlotView)) → left ≡ [] → flat_map shown_at (lifted f left) ≡ []
@@ -23,7 +23,7 @@ returns c =
     let n = c.into_iter-copy-iterator in
     one_by_one (flat_map shown_at (lifted Proc p.result)) (flat_map shown_at (lifted Sig s.result)) (flat_map shown_at (lifted Exit x.result))
     (flat_map shown_at (lifted Obj o.result)) (flat_map shown_at (lifted link_of l.result)) (flat_map shown_at (lifted Copy n.result))
-    (ap (each shown) c.in_ok-all.ensures.items)
+    (ap (each shown) c.requires)
     (all_added _ _ _ (none_left Proc c.loop-process.process-iterator (grind (arith, common_steps))) c.loop-process.invariant)
     (all_added _ _ _ (none_left Sig c.loop-signals.signals-iterator (grind (arith, common_steps))) c.loop-signals.invariant)
     (all_added _ _ _ (none_left Exit c.loop-exit.exit-iterator (grind (arith, common_steps))) c.loop-exit.invariant)

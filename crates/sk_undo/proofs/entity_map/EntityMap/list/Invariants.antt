@@ -1,7 +1,7 @@
 -- What was added, and what is left, are all of each kind.
 use Rattle.sk_undo.proofs.Cites.{◌≡◌, ◌++◌, each, Proc, Sig, Exit, Obj, Copy}
 use Rattle.sk_undo.specs.Kinds.{link_of}
-use Rattle.sk_undo.proofs.entity_map.EntityMap.entities.Given as goal
+use Rattle.sk_undo.proofs.entity_map.EntityMap.list.Given as goal
 
 abbrev pub invariant-loop-process : goal.invariant-loop-process
 invariant-loop-process g l = l.all.items ++ each Proc l.process-iterator ≡ l.initial.all.items ++ each Proc l.initial.process-iterator

@@ -386,7 +386,7 @@ impl Kernel {
         };
         if self
             .machine
-            .take_found(scripts, pid, input, &self.plan, found)
+            .take_step(scripts, pid, input, &self.plan, found)
             .is_err()
         {
             return Err(Refusal::Memory);

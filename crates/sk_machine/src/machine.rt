@@ -280,7 +280,7 @@ impl Machine {
     }
 
     /// Takes a planned step that is no guess, whose private instruction was found, or none. Without memory nothing has changed.
-    pub fn take_found(
+    pub fn take_step(
         &mut self,
         scripts: &Scripts,
         pid: Pid,
@@ -298,19 +298,28 @@ impl Machine {
                 return Ok(());
             }
         }
-        self.take_step(scripts, pid, input, plan)
+        if self.take_alike(scripts, pid, input, plan)? {
+            return Ok(());
+        }
+        self.take_apart(scripts, pid, input, plan)
     }
 
-    /// Takes a planned step that is no guess. Without memory nothing has changed.
-    pub fn take_step(
+    /// Takes the step where it rests on just what its process does. Answers whether; else, and without memory, nothing has changed.
+    fn take_alike(
         &mut self,
         scripts: &Scripts,
         pid: Pid,
         input: InputRef<'_>,
         plan: &Plan,
-    ) -> Result<(), AllocError>
+    ) -> Result<bool, AllocError>
         requires { CanTake self.old scripts.now pid (input_in input) plan.now }
-        ensures { HasTaken result scripts.now pid (input_in input.entry) self.old self.new }
+        ensures takes { IfOk result (λ alike. alike ≡ true
+            → MergedTakes (plain scripts.now) (machine_of self.old)
+            (record { pid = pid; input = (input_in input.entry); guess = None })
+            (machine_of self.new)) }
+        ensures guesses { self.new.guesses ≡ self.old.guesses }
+        ensures same { IfOk result (λ alike. alike ≡ false → self.new ≡ self.old) }
+        ensures err { OnErr result (self.new ≡ self.old) }
     {
         let alike = set_alike(
             &mut self.logs,
@@ -320,20 +329,21 @@ impl Machine {
             input,
             plan,
         )?;
-        if alike {
-            return perform(
-                &mut self.logs,
-                &mut self.terminals,
-                scripts,
-                pid,
-                input,
-                plan,
-            );
+        if !alike {
+            return Ok(false);
         }
-        self.take_apart(scripts, pid, input, plan)
+        perform(
+            &mut self.logs,
+            &mut self.terminals,
+            scripts,
+            pid,
+            input,
+            plan,
+        )?;
+        Ok(true)
     }
 
-    /// The same, where what it writes may come to rest on more. Without memory nothing has changed.
+    /// Takes the step where what it writes may come to rest on more. Without memory nothing has changed.
     #[inline(never)]
     fn take_apart(
         &mut self,

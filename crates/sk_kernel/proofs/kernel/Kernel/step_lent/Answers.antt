@@ -54,8 +54,8 @@ returns-in-Err-keep c =
       (λ i. record (the_view c.self.inside) { trace = c.reserve.ensures.events i }) ∙ c.self.view_is,
     )
 
-pub take_found-requires-clause-can : goal.take_found-requires-clause-can
-take_found-requires-clause-can c =
+pub take_step-requires-clause-can : goal.take_step-requires-clause-can
+take_step-requires-clause-can c =
     let k = the_view c.self.inside in
     let m = c.self.inside.machine in
     let stands = c.self.invariant.0.stands in
@@ -65,7 +65,7 @@ take_found-requires-clause-can c =
 pub returns-then-is_err-2 : goal.returns-then-is_err-2
 returns-then-is_err-2 c =
     let n : EntryView = record { pid = c.args.pid; input = (input_in c.args.input); guess = None } in
-    let still = from_err c.take_found.result c.if-is_err-2.ensures.value c.take_found.ensures.err in (
+    let still = from_err c.take_step.result c.if-is_err-2.ensures.value c.take_step.ensures.err in (
       free_at (the_view c.self.inside) c.self.inside.machine c.self.inside.trace.room c.self.invariant.0 n c.plan_into.new.plan
           c.is_crowded.result c.is_crowded.ensures c.self.view_is c.scripts-scripts.ensures c.in-Ok.ensures.step
           c.if-is_crowded.false c.room-room.ensures c.if-room-lt1.false,
@@ -76,22 +76,22 @@ returns-then-is_err-2 c =
 pub invariant_of-self-2 : goal.invariant_of-self-2
 invariant_of-self-2 c =
     let n : EntryView = record { pid = c.args.pid; input = (input_in c.args.input); guess = None } in
-    let takes = subst (λ s. MergedTakes (plain s) (machine_of c.self.inside.machine) n (machine_of c.take_found.new.self)) c.scripts-scripts.ensures (from_ok c.take_found.result c.if-is_err-2.ensures.value c.take_found.ensures.ok) in
-    let opens = no_more_opens c.self.inside.opening.start.scripts c.self.inside.machine c.take_found.new.self c.args.pid (input_in c.args.input) takes in
+    let takes = subst (λ s. MergedTakes (plain s) (machine_of c.self.inside.machine) n (machine_of c.take_step.new.self)) c.scripts-scripts.ensures (from_ok c.take_step.result c.if-is_err-2.ensures.value c.take_step.ensures.ok) in
+    let opens = no_more_opens c.self.inside.opening.start.scripts c.self.inside.machine c.take_step.new.self c.args.pid (input_in c.args.input) takes in
     let reserved = from_ok c.reserve.result c.if-is_err.ensures.value c.reserve.ensures.room in
     let pushed = c.push.ensures.room in
     let counted = c.open_count.ensures in (
-      stepped_whole (the_view c.self.inside) c.self.inside.machine c.take_found.new.self c.self.inside.trace.room c.push.new.self.room c.args.pid (input_in c.args.input) c.push.new.self.events c.self.invariant.0
-          takes c.take_found.ensures.guesses
+      stepped_whole (the_view c.self.inside) c.self.inside.machine c.take_step.new.self c.self.inside.trace.room c.push.new.self.room c.args.pid (input_in c.args.input) c.push.new.self.events c.self.invariant.0
+          takes c.take_step.ensures.guesses
           (c.push.ensures.events ∙ (λ i. c.reserve.ensures.events i ++ events.Step c.args.pid (c.in-Ok-keep.ensures.ok i) ∷ []))
           (omega (arith, opens, reserved, pushed, counted)),
-      still_opened (the_view c.self.inside) _ _ c.push.new.self.events _ c.self.invariant.1 (ap (λ v. v.kernel) c.take_found.ensures.guesses) (ap (λ v. v.earlier) c.take_found.ensures.guesses),
+      still_opened (the_view c.self.inside) _ _ c.push.new.self.events _ c.self.invariant.1 (ap (λ v. v.kernel) c.take_step.ensures.guesses) (ap (λ v. v.earlier) c.take_step.ensures.guesses),
     )
 
 pub returns : goal.returns
 returns c =
     let n : EntryView = record { pid = c.args.pid; input = (input_in c.args.input); guess = None } in
-    let guesses = c.take_found.ensures.guesses in
+    let guesses = c.take_step.ensures.guesses in
     let more = c.push.ensures.events ∙ (λ i. c.reserve.ensures.events i ++ events.Step c.args.pid (c.in-Ok-keep.ensures.ok i) ∷ []) in (
       free_at (the_view c.self.inside) c.self.inside.machine c.self.inside.trace.room c.self.invariant.0 n c.plan_into.new.plan
           c.is_crowded.result c.is_crowded.ensures c.self.view_is c.scripts-scripts.ensures c.in-Ok.ensures.step

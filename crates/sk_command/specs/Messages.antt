@@ -26,17 +26,17 @@ cause_word ReadFault.Memory = codes "out of memory"
 
 -- what a task takes
 abbrev pub takes : Task → List ℕ
-takes (Task.Play shows) = codes "play takes steps or world, "
-takes Task.Talk = codes "talk takes steps or world without an event, "
-takes Task.Plain = codes "plain takes trace, "
-takes Task.Replay = codes "replay takes trace, "
-takes (Task.Work workers turns) = codes "work takes any section, "
+takes (Task.Play shows) = codes "play takes steps or world"
+takes Task.Talk = codes "talk takes steps or world without an event"
+takes Task.Plain = codes "plain takes trace"
+takes Task.Replay = codes "replay takes trace"
+takes (Task.Work workers turns) = codes "work takes any section"
 
 -- a message, without the end of its line
 abbrev pub message_text : Message → List ℕ
 message_text (Message.Fault line kind) = codes "speculate: line " ++ decimal line ++ codes ": " ++ kind_word kind
 message_text Message.WrongSection = codes "speculate: wrong section"
-message_text (Message.Other t file has) = takes t ++ file.now ++ codes " has " ++ has.now
+message_text (Message.Other t file has) = takes t ++ codes ", " ++ file.now ++ codes " has " ++ has.now
 message_text (Message.Entry number) = codes "speculate: trace entry " ++ decimal number ++ codes " refused"
 message_text (Message.Unread file) = codes "speculate: cannot read " ++ file.now
 message_text (Message.Cause file fault) = codes "cannot read " ++ file.now ++ codes ": " ++ cause_word fault

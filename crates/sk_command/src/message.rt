@@ -1,7 +1,7 @@
 //! What is told on the error writer.
 ghost use Rattle.std.specs.Prelude.{◌≡◌, ◌++◌, ◌∷◌, [], OnOk};
 ghost use Rattle.std.specs.Io.KnownBytes.{Appends};
-ghost use Rattle.sk_command.specs.Messages.{kind_word, cause_word, message_text};
+ghost use Rattle.sk_command.specs.Messages.{kind_word, cause_word, takes, message_text};
 
 use crate::job::Task;
 use crate::read_all::ReadFault;
@@ -45,16 +45,10 @@ impl fmt::Display for Message<'_> {
                 write!(f, "speculate: line {line}: {kind}")
             }
             Message::WrongSection => write!(f, "speculate: wrong section"),
-            Message::Other { task, file, has } => match task {
-                Task::Play(_) => write!(f, "play takes steps or world, {file} has {has}"),
-                Task::Talk => write!(
-                    f,
-                    "talk takes steps or world without an event, {file} has {has}"
-                ),
-                Task::Plain => write!(f, "plain takes trace, {file} has {has}"),
-                Task::Replay => write!(f, "replay takes trace, {file} has {has}"),
-                Task::Work { .. } => write!(f, "work takes any section, {file} has {has}"),
-            },
+            Message::Other { task, file, has } => {
+                let takes = takes_of(task);
+                write!(f, "{takes}, {file} has {has}")
+            }
             Message::Entry(number) => write!(f, "speculate: trace entry {number} refused"),
             Message::Unread(file) => write!(f, "speculate: cannot read {file}"),
             Message::Cause(file, fault) => {
@@ -75,6 +69,19 @@ fn word_of(kind: FaultKind) -> &'static str
         FaultKind::Label => "Label",
         FaultKind::TooLong => "TooLong",
         FaultKind::Memory => "Memory",
+    }
+}
+
+/// What a task takes.
+fn takes_of(task: Task) -> &'static str
+    ensures { result.now ≡ takes task }
+{
+    match task {
+        Task::Play(_) => "play takes steps or world",
+        Task::Talk => "talk takes steps or world without an event",
+        Task::Plain => "plain takes trace",
+        Task::Replay => "replay takes trace",
+        Task::Work { .. } => "work takes any section",
     }
 }
 

@@ -61,4 +61,4 @@ has _ (World es) = codes "world"
 
 -- what a task takes, and what the file has
 abbrev pub section_told : Wish → SectionView → List ℕ
-section_told wish section = takes wish.task ++ wish.file ++ codes " has " ++ has wish.task section
+section_told wish section = takes wish.task ++ codes ", " ++ wish.file ++ codes " has " ++ has wish.task section

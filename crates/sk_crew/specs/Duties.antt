@@ -1,5 +1,5 @@
 -- Which calls are a worker's to make.
-use Rattle.std.specs.Prelude.{◌≡◌, ◌<◌, ◌≤◌, ℕ, ◌+◌, ◌*◌, List, [], ◌∷◌, ◌++◌, Some, length, flat_map, slice_get}
+use Rattle.std.specs.Prelude.{◌≡◌, ◌<◌, ◌≤◌, ℕ, ◌+◌, List, [], ◌∷◌, ◌++◌, Some, length, flat_map, slice_get}
 use Rattle.sk_crew.specs.Base.{Contains, Pid, Entity, state_at, DeskView, DeskCall, Receipt, WorkerView, numbers, fresh}
 use Rattle.sk_crew.specs.Base.{CrewPlan}
 use Rattle.std.specs.FinMap as map

@@ -11,7 +11,6 @@ use Rattle.sk_kernel.specs.declared.hand_in.HandIn.{HandIn}
 use Rattle.sk_client.specs.DeskCalls.{TurnPost, ReplyPost, handed_back}
 use Rattle.sk_client.specs.Leasing.{DeskTakesIn, DeskHandInPost, desk_lease}
 use Rattle.sk_client.specs.declared.desk.Turn.{Turn}
-use Rattle.sk_client.specs.declared.desk.Given.{Given}
 use Rattle.sk_client.specs.declared.desk.ReplyRefusal.{ReplyRefusal}
 use Rattle.sk_workers.specs.declared.entry.DeskCall.{DeskCall}
 use Rattle.sk_workers.specs.declared.entry.Answered.{Answered}

@@ -1,5 +1,5 @@
 -- Each refusal has the number and the name that are printed of it.
-use Rattle.sk_play.proofs.Names.{◌≡◌, ◌<◌, ◌+◌, ◌++◌, ◌∷◌, [], List, ℕ, ap, arith, codes, refl, sym, decimal_digit}
+use Rattle.sk_play.proofs.Names.{◌≡◌, ◌<◌, ◌+◌, ◌++◌, ◌∷◌, [], List, ℕ, ap, arith, codes, sym, decimal_digit}
 use Rattle.sk_play.proofs.Names.{Refusal, refusal_number, refusal_name, answer_text}
 use Rattle.sk_plain.specs.declared.refusal.Refusal.TheVariants.{NoProcess, Ended, Mismatch, NeedsReply, Blocked, TooMany, TraceFull, Memory, NoRoom}
 use Rattle.sk_play.specs.declared.answer.CallAnswer.TheVariants as answers

@@ -1,5 +1,5 @@
 -- Nothing of the line stands behind its end.
-use Rattle.sk_play.proofs.Names.{◌≡◌, ◌++◌, ℕ, [], drop, length, decimal, refl, subst, append-nil, drop-length}
+use Rattle.sk_play.proofs.Names.{◌≡◌, ◌++◌, ℕ, [], drop, decimal, refl, subst, append-nil, drop-length}
 use Rattle.sk_play.proofs.line.Line.tell.Goals as goal
 
 pub returns : goal.returns

@@ -12,6 +12,3 @@ pub use inversion::Inversion;
 pub use sum::Sum;
 pub use whole::{NoUndo, Whole};
 pub use write::Write;
-
-#[cfg(test)]
-mod tests;

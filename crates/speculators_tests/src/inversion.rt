@@ -1,5 +1,5 @@
 //! Writes and what puts them back, through the trait.
-use crate::{Inversion, Sum, Whole, Write, put_back};
+use sk_inversion::{Inversion, Sum, Whole, Write, put_back};
 
 /// Writes, and puts that back; answers what was there between.
 fn there_and_back<V: Copy + Drop, I: Inversion<V>>(

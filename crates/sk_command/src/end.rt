@@ -10,7 +10,7 @@ use sk_words::{Fault, FaultKind};
 use std::io::{BufWriter, Write};
 
 /// How a run ends.
-#[derive(Clone, Copy, Debug, PartialEq, Eq)]
+#[derive(Clone, Copy)]
 pub enum End {
     /// The job is done, or the help is printed.
     Done,

@@ -25,7 +25,7 @@ use std::fmt;
 use std::io::{BufWriter, Write};
 
 /// What `play` prints beside the answers and the report.
-#[derive(Clone, Copy, Debug, PartialEq, Eq)]
+#[derive(Clone, Copy)]
 pub struct Shows {
     /// What each step reads, writes and rests on, below its answer.
     pub steps: bool,
@@ -36,7 +36,7 @@ pub struct Shows {
 }
 
 /// What is done with an input.
-#[derive(Clone, Copy, Debug, PartialEq, Eq)]
+#[derive(Clone, Copy)]
 pub enum Task {
     /// The events of a scenario are played, and what is wanted beside it is printed.
     Play(Shows),
@@ -51,7 +51,7 @@ pub enum Task {
 }
 
 /// What the words ask for.
-#[derive(Clone, Copy, Debug, PartialEq, Eq)]
+#[derive(Clone, Copy)]
 pub struct Job<'a> {
     /// The name of the input; `-` is standard input.
     pub file: &'a str,

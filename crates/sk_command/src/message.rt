@@ -10,7 +10,7 @@ use std::io::{ErrorKind, Write};
 use std::{fmt, io};
 
 /// Why a run does not end well.
-#[derive(Clone, Copy, Debug)]
+#[derive(Clone, Copy)]
 pub enum Message<'a> {
     /// A line of the file has a fault of this kind.
     Fault {

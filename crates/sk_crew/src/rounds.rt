@@ -7,7 +7,7 @@ use sk_plain::Refusal;
 
 /// How far a worker is in its rounds. Its processes are every so many of all, one after the other, and it stops after a
 /// round of which each turn was answered `Ended`.
-#[derive(Clone, Copy, Debug, PartialEq, Eq)]
+#[derive(Clone, Copy)]
 pub(crate) struct Rounds {
     /// How many processes there are.
     count: usize,

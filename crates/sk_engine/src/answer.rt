@@ -3,7 +3,7 @@ ghost use Rattle.std.specs.Prelude.{◌≡◌};
 ghost use Rattle.sk_engine.specs.Told.{held_of};
 
 /// What stands under the key of a batch.
-#[derive(Clone, Copy, Debug, PartialEq, Eq)]
+#[derive(Clone, Copy, PartialEq, Eq)]
 pub enum Held {
     /// Nothing.
     Absent,
@@ -15,7 +15,7 @@ pub enum Held {
 
 /// What the engine saw as it did not put a batch: of which leadership the leader is, what stands under the number, and up to where the
 /// log was cut.
-#[derive(Clone, Copy, Debug, PartialEq, Eq)]
+#[derive(Clone, Copy, PartialEq, Eq)]
 pub struct BatchSeen {
     pub leader: Option<u64>,
     pub held: Held,
@@ -23,7 +23,7 @@ pub struct BatchSeen {
 }
 
 /// What is known of a try of a batch.
-#[derive(Clone, Copy, Debug, PartialEq, Eq)]
+#[derive(Clone, Copy, PartialEq, Eq)]
 pub enum BatchAnswer {
     /// It was put.
     Done,
@@ -34,14 +34,14 @@ pub enum BatchAnswer {
 }
 
 /// What the engine saw as it did not carry a fence out: of which leadership the leader is, and which one fenced last.
-#[derive(Clone, Copy, Debug, PartialEq, Eq)]
+#[derive(Clone, Copy, PartialEq, Eq)]
 pub struct FenceSeen {
     pub leader: Option<u64>,
     pub fence: u64,
 }
 
 /// What is known of a try of a fence.
-#[derive(Clone, Copy, Debug, PartialEq, Eq)]
+#[derive(Clone, Copy, PartialEq, Eq)]
 pub enum FenceAnswer {
     /// All behind the gap was deleted.
     Done,
@@ -53,14 +53,14 @@ pub enum FenceAnswer {
 
 /// What the engine saw as it did not put a leader: of which leadership the one is that there was, and whether it has the word that was to
 /// be put there.
-#[derive(Clone, Copy, Debug, PartialEq, Eq)]
+#[derive(Clone, Copy, PartialEq, Eq)]
 pub struct LeadSeen {
     pub leadership: u64,
     pub held: Held,
 }
 
 /// What is known of a try to lead, by a word that nobody else puts.
-#[derive(Clone, Copy, Debug, PartialEq, Eq)]
+#[derive(Clone, Copy, PartialEq, Eq)]
 pub enum LeadAnswer {
     /// The word was put: this is its leadership.
     Done(u64),
@@ -71,7 +71,7 @@ pub enum LeadAnswer {
 }
 
 /// What is known of a round: of which leadership the leader was, if there was one.
-#[derive(Clone, Copy, Debug, PartialEq, Eq)]
+#[derive(Clone, Copy, PartialEq, Eq)]
 pub enum RoundAnswer {
     Seen(Option<u64>),
     /// Nothing.

@@ -5,7 +5,7 @@ ghost use Rattle.sk_engine.specs.Told.{batch_told, fence_told, lead_told, leads,
 use crate::answer::{BatchAnswer, FenceAnswer, Held, LeadAnswer, RoundAnswer};
 
 /// What a host is told by an answer.
-#[derive(Clone, Copy, Debug, PartialEq, Eq)]
+#[derive(Clone, Copy, PartialEq, Eq)]
 pub enum Told {
     /// The batch of this number stands in the log.
     Synced(u64),
@@ -30,21 +30,21 @@ pub enum Told {
 }
 
 /// A batch with a number, to be put by a leadership where nothing stands under its number.
-#[derive(Clone, Copy, Debug, PartialEq, Eq)]
+#[derive(Clone, Copy, PartialEq, Eq)]
 pub struct Batch {
     pub leadership: u64,
     pub number: u64,
 }
 
 /// What a new leadership does first: all from the gap on is deleted, once.
-#[derive(Clone, Copy, Debug, PartialEq, Eq)]
+#[derive(Clone, Copy, PartialEq, Eq)]
 pub struct Fence {
     pub leadership: u64,
     pub gap: u64,
 }
 
 /// A question whether a leadership still holds.
-#[derive(Clone, Copy, Debug, PartialEq, Eq)]
+#[derive(Clone, Copy, PartialEq, Eq)]
 pub struct Round {
     pub leadership: u64,
     pub number: u64,

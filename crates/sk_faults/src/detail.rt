@@ -17,7 +17,7 @@ use std::io::Write;
 use std::{fmt, io};
 
 /// Where in a text its first fault stands, and what is at fault there.
-#[derive(Clone, Copy, Debug, PartialEq, Eq)]
+#[derive(Clone, Copy)]
 pub struct Detail<'a> {
     /// The number of the line, from 1 on.
     pub line: u64,

@@ -9,7 +9,7 @@ use sk_script::{Form, brings_content, is_input};
 use sk_words::{Words, first_word, is_open};
 
 /// Why a word is at fault.
-#[derive(Clone, Copy, Debug, PartialEq, Eq)]
+#[derive(Clone, Copy)]
 pub enum Why {
     /// The first word is unknown.
     Unknown,
@@ -26,14 +26,14 @@ pub enum Why {
 }
 
 /// The word that is at fault in a line: its index from 0, or the count of words where one is missing.
-#[derive(Clone, Copy, Debug, PartialEq, Eq)]
+#[derive(Clone, Copy)]
 pub struct Found {
     pub index: usize,
     pub why: Why,
 }
 
 /// The first word of an input: its index, whether an input begins with it, and whether that brings a content.
-#[derive(Clone, Copy, Debug, PartialEq, Eq)]
+#[derive(Clone, Copy)]
 struct InputWord {
     index: usize,
     is_known: bool,

@@ -6,7 +6,7 @@ ghost use Rattle.sk_faults.specs.Parts.{begun_by, part_behind, line_at};
 use sk_words::{Lines, Words, first_word};
 
 /// The parts of a scenario.
-#[derive(Clone, Copy, Debug, PartialEq, Eq)]
+#[derive(Clone, Copy)]
 pub enum Part {
     Declarations,
     /// Between `script` and `end`.

@@ -6,7 +6,7 @@ ghost use Rattle.sk_faults.specs.Details.{IsWordOf};
 use sk_words::Words;
 
 /// A word of a line, and the number of bytes before it; no byte behind the line's last where a word is missing.
-#[derive(Clone, Copy, Debug, PartialEq, Eq)]
+#[derive(Clone, Copy)]
 pub struct Place<'a> {
     pub start: usize,
     pub word: &'a [u8],

@@ -12,7 +12,7 @@ const QUESTIONS: &str =
     "value, tags, dependents, terminal, released, counts, trace, report, epoch, lease";
 
 /// What is declared by a name, a label or a number.
-#[derive(Clone, Copy, Debug, PartialEq, Eq)]
+#[derive(Clone, Copy)]
 pub enum Thing {
     Label,
     Script,
@@ -40,7 +40,7 @@ impl Thing {
 }
 
 /// What is at fault. The words are those of the line.
-#[derive(Clone, Copy, Debug, PartialEq, Eq)]
+#[derive(Clone, Copy)]
 pub enum Reason<'a> {
     /// The first word of a line is unknown in its part.
     Unknown { word: &'a [u8], part: Part },

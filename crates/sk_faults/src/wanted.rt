@@ -5,7 +5,7 @@ use sk_words::Operand;
 use std::fmt;
 
 /// What is wanted behind a first word.
-#[derive(Clone, Copy, Debug, PartialEq, Eq)]
+#[derive(Clone, Copy)]
 pub enum Wanted {
     /// A word of this form.
     Form(Form),

@@ -16,7 +16,7 @@ use std::io::Write;
 /// The word that is at fault in a text: its line and its first byte there, both from 1 on, how many bytes it has, and the
 /// number of the fault's kind. Where a word is missing it has none, and stands behind the line's last byte.
 #[repr(C)]
-#[derive(Clone, Copy, Debug, PartialEq, Eq)]
+#[derive(Clone, Copy)]
 pub struct FaultPlace {
     pub line: u64,
     pub column: usize,

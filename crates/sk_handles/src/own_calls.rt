@@ -183,7 +183,7 @@ pub fn tell_released(held: &mut Held, channel: u16, room: &mut [u8]) -> Told
 
 /// What of such a kernel is counted in constant time.
 #[repr(C)]
-#[derive(Clone, Copy, Debug, PartialEq, Eq)]
+#[derive(Clone, Copy)]
 pub struct OwnCounts {
     pub keys: usize,
     pub undecided: usize,

@@ -58,7 +58,7 @@ pub struct Reading {
 
 /// What was read.
 #[repr(C)]
-#[derive(Clone, Copy, Debug, PartialEq, Eq)]
+#[derive(Clone, Copy)]
 pub struct ReadCounts {
     /// The frames that count, and the commands that they say.
     pub frames: u64,
@@ -75,7 +75,7 @@ pub struct ReadCounts {
 }
 
 /// Why all begins anew.
-#[derive(Clone, Copy, Debug, PartialEq, Eq)]
+#[derive(Clone, Copy)]
 pub(crate) enum Anew {
     /// There was no memory.
     Memory,
@@ -180,7 +180,7 @@ fn dropped_with(zeros: u64, piece: &[u8]) -> (u64, u64) {
 }
 
 /// Why no piece of a snapshot is made.
-#[derive(Clone, Copy, Debug, PartialEq, Eq)]
+#[derive(Clone, Copy)]
 pub(crate) enum NoPiece {
     /// No entry is left.
     Done,

@@ -14,7 +14,7 @@ use std::num::NonZeroU16;
 
 /// What a store takes, as C gives it.
 #[repr(C)]
-#[derive(Clone, Copy, Debug, PartialEq, Eq)]
+#[derive(Clone, Copy)]
 pub struct StoreLimits {
     pub words: usize,
     pub bytes: usize,
@@ -27,7 +27,7 @@ pub struct StoreLimits {
 }
 
 /// Why no store is opened.
-#[derive(Clone, Copy, Debug, PartialEq, Eq)]
+#[derive(Clone, Copy)]
 pub enum NotOpened {
     /// No log is read whole, or a part of what was found was given as pieces of a snapshot.
     Order,

@@ -16,7 +16,7 @@ use sk_led::wind_up;
 
 /// Where a frame is to be written: its number, its segment, the place of its first byte there, and how many bytes it has.
 #[repr(C)]
-#[derive(Clone, Copy, Debug, PartialEq, Eq)]
+#[derive(Clone, Copy)]
 pub struct FramePlace {
     pub frame: u64,
     pub segment: u64,
@@ -26,7 +26,7 @@ pub struct FramePlace {
 
 /// The frame that is cut off, and its first and last batch.
 #[repr(C)]
-#[derive(Clone, Copy, Debug, PartialEq, Eq)]
+#[derive(Clone, Copy)]
 pub struct CutOff {
     pub frame: u64,
     pub first: u64,
@@ -35,7 +35,7 @@ pub struct CutOff {
 
 /// What of a store is counted in constant time.
 #[repr(C)]
-#[derive(Clone, Copy, Debug, PartialEq, Eq)]
+#[derive(Clone, Copy)]
 pub struct StoreCounts {
     pub undecided: usize,
     pub in_flight: u64,

@@ -17,7 +17,7 @@ use sk_words::{Fault, FaultKind};
 /// What a call is told: the number of its answer, that of what the answer names, and how long its text is, of which
 /// the room has the first bytes.
 #[repr(C)]
-#[derive(Clone, Copy, Debug, PartialEq, Eq)]
+#[derive(Clone, Copy)]
 pub struct Told {
     pub answer: u32,
     pub number: u64,
@@ -25,7 +25,7 @@ pub struct Told {
 }
 
 /// Why a text opens nothing.
-#[derive(Clone, Copy, Debug)]
+#[derive(Clone, Copy)]
 pub enum Unopened {
     /// Its first faulty line.
     Fault(Fault),

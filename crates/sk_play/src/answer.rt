@@ -11,7 +11,7 @@ use std::io::Write;
 use std::{fmt, io};
 
 /// The answer to one step.
-#[derive(Clone, Copy, Debug, PartialEq, Eq)]
+#[derive(Clone, Copy, PartialEq, Eq)]
 pub enum CallAnswer {
     Stepped,
     Guessed(GuessId),

@@ -5,7 +5,7 @@ ghost use Rattle.sk_play.specs.Epochs.{epoch_text};
 use std::fmt;
 
 /// What came of a wish for a new epoch.
-#[derive(Clone, Copy, Debug, PartialEq, Eq)]
+#[derive(Clone, Copy, PartialEq, Eq)]
 pub enum EpochTold {
     /// It has begun, and so many events of the last one are let go.
     Begun(usize),

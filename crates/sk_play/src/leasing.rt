@@ -14,7 +14,7 @@ use std::alloc::AllocError;
 use std::fmt;
 
 /// What came of private instructions away from the kernel.
-#[derive(Clone, Copy, Debug, PartialEq, Eq)]
+#[derive(Clone, Copy, PartialEq, Eq)]
 pub enum LeaseTold {
     /// So many were done, each a step of the process without input.
     Ran(u32),

@@ -14,7 +14,7 @@ use std::io::Write;
 use std::{fmt, io};
 
 /// What is told of one event.
-#[derive(Clone, Copy, Debug)]
+#[derive(Clone, Copy)]
 pub enum WorldTold {
     Answered(WorldAnswer),
     /// There is no request to serve, or no reply to give.

@@ -8,7 +8,7 @@ use sk_ids::Pid;
 use sk_words::{FaultKind, Index, Words, first_word, none, one, two};
 
 /// What a line asks.
-#[derive(Clone, Copy, Debug, PartialEq, Eq)]
+#[derive(Clone, Copy)]
 pub enum Asked {
     /// A question, which changes nothing.
     Question(Question),

@@ -7,7 +7,7 @@ use sk_words::{FaultKind, Operand, Words, one, two};
 use std::marker::Model;
 
 /// An object as one word: its maker, or 0, a colon and its number. Contracts see the object.
-#[derive(Clone, Copy, Debug, PartialEq, Eq)]
+#[derive(Clone, Copy)]
 pub struct Object {
     id: ObjId,
 }

@@ -3,7 +3,7 @@ use sk_ids::{Entity, GuessId};
 use sk_words::Index;
 
 /// What is asked of a kernel.
-#[derive(Clone, Copy, Debug, PartialEq, Eq)]
+#[derive(Clone, Copy)]
 pub enum Question {
     /// What an entity has.
     Value(Entity),

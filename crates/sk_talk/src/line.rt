@@ -7,7 +7,7 @@ use sk_words::FaultKind;
 use std::fmt;
 
 /// What a line is told.
-#[derive(Clone, Copy, Debug)]
+#[derive(Clone, Copy)]
 pub enum LineTold {
     /// What the kernel answers to a step.
     Answered(CallAnswer),

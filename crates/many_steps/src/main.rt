@@ -222,10 +222,15 @@ fn run(kernel: &mut Kernel, alloc: Global, plan: StepPlan) -> Result<u64, RunSto
     Ok(told)
 }
 
+/// Runs a plan, and writes what came of it.
+fn show(rt: &HostRuntime, kernel: &mut Kernel, plan: StepPlan) -> anyhow::Result<()> {
+    let told = run(kernel, rt.alloc(), plan)?;
+    println!(rt; "guesses {}, outputs {told}", plan.guesses)?;
+    Ok(())
+}
+
 fn main(rt: HostRuntime) -> anyhow::Result<()> {
     let plan = read_plan(&rt)?;
     let mut kernel = Speculator::new(rt.alloc(), 1, NonZeroU16::MAX);
-    let told = run(&mut kernel, rt.alloc(), plan)?;
-    println!(rt; "guesses {}, outputs {told}", plan.guesses)?;
-    Ok(())
+    show(&rt, &mut kernel, plan)
 }

@@ -148,10 +148,15 @@ fn show(
     Ok(())
 }
 
+/// All of it, over a bank of its own.
+fn run(rt: &HostRuntime, is_right: bool) -> anyhow::Result<()> {
+    let mut bank = Speculator::new(rt.alloc(), 1, NonZeroU16::MAX);
+    show(rt, &mut bank, is_right)
+}
+
 fn main(rt: HostRuntime) -> anyhow::Result<()> {
     for is_right in [true, false] {
-        let mut bank = Speculator::new(rt.alloc(), 1, NonZeroU16::MAX);
-        show(&rt, &mut bank, is_right)?;
+        run(&rt, is_right)?;
     }
     Ok(())
 }

@@ -1,5 +1,5 @@
 //! The run of the program, from its words to its end.
-ghost use Rattle.std.specs.Prelude.{◌≡◌, None, Some, MatchResult, map, codes, string_bytes};
+ghost use Rattle.std.specs.Prelude.{◌≡◌, map, codes, string_bytes};
 ghost use Rattle.std.specs.Io.Buffered.{writer_buffer, writer_contents};
 ghost use Rattle.sk_command.specs.CommandLine.{wish_of, IsWithinBounds};
 ghost use Rattle.sk_command.specs.Ends.{IsFlushed};
@@ -85,22 +85,11 @@ fn run_text<R: Threads + Wait + Sync, O: OpenInput, W: Write + Drop, E: Write>(
     ensures flushed { IsFlushed result (writer_buffer out.new) }
 {
     let read = Scenario::parse(alloc, text);
-    let fault = fault_of(&read);
-    let end = run_read(rt, alloc, job, read, inputs, out, err);
-    if let Some(fault) = fault {
-        let _ = write_detail(job.file, text, &fault, err);
+    let end = run_read(rt, alloc, job, &read, inputs, out, err);
+    if let Err(fault) = &read {
+        let _ = write_detail(job.file, text, fault, err);
     }
     end
-}
-
-/// The fault that was told of a text.
-fn fault_of(read: &Result<Scenario, Fault>) -> Option<Fault>
-    ensures { MatchResult read.now (λ _. result ≡ None) (λ fault. result ≡ Some fault) }
-{
-    match read {
-        Ok(_) => None,
-        Err(fault) => Some(*fault),
-    }
 }
 
 /// What a job takes, and what its file has in its place.
@@ -123,13 +112,13 @@ fn run_read<R: Threads + Wait + Sync, O: OpenInput, W: Write + Drop, E: Write>(
     rt: &R,
     alloc: Global,
     job: Job,
-    read: Result<Scenario, Fault>,
+    read: &Result<Scenario, Fault>,
     inputs: &O,
     out: &mut BufWriter<W>,
     err: &mut E,
 ) -> End
     requires { IsWithinBounds job.task }
-    ensures end { EndsRead job.entry.task (O.bytes_of inputs.now (codes "-")) read result
+    ensures end { EndsRead job.entry.task (O.bytes_of inputs.now (codes "-")) read.now result
         (writer_contents W.contents out.old) (writer_contents W.contents out.new) }
     ensures flushed { IsFlushed result (writer_buffer out.new) }
 {
@@ -138,31 +127,31 @@ fn run_read<R: Threads + Wait + Sync, O: OpenInput, W: Write + Drop, E: Write>(
         section,
     } = match read {
         Ok(scenario) => scenario,
-        Err(fault) => return tell_fault(&fault, err),
+        Err(fault) => return tell_fault(fault, err),
     };
-    let other = other_section(job, &section);
+    let other = other_section(job, section);
     match (job.task, section) {
         (Task::Play(shows), Section::Steps(steps)) => {
-            run_play::<Session, W>(alloc, &declarations, steps.as_slice(), shows, out)
+            run_play::<Session, W>(alloc, declarations, steps.as_slice(), shows, out)
         }
         (Task::Play(shows), Section::World(events)) => {
-            run_play::<World, W>(alloc, &declarations, events.as_slice(), shows, out)
+            run_play::<World, W>(alloc, declarations, events.as_slice(), shows, out)
         }
         (Task::Talk, section) => {
-            let end = talk_declared(alloc, &declarations, &section, inputs, out, err);
+            let end = talk_declared(alloc, declarations, section, inputs, out, err);
             if end == End::Fault {
                 let _ = write_message(&other, err);
             }
             end
         }
         (Task::Plain, Section::Trace(trace)) => {
-            run_trace(alloc, declarations.boot(), &trace, out, err)
+            run_trace(alloc, declarations.boot(), trace, out, err)
         }
         (Task::Replay, Section::Trace(trace)) => {
-            run_replay(alloc, &declarations, &trace, out, err)
+            run_replay(alloc, declarations, trace, out, err)
         }
         (Task::Work { workers, turns }, _) => {
-            run_work(rt, alloc, workers, turns, &declarations, out)
+            run_work(rt, alloc, workers, turns, declarations, out)
         }
         _ => {
             let end = tell_wrong_section(err);

@@ -1,10 +1,10 @@
 //! What waits, what goes out, and what is cut off.
-use crate::bench::plays;
-use crate::call::Call::{
+use crate::durable::bench::plays;
+use crate::durable::call::Call::{
     self, Connects, Cuts, Decides, Failed, Feeds, HangsUp, Has, Lacks, NoCut, Ready, Refuses,
     RestsOn, Says, Sends, Stops, Synced, Takes, TakesNone, Waits,
 };
-use crate::wrong::Wrong;
+use crate::durable::wrong::Wrong;
 use sk_batched::Outcome;
 use sk_durable::{End, NotDone, Refusal};
 

@@ -1,6 +1,6 @@
 //! A store, and calls that are held against what they are to be told.
-use crate::call::Call;
-use crate::wrong::{Wrong, holds};
+use crate::durable::call::Call;
+use crate::durable::wrong::{Wrong, holds};
 use sk_durable::{End, Limits, Next, Refusal, Store};
 use std::alloc::Global;
 use std::num::NonZeroU16;

@@ -1,9 +1,9 @@
 //! What comes on channels.
-use crate::bench::plays;
-use crate::call::Call::{
+use crate::durable::bench::plays;
+use crate::durable::call::Call::{
     self, Closed, Connects, Decides, Feeds, HangsUp, Has, Ready, Says, Sends, Synced, Takes, Waits,
 };
-use crate::wrong::Wrong;
+use crate::durable::wrong::Wrong;
 use sk_batched::Outcome;
 use sk_durable::End;
 

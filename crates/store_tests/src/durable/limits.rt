@@ -1,10 +1,10 @@
 //! What a store takes no more of.
-use crate::bench::plays;
-use crate::call::Call::{
+use crate::durable::bench::plays;
+use crate::durable::call::Call::{
     self, Connects, Decides, Feeds, FeedsLetters, HangsUp, Lacks, Refuses, Says, Synced, Takes,
     Undecided, Waits,
 };
-use crate::wrong::Wrong;
+use crate::durable::wrong::Wrong;
 use sk_batched::Outcome;
 use sk_durable::{End, NotDone, Refusal};
 

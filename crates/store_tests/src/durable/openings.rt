@@ -1,7 +1,7 @@
 //! A store that goes on behind what was read of its log.
-use crate::bench::{limits, play};
-use crate::call::Call::{self, Connects, Has, Lacks, RestsOn, Sends, Takes};
-use crate::wrong::{Wrong, holds};
+use crate::durable::bench::{limits, play};
+use crate::durable::call::Call::{self, Connects, Has, Lacks, RestsOn, Sends, Takes};
+use crate::durable::wrong::{Wrong, holds};
 use sk_commands::{ByteString, Work};
 use sk_plain_store::PlainStore;
 use sk_reopened::{Last, Refusal, Reopened, reopen};

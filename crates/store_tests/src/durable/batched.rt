@@ -1,11 +1,11 @@
 //! A kernel whose guesses are batches: what is logged stays, what is cut off is taken back, and what is kept behind a cut.
 mod calls;
 
-use crate::batched::calls::Call::{
+use crate::durable::batched::calls::Call::{
     self, Cuts, Decides, Failed, Has, IsDue, Keys, Logs, Looks, Says, Sends, SendsNone, Synced,
     Undecided,
 };
-use crate::batched::calls::plays;
+use crate::durable::batched::calls::plays;
 use sk_batched::{Outcome, Refusal};
 
 const WAITS: &[Call] = &[

@@ -7,7 +7,8 @@ use Rattle.sk_crashed.proofs.Names.{Damage, IsMade, counted, least, lower, AreRe
 use Rattle.sk_crashed.proofs.Names.{Call, frames, frames_from, synced, AreSynced, HasDone, IsRecovered, StoreView}
 use Rattle.sk_crashed.proofs.Names.{crashes_are_recovered, frames_are_logged, AreLeft, IsLeft, DisksAreRecovered}
 use Rattle.sk_crashed.proofs.Names.{IsFront, begun, end_of, written_from, Written}
-use Rattle.sk_crashed.proofs.Done.{all_untold, all_within, are_synced, due_within}
+use Rattle.sk_crashed.proofs.Done.{all_untold, all_within, are_synced, due_within, few_synced}
+use Rattle.sk_crashed.proofs.Names.{length-append, length-take-le, told_none, Found, IsFound, IsLeftOf}
 use Rattle.sk_crashed.proofs.Joins.{lower_least, parts_there, read_of, stands, take_none, written_of, AreSeen, IsReadOf}
 use Rattle.sk_crashed.proofs.Joins.{Seen}
 use Rattle.sk_crashed.proofs.Said.{all_said, behind_front, both_logged, cut_said, front_logged, none_logged, of_works, undamaged, AllLogged, AreSaid, IsBehind, Reaches}
@@ -256,6 +257,26 @@ module _ (limits : Limits) (next : Next) (start : Entries) (cs : List Call) (s :
           (subst (λ ps. SayAll (take behind.n ps) made.works) cut.3 behind.say)
     ]
 
+    -- all that was told as synced counts
+    pub far : ends ≤ base + length (counted base parts)
+    far =
+        let n = read_all.reads.0 in
+        let at = begins.at in
+        let many = ap length stand in
+        let both = length-append op all_texts in
+        let upto : n ≤ length (op ++ all_texts) = omega (arith, many, read_all.reads.2) in
+        let size = length-take-le n (op ++ all_texts) upto in
+        let few = few_synced limits next start cs s count done first_synced in
+        let texts_size = length-map log payload in
+        let logged : count ≤ length all_texts = elim shaped [
+          | inl is ↦ omega (arith, ap length is, few, texts_size)
+          | inr cut ↦ omega (arith, ap length cut.3, cut.1, cut.2, length-append (take cut.0 texts) ([] ∷ []), length-take-le cut.0 texts cut.1)
+        ] in
+        elim read_all.reach [
+          | inl reach ↦ omega (arith, reach, read_all.reads.1, ap length counts, size)
+          | inr all ↦ omega (arith, all, many, read_all.reads.1, ap length counts, size, both, at, logged)
+        ]
+
     pub recovered : (damage ≡ None) × IsRecovered start cs s store
     recovered = (
       none_damaged,
@@ -263,13 +284,27 @@ module _ (limits : Limits) (next : Next) (start : Entries) (cs : List Call) (s :
           (crashes_are_recovered limits next start cs s done count said.n made.works first_synced said.enough said.say),
     )
 
+-- what was taken is all that counts
+pub all_taken : (first : ℕ) (base store : Entries) (ps : List (List ℕ)) (damage : Option Damage) (made : IsMade first base ps store damage)
+    → damage ≡ None → made.taken ≡ ps
+all_taken first base store ps None made none = sym (made.all ∙ ap (λ xs. made.taken ++ xs) made.left_is ∙ append-nil made.taken)
+all_taken first base store ps (Some damage) made none = cc
+
 pub disks_are_recovered : DisksAreRecovered
-disks_are_recovered limits next start cs s done front disk heads bytes found left added is_found =
+disks_are_recovered limits next start cs s done front disk heads bytes left found is_left added is_found =
     let first = are_synced limits next start cs s done in
     let scan = scanned [] disk heads bytes added in
-    recovered limits next start cs s done front first.0 first.1 scan.scans scan.told
-    (subst (AreLeft (synced cs) (cut_due s.batched.queue) (written_from (begun next) cs)) (sym scan.disk) left)
-    is_found.parts found.store found.damage
-    (subst (λ hs. AreRead hs (bytes_of scan.scans) is_found.parts) scan.heads_are
-    (subst (λ bs. AreRead heads bs is_found.parts) scan.bytes_are is_found.read))
-    is_found.made
+    let left_of = subst (AreLeft (synced cs) (cut_due s.batched.queue) (written_from (begun next) cs)) (sym scan.disk) is_left in
+    let read = subst (λ hs. AreRead hs (bytes_of scan.scans) is_found.parts) scan.heads_are
+    (subst (λ bs. AreRead heads bs is_found.parts) scan.bytes_are is_found.read) in
+    let all = recovered limits next start cs s done front first.0 first.1 scan.scans scan.told left_of
+    is_found.parts found.store found.damage read is_found.made in
+    let taken = all_taken (begun next).first start found.store (counted (begun next).first is_found.parts) found.damage is_found.made all.0 in
+    record {
+      undamaged = all.0;
+      untold = λ count those in_flight known.
+          let reaches = far limits next start cs s done front count those scan.scans scan.told left_of
+          is_found.parts found.store found.damage read is_found.made in
+          told_none (next.frame + count) in_flight known found all.0 (omega (arith, reaches, is_found.number, ap length taken));
+      recovered = all.1;
+    }

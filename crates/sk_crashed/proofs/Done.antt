@@ -1,12 +1,13 @@
 -- What holds of frames and cuts after all that a store did.
-use Rattle.sk_crashed.proofs.Names.{◌≡◌, ℕ, zero, suc, ◌+◌, ◌-◌, ◌<◌, ◌≤◌, true, false, List, [], ◌∷◌, length, map}
+use Rattle.sk_crashed.proofs.Names.{◌∙◌, ◌≡◌, ℕ, zero, suc, ◌+◌, ◌-◌, ◌<◌, ◌≤◌, true, false, List, [], ◌∷◌, length, map}
 use Rattle.sk_crashed.proofs.Names.{Some, refl, ap, subst, arith, non_zero_u16_get, list_any, length-map, NUMBER_LIMIT}
 use Rattle.sk_crashed.proofs.Names.{Batch, Cut, cut_due, first_failed, is_sent, has, cut_between, due_cut, capped}
 use Rattle.sk_crashed.proofs.Names.{Entries, Limits, Next, Call, Cuts, Does, frames, synced, AreSynced, HasDone}
 use Rattle.sk_crashed.proofs.Names.{StoreView, Marked, queue_led, stands_densely, after_any, in_frames}
 use Rattle.sk_crashed.proofs.Tried.{within_both}
 use Rattle.sk_crashed.proofs.Untold.{not_next, untold, Untold}
-use Rattle.sk_crashed.proofs.Writing.{AreWithin, IsWithin}
+use Rattle.sk_crashed.proofs.Names.{inl, inr, sym, true≢false}
+use Rattle.sk_crashed.proofs.Writing.{order, AreWithin, IsWithin}
 
 module _ (limits : Limits) (origin : Next) (start : Entries) where
   -- the next frame has the number behind those of the log
@@ -82,6 +83,17 @@ counted_to told (suc N) f none =
             next = subst (λ n. has n told ≡ false) at gone;
           }
     ] refl
+
+-- no more than there are
+pub few_synced : (limits : Limits) (origin : Next) (start : Entries) (cs : List Call) (s : StoreView) (count : ℕ)
+    → HasDone limits origin start cs s → AreSynced origin.frame count cs → count ≤ length (frames origin.frame cs)
+few_synced limits origin start cs s count done synced_are =
+    let none = subst (λ n. has n (synced cs) ≡ false) (next_frame limits origin start cs s done)
+    (not_next s.batched.queue (synced cs) (all_untold limits origin start cs s done)) in
+    elim (order (length (frames origin.frame cs)) count) [
+      | inl le ↦ le
+      | inr lt ↦ absurd (true≢false (sym (synced_are.those (length (frames origin.frame cs)) lt) ∙ none))
+    ]
 
 pub are_synced : (limits : Limits) (origin : Next) (start : Entries) (cs : List Call) (s : StoreView)
     → HasDone limits origin start cs s → (count : ℕ) × AreSynced origin.frame count cs

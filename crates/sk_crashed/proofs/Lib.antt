@@ -9,3 +9,4 @@ pub mod Said
 pub mod Disks
 pub mod Places
 pub mod Lives
+pub mod Snapshots

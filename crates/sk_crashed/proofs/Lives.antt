@@ -7,19 +7,21 @@ use Rattle.sk_crashed.proofs.Names.{counted, counting, least, lower, AreRead, Pa
 use Rattle.sk_crashed.proofs.Names.{AreKept, LivesAreRecovered, begun, written, same_log, not_refused}
 use Rattle.sk_recovered.specs.Frames.{IsLeft}
 use Rattle.sk_durable.specs.History.{synced as synced_of}
-use Rattle.sk_crashed.proofs.Disks.{heads_from, recovered}
+use Rattle.sk_crashed.specs.Disk.{IsLeft as IsLeftDisk}
+use Rattle.sk_crashed.proofs.Names.{told_none, AreAdded, AreSynced, Call, HasDone, IsFront, IsLeftOf, IsRecovered, Limits}
+use Rattle.sk_crashed.proofs.Names.{Next, StoreView, Stored}
+use Rattle.sk_crashed.proofs.Disks.{all_taken, far, heads_from, recovered}
 use Rattle.sk_crashed.proofs.Done.{are_synced}
 use Rattle.sk_crashed.proofs.Joins.{below_as, lower_least, lower_less, lower_min, lower_twice}
 use Rattle.sk_crashed.proofs.Scanned.{bytes_of, heads_of, scanned}
 
 -- ---- the earlier segments are read as before, under other bounds
 
-abbrev AreAlike : List Head → List Head → List Part → List Part → Type 0
-AreAlike [] later [] [] = Unit {0}
-AreAlike [] later [] (q ∷ qs) = ⊥
-AreAlike [] later (p ∷ ps) qs = ⊥
-AreAlike (h ∷ heads) later [] qs = ⊥
-AreAlike (h ∷ heads) later (p ∷ ps) [] = ⊥
+abbrev pub AreAlike : List Head → List Head → List Part → List Part → Type 0
+AreAlike heads later [] [] = Unit {0}
+AreAlike heads later [] (q ∷ qs) = ⊥
+AreAlike heads later (p ∷ ps) [] = ⊥
+AreAlike [] later (p ∷ ps) (q ∷ qs) = ⊥
 AreAlike (h ∷ heads) later (p ∷ ps) (q ∷ qs) = (q.first ≡ p.first) × (q.payloads ≡ p.payloads)
     × (p.bound ≡ least heads) × (q.bound ≡ least (heads ++ later)) × AreAlike heads later ps qs
 
@@ -107,13 +109,12 @@ module _ (last : ℕ) (later : List Head) (from : lower last (least later) ≡ l
       (omega (arith, short, size, took, high)) in
       as_now ∙ ap (λ k. take k ps) same ∙ sym as_was ∙ sym own
 
-  same_counted : (heads : List Head) (ps qs : List Part) (next : ℕ) → AreAlike heads later ps qs
+  pub same_counted : (heads : List Head) (ps qs : List Part) (next : ℕ) → AreAlike heads later ps qs
       → next + length (counted next ps) ≤ last → counted next qs ≡ counted next ps
-  same_counted [] [] [] next alike short = refl
-  same_counted [] [] (q ∷ qs) next alike short = absurd alike
-  same_counted [] (p ∷ ps) qs next alike short = absurd alike
-  same_counted (h ∷ heads) [] qs next alike short = absurd alike
-  same_counted (h ∷ heads) (p ∷ ps) [] next alike short = absurd alike
+  same_counted heads [] [] next alike short = refl
+  same_counted heads [] (q ∷ qs) next alike short = absurd alike
+  same_counted heads (p ∷ ps) [] next alike short = absurd alike
+  same_counted [] (p ∷ ps) (q ∷ qs) next alike short = absurd alike
   same_counted (h ∷ heads) (p ∷ ps) (q ∷ qs) next (first, payloads, bound, bounded, rest) short =
       let t = p.first == next in
       let own = counting t p in
@@ -130,7 +131,7 @@ module _ (last : ℕ) (later : List Head) (from : lower last (least later) ≡ l
       one_same heads p true bound next is short =
           let at = eqb-true p.first next is in own_same heads p true bound (omega (arith, at, short))
 
-counted_both : (ps qs : List Part) (next : ℕ) → counted next (ps ++ qs) ≡ counted next ps ++ counted (next + length (counted next ps)) qs
+pub counted_both : (ps qs : List Part) (next : ℕ) → counted next (ps ++ qs) ≡ counted next ps ++ counted (next + length (counted next ps)) qs
 counted_both [] qs next = let same : next ≡ next + 0 = omega arith in ap (λ n. counted n qs) same
 counted_both (p ∷ ps) qs next =
     let own = counting (p.first == next) p in
@@ -184,23 +185,18 @@ all_later (p ∷ ps) qs first base store damage works (mine, others, says, rest,
 
 -- ---- a later life
 
--- what was taken is all that counts
-all_taken : (first : ℕ) (base store : Entries) (ps : List (List ℕ)) (damage : Option Damage) (made : IsMade first base ps store damage)
-    → damage ≡ None → made.taken ≡ ps
-all_taken first base store ps None made none = sym (made.all ∙ ap (λ xs. made.taken ++ xs) made.left_is ∙ append-nil made.taken)
-all_taken first base store ps (Some damage) made none = cc
-
 -- what is found behind the earlier segments is what is made of the later ones
 record IsLater (store : Entries) (number : ℕ) (later : List Head) (more : List (List ℕ)) (found : Found) : Type 0 where
   parts : List Part
   read : AreRead later more parts
   made : IsMade number store (counted number parts) found.store found.damage
+  reach : found.damage ≡ None → found.number ≡ number + length (counted number parts)
 
-found_later : (base : Entries) (first : ℕ) (heads : List Head) (bytes again : List (List ℕ)) (before : Found)
-    → IsFound base first heads bytes before → before.damage ≡ None → AreKept heads bytes again
+found_later : (base : Entries) (first dropped left : ℕ) (heads : List Head) (bytes again : List (List ℕ)) (before : Found)
+    → IsFound base first heads bytes dropped before → before.damage ≡ None → AreKept heads bytes again
     → (later : List Head) (more : List (List ℕ)) (found : Found) → lower before.number (least later) ≡ before.number
-    → IsFound base first (heads ++ later) (again ++ more) found → IsLater before.store before.number later more found
-found_later base first heads bytes again before was none kept later more found from is =
+    → IsFound base first (heads ++ later) (again ++ more) left found → IsLater before.store before.number later more found
+found_later base first dropped left heads bytes again before was none kept later more found from is =
     let parts = parted heads bytes again later more was.parts is.parts was.read kept is.read in
     let old = counted first was.parts in
     let new = counted before.number parts.others in
@@ -219,19 +215,55 @@ found_later base first heads bytes again before was none kept later more found f
       read = parts.read;
       made = subst (λ n. IsMade n before.store new found.store found.damage) number
           (subst (λ es. IsMade (first + length old) es new found.store found.damage) (sym was.made.store_is) made);
+      reach = λ undamaged.
+          let all = all_taken first base found.store (counted first is.parts) found.damage is.made undamaged in
+          omega (arith, is.number, ap length all, ap length counts, length-append old new, number);
     }
 
-pub lives_are_recovered : LivesAreRecovered
-lives_are_recovered base first heads bytes again before was none kept limits next cs s done front begins disk all more found left added is_found =
+-- what a crash leaves is found, with all that was told as synced
+pub record IsLived (start : Entries) (next : Next) (cs : List Call) (s : StoreView) (found : Found) : Type 0 where
+  pub undamaged : found.damage ≡ None
+  pub reach : (count : ℕ) → AreSynced next.frame count cs → next.frame + count ≤ found.number
+  pub recovered : IsRecovered start cs s found.store
+
+pub lived : (base : Entries) (first dropped : ℕ) (heads : List Head) (bytes again : List (List ℕ)) (before : Found)
+    → IsFound base first heads bytes dropped before → before.damage ≡ None → AreKept heads bytes again
+    → (limits : Limits) (next : Next) (cs : List Call) (s : StoreView) → HasDone limits next before.store cs s
+    → IsFront next → (begun next).first ≡ before.number
+    → (disk : List Stored) (all : List Head) (more : List (List ℕ)) (left : ℕ) (found : Found)
+    → IsLeftDisk next cs s disk → AreAdded heads disk all more → IsFound base first all (again ++ more) left found
+    → IsLived before.store next cs s found
+lived base first dropped heads bytes again before was none kept limits next cs s done front begins disk all more left found is_left added is_found =
     let synced = are_synced limits next before.store cs s done in
     let scan = scanned heads disk all more added in
-    let left_of = subst (AreLeft (synced_of cs) (cut_due s.batched.queue) (written next cs)) (sym scan.disk) left in
+    let left_of = subst (AreLeft (synced_of cs) (cut_due s.batched.queue) (written next cs)) (sym scan.disk) is_left in
     let at = (begun next).first in
     let from = heads_from limits next before.store cs s done front synced.0 synced.1 scan.scans scan.told left_of in
-    let later = found_later base first heads bytes again before was none kept (heads_of scan.scans) (bytes_of scan.scans) found
+    let later = found_later base first dropped left heads bytes again before was none kept (heads_of scan.scans) (bytes_of scan.scans) found
     (subst (λ n. lower n (least (heads_of scan.scans)) ≡ n) begins from)
-    (subst (λ hs. IsFound base first hs (again ++ bytes_of scan.scans) found) scan.heads_are
-    (subst (λ bs. IsFound base first all (again ++ bs) found) scan.bytes_are is_found)) in
-    recovered limits next before.store cs s done front synced.0 synced.1 scan.scans scan.told left_of
-    later.parts found.store found.damage later.read
-    (subst (λ n. IsMade n before.store (counted n later.parts) found.store found.damage) (sym begins) later.made)
+    (subst (λ hs. IsFound base first hs (again ++ bytes_of scan.scans) left found) scan.heads_are
+    (subst (λ bs. IsFound base first all (again ++ bs) left found) scan.bytes_are is_found)) in
+    let made = subst (λ n. IsMade n before.store (counted n later.parts) found.store found.damage) (sym begins) later.made in
+    let result = recovered limits next before.store cs s done front synced.0 synced.1 scan.scans scan.told left_of
+    later.parts found.store found.damage later.read made in
+    record {
+      undamaged = result.0;
+      reach = λ count those.
+          let reaches = far limits next before.store cs s done front count those scan.scans scan.told left_of
+          later.parts found.store found.damage later.read made in
+          let same = ap (λ n. n + length (counted n later.parts)) begins in omega (arith, reaches, same, later.reach result.0);
+      recovered = result.1;
+    }
+
+pub as_left : (start : Entries) (next : Next) (cs : List Call) (s : StoreView) (found : Found) → IsLived start next cs s found
+    → IsLeftOf start next cs s found
+as_left start next cs s found lives = record {
+  undamaged = lives.undamaged;
+  untold = λ count those in_flight known. told_none (next.frame + count) in_flight known found lives.undamaged (lives.reach count those);
+  recovered = lives.recovered;
+}
+
+pub lives_are_recovered : LivesAreRecovered
+lives_are_recovered base first dropped heads bytes again before was none kept limits next cs s done front begins disk all more left found is_left added is_found =
+    as_left before.store next cs s found
+    (lived base first dropped heads bytes again before was none kept limits next cs s done front begins disk all more left found is_left added is_found)

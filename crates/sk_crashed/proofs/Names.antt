@@ -30,7 +30,7 @@ pub use Rattle.sk_commands.specs.Requests.{requests_of, AreWithin, AreAsked, log
 pub use Rattle.sk_commands.specs.declared.work.Work.{Work}
 pub use Rattle.sk_crashed.specs.Disk.{AreTried, IsLeft, AreAdded, AreLeft, Stored}
 pub use Rattle.sk_crashed.specs.Laws.{DisksAreRecovered, IsFront, PlacesAreBehind, AreKept, LivesAreRecovered}
-pub use Rattle.sk_crashed.specs.Laws.{FramesAreBehind}
+pub use Rattle.sk_crashed.specs.Laws.{FramesAreBehind, IsLeftOf, SnapshotsAreRecovered, SnapshotsStandFor, StandsFor}
 pub use Rattle.sk_crashed.specs.Written.{cut_at, live, written, now_in, run, end_of, synced_in, turned, least_of}
 pub use Rattle.sk_crashed.specs.Written.{left_by, with_frame, begun, written_from, Written, written_by}
 pub use Rattle.sk_durable.proofs.Crashes.{crashes_are_recovered, frames_are_logged}
@@ -57,8 +57,12 @@ pub use Rattle.sk_recovered.proofs.Joined.{counted_joined}
 pub use Rattle.sk_recovered.proofs.Taken.{after_append}
 pub use Rattle.sk_recovered.specs.Frames.{IsMade}
 pub use Rattle.sk_recovered.specs.Laws.{CountedIsJoined, joined_all, least_first, AreBounded, joined_at}
-pub use Rattle.sk_recovered.specs.Recovered.{IsFound}
-pub use Rattle.sk_recovered.specs.Segments.{AreRead, least, counting, Part, below, counted, lower, TellsFirst}
+pub use Rattle.sk_recovered.proofs.Crashed.{untold as told_none}
+pub use Rattle.sk_recovered.specs.Frames.{capped as told_most}
+pub use Rattle.sk_recovered.specs.Recovered.{place_of, EndsIn, IsFound}
+pub use Rattle.sk_recovered.specs.Segments.{AreRead, IsPart, least, counting, Part, below, counted, lower, reached, Reached}
+pub use Rattle.sk_recovered.specs.Segments.{Stands, TellsFirst}
+pub use Rattle.sk_recovered.specs.declared.frames.Place.{Place}
 pub use Rattle.sk_recovered.specs.declared.frames.Damage.{Damage}
 pub use Rattle.sk_recovered.specs.declared.heads.Head.{Head}
 pub use Rattle.sk_recovered.specs.declared.recovered.Found.{Found}

@@ -1,5 +1,5 @@
 //! What holds of disks after a crash. Each law is the contract of a function that does nothing.
-ghost use Rattle.sk_crashed.specs.Laws.{DisksAreRecovered, FramesAreBehind, LivesAreRecovered, PlacesAreBehind};
+ghost use Rattle.sk_crashed.specs.Laws.{DisksAreRecovered, FramesAreBehind, LivesAreRecovered, PlacesAreBehind, SnapshotsAreRecovered, SnapshotsStandFor};
 
 /// Each frame is to be written just behind those that were written in its segment, with the next number.
 pub fn places_law()
@@ -7,8 +7,8 @@ pub fn places_law()
     ensures frames { FramesAreBehind }
 {}
 
-/// Whatever a crash leaves of the segments of a store, at whatever moment, what is found in them is not damaged, and is what the
-/// first of the logged commands leave, with all that a batch logs which was told as logged.
+/// Whatever a crash leaves of the segments of a store, at whatever moment, no damage is told of what is found in them, and
+/// it is what the first of the logged commands leave, with all that a batch logs which was told as logged.
 pub fn recovery_law()
     ensures { DisksAreRecovered }
 {}
@@ -16,4 +16,11 @@ pub fn recovery_law()
 /// The same holds of a store that goes on behind what was found of earlier ones, as long as their segments are kept.
 pub fn lives_law()
     ensures { LivesAreRecovered }
+{}
+
+/// What is found of a snapshot and the later segments is what is found of all; so a store whose first segments a snapshot stands for is
+/// recovered as one that has them all.
+pub fn snapshots_law()
+    ensures same { SnapshotsStandFor }
+    ensures lives { SnapshotsAreRecovered }
 {}

@@ -6,7 +6,8 @@ use Rattle.sk_recovered.proofs.Names.{crash_keeps_prefix, segments_join, log_tex
 use Rattle.sk_recovered.proofs.Names.{Work, Entries, payloads_of, AreLogged, log_limits, read_as, bytes_of, heads_of}
 use Rattle.sk_recovered.proofs.Names.{synced_at, synced_in, whole, whole_at, AreWritten, CrashesAreRecovered, Written}
 use Rattle.sk_recovered.proofs.Names.{IsMade, joined_all, joined_at, least_first, AreBounded, counted, least, lower}
-use Rattle.sk_recovered.proofs.Names.{AreRead, Part, Damage}
+use Rattle.sk_recovered.proofs.Names.{AreRead, Part, Damage, Found, Bool, true, false, ◌<◌, ◌&&◌, ◌||◌, nat_lt, is_some}
+use Rattle.sk_recovered.proofs.Names.{is_damaged, is_missing, ltb-true}
 use Rattle.sk_recovered.proofs.Joined.{counted_joined, counted_restored}
 
 -- ---- bounds
@@ -101,8 +102,28 @@ pub all_taken : (first : ℕ) (start store : Entries) (payloads : List (List ℕ
 all_taken first start store payloads None made none = omega (arith, ap length made.all, length-append made.taken made.left, ap length made.left_is)
 all_taken first start store payloads (Some damage) made none = cc
 
+not_true : (t : Bool) → (t ≡ true → ⊥) → t ≡ false
+not_true true none = absurd (none refl)
+not_true false none = refl
+
+and_false : (t : Bool) → (t && false) ≡ false
+and_false true = refl
+and_false false = refl
+
+-- nothing is told where the next frame is behind all that were told as synced
+pub untold : (synced in_flight known : ℕ) (found : Found) → found.damage ≡ None → synced ≤ found.number → known < synced → found.dropped ≤ in_flight
+    → is_damaged in_flight known found ≡ false
+untold synced in_flight known found none upto below few =
+    (λ i. is_some (none i) || not_less in_flight found.dropped few i || missing i)
+  where
+    not_less : (a b : ℕ) → b ≤ a → nat_lt a b ≡ false
+    not_less a b less = not_true (nat_lt a b) (λ is. absurd (omega (arith, less, ltb-true a b is)))
+
+    missing : is_missing known found.number ≡ false
+    missing = ap (λ t. nat_lt 0 known && t) (not_less found.number (known + 1) (omega (arith, upto, below))) ∙ and_false (nat_lt 0 known)
+
 pub crashes_recovered : CrashesAreRecovered
-crashes_recovered segments first start found written lowest is =
+crashes_recovered segments first left start found written lowest is =
     let frames = whole segments in
     let logged = logged_all segments written in
     let same = counted_joined is.parts first (bounded segments is.parts is.read) (same_least segments is.parts is.read ∙ lowest) in
@@ -112,5 +133,9 @@ crashes_recovered segments first start found written lowest is =
     let made = subst (IsMade first start (counted first is.parts) found.store) none is.made in
     let restored = counted_restored first (synced_in segments) start found.store frames (counted first is.parts) logged reads made in
     let number : found.number ≡ first + restored.0 =
-    omega (arith, is.number, restored.3, all_taken first start found.store (counted first is.parts) found.damage is.made none) in
-    (none, (restored.0, restored.1, restored.2, restored.4, number))
+    omega (arith, is.number, restored.3, all_taken first start found.store (counted first is.parts) found.damage is.made none) in (
+      (λ in_flight known below few.
+          untold (first + synced_in segments) in_flight known found none (omega (arith, number, restored.1)) below few),
+      none,
+      (restored.0, restored.1, restored.2, restored.4, number),
+    )

@@ -4,7 +4,8 @@ use Rattle.sk_recovered.proofs.Names.{refl, sym, ap, subst, ◌∙◌, arith, le
 use Rattle.sk_recovered.proofs.Names.{take-append-drop, Crashed, log, AreFrames, text_of, log_text, AreAsked, Work}
 use Rattle.sk_recovered.proofs.Names.{says, Entries, payloads_of, works_in, AreLogged, after_works, entries_text}
 use Rattle.sk_recovered.proofs.Names.{set_of, restored, short_is_within, AreWritten, Written, ArePieces}
-use Rattle.sk_recovered.proofs.Names.{SnapshotsAreRead}
+use Rattle.sk_recovered.proofs.Names.{SnapshotsAreRead, snapshot_heads, ◌+◌, ◌==◌, true, if◌then◌else◌, drop_all, eq-eqb}
+use Rattle.sk_recovered.proofs.Names.{crash_keeps_prefix, dropped_of, is_below, reached, used, AreRead, Head, Part}
 use Rattle.sk_commands.specs.declared.name.Name.TheVariants as named
 use Rattle.sk_recovered.proofs.Crashed.{crashes_recovered}
 
@@ -53,6 +54,22 @@ written payloads made = record {
 none_is : {A : Type 0} {P : Type 0} (a : A) → None ≡ Some a → P
 none_is a e = cc
 
+-- nothing stands behind its frames
+none_dropped : (payloads : List (List ℕ)) (bytes : List ℕ) (parts : List Part) → AreRead snapshot_heads (bytes ∷ []) parts → AreFrames 0 1 payloads
+    → bytes ≡ log 0 1 payloads → (reached 1 snapshot_heads (bytes ∷ []) parts).dropped ≡ 0
+none_dropped payloads bytes [] read made is = absurd read
+none_dropped payloads bytes (p ∷ q ∷ parts) read made is = absurd read.1
+none_dropped payloads bytes (p ∷ []) read made is =
+    let head : Head = record { segment = 0; first = 1 } in
+    let crashed = subst (Crashed 0 1 payloads (length payloads)) (sym is) (written payloads made) in
+    let front = crash_keeps_prefix 0 1 (length payloads) payloads p.payloads bytes crashed read.0.log in
+    let same : p.payloads ≡ payloads = front.3 ∙ take_all front.0 payloads front.1 in
+    let rest : drop (length (log 0 1 p.payloads)) bytes ≡ [] =
+    (λ i. drop (length (log 0 1 (same i))) (is i)) ∙ drop_all (length (log 0 1 payloads)) (log 0 1 payloads) (omega arith) in
+    let first : (p.first == 1) ≡ true = eq-eqb p.first 1 read.0.first in
+    ap (λ t. 0 + dropped_of t head p bytes) first
+    ∙ (λ i. 0 + (if is_below (read.0.bound i) (p.first + length p.payloads) then used (rest i) else 0))
+
 pub snapshots_read : SnapshotsAreRead
 snapshots_read entries bytes found rises (payloads, pieces, made, is) finds =
     let frames = frames_of entries payloads pieces in
@@ -63,8 +80,9 @@ snapshots_read entries bytes found rises (payloads, pieces, made, is) finds =
     subst (λ ps. Crashed 0 1 ps (length frames) bytes) (sym same) (subst (λ n. Crashed 0 1 payloads n bytes) (sym few) all) in
     let one : Written = record { head = record { segment = 0; first = 1 }; frames = frames; synced = length frames; left = bytes } in
     let writes : AreWritten (one ∷ []) = (record { crashed = crashed; logged = logged 1 entries payloads pieces made; on = λ bound e. none_is bound e }, tt) in
-    let recovered = crashes_recovered (one ∷ []) 1 [] found writes refl finds in
-    let whole = recovered.1 in
+    let recovered = crashes_recovered (one ∷ []) 1 0 [] found writes refl finds in
+    let dropped = none_dropped payloads bytes finds.parts finds.read made is in
+    let whole = recovered.2 in
     let stored : found.store ≡ after_works (works_in frames) [] =
     whole.3 ∙ ap (λ fs. after_works (works_in fs) []) (take_all whole.0 frames whole.1) in
-    (recovered.0, stored ∙ ap (λ ws. after_works ws []) (works_are entries payloads pieces) ∙ restored entries rises)
+    (recovered.0 0 0 (omega arith) (omega (arith, finds.dropped, dropped)), stored ∙ ap (λ ws. after_works ws []) (works_are entries payloads pieces) ∙ restored entries rises)

@@ -6,9 +6,12 @@ pub use Rattle.sk_log.specs.Front.{BeginsAs, SaysNumber}
 pub use Rattle.sk_log.specs.Log.{AreFrames, IsLog, log}
 pub use Rattle.sk_log.specs.Reading.{HasRead}
 pub use Rattle.sk_log.specs.Segments.{joined, synced_of}
+pub use Rattle.sk_log.specs.declared.recovery.End.{End}
+pub use Rattle.sk_log.specs.declared.recovery.Rest.{Rest}
 pub use Rattle.sk_plain_store.specs.Plain.{Entries, bytes_cmp}
 pub use Rattle.sk_recovered.specs.declared.frames.Damage.{Damage}
 pub use Rattle.sk_recovered.specs.declared.frames.Frames.{Frames}
+pub use Rattle.sk_recovered.specs.declared.frames.Place.{Place}
 pub use Rattle.sk_recovered.specs.declared.heads.Head.{Head}
 pub use Rattle.sk_recovered.specs.declared.recovered.Found.{Found}
 pub use Rattle.sk_recovered.specs.declared.recovered.Recovered.{Recovered}

@@ -1,8 +1,8 @@
 -- What a crash leaves of a log of segments, and what is recovered of it.
-use Rattle.std.specs.Prelude.{◌≡◌, ◌+◌, ◌-◌, ◌≤◌, ℕ, List, [], ◌∷◌, ◌++◌, length, map, take, Option, Some, None}
+use Rattle.std.specs.Prelude.{◌≡◌, ◌+◌, ◌-◌, ◌<◌, ◌≤◌, false, ℕ, List, [], ◌∷◌, ◌++◌, length, map, take, Option, Some, None}
 use Rattle.sk_recovered.specs.Base.{Crashed, synced_of, Work, Entries, payloads_of, works_in, AreLogged, after_works}
 use Rattle.sk_recovered.specs.Base.{Head, Found}
-use Rattle.sk_recovered.specs.Recovered.{IsFound}
+use Rattle.sk_recovered.specs.Recovered.{is_damaged, IsFound}
 use Rattle.sk_recovered.specs.Segments.{least}
 
 -- A segment: its head, the works of the frames that were written into it, how many of these were told as synced, and what a crash left.
@@ -47,10 +47,16 @@ abbrev pub synced_in : List Written → ℕ
 synced_in [] = 0
 synced_in (s ∷ segments) = synced_at (least (heads_of segments)) s (synced_in segments)
 
+-- No damage is told, where all frames up to one before this number were told as synced, no later one is known so, and no more was dropped than
+-- may have been in flight.
+abbrev pub NotTold : ℕ → Found → Type 0
+NotTold synced found = (in_flight known : ℕ) → known < synced → found.dropped ≤ in_flight → is_damaged in_flight known found ≡ false
+
 -- Whatever a crash leaves, what is found is the store behind the works of the first n frames of the log, for an n that takes in all that were told
--- as synced; no frame that was cut off is among them, the next frame's number is told, and no frame is damaged.
+-- as synced; no frame that was cut off is among them, the next frame's number is told, and no frame is damaged. So no crash left damage that is
+-- told, where no frame is known as synced that was not told so, and no more was dropped than may have been in flight.
 abbrev pub CrashesAreRecovered : Type 0
-CrashesAreRecovered = (segments : List Written) (first : ℕ) (start : Entries) (found : Found)
-    → AreWritten segments → least (heads_of segments) ≡ Some first → IsFound start first (heads_of segments) (bytes_of segments) found
-    → (found.damage ≡ None) × ((n : ℕ) × (synced_in segments ≤ n) × (n ≤ length (whole segments))
+CrashesAreRecovered = (segments : List Written) (first left : ℕ) (start : Entries) (found : Found)
+    → AreWritten segments → least (heads_of segments) ≡ Some first → IsFound start first (heads_of segments) (bytes_of segments) left found
+    → NotTold (first + synced_in segments) found × (found.damage ≡ None) × ((n : ℕ) × (synced_in segments ≤ n) × (n ≤ length (whole segments))
     × (found.store ≡ after_works (works_in (take n (whole segments))) start) × (found.number ≡ first + n))

@@ -1,6 +1,6 @@
 -- Frames that are carried out, one after another.
-use Rattle.std.specs.Prelude.{◌≡◌, ◌+◌, ℕ, Bool, List, [], ◌∷◌, ◌++◌, length, Option, Some, None, if◌then◌else◌}
-use Rattle.sk_recovered.specs.Base.{Work, Entries, after_works, SayAll, log_limits, IsRefused, Memory, Damage, Frames}
+use Rattle.std.specs.Prelude.{◌≡◌, ◌⊎◌, ◌+◌, ◌-◌, ◌^◌, ℕ, Bool, true, min, List, [], ◌∷◌, ◌++◌, length, Option, Some, None, IfSome, if◌then◌else◌}
+use Rattle.sk_recovered.specs.Base.{Work, Entries, after_works, SayAll, log_limits, IsRefused, Memory, Damage, Frames, Place}
 
 -- Behind so many frames nothing is left; or a frame that says no works is next, and its number is told.
 abbrev pub IsLeft : ℕ → Option Damage → List (List ℕ) → Type 0
@@ -19,8 +19,18 @@ pub record IsMade (first : ℕ) (start : Entries) (payloads : List (List ℕ)) (
   pub store_is : store ≡ after_works works start
   pub left_is : IsLeft (first + length taken) damage left
 
+-- what is told of a count: no more than 64 bits tell
+abbrev pub capped : ℕ → ℕ
+capped n = min n (2 ^ 64 - 1)
+
+-- So it is of the frames so far, and that many works were carried out.
 abbrev pub HasTaken : ℕ → Entries → List (List ℕ) → Frames → Type 0
-HasTaken first start payloads frames = IsMade first start payloads frames.store frames.damage
+HasTaken first start payloads frames =
+    (made : IsMade first start payloads frames.store frames.damage) × (frames.works ≡ capped (length made.works))
+
+-- No frame more is damaged; or one of this place is the first, and counts.
+abbrev pub DamagedAt : Bool → Place → Option Damage → Option Damage → Type 0
+DamagedAt counts place old new = (new ≡ old) ⊎ ((counts ≡ true) × IfSome new (λ d. d.place ≡ place))
 
 -- one payload more, where it counts
 abbrev pub with_one : Bool → List (List ℕ) → List ℕ → List (List ℕ)

@@ -1,6 +1,6 @@
 -- What counts of the segments of a log.
-use Rattle.std.specs.Prelude.{◌≡◌, ◌+◌, ◌-◌, ◌==◌, ◌<◌, ℕ, Bool, true, false, nat_lt, List, [], ◌∷◌, ◌++◌, length, take, Option, Some, None, if◌then◌else◌, IfSome, Result, Ok, Err}
-use Rattle.sk_recovered.specs.Base.{AllocError, Crashed, BeginsAs, SaysNumber, Ends, IsLog, Head}
+use Rattle.std.specs.Prelude.{◌≡◌, ◌⊎◌, ◌&&◌, ◌+◌, ◌-◌, ◌==◌, ◌<◌, ℕ, Bool, true, false, nat_lt, List, [], ◌∷◌, ◌++◌, drop, length, take, Option, Some, None, if◌then◌else◌, IfSome, Result, Ok, Err}
+use Rattle.sk_recovered.specs.Base.{AllocError, Crashed, BeginsAs, SaysNumber, Ends, IsLog, log, Head, Place}
 
 -- ---- heads
 
@@ -68,3 +68,67 @@ AreRead heads [] [] = Unit {0}
 AreRead heads (bytes ∷ more) [] = ⊥
 AreRead (h ∷ heads) (bytes ∷ more) (p ∷ parts) = IsPart h heads bytes p × AreRead heads more parts
 AreRead heads bytes parts = ⊥
+
+-- A frame of a segment has this place; no later segment goes on from it, nor from one before it.
+pub record IsAt (head : Head) (p : Part) (place : Place) : Type 0 where
+  pub segment : place.segment ≡ head.segment
+  pub before : ℕ
+  pub number : place.number ≡ head.first + before
+  pub there : before < length p.payloads
+  pub counts : is_below p.bound place.number ≡ true
+  pub offset : place.offset ≡ length (log head.segment head.first (take before p.payloads))
+
+-- So it is of one of these segments.
+abbrev pub Stands : List Head → List Part → Place → Type 0
+Stands heads [] place = ⊥
+Stands (h ∷ heads) (p ∷ parts) place = IsAt h p place ⊎ Stands heads parts place
+Stands heads parts place = ⊥
+
+-- ---- what counts for nothing
+
+-- how many bytes there are up to the last that is not 0
+abbrev pub used : List ℕ → ℕ
+used [] = 0
+used (byte ∷ bytes) = if used bytes == 0 && byte == 0 then 0 else used bytes + 1
+
+-- how long the frames of a segment are
+abbrev pub frames_length : Head → Part → ℕ
+frames_length head p = length (log head.segment head.first p.payloads)
+
+-- how many bytes stand behind them
+abbrev pub used_behind : Head → Part → List ℕ → ℕ
+used_behind head p bytes = used (drop (frames_length head p) bytes)
+
+-- How many bytes of a segment count for nothing, but for those that were cut off: those behind its frames, and its frames too where its first
+-- is not the next.
+abbrev pub dropped_of : Bool → Head → Part → List ℕ → ℕ
+dropped_of true head p bytes = if is_below p.bound (p.first + length p.payloads) then used_behind head p bytes else 0
+dropped_of false head p bytes = if is_below p.bound p.first then frames_length head p + used_behind head p bytes else 0
+
+-- What is told of segments: the number of the next frame, in which segment and where the frames end, and how many bytes count for nothing.
+pub record Reached : Type 0 where
+  pub number : ℕ
+  pub segment : ℕ
+  pub offset : ℕ
+  pub dropped : ℕ
+
+-- The frames end in a segment whose first is the next, if no later one goes on from their end, nor from one before it.
+abbrev pub reached_by : Head → Part → List ℕ → Reached → Reached
+reached_by head p bytes r =
+    let counts = p.first == r.number in
+    let ends = counts && is_below p.bound (p.first + length p.payloads) in
+    record {
+      number = r.number + length (counting counts p);
+      segment = if ends then head.segment else r.segment;
+      offset = if ends then frames_length head p else r.offset;
+      dropped = r.dropped + dropped_of counts head p bytes;
+    }
+
+abbrev pub reached_from : Reached → List Head → List (List ℕ) → List Part → Reached
+reached_from r heads [] parts = r
+reached_from r (h ∷ heads) (bytes ∷ more) (p ∷ parts) = reached_from (reached_by h p bytes r) heads more parts
+reached_from r heads bytes parts = r
+
+-- the first frame of all has this number
+abbrev pub reached : ℕ → List Head → List (List ℕ) → List Part → Reached
+reached first heads bytes parts = reached_from (record { number = first; segment = 0; offset = 0; dropped = 0 }) heads bytes parts

@@ -1,7 +1,7 @@
 //! The frames that count, carried out in a plain store one after another.
-ghost use Rattle.std.specs.Prelude.{◌≡◌, ◌+◌, ◌++◌, ◌∷◌, ℕ, true, List, [], length, OnOk};
+ghost use Rattle.std.specs.Prelude.{◌≡◌, ◌+◌, ◌++◌, ◌∷◌, ℕ, true, List, [], length, None, OnOk};
 ghost use Rattle.sk_recovered.specs.Base.{Entries, after_works};
-ghost use Rattle.sk_recovered.specs.Frames.{with_one, HasTaken};
+ghost use Rattle.sk_recovered.specs.Frames.{with_one, DamagedAt, HasTaken};
 
 use sk_commands::Work;
 use sk_plain_store::PlainStore;
@@ -49,7 +49,8 @@ fn run_all(store: &mut PlainStore, works: Vec<Work>) -> Result<(), AllocError>
 impl Frames {
     /// No frame yet.
     pub(crate) fn new(alloc: Global, store: PlainStore) -> Frames
-        ensures { (first : ℕ) → HasTaken first store [] result }
+        ensures taken { (first : ℕ) → HasTaken first store [] result }
+        ensures none { result.damage ≡ None }
     {
         Frames {
             alloc,
@@ -61,9 +62,10 @@ impl Frames {
 
     /// Carries out what the next frame says, unless the frames are damaged before it.
     fn take(&mut self, place: Place, payload: &[u8]) -> Result<(), AllocError>
-        ensures { OnOk result ((first : ℕ) (start : Entries) (payloads : List (List ℕ))
+        ensures taken { OnOk result ((first : ℕ) (start : Entries) (payloads : List (List ℕ))
             → HasTaken first start payloads self.old → place.number ≡ first + length payloads
             → HasTaken first start (payloads ++ payload.now ∷ []) self.new) }
+        ensures place { OnOk result (DamagedAt true place self.old.damage self.new.damage) }
     {
         if self.damage.is_some() {
             return Ok(());
@@ -88,10 +90,11 @@ impl Frames {
         place: Place,
         payload: &[u8],
     ) -> Result<(), AllocError>
-        ensures { OnOk result ((first : ℕ) (start : Entries) (payloads : List (List ℕ))
+        ensures taken { OnOk result ((first : ℕ) (start : Entries) (payloads : List (List ℕ))
             → HasTaken first start payloads self.old
             → (counts ≡ true → place.number ≡ first + length payloads)
             → HasTaken first start (with_one counts payloads payload.now) self.new) }
+        ensures place { OnOk result (DamagedAt counts place self.old.damage self.new.damage) }
     {
         if !counts {
             return Ok(());

@@ -1,12 +1,12 @@
 //! A plain store again, behind the segments of a log that were read.
-ghost use Rattle.std.specs.Prelude.{◌≡◌, ℕ, List, []};
+ghost use Rattle.std.specs.Prelude.{◌≡◌, ◌+◌, ℕ, List, []};
 ghost use Rattle.sk_recovered.specs.Base.{slice_get, option_map, Entries, Head};
-ghost use Rattle.sk_recovered.specs.Recovered.{number_of, HasRecovered, IsFound, OpenPost};
+ghost use Rattle.sk_recovered.specs.Recovered.{is_damaged, is_missing, place_of, HasRecovered, IsFound, OpenPost};
 
-use crate::frames::{Damage, Frames};
+use crate::frames::{Damage, Frames, Place};
 use crate::heads::{Heads, least};
-use crate::segment::{Segment, len_of};
-use sk_log::{Recovery, Rest};
+use crate::segment::Segment;
+use sk_log::Recovery;
 use sk_plain_store::PlainStore;
 use std::alloc::Global;
 
@@ -14,20 +14,21 @@ use std::alloc::Global;
 #[derive(Drop)]
 pub struct Found {
     pub store: PlainStore,
-    /// The number of the frame that would follow.
+    /// The number of the frame that would follow, or of one that says no works.
     pub number: u64,
     /// How many frames were carried out.
     pub frames: u64,
     /// How many commands and queues were carried out.
     pub works: u64,
-    /// Where the frames end: in this segment, so many bytes from its front.
+    /// Where it would stand, in this segment, so many bytes from its front; or where a frame stands that says no works.
     pub segment: u64,
     pub offset: u64,
     /// How many bytes count for nothing, up to the last that is not 0, but for those that were cut off.
     pub dropped: u64,
     /// A frame that says no works. Nothing from it on is carried out.
     pub damage: Option<Damage>,
-    /// Whether there is such a frame, or more was dropped than may have been in flight: no crash left this.
+    /// Whether there is such a frame, or more was dropped than may have been in flight, or a frame is missing that is known as
+    /// synced: no crash left this.
     pub is_damaged: bool,
 }
 
@@ -42,33 +43,32 @@ pub struct Recovered {
     first: u64,
     pub(crate) next: u64,
     pub(crate) frames: Frames,
-    pub(crate) in_flight: u64,
     pub(crate) dropped: u64,
     pub(crate) segment: u64,
     pub(crate) offset: u64,
 }
 
-/// The number of the frame that says no works, or else that of the next.
-fn number_of(damage: Option<Damage>, next: u64) -> u64
-    ensures { result ≡ number_of damage next }
+/// Where the frame stands that says no works, or else where the frames end.
+fn place_of(damage: Option<Damage>, end: Place) -> Place
+    ensures { result ≡ place_of damage end }
 {
     match damage {
-        Some(damage) => damage.place.number,
-        None => next,
+        Some(damage) => damage.place,
+        None => end,
     }
 }
 
+/// Whether the next frame is one of those that are known as synced, so that it is missing.
+fn is_missing(known: u64, next: u64) -> bool
+    ensures { result ≡ is_missing known next }
+{
+    0 < known && next <= known
+}
+
 impl Recovered {
-    /// Begins to read the segments with these heads, the first frame of which has this number. The store has what is before them,
-    /// and so many bytes may have been in flight.
-    pub fn new(
-        alloc: Global,
-        store: PlainStore,
-        first: u64,
-        heads: Heads,
-        in_flight: u64,
-    ) -> Recovered
-        ensures { HasRecovered store first heads [] result }
+    /// Begins to read the segments with these heads, the first frame of which has this number. The store has what is before them.
+    pub fn new(alloc: Global, store: PlainStore, first: u64, heads: Heads) -> Recovered
+        ensures { HasRecovered store first heads [] 0 result }
     {
         Recovered {
             alloc,
@@ -77,7 +77,6 @@ impl Recovered {
             first,
             next: first,
             frames: Frames::new(alloc, store),
-            in_flight,
             dropped: 0,
             segment: 0,
             offset: 0,
@@ -94,13 +93,14 @@ impl Recovered {
         }
     }
 
-    /// What stands in a segment that has no whole head counts for nothing: it is dropped.
-    pub fn leave(&mut self, rest: Rest)
-        ensures { (start : Entries) (first : ℕ) (heads : List Head) (bytes : List (List ℕ))
-            → HasRecovered start first heads bytes self.old
-            → HasRecovered start first heads bytes self.new }
+    /// So many bytes stand in a segment that has no whole head, up to the last that is not 0: they count for nothing.
+    pub fn leave(&mut self, used: u64)
+        ensures left { (start : Entries) (first : ℕ) (heads : List Head) (bytes : List (List ℕ)) (left : ℕ)
+            → HasRecovered start first heads bytes left self.old
+            → HasRecovered start first heads bytes (left + used) self.new }
+        ensures next { (self.new.heads ≡ self.old.heads) × (self.new.opened ≡ self.old.opened) }
     {
-        self.dropped = self.dropped.saturating_add(len_of(rest));
+        self.dropped = self.dropped.saturating_add(used);
     }
 
     /// Begins to read the next segment, if there is one.
@@ -124,11 +124,13 @@ impl Recovered {
         })
     }
 
-    /// What was found.
-    pub fn end(self) -> Found
-        ensures { (start : Entries) (first : ℕ) (heads : List Head) (bytes : List (List ℕ))
-            → HasRecovered start first heads bytes self
-            → IsFound start first heads bytes result }
+    /// What was found, where so many bytes may have been in flight, and all frames up to one of this number are known as synced;
+    /// 0 where none is.
+    pub fn end(self, in_flight: u64, known: u64) -> Found
+        ensures found { (start : Entries) (first : ℕ) (heads : List Head) (bytes : List (List ℕ)) (left : ℕ)
+            → HasRecovered start first heads bytes left self
+            → IsFound start first heads bytes left result }
+        ensures damaged { result.is_damaged ≡ is_damaged in_flight known result }
     {
         let Frames {
             alloc: _,
@@ -136,17 +138,26 @@ impl Recovered {
             works,
             damage,
         } = self.frames;
-        let number = number_of(damage, self.next);
+        let end = Place {
+            segment: self.segment,
+            offset: self.offset,
+            number: self.next,
+        };
+        let Place {
+            segment,
+            offset,
+            number,
+        } = place_of(damage, end);
         Found {
             store,
             number,
             frames: number.saturating_sub(self.first),
             works,
-            segment: self.segment,
-            offset: self.offset,
+            segment,
+            offset,
             dropped: self.dropped,
             damage,
-            is_damaged: damage.is_some() || self.dropped > self.in_flight,
+            is_damaged: damage.is_some() || self.dropped > in_flight || is_missing(known, number),
         }
     }
 }

@@ -2,7 +2,8 @@
 ghost use Rattle.std.specs.Prelude.{◌≡◌, ◌&&◌, ◌++◌, ◌∷◌, ℕ, List, [], length, if◌then◌else◌, IfOk, OnOk};
 ghost use Rattle.sk_recovered.specs.Base.{Ends, Entries, Head};
 ghost use Rattle.sk_recovered.specs.Segments.{is_below};
-ghost use Rattle.sk_recovered.specs.Recovered.{HasRecovered, IsWithin, StepPost};
+ghost use Rattle.sk_recovered.specs.Frames.{capped};
+ghost use Rattle.sk_recovered.specs.Recovered.{drops, length_of, HasRecovered, IsWithin, StepPost};
 ghost use Rattle.sk_recovered.specs.Snapshots.{snapshot_heads};
 
 use crate::frames::Place;
@@ -41,7 +42,9 @@ fn is_below(bound: Option<u64>, number: u64) -> bool
 }
 
 /// How many bytes these are.
-pub(crate) fn len_of(rest: Rest) -> u64 {
+fn len_of(rest: Rest) -> u64
+    ensures { result ≡ length_of rest }
+{
     match rest {
         Rest::Zeros => 0,
         Rest::Torn(len) | Rest::Damaged(len) => len,
@@ -58,10 +61,10 @@ fn choose(so: bool, first: u64, second: u64) -> u64
 impl Segment {
     /// Begins to read a snapshot: frames of a segment of its own, carried out in an empty store.
     pub fn of_snapshot(alloc: Global) -> Result<Segment, AllocError>
-        ensures { IfOk result (λ now. IsWithin [] 1 snapshot_heads [] [] now) }
+        ensures { IfOk result (λ now. IsWithin [] 1 snapshot_heads [] 0 [] now) }
     {
         let heads = Heads::one(alloc, SNAPSHOT, FIRST_PIECE)?;
-        match Recovered::new(alloc, PlainStore::new(alloc), FIRST_PIECE, heads, 0).open() {
+        match Recovered::new(alloc, PlainStore::new(alloc), FIRST_PIECE, heads).open() {
             Ok(now) => Ok(now),
             Err(_) => Err(AllocError),
         }
@@ -71,9 +74,9 @@ impl Segment {
     /// anew: it has changed nothing on the disk.
     pub fn feed(mut self, piece: &[u8]) -> Result<Segment, PieceRefusal>
         ensures { IfOk result (λ now. (start : Entries) (first : ℕ) (heads : List Head)
-            (bytes : List (List ℕ)) (came : List ℕ)
-            → IsWithin start first heads bytes came self
-            → IsWithin start first heads bytes (came ++ piece.now) now) }
+            (bytes : List (List ℕ)) (left : ℕ) (came : List ℕ)
+            → IsWithin start first heads bytes left came self
+            → IsWithin start first heads bytes left (came ++ piece.now) now) }
     {
         self.log.feed(piece)?;
         self.run()?;
@@ -83,14 +86,14 @@ impl Segment {
     /// All bytes of the segment came.
     pub fn close(mut self) -> Result<Recovered, AllocError>
         ensures { IfOk result (λ now. (start : Entries) (first : ℕ) (heads : List Head)
-            (bytes : List (List ℕ)) (came : List ℕ)
-            → IsWithin start first heads bytes came self
-            → HasRecovered start first heads (bytes ++ came ∷ []) now) }
+            (bytes : List (List ℕ)) (left : ℕ) (came : List ℕ)
+            → IsWithin start first heads bytes left came self
+            → HasRecovered start first heads (bytes ++ came ∷ []) left now) }
     {
         self.run()?;
-        let end = self.log.end(self.recovered.in_flight);
+        let end = self.log.end(u64::MAX);
         let dropped = self.dropped(end);
-        let ends = self.counts && is_below(self.bound, end.number);
+        let ends = self.ends(end);
         let mut recovered = self.recovered;
         recovered.dropped = recovered.dropped.saturating_add(dropped);
         recovered.segment = choose(ends, self.head.segment, recovered.segment);
@@ -98,8 +101,17 @@ impl Segment {
         Ok(recovered)
     }
 
+    /// Whether the frames of the log end where those of this segment do, as far as is known.
+    fn ends(&self, end: End) -> bool
+        ensures { result ≡ (self.now.counts && is_below self.now.bound end.number) }
+    {
+        self.counts && is_below(self.bound, end.number)
+    }
+
     /// How many bytes count for nothing, but for those that were cut off.
-    fn dropped(&self, end: End) -> u64 {
+    fn dropped(&self, end: End) -> u64
+        ensures { result ≡ capped (drops self.now end) }
+    {
         if self.counts {
             if is_below(self.bound, end.number) {
                 return len_of(end.rest);
@@ -115,9 +127,9 @@ impl Segment {
     /// Carries out the frames that came whole and count.
     fn run(&mut self) -> Result<(), AllocError>
         ensures ok { OnOk result ((start : Entries) (first : ℕ) (heads : List Head)
-            (bytes : List (List ℕ)) (came : List ℕ)
-            → IsWithin start first heads bytes came self.old
-            → IsWithin start first heads bytes came self.new) }
+            (bytes : List (List ℕ)) (left : ℕ) (came : List ℕ)
+            → IsWithin start first heads bytes left came self.old
+            → IsWithin start first heads bytes left came self.new) }
         ensures all { OnOk result (Ends self.new.log.segment self.new.log.number self.new.log.unread) }
     {
         while self.step()? {}

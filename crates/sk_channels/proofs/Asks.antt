@@ -52,7 +52,7 @@ never_told (Some queue) (Err fault) = refl
 -- There is one ask, and one queue is open then.
 one_ask : (hosts : Bool) (old : Option Queue) (t : Option (List (List ℕ))) (a : Ask) (next : Option Queue)
     (told : Requests) (asked : List Ask)
-    → is_hosts old t ≡ hosts → ComesTo hosts old t a next → (a ≢ Reject rejections.Memory)
+    → is_hosts old t ≡ hosts → ComesTo hosts old t a next → (a ≢ Reject rejections.Memory) × (a ≢ Reject rejections.QueueFull)
     → map untold asked ≡ asks_of next told → untold a ∷ map untold asked ≡ asks_of old (t ∷ told)
 one_ask true old None a next told asked hosts is had rest = absurd (false≢true hosts)
 one_ask true old (Some words) a next told asked hosts ((text, says), same) had rest =
@@ -64,12 +64,14 @@ one_ask false old (Some words) (Do work) next told asked hosts is had rest = λ 
     (ap (λ w. untold (Do w)) is.0 ∙ never_told old (order_of words)) i ∷ (rest ∙ ap (λ q. asks_of q told) is.1) i
 one_ask false old (Some words) (Reject (rejections.Fault fault)) next told asked hosts is had rest = absurd is
 one_ask false old (Some words) (Reject rejections.TooLarge) next told asked hosts is had rest = absurd is
-one_ask false old (Some words) (Reject rejections.Memory) next told asked hosts is had rest = absurd (had refl)
+one_ask false old (Some words) (Reject rejections.Memory) next told asked hosts is had rest = absurd (had.0 refl)
+one_ask false old (Some words) (Reject rejections.QueueFull) next told asked hosts is had rest = absurd (had.1 refl)
 one_ask false old None (Do work) next told asked hosts is had rest = absurd is
 one_ask false old None (Reject (rejections.Fault fault)) next told asked hosts is had rest = absurd is
 one_ask false old None (Reject rejections.TooLarge) next told asked hosts is had rest = λ i. Reject rejections.TooLarge ∷
     (rest ∙ ap (λ q. asks_of q told) is) i
 one_ask false old None (Reject rejections.Memory) next told asked hosts is had rest = absurd is
+one_ask false old None (Reject rejections.QueueFull) next told asked hosts is had rest = absurd is
 
 pub asks_are : (old : Option Queue) (told : Requests) (asked : List Ask) (new : Option Queue)
     → AskInTurn old told asked new → HadMemory asked → map untold asked ≡ asks_of old told
@@ -83,8 +85,8 @@ pub had_before : (before : List Ask) (a : Ask) → HadMemory (before ++ a ∷ []
 had_before [] a had = tt
 had_before (b ∷ before) a had = (had.0, had_before before a had.1)
 
-done_no_reject : (work : Work) → Do work ≢ Reject rejections.Memory
-done_no_reject work is = cc
+done_no_reject : (work : Work) → (Do work ≢ Reject rejections.Memory) × (Do work ≢ Reject rejections.QueueFull)
+done_no_reject work = (λ is. cc, λ is. cc)
 
 pub had_more : (asked : List Ask) (work : Work) → HadMemory asked → HadMemory (asked ++ Do work ∷ [])
 had_more [] work had = (done_no_reject work, tt)

@@ -12,8 +12,10 @@ pub use Rattle.sk_channels.specs.declared.rejection.Rejection.{Rejection}
 pub use Rattle.sk_channels.specs.declared.table.Channels.{Channels}
 pub use Rattle.sk_commands.specs.Names.{name_of}
 pub use Rattle.sk_commands.specs.Parsing.{order_of}
-pub use Rattle.sk_commands.specs.Session.{spoilt, turn}
+pub use Rattle.sk_commands.specs.Session.{spoilt, turn, weighed}
 pub use Rattle.sk_commands.specs.declared.fault.Fault.TheVariants.{Unknown}
+pub use Rattle.sk_commands.specs.declared.name.Name.{Name}
+pub use Rattle.sk_commands.specs.declared.session.Session.{Session}
 pub use Rattle.sk_commands.specs.declared.reply.Reply.TheVariants.{Error, Text}
 pub use Rattle.sk_commands.specs.declared.session.Queue.{Queue}
 pub use Rattle.sk_commands.specs.declared.work.Work.TheVariants.{Say}

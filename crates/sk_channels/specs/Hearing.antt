@@ -1,5 +1,5 @@
 -- What a channel asked for of the bytes that came.
-use Rattle.std.specs.Prelude.{◌≡◌, ℕ, ◌+◌, ◌-◌, ◌<◌, ◌≤◌, ◌^◌, ◌&&◌, Bool, true, false, is_some, nat_lt, List, [], ◌∷◌, ◌++◌, length, take, slice_get, Option, Some, None, IfSome, if◌then◌else◌, Result, Ok, Err}
+use Rattle.std.specs.Prelude.{◌≡◌, ℕ, ◌+◌, ◌-◌, ◌*◌, min, ◌<◌, ◌≤◌, ◌^◌, ◌&&◌, Bool, true, false, is_some, nat_lt, List, [], ◌∷◌, ◌++◌, length, take, slice_get, Option, Some, None, IfSome, if◌then◌else◌, Result, Ok, Err}
 use Rattle.sk_channels.specs.Base.{Fault, Limits, Found, HasFault, words_of, HasRead, Splits, Queue, Refusal, NoTicket}
 use Rattle.sk_channels.specs.Base.{Full, Memory, Ask, Reject, Asked, Fed, Inlet, Rejection}
 use Rattle.sk_channels.specs.Asking.{is_for_host, Requests, with_words, Asks, AskInTurn}
@@ -94,3 +94,7 @@ word_at place (Some words) = slice_get words place
 -- its ticket, which is the next
 abbrev pub posed_ticket : Inlet → Option ℕ
 posed_ticket inlet = if is_some inlet.posed && nat_lt inlet.next (2 ^ 64 - 1) then Some inlet.next else None
+
+-- how many bytes the commands may take that wait for EXEC: four times those that a request may have
+abbrev pub most_queued : Limits → ℕ
+most_queued limits = min (limits.bytes * 4) (2 ^ 64 - 1)

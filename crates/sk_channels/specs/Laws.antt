@@ -15,7 +15,7 @@ with_ask asked (Some words) = asked ++ Do (Say (Error Unknown)) ∷ []
 abbrev pub all_asked : List Ask → Channel → List Ask
 all_asked asked channel = with_ask (map untold asked) channel.inlet.posed
 
--- Where there was memory to queue, a channel that is open asked for just what the requests of its stream say, one after another: the
+-- Where there was memory and room to queue, a channel that is open asked for just what the requests of its stream say, one after another: the
 -- stream is requests of which this is told, and then no request that is whole.
 abbrev pub AsksAreSaid : Type 0
 AsksAreSaid = (limits : Limits) (asked : List Ask) (stream : List ℕ) (told : Told) (handed : List ℕ) (channel : Channel)
@@ -23,7 +23,7 @@ AsksAreSaid = (limits : Limits) (asked : List Ask) (stream : List ℕ) (told : T
     → (requests : Requests) × (rest : List ℕ) × Splits limits requests rest stream × IsPart limits rest
     × (all_asked asked channel ≡ asks_of None (with_words requests))
 
--- Where there was memory to queue, two channels asked for the same of a stream, whatever way it was cut for each; where one of them was
+-- Where there was memory and room to queue, two channels asked for the same of a stream, whatever way it was cut for each; where one of them was
 -- told a fault that the other is not told yet, for this beside.
 abbrev pub CutsDontMatter : Type 0
 CutsDontMatter = (limits : Limits) (asked other : List Ask) (stream : List ℕ) (told said : Told) (handed given : List ℕ)

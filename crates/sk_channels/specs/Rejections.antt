@@ -15,3 +15,4 @@ abbrev pub rejection_words : Rejection → List ℕ
 rejection_words (Rejection.Fault fault) = fault_words fault
 rejection_words Rejection.TooLarge = codes "ERR the request is too large"
 rejection_words Rejection.Memory = codes "OOM there is no memory to queue the command"
+rejection_words Rejection.QueueFull = codes "ERR the commands that wait for EXEC take as many bytes as may"

@@ -1,7 +1,7 @@
 //! A channel: bytes in, works with tickets, and what the tickets are told, as bytes, in order.
 ghost use Rattle.std.specs.Prelude.{◌≡◌, ◌+◌, ◌-◌, ◌<◌, ◌≤◌, ◌^◌, ◌++◌, ◌∷◌, ℕ, true, List, [], None, is_some, length, drop, take, min, option_map, OnOk};
 ghost use Rattle.sk_channels.specs.Base.{Limits, Text, Say, Ask, Do};
-ghost use Rattle.sk_channels.specs.Hearing.{posed_ticket, word_at};
+ghost use Rattle.sk_channels.specs.Hearing.{most_queued, posed_ticket, word_at};
 ghost use Rattle.sk_channels.specs.Serving.{FeedPost, HasServed, RefusePost, ReplyPost};
 ghost use Rattle.sk_channels.specs.Telling.{Told};
 
@@ -19,11 +19,13 @@ pub struct Channel {
 }
 
 impl Channel {
-    /// No byte came. No reply is taken while more bytes than these wait to be handed over.
+    /// No byte came. No reply is taken while more bytes than these wait to be handed over, and no command is queued where the queue
+    /// would take more than four times the bytes that a request may have.
     pub fn new(alloc: Global, limits: Limits, most_waiting: usize) -> Channel
         requires { 16 ≤ limits.line }
         ensures served { HasServed limits [] [] [] [] result }
         ensures most { result.outlet.most ≡ most_waiting }
+        ensures queued { result.inlet.most_queued ≡ most_queued limits }
     {
         Channel {
             inlet: Inlet::new(alloc, limits),
@@ -50,6 +52,13 @@ impl Channel {
         ensures { result ≡ self.now.outlet.next }
     {
         self.outlet.next()
+    }
+
+    /// How many bytes the commands take that wait for EXEC; none where no queue is open.
+    pub fn queued(&self) -> usize
+        ensures { result ≡ self.now.inlet.session.bytes }
+    {
+        self.inlet.queued()
     }
 
     /// How many bytes wait to be handed over.

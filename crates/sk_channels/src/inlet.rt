@@ -1,13 +1,17 @@
 //! The way in: bytes that came to works with tickets.
 ghost use Rattle.std.specs.Prelude.{◌≡◌, ◌+◌, ◌-◌, ◌<◌, ◌≤◌, ◌^◌, ◌++◌, ◌∷◌, ◌||◌, ℕ, true, false, List, [], Option, None, Some, is_some, map, drop, length, option_map, ◌↔◌, IsTrue};
-ghost use Rattle.sk_channels.specs.Base.{vec_items, Limits, Ask, Text, Say, Do};
-ghost use Rattle.sk_channels.specs.Asking.{is_for_host, Asks};
-ghost use Rattle.sk_channels.specs.Hearing.{posed_ticket, word_at, Feeds, Finds, HasHeard, WordsAsk};
+ghost use Rattle.sk_channels.specs.Base.{vec_items, Limits, Ask, Text, Say, Do, Reject};
+ghost use Rattle.sk_channels.specs.declared.rejection.Rejection.TheVariants.{QueueFull};
+ghost use Rattle.sk_channels.specs.Asking.{ends_queue, is_for_host, is_over, Asks};
+ghost use Rattle.sk_channels.specs.Hearing.{most_queued, posed_ticket, word_at, Feeds, Finds, HasHeard, WordsAsk};
 
 use crate::{Refusal, Rejection};
 use sk_commands::{Keys, Name, Session, Work};
 use sk_requests::{Found, Limits, Reader};
 use std::alloc::Global;
+
+/// How many times the bytes that a request may have a queue may take.
+const QUEUED_REQUESTS: usize = 4;
 
 /// What is to be done for a request.
 #[derive(Drop)]
@@ -42,6 +46,8 @@ pub(crate) struct Inlet {
     alloc: Global,
     reader: Reader,
     session: Session,
+    /// How many bytes may wait for EXEC.
+    most_queued: usize,
     /// The words of the request that the host is asked.
     posed: Option<Keys>,
     /// The next ticket to be given.
@@ -60,10 +66,35 @@ fn is_for_host(session: &Session, words: &[Vec<u8>]) -> bool
     }
 }
 
-/// What a request of these words comes to.
-fn ask_for(session: &mut Session, words: Vec<Vec<u8>>) -> Ask
-    ensures { Asks session.old.queue (Some (map vec_items words.items)) result session.new.queue }
+/// Whether words end a queue: alone EXEC, or DISCARD.
+fn ends_queue(words: &[Vec<u8>]) -> bool
+    ensures { result ≡ ends_queue (map vec_items words.now) }
 {
+    match words {
+        [name] => matches!(Name::of(name.as_slice()), Some(Name::Exec | Name::Discard)),
+        _ => false,
+    }
+}
+
+/// Whether a queue that is open would take more bytes than may with a request of these words.
+fn is_over(session: &Session, words: &[Vec<u8>], most: usize) -> bool
+    ensures { result ≡ is_over session.now (map vec_items words.now) most }
+{
+    session.is_open() && !ends_queue(words) && !session.has_room(words, most)
+}
+
+/// What a request of these words comes to. Where a queue is open that has no room for it, it is not to be carried out.
+fn ask_for(session: &mut Session, words: Vec<Vec<u8>>, most: usize) -> Ask
+    ensures asks { Asks session.old.queue (Some (map vec_items words.items)) result session.new.queue }
+    ensures over { result ≡ Reject QueueFull
+        → is_over session.old (map vec_items words.items) most ≡ true }
+    ensures within { is_over session.old (map vec_items words.items) most ≡ true
+        → result ≡ Reject QueueFull }
+{
+    if is_over(session, words.as_slice(), most) {
+        session.spoil();
+        return Ask::Reject(Rejection::QueueFull);
+    }
     match session.take(words) {
         Ok(work) => Ask::Do(work),
         Err(_) => Ask::Reject(Rejection::Memory),
@@ -96,16 +127,25 @@ impl Inlet {
     /// No byte came.
     pub(crate) fn new(alloc: Global, limits: Limits) -> Inlet
         requires { 16 ≤ limits.line }
-        ensures { HasHeard limits [] [] result }
+        ensures heard { HasHeard limits [] [] result }
+        ensures most { result.most_queued ≡ most_queued limits }
     {
         Inlet {
             alloc,
             reader: Reader::new(alloc, limits),
             session: Session::new(alloc),
+            most_queued: limits.bytes.saturating_mul(QUEUED_REQUESTS),
             posed: None,
             next: 1,
             closed: false,
         }
+    }
+
+    /// How many bytes the commands take that wait for EXEC.
+    pub(crate) fn queued(&self) -> usize
+        ensures { result ≡ self.now.session.bytes }
+    {
+        self.session.bytes()
     }
 
     /// The next ticket to be given.
@@ -185,7 +225,7 @@ impl Inlet {
             self.posed = Some(Keys::new(words));
             return None;
         }
-        let ask = ask_for(&mut self.session, words);
+        let ask = ask_for(&mut self.session, words, self.most_queued);
         Some(self.give(ask))
     }
 

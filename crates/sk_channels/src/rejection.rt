@@ -15,6 +15,8 @@ pub enum Rejection {
     TooLarge,
     /// There was no memory to queue the command.
     Memory,
+    /// The commands that wait for EXEC take as many bytes as may.
+    QueueFull,
 }
 
 /// The words that say what is wrong with a byte that stands where a word begins.
@@ -49,6 +51,12 @@ impl Rejection {
             Rejection::TooLarge => Vec::from_slice(alloc, b"ERR the request is too large"),
             Rejection::Memory => {
                 Vec::from_slice(alloc, b"OOM there is no memory to queue the command")
+            }
+            Rejection::QueueFull => {
+                Vec::from_slice(
+                    alloc,
+                    b"ERR the commands that wait for EXEC take as many bytes as may",
+                )
             }
         }
     }

@@ -4,7 +4,7 @@ ghost use Rattle.std.specs.Prelude.{◌≡◌, ◌+◌, ◌≤◌, ◌++◌, [],
 use std::alloc::{AllocError, Global};
 use std::marker::Model;
 
-/// Bytes that wait to be handed over, in order.
+/// Bytes that wait to be handed over, in order. Of those that were handed over no more are kept than wait.
 #[derive(Drop)]
 pub(crate) struct Waiting {
     bytes: Vec<u8>,
@@ -13,13 +13,13 @@ pub(crate) struct Waiting {
 }
 
 impl Model for Waiting {
-    ghost use Rattle.std.specs.Prelude.{◌≤◌, ℕ, List, drop, length};
+    ghost use Rattle.std.specs.Prelude.{◌≤◌, ◌+◌, ℕ, List, drop, length};
 
     ghost Value = { List ℕ };
 
     ghost view = { λ w. drop w.handed w.bytes.items };
 
-    ghost invariant = { λ w. w.handed ≤ length w.bytes.items };
+    ghost invariant = { λ w. w.handed + w.handed ≤ length w.bytes.items };
 }
 
 /// Takes bytes off the front.
@@ -80,23 +80,11 @@ impl Waiting {
         self.bytes.len() - self.handed
     }
 
-    /// Gives up the room of those that were handed over, once they are as many as wait.
-    fn compact(&mut self)
-        ensures { self.new ≡ self.old }
-    {
-        if self.handed < self.bytes.len() - self.handed {
-            return;
-        }
-        drop_front(&mut self.bytes, self.handed);
-        self.handed = 0;
-    }
-
     /// Puts two texts behind the others; without memory neither.
     pub(crate) fn append(&mut self, front: &[u8], back: &[u8]) -> Result<(), AllocError>
         ensures ok { OnOk result (self.new ≡ self.old ++ (front.now ++ back.now)) }
         ensures err { OnErr result (self.new ≡ self.old) }
     {
-        self.compact();
         append_both(&mut self.bytes, front, back)
     }
 
@@ -107,7 +95,13 @@ impl Waiting {
         ensures left { self.new ≡ drop result self.old }
     {
         let count = copy_front(&self.bytes[self.handed..], room);
-        self.handed += count;
+        let handed = self.handed + count;
+        if self.bytes.len() - handed < handed {
+            drop_front(&mut self.bytes, handed);
+            self.handed = 0;
+        } else {
+            self.handed = handed;
+        }
         count
     }
 }

@@ -9,7 +9,7 @@ use Rattle.sk_commands.proofs.Names.{told, with_key}
 abbrev Kept : Type 0
 Kept = List (Vec ℕ × Option (List ℕ))
 
-names_of_removals : (keys : List (List ℕ)) → map (λ w. w.0) (removals keys) ≡ keys
+pub names_of_removals : (keys : List (List ℕ)) → map (λ w. w.0) (removals keys) ≡ keys
 names_of_removals [] = refl
 names_of_removals (k ∷ ks) = ap (λ r. k ∷ r) (names_of_removals ks)
 
@@ -24,7 +24,7 @@ pub told_append : (a b : Kept) → told (a ++ b) ≡ told a ++ told b
 told_append [] b = refl
 told_append (w ∷ a) b = ap (λ r. (w.0.items, w.1) ∷ r) (told_append a b)
 
-removals_append : (a b : List (List ℕ)) → removals (a ++ b) ≡ removals a ++ removals b
+pub removals_append : (a b : List (List ℕ)) → removals (a ++ b) ≡ removals a ++ removals b
 removals_append [] b = refl
 removals_append (k ∷ a) b = ap (λ r. (k, None) ∷ r) (removals_append a b)
 

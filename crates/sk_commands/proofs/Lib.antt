@@ -10,3 +10,5 @@ pub mod Said
 pub mod Works
 pub mod Bulks
 pub mod Placed
+pub mod Placings
+pub mod Spoken

@@ -69,3 +69,12 @@ pub use Rattle.sk_requests.specs.Request.{bulk, array, bulks}
 pub use Rattle.sk_requests.specs.Stream.{Splits}
 pub use Rattle.sk_requests.specs.declared.limits.Limits.{Limits}
 pub use lib.Signed.{mag}
+pub use Rattle.std.proofs.Common.{slice_get, ◌||◌}
+pub use Rattle.std.proofs.lemmas.List.Folds.{list_any-append}
+pub use Rattle.std.proofs.lemmas.Option.{same_Some}
+pub use Rattle.std.specs.BTreeMap.{insert_entry, is_at}
+pub use Rattle.std.specs.Cmp.{tied_itself}
+pub use Rattle.std.specs.Cmp.Lexicographic.{nat_list_cmp_total}
+pub use Rattle.std.specs.FinMap.{slice_cmp-IsAntisymmetric, nat_cmp-IsAntisymmetric}
+pub use Rattle.std.specs.Ordering.{eq_by_cmp, is_eq, match_ordering}
+pub use Rattle.std.proofs.Common.{zero}

@@ -1,7 +1,7 @@
 -- Commands as the steps of a kernel.
-use Rattle.std.specs.Prelude.{ℕ, List, [], ◌∷◌, Option, Some, None}
-use Rattle.sk_commands.specs.Base.{nat_cmp, slice_cmp, Step, Ask, Done, System, Deed, Work, Answer}
-use Rattle.sk_commands.specs.Table.{Have, Outcome}
+use Rattle.std.specs.Prelude.{ℕ, Bool, true, false, List, [], ◌∷◌, Option, Some, None, Result, Ok}
+use Rattle.sk_commands.specs.Base.{nat_cmp, slice_cmp, Step, Ask, Done, System, Deed, Work, Answer, Order, Run, Exec, Fault}
+use Rattle.sk_commands.specs.Table.{may_write, Have, Outcome}
 use Rattle.sk_commands.specs.Work.{comes_to, looks_at, with_value}
 
 -- asks for these keys, and then writes and says what comes of what they have
@@ -28,3 +28,9 @@ pub record Entry : Type 0 where
 -- the plain kernel of commands
 abbrev pub commands : System (List ℕ) (List ℕ) (ℕ × Answer) (Unit {0}) Entry
 commands = record { order = slice_cmp nat_cmp; act = λ n. act n.channel n.known n.work; mark = λ n. n.guess; goes_to = λ said. said.0 }
+
+-- whether what words say may write, as a command or by carrying out a queue
+abbrev pub may_write_said : Result Order Fault → Bool
+may_write_said (Ok (Run command)) = may_write command
+may_write_said (Ok Exec) = true
+may_write_said other = false

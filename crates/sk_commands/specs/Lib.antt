@@ -6,6 +6,7 @@ pub mod Parsing
 pub mod Requests
 pub mod Table
 pub mod Work
+pub mod Noted
 pub mod Law
 pub mod Session
 pub mod Texts

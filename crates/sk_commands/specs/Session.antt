@@ -1,5 +1,5 @@
 -- The queue of a channel: what each request comes to.
-use Rattle.std.specs.Prelude.{◌≡◌, Bool, true, false, List, [], ◌∷◌, ◌++◌, Option, Some, None, Result, Ok, Err}
+use Rattle.std.specs.Prelude.{◌≡◌, ℕ, ◌+◌, ◌-◌, ◌^◌, min, length, Bool, true, false, List, [], ◌∷◌, ◌++◌, Option, Some, None, Result, Ok, Err}
 use Rattle.sk_commands.specs.Base.{AllocError, Command, Order, Run, Multi, Exec, Discard, Fault, Nested, ExecAlone}
 use Rattle.sk_commands.specs.Base.{DiscardAlone, Aborted, Word, Simple, Error, Queue, Work, Say, One, Each}
 
@@ -45,6 +45,16 @@ turn (Some queue) (Ok Multi) = refuses (Some queue) Nested
 turn (Some queue) (Ok Exec) = executes queue.spoiled queue.commands
 turn (Some queue) (Ok Discard) = says None Word.Ok
 turn (Some queue) (Err fault) = refuses (Some (spoilt queue)) fault
+
+-- how many bytes words take where they are kept, beyond so many, up to the greatest number: each has 64 beside its own
+abbrev pub weighed : List (List ℕ) → ℕ → ℕ
+weighed [] n = n
+weighed (word ∷ words) n = weighed words (min (min (n + length word) (2 ^ 64 - 1) + 64) (2 ^ 64 - 1))
+
+-- how many bytes the requests take that came since a queue was opened which is open still
+abbrev pub bytes_left : Option Queue → Option Queue → List (List ℕ) → ℕ → ℕ
+bytes_left (Some old) (Some new) words n = weighed words n
+bytes_left old new words n = 0
 
 -- What is left and answered. There may be no memory for a command that is to be queued; then the queue is not to be carried out.
 abbrev pub Takes : Option Queue → Result Order Fault → Result Work AllocError → Option Queue → Type 0

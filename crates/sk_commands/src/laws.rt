@@ -1,9 +1,10 @@
 //! Commands are steps of a kernel. Each law is the contract of a function that does nothing.
-ghost use Rattle.std.specs.Prelude.{◌≡◌, ℕ, List, None, Ok, Option, Some, [], false, flat_map, map};
-ghost use Rattle.sk_commands.specs.Base.{perform, effect_of, Limits, Splits, Command, Run, Queue, Work};
+ghost use Rattle.std.specs.Prelude.{◌≡◌, ◌∷◌, ℕ, List, None, Ok, Option, Some, [], false, flat_map, map};
+ghost use Rattle.sk_commands.specs.Base.{perform, effect_of, Limits, Splits, Command, Name, Run, Queue, Work};
 ghost use Rattle.sk_commands.specs.Table.{asks, is_told_of_all, may_write, outcome, Have};
 ghost use Rattle.sk_commands.specs.Work.{comes_to, may_write_some, wants_all};
-ghost use Rattle.sk_commands.specs.Law.{act, deed};
+ghost use Rattle.sk_commands.specs.Law.{act, deed, may_write_said};
+ghost use Rattle.sk_commands.specs.Names.{may_write_by, name_of};
 ghost use Rattle.sk_commands.specs.Parsing.{order_of};
 ghost use Rattle.sk_commands.specs.Session.{turn};
 ghost use Rattle.sk_commands.specs.Requests.{log_text, requests_of, words_for, work_for, AreAsked, AreWithin, IsReplyOrAsked, WaitsSaid};
@@ -31,6 +32,12 @@ pub fn others_write_nothing()
         → may_write command ≡ false → (outcome known command has).written ≡ [] }
     ensures work { (work : Work) (known : List (List ℕ)) (has : Have)
         → may_write_some work ≡ false → (comes_to known work has).written ≡ [] }
+{}
+
+/// A request whose first word names a command that may not write says none that may.
+pub fn names_tell_what_may_write()
+    ensures { (word : List ℕ) (words : List (List ℕ)) (name : Name) → name_of word ≡ Some name
+        → may_write_by name ≡ false → may_write_said (order_of (word ∷ words)) ≡ false }
 {}
 
 /// What a request says is said again by the words that a log keeps of it.

@@ -8,6 +8,7 @@ mod fault;
 pub mod laws;
 mod look;
 mod name;
+mod noted;
 mod number;
 mod parse;
 mod reply;

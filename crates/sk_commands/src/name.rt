@@ -1,6 +1,6 @@
 //! The names of commands.
 ghost use Rattle.std.specs.Prelude.{◌≡◌, ◌++◌, codes, find};
-ghost use Rattle.sk_commands.specs.Names.{is_alike, name_of, text_of};
+ghost use Rattle.sk_commands.specs.Names.{is_alike, may_write_by, name_of, text_of};
 
 /// What a command is called.
 #[derive(Clone, Copy, Debug, PartialEq, Eq)]
@@ -138,5 +138,25 @@ impl Name {
         ensures { result ≡ name_of word.now }
     {
         first_alike(&NAMES, word)
+    }
+
+    /// Whether a request of this name may write: as a command, or by carrying out a queue. Where not, it writes nothing, whatever
+    /// its words are.
+    pub fn may_write(self) -> bool
+        ensures { result ≡ may_write_by self }
+    {
+        !matches!(
+            self,
+            Name::Get
+                | Name::Exists
+                | Name::StrLen
+                | Name::MGet
+                | Name::DbSize
+                | Name::Keys
+                | Name::Multi
+                | Name::Discard
+                | Name::Ping
+                | Name::Echo
+        )
     }
 }

@@ -1,9 +1,10 @@
 //! What commands write and reply.
-ghost use Rattle.std.specs.Prelude.{◌+◌, ◌<◌, ◌≤◌, ◌≡◌, ◌++◌, ◌&&◌, ℕ, List, drop, IfOk, Some, bytes_eq, count_by, is_some, length, map, pos};
+ghost use Rattle.std.specs.Prelude.{◌+◌, ◌<◌, ◌≤◌, ◌≡◌, ◌++◌, ◌&&◌, ℕ, List, drop, IfOk, OnOk, Some, bytes_eq, count_by, is_some, length, map, not, pos};
 ghost use Rattle.sk_commands.specs.Base.{vec_capacity, vec_items, vec_len, list_any, option_copied, Array, Simple};
 ghost use Rattle.sk_commands.specs.declared.reply.Word.TheVariants as word;
-ghost use Rattle.sk_commands.specs.Table.{added, begins_with, bytes_of, deleted, flushed, joined, listed, number_at, one_more, outcome, pairs_of, present, puts, set_as, shown, there, CarriesOut};
+ghost use Rattle.sk_commands.specs.Table.{added, begins_with, bytes_of, deleted, flushed, is_among, joined, listed, number_at, one_more, outcome, pairs_of, present, puts, removals, set_as, shown, there, told, with_key, CarriesOut, Have};
 
+use crate::noted::Noted;
 use crate::number::{sum_of, text_of};
 use crate::{
     ByteString, Command, Fault, Keys, Look, Options, Reply, Values, When, Word, number_of,
@@ -12,6 +13,9 @@ use std::alloc::{AllocError, Global};
 
 /// The greatest length of what a key has.
 pub const VALUE_LIMIT: usize = 16_777_216;
+
+/// No more keys than these are looked for among each other one by one.
+const FEW: usize = 8;
 
 /// What keys get, one after another; nothing, where a key is made absent.
 pub type Writes = Vec<(Vec<u8>, Option<ByteString>)>;
@@ -197,6 +201,54 @@ fn delete<S: Look>(store: &S, keys: Keys, written: &mut Writes) -> Result<Reply,
     Ok(Reply::Integer((written.as_slice().len() - from) as i64))
 }
 
+/// Whether a key is there, and not among those that are to be made absent.
+fn is_new(is_there: bool, key: &[u8], gone: &Noted) -> bool
+    ensures { result ≡ (is_there && not (is_among key.now (map (λ w. w.0) (told gone.now)))) }
+{
+    is_there && !gone.has(key)
+}
+
+/// One key more is to be made absent, where it is there and not among those that are.
+fn note_gone(is_there: bool, key: Vec<u8>, gone: &mut Noted) -> Result<(), AllocError>
+    ensures { OnOk result ((has : Have) (found : List (List ℕ))
+        → is_there ≡ is_some (has key.items) → told gone.old ≡ removals found
+        → told gone.new ≡ removals (with_key has key.items found)) }
+{
+    if is_new(is_there, key.as_slice(), gone) {
+        gone.push(key, None)?;
+    }
+    Ok(())
+}
+
+/// Those of the keys that are there, each once, to be made absent.
+fn gone_of<S: Look>(alloc: Global, store: &S, keys: Keys) -> Result<Noted, AllocError>
+    ensures { IfOk result (λ gone. told gone ≡ removals (there (S.look store.now) keys)) }
+{
+    let mut keys = keys.into_vec();
+    let mut gone = Noted::new(alloc);
+    while let Some(key) = keys.pop() {
+        let is_there = store.value(key.as_slice()).is_some();
+        note_gone(is_there, key, &mut gone)?;
+    }
+    Ok(gone)
+}
+
+/// The same for any number of keys, in a time that grows as their number does.
+fn delete_many<S: Look>(
+    alloc: Global,
+    store: &S,
+    keys: Keys,
+    written: &mut Writes,
+) -> Result<Reply, AllocError>
+    ensures { CarriesOut (deleted (there (S.look store.now) keys)) written.old.items result
+        written.new.items }
+{
+    let mut gone = gone_of(alloc, store, keys)?.into_writes();
+    let count = gone.as_slice().len() as i64;
+    written.append(&mut gone)?;
+    Ok(Reply::Integer(count))
+}
+
 /// How many of the keys are there. One that is named twice counts twice.
 fn count<S: Look>(store: &S, keys: &[Vec<u8>]) -> i64
     ensures { result
@@ -294,6 +346,9 @@ impl Command {
                 let has = seen(store, key.as_slice(), options);
                 set(alloc, key, value, options, has, written)
             }
+            Command::Del(keys) if keys.as_slice().len() > FEW => delete_many(
+                alloc, store, keys, written,
+            ),
             Command::Del(keys) => delete(store, keys, written),
             Command::Exists(keys) => Ok(Reply::Integer(count(store, keys.as_slice()))),
             Command::Add(key, by) => {

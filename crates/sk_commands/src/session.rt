@@ -1,9 +1,9 @@
 //! The queue of a channel: what is to be done for each of its requests.
-ghost use Rattle.std.specs.Prelude.{◌≡◌, None, Some, is_some, map, IfOk, OnErr, OnOk};
+ghost use Rattle.std.specs.Prelude.{◌≡◌, None, Some, is_some, map, nat_le, option_map, IfOk, OnErr, OnOk};
 ghost use Rattle.sk_commands.specs.Base.{vec_items, Error, Simple, Say};
 ghost use Rattle.sk_commands.specs.declared.reply.Word.TheVariants as word;
 ghost use Rattle.sk_commands.specs.Parsing.{order_of};
-ghost use Rattle.sk_commands.specs.Session.{no_commands, one_more, spoilt, turn, Takes};
+ghost use Rattle.sk_commands.specs.Session.{bytes_left, no_commands, one_more, spoilt, turn, weighed, Takes};
 
 use crate::{Command, Commands, Fault, Order, Reply, Word, Work};
 use std::alloc::{AllocError, Global};
@@ -46,6 +46,22 @@ impl Queue {
 pub struct Session {
     alloc: Global,
     queue: Option<Queue>,
+    /// How many bytes the requests take that came since the queue was opened.
+    bytes: usize,
+}
+
+/// How many bytes a word takes beside its own where it is kept.
+const WORD_ROOM: usize = 64;
+
+/// How many bytes words take where they are kept, beyond so many.
+fn weighed(words: &[Vec<u8>], from: usize) -> usize
+    ensures { result ≡ weighed (map vec_items words.now) from }
+{
+    let mut bytes = from;
+    for word in words {
+        bytes = bytes.saturating_add(word.len()).saturating_add(WORD_ROOM);
+    }
+    bytes
 }
 
 /// A word is replied.
@@ -102,9 +118,38 @@ fn waiting(
 impl Session {
     /// No queue is open.
     pub fn new(alloc: Global) -> Session
-        ensures { result.queue ≡ None }
+        ensures queue { result.queue ≡ None }
+        ensures bytes { result.bytes ≡ 0 }
     {
-        Session { alloc, queue: None }
+        Session {
+            alloc,
+            queue: None,
+            bytes: 0,
+        }
+    }
+
+    /// How many bytes the requests take that came since the queue was opened; none where no queue is open.
+    pub fn bytes(&self) -> usize
+        ensures { result ≡ self.now.bytes }
+    {
+        self.bytes
+    }
+
+    /// Whether the queue takes at most so many bytes with a request of these words.
+    pub fn has_room(&self, words: &[Vec<u8>], most: usize) -> bool
+        ensures { result ≡ nat_le (weighed (map vec_items words.now) self.now.bytes) most }
+    {
+        weighed(words, self.bytes) <= most
+    }
+
+    /// The queue that is open, if one is, is not to be carried out.
+    pub fn spoil(&mut self)
+        ensures queue { self.new.queue ≡ option_map spoilt self.old.queue }
+        ensures bytes { self.new.bytes ≡ self.old.bytes }
+    {
+        if let Some(open) = self.queue.as_mut() {
+            open.spoiled = true;
+        }
     }
 
     /// Whether a queue is open.
@@ -117,16 +162,19 @@ impl Session {
     /// What is to be done for a request of these words, none of which is copied. Only a command that is to be queued wants
     /// memory; without it the queue is not to be carried out.
     pub fn take(&mut self, words: Vec<Vec<u8>>) -> Result<Work, AllocError>
-        ensures { Takes self.old.queue (order_of (map vec_items words.items)) result self.new.queue }
+        ensures takes { Takes self.old.queue (order_of (map vec_items words.items)) result self.new.queue }
+        ensures bytes { self.new.bytes ≡ bytes_left self.old.queue self.new.queue
+            (map vec_items words.items) self.old.bytes }
     {
-        let order = Order::of(words);
-        let (queue, work) = match self.queue.take() {
-            None => {
-                let (queue, work) = idle(self.alloc, order);
-                (queue, Ok(work))
-            }
-            Some(queue) => waiting(queue, order),
+        let Some(queue) = self.queue.take() else {
+            let (queue, work) = idle(self.alloc, Order::of(words));
+            self.queue = queue;
+            self.bytes = 0;
+            return Ok(work);
         };
+        let bytes = weighed(words.as_slice(), self.bytes);
+        let (queue, work) = waiting(queue, Order::of(words));
+        self.bytes = if queue.is_some() { bytes } else { 0 };
         self.queue = queue;
         work
     }

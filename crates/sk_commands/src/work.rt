@@ -1,10 +1,11 @@
 //! What is done as one step: a command, or the commands of a queue, one after another.
-ghost use Rattle.std.specs.Prelude.{◌≡◌, ◌∷◌, ◌++◌, [], bytes_eq, flat_map, map, IfOk, OnErr, OnOk};
+ghost use Rattle.std.specs.Prelude.{◌≡◌, ◌∷◌, ◌++◌, [], flat_map, map, IfOk, OnErr, OnOk};
 ghost use Rattle.sk_commands.specs.Base.{list_any, vec_items};
 ghost use Rattle.sk_commands.specs.Table.{asks, is_told_of_all, may_write, outcome, told, CarriesOut};
 ghost use Rattle.sk_commands.specs.Work.{after, comes_to, each, known_after, looks_at, may_write_some, wants_all, with_known, IsPlace};
 
 use crate::asking::copy_keys;
+use crate::noted::Noted;
 use crate::{ByteString, Command, Look, Reply, Writes};
 use std::alloc::{AllocError, Global};
 use std::cmp::Ordering;
@@ -116,17 +117,10 @@ pub enum Answer {
     Each(Replies),
 }
 
-/// Whether two keys are the same.
-fn are_same(key: &[u8], other: &[u8]) -> bool
-    ensures { result ≡ bytes_eq key.now other.now }
-{
-    key == other
-}
-
 /// A store behind writes: a key has what it got last.
 #[derive_where(Clone, Copy)]
 struct Behind<'a, S> {
-    written: &'a [(Vec<u8>, Option<ByteString>)],
+    written: &'a Noted,
     store: &'a S,
 }
 
@@ -137,14 +131,10 @@ impl<S: Look> Look for Behind<'_, S> {
     ghost look = { λ b. after (told b.written.now) (S.look b.store.now) };
 
     fn value(&self, key: &[u8]) -> Option<&ByteString> {
-        let mut left = self.written;
-        while let Some((last, others)) = left.split_last() {
-            if are_same(key, last.0.as_slice()) {
-                return last.1.as_ref();
-            }
-            left = others;
+        match self.written.last(key) {
+            Some(last) => last.1.as_ref(),
+            None => self.store.value(key),
         }
-        self.store.value(key)
     }
 }
 
@@ -191,31 +181,61 @@ fn known_after(
     Ok(all)
 }
 
+/// What a command writes behind what is written so far, and replies: it sees that.
+fn run_behind<S: Look>(
+    alloc: Global,
+    command: Command,
+    store: &S,
+    known: &[Vec<u8>],
+    so_far: &Noted,
+    own: &mut Writes,
+) -> Result<Reply, AllocError>
+    ensures { CarriesOut
+        (outcome (known_after (told so_far.now) (map vec_items known.now)) command
+        (after (told so_far.now) (S.look store.now)))
+        own.old.items result own.new.items }
+{
+    let seen = Behind {
+        written: so_far,
+        store,
+    };
+    if command.is_told_of_all() {
+        let known = known_after(alloc, so_far.as_slice(), known)?;
+        command.run(alloc, &seen, known.as_slice(), own)
+    } else {
+        command.run(alloc, &seen, &[], own)
+    }
+}
+
+/// Writes stand behind those so far.
+fn note_all(so_far: &mut Noted, own: Writes) -> Result<(), AllocError>
+    ensures { OnOk result (told so_far.new ≡ told so_far.old ++ told own.items) }
+{
+    for write in own {
+        let (key, value) = write;
+        so_far.push(key, value)?;
+    }
+    Ok(())
+}
+
 /// One command more, which sees what is written so far.
 fn run_next<S: Look>(
     alloc: Global,
     command: Command,
     store: &S,
     known: &[Vec<u8>],
-    so_far: &mut Writes,
+    so_far: &mut Noted,
 ) -> Result<Reply, AllocError>
-    ensures { CarriesOut
-        (outcome (known_after (told so_far.old.items) (map vec_items known.now)) command
-        (after (told so_far.old.items) (S.look store.now)))
-        so_far.old.items result so_far.new.items }
+    ensures reply { IfOk result (λ reply. reply
+        ≡ (outcome (known_after (told so_far.old) (map vec_items known.now)) command
+        (after (told so_far.old) (S.look store.now))).reply) }
+    ensures written { OnOk result (told so_far.new ≡ told so_far.old
+        ++ (outcome (known_after (told so_far.old) (map vec_items known.now)) command
+        (after (told so_far.old) (S.look store.now))).written) }
 {
     let mut own = Vec::new(alloc);
-    let seen = Behind {
-        written: so_far.as_slice(),
-        store,
-    };
-    let reply = if command.is_told_of_all() {
-        let known = known_after(alloc, so_far.as_slice(), known)?;
-        command.run(alloc, &seen, known.as_slice(), &mut own)?
-    } else {
-        command.run(alloc, &seen, &[], &mut own)?
-    };
-    so_far.append(&mut own)?;
+    let reply = run_behind(alloc, command, store, known, so_far, &mut own)?;
+    note_all(so_far, own)?;
     Ok(reply)
 }
 
@@ -230,12 +250,13 @@ fn run_each<S: Look>(
     ensures { CarriesOut (each (map vec_items known.now) commands (S.look store.now))
         written.old.items result written.new.items }
 {
-    let mut so_far = Vec::new(alloc);
+    let mut so_far = Noted::new(alloc);
     let mut replies = Vec::new(alloc);
     for command in commands.into_vec() {
         let reply = run_next(alloc, command, store, known, &mut so_far)?;
         replies.push(reply)?;
     }
+    let mut so_far = so_far.into_writes();
     written.append(&mut so_far)?;
     Ok(Replies::new(replies))
 }

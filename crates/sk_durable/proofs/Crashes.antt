@@ -99,6 +99,9 @@ one_asked old (Some words) (Do work) next asks said =
 one_asked None (Some words) (Reject rejections.Memory) next asks said = absurd asks
 one_asked (Some queue) (Some words) (Reject rejections.Memory) next asks said =
     (subst WaitsSaid (sym asks) said, λ work is. reject_or_do rejections.Memory work is)
+one_asked None (Some words) (Reject rejections.QueueFull) next asks said = absurd asks
+one_asked (Some queue) (Some words) (Reject rejections.QueueFull) next asks said =
+    (subst WaitsSaid (sym asks) said, λ work is. reject_or_do rejections.QueueFull work is)
 one_asked None None (Reject rejections.TooLarge) next asks said =
     (subst WaitsSaid (sym asks) tt, λ work is. reject_or_do rejections.TooLarge work is)
 one_asked (Some queue) None (Reject rejections.TooLarge) next asks said =

@@ -5,7 +5,7 @@ use Rattle.sk_commands.proofs.work.run_each.Given as goal
 
 abbrev pub invariant-loop-command : goal.invariant-loop-command
 invariant-loop-command g l =
-    (told l.so_far.items ++ (left_over (map vec_items l.known) (g.S.Look.look l.store) (into_iter_items l.command-iterator) (told l.so_far.items)).written
+    (told l.so_far ++ (left_over (map vec_items l.known) (g.S.Look.look l.store) (into_iter_items l.command-iterator) (told l.so_far)).written
     ≡ (each (map vec_items l.known) l.fn.commands (g.S.Look.look l.store)).written)
-    × (l.replies.items ++ (left_over (map vec_items l.known) (g.S.Look.look l.store) (into_iter_items l.command-iterator) (told l.so_far.items)).reply
+    × (l.replies.items ++ (left_over (map vec_items l.known) (g.S.Look.look l.store) (into_iter_items l.command-iterator) (told l.so_far)).reply
     ≡ (each (map vec_items l.known) l.fn.commands (g.S.Look.look l.store)).reply)

@@ -12,7 +12,7 @@ returns-in-Some c = record {
   ok = tt;
   err = λ requests carried. (
     refl,
-    refused_behind requests (map vec_items c.args.words.items) c.args.self.now c.in_ok-work.work c.in-Some.fault carried c.in_ok-work.ensures.0
+    refused_behind requests (map vec_items c.args.words.items) c.args.self.now c.in_ok-work.work c.in-Some.fault carried c.in_ok-work.ensures.takes.0
         (sym c.fault_in.ensures ∙ c.in-Some.is),
   );
 }
@@ -20,7 +20,7 @@ returns-in-Some c = record {
 pub returns : goal.returns
 returns c = record {
   ok = λ requests carried. carried_on requests (map vec_items c.args.words.items) c.args.self.now c.keep.new.self c.in_ok-work.work carried
-      c.in_ok-work.ensures.0 (ap (λ s. s.queue) c.keep.ensures.session ∙ c.in_ok-work.ensures.1)
+      c.in_ok-work.ensures.takes.0 (ap (λ s. s.queue) c.keep.ensures.session ∙ c.in_ok-work.ensures.takes.1)
       (sym c.fault_in.ensures ∙ none_in c.fault_in.result c.in_default.not-Some) c.in_ok-keep.ensures.works;
   err = tt;
 }

@@ -5,7 +5,7 @@ use sk_map::Key;
 use std::marker::Model;
 
 /// The number that a byte string has while it is kept. It is given to another once the string is gone.
-#[derive(Clone, Copy, Debug, PartialEq, Eq, PartialOrd, Ord)]
+#[derive(Clone, Copy, Debug, PartialEq, Eq, PartialOrd, Ord, Hash)]
 pub struct Number(usize);
 
 impl Model for Number {

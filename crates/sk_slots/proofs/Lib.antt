@@ -3,3 +3,4 @@ pub mod Joins
 pub mod Undoing
 pub mod Logs
 pub mod Maps
+pub mod Tables

@@ -1,9 +1,10 @@
 //! All keys with their slots.
-ghost use Rattle.std.specs.Prelude.{◌≡◌, ◌∷◌, [], List, Some, true, is_some, OnOk, IsOk, if◌then◌else◌};
+ghost use Rattle.std.specs.Prelude.{◌≡◌, ◌∷◌, [], List, Some, true, is_some, position, OnOk, IsOk, if◌then◌else◌};
 ghost use Rattle.std.specs.Option.{option_copied, unwrap_or};
 ghost use Rattle.std.specs.Ordering.{eq_by_cmp};
 ghost use Rattle.sk_record.specs.Effects.{is_in};
-ghost use Rattle.std.specs.List.Sorted.{IsStrictlySortedBy};
+ghost use Rattle.std.specs.List.{IsDistinct};
+ghost use Rattle.std.specs.Map.{keys_of};
 ghost use Rattle.std.specs.Map.Iter.{ShowsInOrder, deref};
 ghost use Rattle.sk_record.specs.Merged.{merged};
 ghost use Rattle.sk_record.specs.Notes.{last_tags, unwound, cut, committed};
@@ -11,20 +12,22 @@ ghost use Rattle.sk_slots.specs.Slot.{SlotView, goes_unnoted, noted_on};
 ghost use Rattle.sk_slots.specs.Slots.{found, look_at, log_at, AllSettled, IsReady, SettledBut};
 
 use crate::Slot;
+use crate::table::Table;
+use indexmap::map::Keys;
 use sk_ids::{GuessId, TagSet};
 use sk_inversion::{Inversion, Whole};
-use sk_map::{Key, Map};
+use sk_map::Key;
 use std::alloc::{AllocError, Global};
-use std::collections::btree_map::Keys;
+use std::hash::Hash;
 use std::marker::Model;
 
 /// What keys have. One without a slot is absent, and nothing is noted of it.
 #[derive(Drop)]
-pub struct Slots<K: Key, V, I: Inversion<V> = Whole> {
-    slots: Map<K, Slot<V, I>>,
+pub struct Slots<K: Key + Hash, V, I: Inversion<V> = Whole> {
+    slots: Table<K, Slot<V, I>>,
 }
 
-impl<K: Key, V, I: Inversion<V>> Model for Slots<K, V, I> {
+impl<K: Key + Hash, V, I: Inversion<V>> Model for Slots<K, V, I> {
     ghost use Rattle.std.specs.Prelude.{List};
     ghost use Rattle.std.specs.Coded.{coded_list, coded×};
     ghost use Rattle.sk_slots.specs.Slot.{SlotView, slot_code};
@@ -36,14 +39,14 @@ impl<K: Key, V, I: Inversion<V>> Model for Slots<K, V, I> {
     ghost view = { λ a. a.slots };
 }
 
-impl<K: Key, V, I: Inversion<V>> Slots<K, V, I> {
+impl<K: Key + Hash, V, I: Inversion<V>> Slots<K, V, I> {
     pub fn new(alloc: Global) -> Slots<K, V, I>
         ensures look { (k : K) → look_at K.order result k ≡ None }
         ensures log { (k : K) → log_at K.order result k ≡ [] }
         ensures settled { AllSettled K.order result }
     {
         Slots {
-            slots: Map::new(alloc),
+            slots: Table::new(alloc),
         }
     }
 
@@ -56,6 +59,13 @@ impl<K: Key, V, I: Inversion<V>> Slots<K, V, I> {
         }
     }
 
+    /// The place of a key that has a slot.
+    pub fn find(&self, key: &K) -> Option<usize>
+        ensures { result ≡ position (eq_by_cmp K.order key.now) (keys_of self.now) }
+    {
+        self.slots.find(key)
+    }
+
     /// The tags of a key, where it has a note.
     pub fn tags(&self, key: &K) -> Option<&TagSet>
         ensures { unwrap_or (option_copied result) [] ≡ last_tags [] (log_at K.order self.now key.now) }
@@ -65,9 +75,19 @@ impl<K: Key, V, I: Inversion<V>> Slots<K, V, I> {
             None => None,
         }
     }
+
+    /// The same, for a key that is looked for at a place first.
+    pub fn tags_near(&self, place: usize, key: &K) -> Option<&TagSet>
+        ensures { unwrap_or (option_copied result) [] ≡ last_tags [] (log_at K.order self.now key.now) }
+    {
+        match self.slots.get_near(place, key) {
+            Some(slot) => slot.tags(),
+            None => None,
+        }
+    }
 }
 
-impl<K: Key, V, I: Inversion<V>> Slots<K, V, I> {
+impl<K: Key + Hash, V, I: Inversion<V>> Slots<K, V, I> {
     /// Whether a key has a slot.
     pub fn has(&self, key: &K) -> bool
         ensures { result ≡ is_some (found K.order self.now key.now) }
@@ -75,19 +95,19 @@ impl<K: Key, V, I: Inversion<V>> Slots<K, V, I> {
         self.slots.get(key).is_some()
     }
 
-    /// The keys that have slots, by their order, each once.
+    /// The keys that have slots, each once.
     pub fn keys(&self) -> Keys<'_, K, Slot<V, I>>
         ensures all { (q : K) → is_in K.order result q ≡ is_some (found K.order self.now q) }
-        ensures rising { IsStrictlySortedBy K.order result }
+        ensures once { IsDistinct (eq_by_cmp K.order) result }
         ensures runs { ShowsInOrder (deref {X = K}) }
     {
         self.slots.keys()
     }
 }
 
-impl<K: Key, V: Drop, I: Inversion<V>> Slots<K, V, I> {
-    /// Makes room for what a write of a key with these tags notes.
-    pub fn prepare(&mut self, key: &K, tags: &TagSet) -> Result<(), AllocError>
+impl<K: Key + Hash, V: Drop, I: Inversion<V>> Slots<K, V, I> {
+    /// Makes room for what a write of a key with these tags notes. The key is looked for at a place first.
+    pub fn prepare(&mut self, place: usize, key: &K, tags: &TagSet) -> Result<(), AllocError>
         ensures look { (q : K) → look_at K.order self.new q ≡ look_at K.order self.old q }
         ensures log { (q : K) → log_at K.order self.new q ≡ log_at K.order self.old q }
         ensures ok { OnOk result (IsReady K.order tags.now self.new key.now) }
@@ -98,7 +118,7 @@ impl<K: Key, V: Drop, I: Inversion<V>> Slots<K, V, I> {
         ensures room { (slot : SlotView V) → found K.order self.old key.now ≡ Some slot
             → goes_unnoted tags.now slot.log ≡ true → IsOk result }
     {
-        if let Some(slot) = self.slots.get_mut(key) {
+        if let Some(slot) = self.slots.get_mut_near(place, key) {
             return slot.prepare(tags);
         }
         let mut slot = Slot::new(self.slots.alloc());
@@ -106,8 +126,9 @@ impl<K: Key, V: Drop, I: Inversion<V>> Slots<K, V, I> {
         self.slots.put(*key, slot)
     }
 
-    /// Sets or changes what a key has, where what is to be noted has room. Answers whether nothing is left to be settled of it.
-    pub fn write(&mut self, key: &K, tags: &TagSet, write: I::Write) -> bool
+    /// Sets or changes what a key has, where what is to be noted has room. The key is looked for at a place first. Answers
+    /// whether nothing is left to be settled of it.
+    pub fn write(&mut self, place: usize, key: &K, tags: &TagSet, write: I::Write) -> bool
         requires { IsReady K.order tags.now self.old key.now }
         ensures look { (q : K) → look_at K.order self.new q
             ≡ (if eq_by_cmp K.order q key.now then I.written write (look_at K.order self.old q) else
@@ -123,7 +144,7 @@ impl<K: Key, V: Drop, I: Inversion<V>> Slots<K, V, I> {
             → (keys : List K) → SettledBut K.order (key.now ∷ keys) self.old
             → SettledBut K.order keys self.new }
     {
-        match self.slots.get_mut(key) {
+        match self.slots.get_mut_near(place, key) {
             Some(slot) => slot.write(tags, write),
             None => unreachable!(),
         }

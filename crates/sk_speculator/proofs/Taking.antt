@@ -7,7 +7,9 @@ use Rattle.sk_speculator.proofs.Names.{with_drawn, marks, Open, numbers, Status,
 use Rattle.sk_speculator.proofs.Names.{with_entities, KeptView, AreStatuses, one_drawn, keys_of, OpenGuess, open_in}
 use Rattle.sk_speculator.proofs.Names.{opens_of, exact_as, more_rises, Deed, SlotView, look_at, log_at, AllSettled}
 use Rattle.sk_speculator.proofs.Names.{Said, Parts, any_rests, Performed, IsSame, IsSound, says, next_of, Takes}
-use Rattle.sk_speculator.proofs.Afterwards.{clean_at, exact_guessed, exact_taken, next_above, next_closed, no_next, opens_rise, performed_same, tags_are, takes_so, tidy, whole_same, whole_taken}
+use Rattle.std.proofs.lemmas.List.{nil_from_length}
+use Rattle.std.specs.Prelude.{Result, Ok, Err, OnOk, OnErr}
+use Rattle.sk_speculator.proofs.Afterwards.{clean_at, exact_guessed, exact_taken, next_above, next_closed, no_next, not_known, opens_rise, performed_same, tags_are, takes_so, tidy, whole_same, whole_taken}
 
 -- an undecided guess was drawn
 drawn_by_now : (drawn g : ℕ) (o : Option Status) → (drawn < g → o ≡ None) → open_in o ≡ true → g ≤ drawn
@@ -127,3 +129,51 @@ module _ {K V O : Type 0} {R : K → K → Ordering} (total : IsTotalOrder R) (e
           subst (λ os. Takes R a d (Some next) (record { slots = slots; guesses = drawn; opens = opens_of os; said = said })) (sym opens_after) t,
           subst (λ os. IsSound R (record { slots = slots; guesses = drawn; opens = opens_of os; said = said }) os) (sym opens_after) sound_b,
         )
+
+-- ---- a step where no guess is undecided
+rests_on_none : {K V : Type 0} (R : K → K → Ordering) (m : List (K × SlotView V)) (g : ℕ) → ((k : K) → has g (last_tags [] (log_at R m k)) ≡ false) → (ks : List K) → any_rests R m g ks ≡ false
+rests_on_none R m g free [] = refl
+rests_on_none R m g free (k ∷ ks) = λ i. free k i || rests_on_none R m g free ks i
+
+no_lists : {E : Type 0} (os : List (OpenGuess E)) → opens_of os ≡ [] → os ≡ []
+no_lists os none = nil_from_length os (sym (opens_length os) ∙ ap length none)
+
+module _ {K V O : Type 0} {R : K → K → Ordering} (total : IsTotalOrder R) (exact : IsAntisymmetric R) (a : Parts K V O) (lists : List (OpenGuess K)) (sound : IsSound R a lists) (kept : a.opens ≡ opens_of lists) (none : a.opens ≡ []) where
+  -- its keys rest on nothing
+  alone_members : (d : Deed K V O) (g : ℕ) → has g [] ≡ ((is_marked None g || any_rests R a.slots g d.looked) || any_rests R a.slots g (keys_of d.written))
+  alone_members d g =
+      let free : (k : K) → has g (last_tags [] (log_at R a.slots k)) ≡ false = not_known total exact a sound.whole g (ap (λ os. has g (numbers os)) none) in
+      sym (λ i. (is_marked None g || rests_on_none R a.slots g free d.looked i) || rests_on_none R a.slots g free (keys_of d.written) i)
+
+  pub alone_clean : (d : Deed K V O) (q : K) → is_in R (keys_of d.written) q ≡ true → log_at R a.slots q ≡ []
+  alone_clean d q here = clean total exact a lists sound d None [] (alone_members d) q here refl
+
+  module _ (slots : List (K × SlotView V)) (said : Said O) (settled : AllSettled R slots) where
+    abbrev b : Parts K V O
+    b = record { slots = slots; guesses = a.guesses; opens = opens_of lists; said = said }
+
+    took : (d : Deed K V O) → Performed R a.slots [] d.written slots → said ≡ says d.said [] a.said → Takes R a d None b × IsSound R b lists
+    took d did says_so =
+        after_take total exact a lists sound a.slots slots d [] a.guesses lists a.said said (λ q. refl) (λ q. refl) refl (sym kept) refl
+        (subst (λ os. IsStrictlySortedBy nat_cmp (numbers os)) none (opens_rise total exact a sound.whole)) did says_so settled
+        (subst (AllExact R (with_tags R [] (keys_of d.written) (tags_by (log_at R a.slots)))) (sym (no_lists lists (sym kept ∙ none))) tt) (alone_members d)
+
+    same_as : ((q : K) → look_at R slots q ≡ look_at R a.slots q) → ((q : K) → log_at R slots q ≡ log_at R a.slots q) → said ≡ a.said → IsSame R a b
+    same_as look log same = record { look = look; logs = log; guesses = refl; opens = sym kept; said = same }
+
+    -- taken or refused
+    pub alone_sound : {A E : Type 0} (r : Result A E) (d : Deed K V O) → OnOk r (Performed R a.slots [] d.written slots) → OnOk r (said ≡ says d.said [] a.said)
+        → OnErr r ((q : K) → look_at R slots q ≡ look_at R a.slots q) → OnErr r ((q : K) → log_at R slots q ≡ log_at R a.slots q) → OnErr r (said ≡ a.said)
+        → IsSound R (record { slots = slots; guesses = a.guesses; opens = opens_of lists; said = said }) lists
+    alone_sound (Ok x) d did says_so look log same = (took d did says_so).1
+    alone_sound (Err why) d did says_so look log same = sound_refused total exact a lists sound b lists (same_as look log same) settled sound.exact
+
+    pub alone_takes : {A E : Type 0} (r : Result A E) (d : Deed K V O) → OnOk r (Performed R a.slots [] d.written slots) → OnOk r (said ≡ says d.said [] a.said)
+        → OnOk r (Takes R a d None (record { slots = slots; guesses = a.guesses; opens = opens_of lists; said = said }))
+    alone_takes (Ok x) d did says_so = (took d did says_so).0
+    alone_takes (Err why) d did says_so = tt
+
+    pub alone_same : {A E : Type 0} (r : Result A E) → OnErr r ((q : K) → look_at R slots q ≡ look_at R a.slots q) → OnErr r ((q : K) → log_at R slots q ≡ log_at R a.slots q) → OnErr r (said ≡ a.said)
+        → OnErr r (IsSame R a (record { slots = slots; guesses = a.guesses; opens = opens_of lists; said = said }))
+    alone_same (Ok x) look log same = tt
+    alone_same (Err why) look log same = same_as look log same

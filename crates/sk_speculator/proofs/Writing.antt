@@ -88,6 +88,14 @@ performed_settled R old mid new tags ws look log did = record {
   logs = λ q. subst (Merges [] (log_at R old q ++ noted (is_in R (keys_of ws) q) tags (look_at R old q) [])) (sym (log q)) (did.logs q);
 }
 
+-- what was performed on what is seen the same was performed on what was there before
+pub performed_before : {K V : Type 0} (R : K → K → Ordering) (old mid new : List (K × SlotView V)) (tags : List ℕ) (ws : List (K × Option V)) → ((q : K) → look_at R mid q ≡ look_at R old q) → ((q : K) → log_at R mid q ≡ log_at R old q)
+    → Performed R mid tags ws new → Performed R old tags ws new
+performed_before R old mid new tags ws look log did = record {
+  look = λ q. did.look q ∙ ap (written_value R ws q) (look q);
+  logs = λ q. subst (λ ns. Merges [] ns (log_at R new q)) (λ i. log q i ++ noted (is_in R (keys_of ws) q) tags (look q i) []) (did.logs q);
+}
+
 pub none_more : (b : Bool) → b ≡ (b || false)
 none_more true = refl
 none_more false = refl
@@ -155,3 +163,7 @@ from_ok (Err why) is p = absurd (true≢false (sym is))
 pub from_err : {A E P : Type 0} (r : Result A E) → true ≡ is_err r → OnErr r P → P
 from_err (Ok x) is p = absurd (true≢false is)
 from_err (Err why) is p = p
+
+pub always_ok : {A E P : Type 0} (r : Result A E) → P → OnOk r P
+always_ok (Ok x) p = p
+always_ok (Err why) p = tt

@@ -31,6 +31,7 @@ pub use Rattle.std.specs.Coded.{Coded, code_by, coded_list, coded_ℕ, coded×}
 pub use Rattle.std.specs.FinMap.{FinMap, IsAntisymmetric, get}
 pub use Rattle.std.specs.Int.NonZero.{non_zero_u16_get}
 pub use Rattle.std.specs.List.{list_any, slice_get}
+pub use Rattle.std.specs.List.{IsDistinct}
 pub use Rattle.std.specs.List.Sorted.{IsStrictlySortedBy}
 pub use Rattle.std.specs.Map.Iter.{ShowsInOrder, deref}
 pub use Rattle.std.specs.Option.{option_copied, option_map}

@@ -8,7 +8,9 @@ ghost use Rattle.sk_speculator.specs.Emptied.{IsEmptied};
 
 use crate::Step;
 use crate::lists::{depend_all, relieve_written};
-use crate::writes::{add_tags, add_written_tags, prepare_all, settle_all, settle_rest, write_all};
+use crate::writes::{
+    add_tags, add_written_tags, find_all, prepare_all, settle_all, settle_rest, write_all,
+};
 use sk_guesses::OpenGuesses;
 use sk_ids::{GuessId, TagSet};
 use sk_inversion::Inversion;
@@ -16,6 +18,7 @@ use sk_map::Key;
 use sk_outputs::Outputs;
 use sk_slots::Slots;
 use std::alloc::{AllocError, Global};
+use std::hash::Hash;
 use std::mem;
 
 /// The guesses that a step rests on, and the same again for the guess that it draws; none where it draws none.
@@ -46,9 +49,10 @@ fn copy_for(alloc: Global, own: &Option<GuessId>, tags: &TagSet) -> Result<TagSe
 }
 
 /// The guesses that a step rests on: those of all keys that it touches, and its own.
-fn tags_of_step<K: Key, V, O, I: Inversion<V>>(
+fn tags_of_step<K: Key + Hash, V, O, I: Inversion<V>>(
     alloc: Global,
     slots: &Slots<K, V, I>,
+    places: &[usize],
     own: &Option<GuessId>,
     step: &Step<K, V, O, I>,
 ) -> Result<StepTags, AllocError>
@@ -60,8 +64,8 @@ fn tags_of_step<K: Key, V, O, I: Inversion<V>>(
     ensures own { IfOk result (λ both. is_some own.now ≡ true → both.own ≡ both.tags) }
 {
     let marked = own_tags(alloc, own);
-    let read = add_tags(slots, marked, step.looked.as_slice())?;
-    let tags = add_written_tags(slots, read, step.written.as_slice())?;
+    let read = add_tags(slots, marked, step.looked.as_slice(), places)?;
+    let tags = add_written_tags(slots, read, step.written.as_slice(), places)?;
     let _rising = tags.ids();
     let own = copy_for(alloc, own, &tags)?;
     Ok(StepTags { tags, own })
@@ -99,13 +103,14 @@ fn reserve_guess<K: Key>(
 
 /// Makes room for the notes of writes, adds their keys to the lists of the guesses that they come to rest on, and makes
 /// room for the guess of the step. Without memory the lists have what they had.
-fn make_ready<K: Key, V: Drop, I: Inversion<V>>(
+fn make_ready<K: Key + Hash, V: Drop, I: Inversion<V>>(
     slots: &mut Slots<K, V, I>,
     guesses: &mut OpenGuesses<K>,
     no_tags: &TagSet,
     own: &Option<GuessId>,
     tags: &TagSet,
     written: &[(K, I::Write)],
+    places: &[usize],
 ) -> Result<(), AllocError>
     requires exact { AllExact K.order (tags_by (log_at K.order slots.old)) guesses.old.opens }
     requires covers { Covers K.order tags.now (keys_of written.now)
@@ -128,8 +133,8 @@ fn make_ready<K: Key, V: Drop, I: Inversion<V>>(
     ensures err { OnErr result
         (AllExact K.order (tags_by (log_at K.order slots.old)) guesses.new.opens) }
 {
-    prepare_all(slots, tags, written)?;
-    depend_all(guesses, slots, no_tags, tags, written)?;
+    prepare_all(slots, tags, written, places)?;
+    depend_all(guesses, slots, no_tags, tags, written, places)?;
     if reserve_guess(guesses, own, written.len()).is_err() {
         relieve_written(guesses, slots, no_tags, written);
         return Err(AllocError);
@@ -139,11 +144,12 @@ fn make_ready<K: Key, V: Drop, I: Inversion<V>>(
 
 /// Answers the guesses that a step rests on, and makes all room that it wants. Nothing that is seen changes. Without memory
 /// no room stays but what is free for all.
-pub(crate) fn ask<K: Key, V: Drop, O: Drop, I: Inversion<V>>(
+pub(crate) fn ask<K: Key + Hash, V: Drop, O: Drop, I: Inversion<V>>(
     alloc: Global,
     slots: &mut Slots<K, V, I>,
     guesses: &mut OpenGuesses<K>,
     said: &mut Outputs<O>,
+    places: &mut Vec<usize>,
     no_tags: &TagSet,
     own: &Option<GuessId>,
     step: &Step<K, V, O, I>,
@@ -178,10 +184,12 @@ pub(crate) fn ask<K: Key, V: Drop, O: Drop, I: Inversion<V>>(
         → HasKeptRoom guesses.new (length step.now.written.items)) }
     ensures room { OnOk result (IfSome step.now.said (λ w. HasRoom said.new w.0)) }
 {
-    let both = tags_of_step(alloc, slots, own, step)?;
-    reserve_output(said, &step.said)?;
     let written = step.written.as_slice();
-    if make_ready(slots, guesses, no_tags, own, &both.tags, written).is_err() {
+    find_all(slots, places, written)?;
+    let places = places.as_slice();
+    let both = tags_of_step(alloc, slots, places, own, step)?;
+    reserve_output(said, &step.said)?;
+    if make_ready(slots, guesses, no_tags, own, &both.tags, written, places).is_err() {
         settle_all(slots, written);
         return Err(AllocError);
     }
@@ -190,10 +198,11 @@ pub(crate) fn ask<K: Key, V: Drop, O: Drop, I: Inversion<V>>(
 
 /// Makes the writes of a step, for which all is ready, and says its output. The step's buffers are empty then, with their
 /// room. It takes no memory.
-pub(crate) fn perform<K: Key, V: Drop, O: Drop, I: Inversion<V>>(
+pub(crate) fn perform<K: Key + Hash, V: Drop, O: Drop, I: Inversion<V>>(
     slots: &mut Slots<K, V, I>,
     said: &mut Outputs<O>,
     tags: TagSet,
+    places: &[usize],
     step: &mut Step<K, V, O, I>,
 )
 where
@@ -211,11 +220,73 @@ where
     ensures emptied { IsEmptied step.old step.new }
 {
     let written = step.written.as_mut_slice();
-    let done = write_all(slots, &tags, written);
+    let done = write_all(slots, &tags, written, places);
     settle_rest(slots, written, done);
     step.looked.clear();
     step.written.clear();
     if let Some((to, output)) = mem::replace(&mut step.said, None) {
         said.say(to, output, tags);
     }
+}
+
+/// Makes all room that a step wants whose keys rest on nothing. Nothing that is seen changes.
+fn ask_alone<K: Key + Hash, V: Drop, O: Drop, I: Inversion<V>>(
+    slots: &mut Slots<K, V, I>,
+    said: &mut Outputs<O>,
+    places: &mut Vec<usize>,
+    no_tags: &TagSet,
+    step: &Step<K, V, O, I>,
+) -> Result<(), AllocError>
+    ensures look { (q : K) → look_at K.order slots.new q ≡ look_at K.order slots.old q }
+    ensures log { (q : K) → log_at K.order slots.new q ≡ log_at K.order slots.old q }
+    ensures settled { SettledBut K.order (keys_of step.now.written.items) slots.old
+        → SettledBut K.order (keys_of step.now.written.items) slots.new }
+    ensures said { said.new.said ≡ said.old.said }
+    ensures ready { OnOk result ((q : K)
+        → is_in K.order (keys_of step.now.written.items) q ≡ true
+        → IsReady K.order no_tags.now slots.new q) }
+    ensures room { OnOk result (IfSome step.now.said (λ w. HasRoom said.new w.0)) }
+{
+    let written = step.written.as_slice();
+    find_all(slots, places, written)?;
+    reserve_output(said, &step.said)?;
+    prepare_all(slots, no_tags, written, places.as_slice())
+}
+
+/// Takes a step whose keys rest on nothing: it wants no tags and no notes. Without memory nothing that is seen has changed.
+pub(crate) fn perform_alone<K: Key + Hash, V: Drop, O: Drop, I: Inversion<V>>(
+    alloc: Global,
+    slots: &mut Slots<K, V, I>,
+    said: &mut Outputs<O>,
+    places: &mut Vec<usize>,
+    no_tags: &TagSet,
+    step: &mut Step<K, V, O, I>,
+) -> Result<(), AllocError>
+where
+    I::Write: Drop,
+    requires settled { AllSettled K.order slots.old }
+    requires no_tags { no_tags.now ≡ [] }
+    requires clean { (q : K) → is_in K.order (keys_of step.old.written.items) q ≡ true
+        → log_at K.order slots.old q ≡ [] }
+    ensures settled { AllSettled K.order slots.new }
+    ensures look { OnErr result
+        ((q : K) → look_at K.order slots.new q ≡ look_at K.order slots.old q) }
+    ensures log { OnErr result
+        ((q : K) → log_at K.order slots.new q ≡ log_at K.order slots.old q) }
+    ensures said { OnErr result (said.new.said ≡ said.old.said) }
+    ensures kept { OnErr result (step.new ≡ step.old) }
+    ensures writes { OnOk result
+        (Performed K.order slots.old []
+        (made_by K.order I.written (look_at K.order slots.old) step.old.written.items) slots.new) }
+    ensures says { OnOk result (said.new.said ≡ says step.old.said [] said.old.said) }
+    ensures emptied { OnOk result (IsEmptied step.old step.new) }
+{
+    if ask_alone(slots, said, places, no_tags, step).is_err() {
+        let refused = step.written.as_slice();
+        settle_all(slots, refused);
+        return Err(AllocError);
+    }
+    let none = TagSet::new(alloc);
+    perform(slots, said, none, places.as_slice(), step);
+    Ok(())
 }

@@ -3,14 +3,15 @@ ghost use Rattle.std.specs.Prelude.{◌≡◌, ◌≢◌, ◌==◌, ◌<◌, ◌
 ghost use Rattle.sk_speculator.specs.Base.{IsStrictlySortedBy, non_zero_u16_get, ShowsInOrder, deref, slice_get};
 ghost use Rattle.sk_speculator.specs.Base.{option_copied, option_map, known, none_drawn, AreStatuses, is_in, released};
 ghost use Rattle.sk_speculator.specs.Base.{has, numbers, tags_at, Status, said_at, first_of, waiting_of, look_at};
-ghost use Rattle.sk_speculator.specs.Base.{log_at, Memory};
+ghost use Rattle.sk_speculator.specs.Base.{log_at, IsDistinct, eq_by_cmp, Memory};
 ghost use Rattle.sk_speculator.specs.Calls.{next_of, Commits, CommitPost, FailsIn, FailPost, Refuses, Takes, TookBack};
 ghost use Rattle.sk_speculator.specs.Emptied.{IsEmptied};
 ghost use Rattle.sk_speculator.specs.Parts.{deed, machine_of, made_by, undo_state_of, IsSame};
 
-use crate::asking::{StepTags, ask, perform};
+use crate::asking::{StepTags, ask, perform, perform_alone};
 use crate::lists::{relieve_all, tags_of};
 use crate::{Committed, Failed, Refusal, Step, Undone};
+use indexmap::map::Keys;
 use sk_guesses::{Guess, OpenGuesses, Redeemed, Status};
 use sk_ids::{GuessId, TagSet};
 use sk_inversion::{Inversion, Whole};
@@ -18,23 +19,25 @@ use sk_map::Key;
 use sk_outputs::Outputs;
 use sk_slots::{Slot, Slots};
 use std::alloc::{AllocError, Global};
-use std::collections::btree_map::Keys;
+use std::hash::Hash;
 use std::marker::Model;
 use std::num::NonZeroU16;
 
 /// A speculative kernel over its user's own keys, values and outputs, whose steps are taken outside. It keeps no record of
 /// steps.
 #[derive(Drop)]
-pub struct Speculator<K: Key, V, O, I: Inversion<V> = Whole> {
+pub struct Speculator<K: Key + Hash, V, O, I: Inversion<V> = Whole> {
     alloc: Global,
     slots: Slots<K, V, I>,
     guesses: OpenGuesses<K>,
     said: Outputs<O>,
+    /// The places of the keys that a step writes; it is room that is used again.
+    places: Vec<usize>,
     /// What `tags_of` lends where a key rests on nothing.
     no_tags: TagSet,
 }
 
-impl<K: Key, V, O, I: Inversion<V>> Model for Speculator<K, V, O, I> {
+impl<K: Key + Hash, V, O, I: Inversion<V>> Model for Speculator<K, V, O, I> {
     ghost use Rattle.std.specs.Prelude.{◌≡◌, []};
     ghost use Rattle.sk_guesses.specs.Opens.{opens_of};
     ghost use Rattle.sk_speculator.specs.Parts.{Parts, parts_code, IsSound};
@@ -61,7 +64,7 @@ impl<K: Key, V, O, I: Inversion<V>> Model for Speculator<K, V, O, I> {
         m.guesses.opens };
 }
 
-impl<K: Key, V, O, I: Inversion<V>> Speculator<K, V, O, I> {
+impl<K: Key + Hash, V, O, I: Inversion<V>> Speculator<K, V, O, I> {
     /// No key is there, and nothing has happened, in the kernel of this number, of whose guesses so many may be undecided at
     /// once.
     pub fn new(alloc: Global, number: u64, limit: NonZeroU16) -> Speculator<K, V, O, I>
@@ -77,6 +80,7 @@ impl<K: Key, V, O, I: Inversion<V>> Speculator<K, V, O, I> {
             slots: Slots::new(alloc),
             guesses: OpenGuesses::new(alloc, number, limit.get()),
             said: Outputs::new(alloc),
+            places: Vec::new(alloc),
             no_tags: TagSet::new(alloc),
         }
     }
@@ -95,7 +99,7 @@ impl<K: Key, V, O, I: Inversion<V>> Speculator<K, V, O, I> {
         tags_of(&self.slots, &self.no_tags, key)
     }
 
-    /// The keys that are there or rest on a guess, by their order, each once.
+    /// The keys that are there or rest on a guess, each once.
     pub fn keys(&self) -> Keys<'_, K, Slot<V, I>>
         ensures present { (k : K) → is_in K.order result k ≡ false
             → look_at K.order self.now.slots k ≡ None }
@@ -104,7 +108,7 @@ impl<K: Key, V, O, I: Inversion<V>> Speculator<K, V, O, I> {
         ensures some { (k : K) → is_in K.order result k ≡ true
             → look_at K.order self.now.slots k ≡ None
             → log_at K.order self.now.slots k ≡ [] → ⊥ }
-        ensures rising { IsStrictlySortedBy K.order result }
+        ensures once { IsDistinct (eq_by_cmp K.order) result }
         ensures runs { ShowsInOrder (deref {X = K}) }
     {
         self.slots.keys()
@@ -135,6 +139,13 @@ impl<K: Key, V, O, I: Inversion<V>> Speculator<K, V, O, I> {
         ensures { result ≡ length self.now.opens }
     {
         self.guesses.undecided()
+    }
+
+    /// Whether no guess is undecided.
+    fn is_idle(&self) -> bool
+        ensures { result ≡ true → self.now.opens ≡ [] }
+    {
+        self.guesses.undecided() == 0
     }
 
     /// How many guesses may be undecided at once.
@@ -215,7 +226,7 @@ impl<K: Key, V, O, I: Inversion<V>> Speculator<K, V, O, I> {
     }
 }
 
-impl<K: Key, V: Drop, O: Drop, I: Inversion<V>> Speculator<K, V, O, I> {
+impl<K: Key + Hash, V: Drop, O: Drop, I: Inversion<V>> Speculator<K, V, O, I> {
     /// Takes a step. Its buffers are empty then, with their room. Without memory the step is as it was, and nothing has changed.
     pub fn take(&mut self, step: &mut Step<K, V, O, I>) -> Result<(), AllocError>
     where
@@ -229,11 +240,15 @@ impl<K: Key, V: Drop, O: Drop, I: Inversion<V>> Speculator<K, V, O, I> {
         ensures err { OnErr result (IsSame K.order self.old self.new) }
         ensures kept { OnErr result (step.new ≡ step.old) }
     {
+        if self.is_idle() {
+            return self.take_alone(step);
+        }
         let asked = ask(
             self.alloc,
             &mut self.slots,
             &mut self.guesses,
             &mut self.said,
+            &mut self.places,
             &self.no_tags,
             &None,
             step,
@@ -242,8 +257,38 @@ impl<K: Key, V: Drop, O: Drop, I: Inversion<V>> Speculator<K, V, O, I> {
             return Err(AllocError);
         };
         let StepTags { tags, own: _ } = both;
-        perform(&mut self.slots, &mut self.said, tags, step);
+        perform(
+            &mut self.slots,
+            &mut self.said,
+            tags,
+            self.places.as_slice(),
+            step,
+        );
         Ok(())
+    }
+
+    /// Takes a step where no guess is undecided, so that nothing rests on one.
+    fn take_alone(&mut self, step: &mut Step<K, V, O, I>) -> Result<(), AllocError>
+    where
+        I::Write: Drop,
+        requires { self.old.opens ≡ [] }
+        ensures ok { OnOk result
+            (Takes K.order self.old
+            (deed step.old.looked.items
+            (made_by K.order I.written (look_at K.order self.old.slots) step.old.written.items)
+            step.old.said) None self.new) }
+        ensures emptied { OnOk result (IsEmptied step.old step.new) }
+        ensures err { OnErr result (IsSame K.order self.old self.new) }
+        ensures kept { OnErr result (step.new ≡ step.old) }
+    {
+        perform_alone(
+            self.alloc,
+            &mut self.slots,
+            &mut self.said,
+            &mut self.places,
+            &self.no_tags,
+            step,
+        )
     }
 
     /// Draws the next guess and takes its step, which rests on it. The step's buffers are empty then, with their room. After a
@@ -276,6 +321,7 @@ impl<K: Key, V: Drop, O: Drop, I: Inversion<V>> Speculator<K, V, O, I> {
             &mut self.slots,
             &mut self.guesses,
             &mut self.said,
+            &mut self.places,
             &self.no_tags,
             &Some(id),
             step,
@@ -285,7 +331,13 @@ impl<K: Key, V: Drop, O: Drop, I: Inversion<V>> Speculator<K, V, O, I> {
         };
         let StepTags { tags, own } = both;
         let guess = self.guesses.draw(id, own, step.written.as_slice());
-        perform(&mut self.slots, &mut self.said, tags, step);
+        perform(
+            &mut self.slots,
+            &mut self.said,
+            tags,
+            self.places.as_slice(),
+            step,
+        );
         Ok(guess)
     }
 
@@ -382,6 +434,7 @@ impl<K: Key, V: Drop, O: Drop, I: Inversion<V>> Speculator<K, V, O, I> {
             slots,
             guesses: _,
             said,
+            places: _places,
             no_tags: _,
         } = self;
         Ok((slots, said))

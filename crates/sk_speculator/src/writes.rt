@@ -8,7 +8,32 @@ use sk_inversion::Inversion;
 use sk_map::Key;
 use sk_slots::Slots;
 use std::alloc::AllocError;
+use std::hash::Hash;
 use std::mem;
+use std::slice::Iter;
+
+/// The places of the keys that a step writes. They save searches: a key is looked for at its place first, and found wherever it
+/// is.
+pub(crate) fn find_all<K: Key + Hash, V, I: Inversion<V>>(
+    slots: &Slots<K, V, I>,
+    places: &mut Vec<usize>,
+    written: &[(K, I::Write)],
+) -> Result<(), AllocError> {
+    places.clear();
+    for write in written {
+        places.reserve(1)?;
+        places.push_reserved(slots.find(&write.0).unwrap_or(usize::MAX));
+    }
+    Ok(())
+}
+
+/// The next place, or one at which nothing is.
+pub(crate) fn next_place(places: &mut Iter<'_, usize>) -> usize {
+    match places.next() {
+        Some(place) => *place,
+        None => usize::MAX,
+    }
+}
 
 /// Adds guesses to a set. Most sets have them.
 fn with_tags(all: TagSet, more: &TagSet) -> Result<TagSet, AllocError>
@@ -21,58 +46,64 @@ fn with_tags(all: TagSet, more: &TagSet) -> Result<TagSet, AllocError>
 }
 
 /// Adds to a set the guesses that a key rests on.
-fn add_tags_at<K: Key, V, I: Inversion<V>>(
+fn add_tags_at<K: Key + Hash, V, I: Inversion<V>>(
     slots: &Slots<K, V, I>,
     tags: TagSet,
+    place: usize,
     key: &K,
 ) -> Result<TagSet, AllocError>
     ensures { IfOk result
         (λ all. (g : ℕ) → has g all ≡ (has g tags || any_rests K.order slots.now g (key.now ∷ []))) }
 {
-    match slots.tags(key) {
+    match slots.tags_near(place, key) {
         Some(more) => with_tags(tags, more),
         None => Ok(tags),
     }
 }
 
 /// Adds to a set the guesses that these keys rest on.
-pub(crate) fn add_tags<K: Key, V, I: Inversion<V>>(
+pub(crate) fn add_tags<K: Key + Hash, V, I: Inversion<V>>(
     slots: &Slots<K, V, I>,
     tags: TagSet,
     keys: &[K],
+    places: &[usize],
 ) -> Result<TagSet, AllocError>
     ensures { IfOk result
         (λ all. (g : ℕ) → has g all ≡ (has g tags || any_rests K.order slots.now g keys.now)) }
 {
     let mut all = tags;
+    let mut near = places.iter();
     for key in keys {
-        all = add_tags_at(slots, all, key)?;
+        all = add_tags_at(slots, all, next_place(&mut near), key)?;
     }
     Ok(all)
 }
 
 /// Adds to a set the guesses that the keys of writes rest on.
-pub(crate) fn add_written_tags<K: Key, V, I: Inversion<V>>(
+pub(crate) fn add_written_tags<K: Key + Hash, V, I: Inversion<V>>(
     slots: &Slots<K, V, I>,
     tags: TagSet,
     written: &[(K, I::Write)],
+    places: &[usize],
 ) -> Result<TagSet, AllocError>
     ensures { IfOk result
         (λ all. (g : ℕ) → has g all
         ≡ (has g tags || any_rests K.order slots.now g (keys_of written.now))) }
 {
     let mut all = tags;
+    let mut near = places.iter();
     for write in written {
-        all = add_tags_at(slots, all, &write.0)?;
+        all = add_tags_at(slots, all, next_place(&mut near), &write.0)?;
     }
     Ok(all)
 }
 
 /// Makes room for what writes with these tags note.
-pub(crate) fn prepare_all<K: Key, V: Drop, I: Inversion<V>>(
+pub(crate) fn prepare_all<K: Key + Hash, V: Drop, I: Inversion<V>>(
     slots: &mut Slots<K, V, I>,
     tags: &TagSet,
     written: &[(K, I::Write)],
+    places: &[usize],
 ) -> Result<(), AllocError>
     ensures look { (q : K) → look_at K.order slots.new q ≡ look_at K.order slots.old q }
     ensures log { (q : K) → log_at K.order slots.new q ≡ log_at K.order slots.old q }
@@ -81,8 +112,9 @@ pub(crate) fn prepare_all<K: Key, V: Drop, I: Inversion<V>>(
     ensures ready { OnOk result ((q : K) → is_in K.order (keys_of written.now) q ≡ true
         → IsReady K.order tags.now slots.new q) }
 {
+    let mut near = places.iter();
     for write in written {
-        slots.prepare(&write.0, tags)?;
+        slots.prepare(next_place(&mut near), &write.0, tags)?;
     }
     Ok(())
 }
@@ -97,10 +129,11 @@ fn take_write<K: Key, W: Default>(write: &mut (K, W)) -> (K, W)
 }
 
 /// Makes writes that are ready, all with these tags, and answers whether nothing is left to be settled. They are moved out.
-pub(crate) fn write_all<K: Key, V: Drop, I: Inversion<V>>(
+pub(crate) fn write_all<K: Key + Hash, V: Drop, I: Inversion<V>>(
     slots: &mut Slots<K, V, I>,
     tags: &TagSet,
     written: &mut [(K, I::Write)],
+    places: &[usize],
 ) -> bool
     requires ready { (q : K) → is_in K.order (keys_of written.old) q ≡ true
         → IsReady K.order tags.now slots.old q }
@@ -115,15 +148,16 @@ pub(crate) fn write_all<K: Key, V: Drop, I: Inversion<V>>(
         → AllSettled K.order slots.new }
 {
     let mut done = true;
+    let mut near = places.iter();
     for place in 0..written.len() {
         let (key, write) = take_write(&mut written[place]);
-        done &= slots.write(&key, tags, write);
+        done &= slots.write(next_place(&mut near), &key, tags, write);
     }
     done
 }
 
 /// Lets go of the room that was made for notes of these keys, and of slots of which there is nothing. It takes no memory.
-pub(crate) fn settle_all<K: Key, V: Drop, I: Inversion<V>>(
+pub(crate) fn settle_all<K: Key + Hash, V: Drop, I: Inversion<V>>(
     slots: &mut Slots<K, V, I>,
     written: &[(K, I::Write)],
 )
@@ -138,7 +172,7 @@ pub(crate) fn settle_all<K: Key, V: Drop, I: Inversion<V>>(
 }
 
 /// The same behind writes, where something may be left to be settled.
-pub(crate) fn settle_rest<K: Key, V: Drop, I: Inversion<V>>(
+pub(crate) fn settle_rest<K: Key + Hash, V: Drop, I: Inversion<V>>(
     slots: &mut Slots<K, V, I>,
     written: &[(K, I::Write)],
     done: bool,

@@ -11,7 +11,7 @@ returns-in-Some g c =
     let exact = subst IsAntisymmetric g.met.K.Key.same g.met.K.Key.exact in
     let k = c.args.key.now in
     let m = seen R c.self.inside.slots in
-    let all = rw c.in-Some.is at (c.get_mut.follows.holds c.prepare.new.self) in
+    let all = rw c.in-Some.is at (c.get_mut_near.follows.holds c.prepare.new.self) in
     let here = sym c.in-Some.ensures.value in
     record {
       look = λ q. one_same total exact (λ (s : SlotView _). s.value) m _ k _ c.prepare.new.self here all c.prepare.ensures.value q ∙ ap (λ es. look_at R es q) c.self.view_is;
@@ -30,8 +30,8 @@ returns g c =
     let k = c.args.key.now in
     let m = seen R c.self.inside.slots in
     let w = c.prepare-2.new.self in
-    let none : get m k ≡ None = sym c.get_mut.ensures.value ∙ ap option_copied_mut c.in_default.is in
-    let same = c.get_mut.follows.holds-at-none in
+    let none : get m k ≡ None = sym c.get_mut_near.ensures.value ∙ ap option_copied_mut c.in_default.is in
+    let same = c.get_mut_near.follows.holds-at-none in
     record {
       look = λ q. either c.put.result c.put.ensures.ok c.put.ensures.err (λ all. one_born total exact (λ (s : SlotView _). s.value) m _ k w none (all ∙ ap (λ es. insert (seen R es) k w) same) (c.in_ok-prepare.ensures.value ∙ ap (λ (s : SlotView _). s.value) c.new-slot.ensures) q) (λ kept. ap (λ es. look_at R es q) (kept ∙ same)) ∙ ap (λ es. look_at R es q) c.self.view_is;
       log = λ q. either c.put.result c.put.ensures.ok c.put.ensures.err (λ all. one_born total exact (λ (s : SlotView _). s.log) m _ k w none (all ∙ ap (λ es. insert (seen R es) k w) same) (c.in_ok-prepare.ensures.log ∙ ap (λ (s : SlotView _). s.log) c.new-slot.ensures) q) (λ kept. ap (λ es. log_at R es q) (kept ∙ same)) ∙ ap (λ es. log_at R es q) c.self.view_is;

@@ -11,7 +11,7 @@ returns g c =
     let exact = subst IsAntisymmetric g.met.K.Key.same g.met.K.Key.exact in
     let k = c.args.key.now in
     let m = seen R c.self.inside.slots in
-    let all = rw c.in-Some.is at (c.get_mut.follows.holds c.write.new.self) in
+    let all = rw c.in-Some.is at (c.get_mut_near.follows.holds c.write.new.self) in
     let here = sym c.in-Some.ensures.value in
     record {
       look = λ q. one_changed total exact (λ (s : SlotView _). s.value) (λ (s : SlotView _). g.I.Inversion.written c.args.write s.value) m _ k _ c.write.new.self here all c.write.ensures.value q ∙ ap (λ es. cond (eq_by_cmp R q k) (g.I.Inversion.written c.args.write (look_at R es q)) (look_at R es q)) c.self.view_is;

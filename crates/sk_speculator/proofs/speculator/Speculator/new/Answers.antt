@@ -10,7 +10,7 @@ invariant_of-result g c =
     let total = subst IsTotalOrder g.met.K.Key.same g.met.K.Ord.total in
     let exact = subst IsAntisymmetric g.met.K.Key.same g.met.K.Key.exact in
     let a : Parts _ _ _ = record { slots = c.new.result; guesses = c.new-2.result.view; opens = opens_of c.new-2.result.opens; said = c.new-3.result.said } in (
-      c.new-4.ensures,
+      c.new-5.ensures,
       record {
         settled = c.new.ensures.settled;
         exact = subst (AllExact R (tags_by (log_at R a.slots))) (sym c.new-2.ensures.opens) tt;

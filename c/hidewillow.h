@@ -2,7 +2,7 @@
  * kernel and a server.
  *
  * What is at play is held by a handle, which begins as {0}, and holds nothing then. A handle is
- * passed by its address, never written, and used by one thread, that which opened it. It may be
+ * passed by its address, never written, and used by one thread at a time. It may be
  * moved, as by an assignment, if only the copy is used from then on: it is just the pointer of a
  * block that has what it holds, and no call keeps a pointer that it was given. hidewillow_close
  * lets go of what it holds, after which it may be opened again. Memory comes from malloc, realloc
@@ -487,6 +487,7 @@ typedef struct {
     uint64_t segment;  /* where the frames that count end: this segment, */
     uint64_t place;    /* so many bytes from its front */
     uint64_t dropped;  /* bytes behind that count for nothing, up to the last that is not 0 */
+    uint64_t damaged;  /* 1 where a whole frame stands at that place that says no works, else 0 */
 } hidewillow_read_counted;
 
 /* Begins to read a log. The first frame of its segments has the number `first`: 1, or behind a snapshot what
@@ -508,10 +509,12 @@ hidewillow_told hidewillow_recovery_head(hidewillow_recovery *recovery, uint64_t
 hidewillow_told hidewillow_recovery_feed(hidewillow_recovery *recovery, uint64_t segment,
                                          const uint8_t *bytes, size_t byte_count);
 
-/* All came. Told: DONE; REFUSED 15 where a whole frame says no works, or more bytes were dropped than
- * may have been in flight: the counts tell the place, and all begins anew; the same where what came is no
+/* All came. So many bytes may have been in flight, and `known` is the number of the last frame of which a later
+ * frame, a head or a mark says that all up to it were told as synced; 0 where nothing is known. Told: DONE;
+ * REFUSED 15 where a whole frame says no works, more bytes were dropped than may have been in flight, or `next`
+ * is `known` or lower: the counts tell the place, and all begins anew; the same where what came is no
  * snapshot, and nothing is counted; REFUSED 14 where this was told before; MEMORY, and all begins anew. */
-hidewillow_told hidewillow_recovery_end(hidewillow_recovery *recovery, uint64_t in_flight,
+hidewillow_told hidewillow_recovery_end(hidewillow_recovery *recovery, uint64_t in_flight, uint64_t known,
                                         hidewillow_read_counted *counts);
 
 /* Shows the next piece of a snapshot of what was found: the next entries, as many as have room, one at least,

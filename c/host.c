@@ -288,14 +288,15 @@ static void head(host *of, const words *call) { read_next(of, call, 1); }
 
 static void fed_piece(host *of, const words *call) { read_next(of, call, 0); }
 
-/* All was read; a number of bytes that may have been in flight may follow. */
+/* All was read; a number of bytes that may have been in flight may follow, and that of a frame that is known as synced. */
 static void end(host *of, const words *call) {
     uint64_t in_flight = call->count > 1 ? number(call, 1) : UINT64_MAX;
-    hidewillow_told told = hidewillow_recovery_end(&of->recovery, in_flight, &of->counts);
+    uint64_t known = call->count > 2 ? number(call, 2) : 0;
+    hidewillow_told told = hidewillow_recovery_end(&of->recovery, in_flight, known, &of->counts);
     for (int i = 0; of->again && told.answer == HIDEWILLOW_MEMORY && i < TRIES; i++) {
         told = read_again(of);
         if (told.answer != HIDEWILLOW_MEMORY)
-            told = hidewillow_recovery_end(&of->recovery, in_flight, &of->counts);
+            told = hidewillow_recovery_end(&of->recovery, in_flight, known, &of->counts);
     }
     answers(of, told);
 }

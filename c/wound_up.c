@@ -55,7 +55,7 @@ int main(void)
     hidewillow_frame_place place = {0};
     uint8_t head[24] = {0};
     hidewillow_recovery_open(&recovery, 1);
-    hidewillow_recovery_end(&recovery, 0, &read);
+    hidewillow_recovery_end(&recovery, 0, 0, &read);
     hidewillow_store_open(&store, &recovery, &limits, 1, head, sizeof head, &place);
     uint16_t channel = (uint16_t)hidewillow_store_connect(&store).number;
     feed(&store, channel, "SET key a\r\n");

@@ -450,18 +450,20 @@ pub extern "C" fn hidewillow_recovery_feed(
     with!(recovery, alloc, read => read.feed(alloc, segment, bytes))
 }
 
-/// All came: counts what was read, where no more was dropped than may have been in flight.
+/// All came: counts what was read, where no more was dropped than may have been in flight, and no frame is missing of those up to
+/// the one that is known as synced.
 #[unsafe(no_mangle)]
 pub extern "C" fn hidewillow_recovery_end(
     alloc: Global,
     recovery: &mut Recovering,
     in_flight: u64,
+    known: u64,
     counts: &mut ReadCounts,
 ) -> Told
-    ensures { Does (EndsWith in_flight counts.old counts.new) (counts.new ≡ counts.old)
+    ensures { Does (EndsWith in_flight known counts.old counts.new) (counts.new ≡ counts.old)
         result recovery.old.held recovery.new.held }
 {
-    with!(recovery, alloc, read => read.end(alloc, in_flight, counts))
+    with!(recovery, alloc, read => read.end(alloc, in_flight, known, counts))
 }
 
 /// The next piece of a snapshot of what was found, as a frame in the room.

@@ -2,7 +2,9 @@
 pub use Rattle.std.proofs.Common.{Some, subst, zero, rules, ◌^◌, ◌-◌, arith, ap, ◌++◌, length, length-append, suc, ◌≤◌}
 pub use Rattle.std.proofs.Common.{take, false, refl, lit<, [], Ok, ◌∷◌, Err, ◌≡◌, ◌+◌, Option, List, ℕ, true, sym, None}
 pub use Rattle.std.proofs.Common.{◌<◌, Result, ◌∙◌, IsSomeAnd}
-pub use Rattle.std.specs.Prelude.{option_and_then}
+pub use Rattle.std.proofs.lemmas.Bool.{eq-eqb, eqb-true}
+pub use Rattle.std.specs.Prelude.{option_and_then, IfSome}
+pub use Rattle.std.proofs.Common.{Bool, ◌==◌, if◌then◌else◌, is_some}
 pub use Rattle.std.specs.Str.Lines.{lines}
 pub use Rattle.std.proofs.Math.Nat.{min-le_left, min-le_right}
 pub use Rattle.std.proofs.alloc.Global.TheLaws.{the_within as global_within, lowers as global_lowers}
@@ -26,7 +28,8 @@ pub use Rattle.sk_handles.specs.DeskCalls.{client_in}
 pub use Rattle.sk_handles.specs.Faults.{placed, IsPlaced}
 pub use Rattle.sk_handles.specs.Kept.{cell_at, heap, kept_at}
 pub use Rattle.sk_handles.specs.Opening.{opening}
-pub use Rattle.sk_handles.specs.Reading.{IsGiven, NextIs, is_damaged, next_number, HoldsFrom, FindsOf, Comes, GoesTo}
+pub use Rattle.sk_handles.specs.Reading.{IsGiven, NextIs, next_number, HoldsFrom, FindsOf, Comes, GoesTo, Holds, Leaves}
+pub use Rattle.sk_handles.specs.Reading.{left_by, zeros_by, zeros_of, Lets}
 pub use Rattle.sk_handles.specs.Reopening.{last_of, HasFound, IsCause, AreGiven}
 pub use Rattle.sk_handles.specs.StoreCalls.{place_of}
 pub use Rattle.sk_handles.specs.Told.{just}
@@ -48,7 +51,11 @@ pub use Rattle.sk_faults.specs.declared.part.Part.TheVariants.{Declarations}
 pub use Rattle.sk_kernel.specs.Kernel.{KernelView}
 pub use Rattle.sk_log.specs.Frame.{frame}
 pub use Rattle.sk_plain_store.specs.Plain.{Entries}
-pub use Rattle.sk_recovered.specs.Recovered.{IsWithin, HasRecovered}
+pub use Rattle.sk_recovered.specs.Recovered.{is_damaged, IsWithin, HasRecovered}
+pub use Rattle.sk_log.specs.Crash.{UsesFront}
+pub use Rattle.sk_recovered.proofs.Reached.{used_is}
+pub use Rattle.sk_recovered.specs.Frames.{capped}
+pub use Rattle.sk_recovered.specs.Segments.{used}
 pub use Rattle.sk_recovered.specs.Snapshots.{snapshot_heads}
 pub use Rattle.sk_recovered.specs.declared.heads.Head.{Head}
 pub use Rattle.sk_recovered.specs.declared.recovered.Recovered.{Recovered}

@@ -82,8 +82,10 @@ pub use Rattle.sk_play.specs.declared.leasing.LeaseTold.{LeaseTold}
 pub use Rattle.sk_play.specs.declared.told.WorldTold.{WorldTold}
 pub use Rattle.sk_record.specs.Machine.{released}
 pub use Rattle.sk_record.specs.UndoState.{numbers}
-pub use Rattle.sk_recovered.specs.Recovered.{HasRecovered, IsFound, IsWithin}
-pub use Rattle.sk_recovered.specs.Segments.{AddsHead}
+pub use Rattle.sk_log.specs.Crash.{UsesFront}
+pub use Rattle.sk_recovered.specs.Frames.{capped}
+pub use Rattle.sk_recovered.specs.Recovered.{is_damaged, HasRecovered, IsFound, IsWithin}
+pub use Rattle.sk_recovered.specs.Segments.{used, AddsHead}
 pub use Rattle.sk_recovered.specs.Snapshots.{snapshot_heads}
 pub use Rattle.sk_recovered.specs.declared.heads.Head.{Head}
 pub use Rattle.sk_recovered.specs.declared.recovered.Found.{Found}

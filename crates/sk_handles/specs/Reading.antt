@@ -1,7 +1,7 @@
 -- A log that is read again, whose bytes come in pieces.
-use Rattle.std.specs.Prelude.{◌≡◌, ◌⊎◌, ◌||◌, ◌+◌, ◌-◌, ◌<◌, ◌≤◌, ◌^◌, ℕ, Bool, true, false, is_some, min, nat_lt, List, [], ◌∷◌, ◌++◌, drop, length, Option, Some, None, IfSome, Result, Ok, Err, if◌then◌else◌}
+use Rattle.std.specs.Prelude.{◌≡◌, ◌⊎◌, ◌+◌, ◌-◌, ◌==◌, ◌<◌, ◌≤◌, ◌^◌, ℕ, Bool, true, false, is_some, min, List, [], ◌∷◌, ◌++◌, drop, length, Option, Some, None, IfSome, Result, Ok, Err, if◌then◌else◌}
 use Rattle.sk_handles.specs.Base.{slice_get, option_map, AllocError, frame, Entries, IsPiece, HasRecovered, IsFound}
-use Rattle.sk_handles.specs.Base.{IsWithin, AddsHead, snapshot_heads, Head, Found, Recovered, Segment, ABSENT, DONE}
+use Rattle.sk_handles.specs.Base.{capped, is_damaged, used, IsWithin, AddsHead, snapshot_heads, Head, Found, Recovered, Segment, ABSENT, DONE}
 use Rattle.sk_handles.specs.Base.{HELD, MEMORY, REFUSED, SHOWN, Anew, NoPiece, ReadCounts, Reading, Stage, Way, Told}
 use Rattle.sk_handles.specs.Told.{just, opened, told_by}
 
@@ -18,24 +18,21 @@ abbrev pub anew_told : Anew → Told
 anew_told Anew.Memory = just MEMORY 0
 anew_told Anew.NoSnapshot = just REFUSED 15
 
--- whether no crash left this: a frame says no works, or more was dropped than may have been in flight
-abbrev pub is_damaged : ℕ → Found → Bool
-is_damaged in_flight found = is_some found.damage || nat_lt in_flight found.dropped
-
 -- ---- a snapshot
 
 -- These bytes of a snapshot came.
 abbrev pub HasCome : Segment → List ℕ → Type 0
-HasCome s bytes = IsWithin [] 1 snapshot_heads [] bytes s
+HasCome s bytes = IsWithin [] 1 snapshot_heads [] 0 bytes s
 
 -- What is found of a snapshot of which these bytes came.
 abbrev pub FindsOf : Segment → Found → Type 0
-FindsOf s found = (bytes : List ℕ) → HasCome s bytes → IsFound [] 1 snapshot_heads (bytes ∷ []) found
+FindsOf s found = (found.is_damaged ≡ is_damaged 0 0 found)
+    × ((bytes : List ℕ) → HasCome s bytes → IsFound [] 1 snapshot_heads (bytes ∷ []) 0 found)
 
 -- It sets these entries; or it is damaged, or something stands behind its frames, and it is none.
 abbrev pub Sets : Segment → Result Entries Anew → Type 0
-Sets s (Ok entries) = (found : Found) × FindsOf s found × (is_damaged 0 found ≡ false) × (entries ≡ found.store)
-Sets s (Err Anew.NoSnapshot) = (found : Found) × FindsOf s found × (is_damaged 0 found ≡ true)
+Sets s (Ok entries) = (found : Found) × FindsOf s found × (found.is_damaged ≡ false) × (entries ≡ found.store)
+Sets s (Err Anew.NoSnapshot) = (found : Found) × FindsOf s found × (found.is_damaged ≡ true)
 Sets s (Err Anew.Memory) = Unit {0}
 
 -- a piece more of a snapshot of which this came
@@ -92,17 +89,19 @@ TakesHead segment bytes told old new = ((segment ≤ old.last) × (told ≡ orde
 
 -- ---- segments
 
--- The heads are those of a log whose first frame has this number and stands behind these entries, and these bytes of its first segments came.
-abbrev pub HoldsFrom : ℕ → Stage → Entries → List Head → List (List ℕ) → Type 0
-HoldsFrom first (Stage.Heads entries some) start heads bytes = (entries ≡ start) × (some ≡ heads) × (bytes ≡ [])
-HoldsFrom first (Stage.Between read) start heads bytes = HasRecovered start first heads bytes read
-HoldsFrom first (Stage.Within s) start heads bytes = (before : List (List ℕ)) × (came : List ℕ) × (bytes ≡ before ++ came ∷ [])
-    × IsWithin start first heads before came s
-HoldsFrom first (Stage.Found entries) start heads bytes = (found : Found) × IsFound start first heads bytes found × (entries ≡ found.store)
-HoldsFrom first other start heads bytes = ⊥
+-- The heads are those of a log whose first frame has this number and stands behind these entries, these bytes of its first segments came, and so
+-- many count for nothing in later segments without a head.
+abbrev pub HoldsFrom : ℕ → Stage → Entries → List Head → List (List ℕ) → ℕ → Type 0
+HoldsFrom first (Stage.Heads entries some) start heads bytes left = (entries ≡ start) × (some ≡ heads) × (bytes ≡ []) × (left ≡ 0)
+HoldsFrom first (Stage.Between read) start heads bytes left = HasRecovered start first heads bytes left read
+HoldsFrom first (Stage.Within s) start heads bytes left = (before : List (List ℕ)) × (came : List ℕ) × (bytes ≡ before ++ came ∷ [])
+    × IsWithin start first heads before left came s
+HoldsFrom first (Stage.Found entries) start heads bytes left =
+    (found : Found) × IsFound start first heads bytes left found × (entries ≡ found.store)
+HoldsFrom first other start heads bytes left = ⊥
 
-abbrev pub Holds : Reading → Entries → List Head → List (List ℕ) → Type 0
-Holds read start heads bytes = HoldsFrom read.first read.stage start heads bytes
+abbrev pub Holds : Reading → Entries → List Head → List (List ℕ) → ℕ → Type 0
+Holds read start heads bytes left = HoldsFrom read.first read.stage start heads bytes left
 
 -- the number of the segment whose bytes are next
 abbrev pub next_number : List Head → ℕ → Option ℕ
@@ -111,8 +110,8 @@ next_number heads opened = option_map (λ h. h.segment) (slice_get heads opened)
 -- where a segment comes: its bytes are of the one that comes, it is the next, it has no head, or another comes first
 abbrev pub GoesOn : ℕ → Recovered → Way → Type 0
 GoesOn segment read (Way.On s) = (next_number read.heads read.opened ≡ Some segment)
-    × ((start : Entries) (first : ℕ) (heads : List Head) (bytes : List (List ℕ)) → HasRecovered start first heads bytes read
-    → IsWithin start first heads bytes [] s)
+    × ((start : Entries) (first : ℕ) (heads : List Head) (bytes : List (List ℕ)) (left : ℕ) → HasRecovered start first heads bytes left read
+    → IsWithin start first heads bytes left [] s)
 GoesOn segment read (Way.Past same) = (same ≡ read) × IfSome (next_number read.heads read.opened) (λ next. segment < next)
 GoesOn segment read (Way.Not stage) = stage ≡ Stage.Between read
 
@@ -123,27 +122,58 @@ GoesTo last segment stage (Way.Past read) = (last < segment) × (stage ≡ Stage
     × IfSome (next_number read.heads read.opened) (λ next. segment < next)
 GoesTo last segment stage (Way.Not same) = same ≡ stage
 
--- what stands in a segment without a head changes nothing that is known
-abbrev pub Lets : Recovered → Recovered → Reading → Reading → Type 0
-Lets before after old new = ((start : Entries) (first : ℕ) (heads : List Head) (bytes : List (List ℕ))
-    → HasRecovered start first heads bytes before → HasRecovered start first heads bytes after)
-    × ((left zeros : ℕ) × (new ≡ record old { left = left; zeros = zeros }))
+-- ---- segments without a head
 
--- A piece is of the segment that comes; or of the next; or of one that has no head, and counts for nothing.
-abbrev pub Comes : ℕ → List ℕ → ℕ → List Head → List (List ℕ) → List (List ℕ) → Type 0
-Comes segment piece last heads bytes more =
-    ((segment ≡ last) × ((before : List (List ℕ)) × (came : List ℕ) × (bytes ≡ before ++ came ∷ [])
-    × (more ≡ before ++ (came ++ piece) ∷ [])))
-    ⊎ ((last < segment) × (next_number heads (length bytes) ≡ Some segment) × (more ≡ bytes ++ piece ∷ []))
-    ⊎ ((last < segment) × IfSome (next_number heads (length bytes)) (λ next. segment < next) × (more ≡ bytes))
+-- how many zeros end what came of this segment
+abbrev pub zeros_of : Reading → ℕ → ℕ
+zeros_of read segment = if read.left == segment then read.zeros else 0
+
+-- how many bytes more count for nothing with a piece behind so many zeros, up to the last that is not 0, and how many zeros end it
+abbrev pub left_by : ℕ → List ℕ → ℕ
+left_by zeros piece = if used piece == 0 then 0 else capped (zeros + used piece)
+
+abbrev pub zeros_by : ℕ → List ℕ → ℕ
+zeros_by zeros piece = if used piece == 0 then capped (zeros + length piece) else length piece - used piece
+
+-- What stands in a segment without a head counts for nothing, where no other has a head behind it; else that closed it.
+abbrev pub Lets : Option ℕ → ℕ → List ℕ → Recovered → Recovered → Reading → Reading → Type 0
+Lets (Some next) segment piece before after old new = (after ≡ before) × (new ≡ old)
+Lets None segment piece before after old new =
+    let zeros = zeros_of old segment in
+    ((start : Entries) (first : ℕ) (heads : List Head) (bytes : List (List ℕ)) (left : ℕ) → HasRecovered start first heads bytes left before
+    → HasRecovered start first heads bytes (left + left_by zeros piece) after)
+    × (new ≡ record old { left = segment; zeros = zeros_by zeros piece })
+
+-- so many bytes more count for nothing then, and this is known of the segment
+abbrev pub Leaves : Option ℕ → ℕ → List ℕ → ℕ → ℕ → Reading → Reading → Type 0
+Leaves (Some next) segment piece left more old new = (more ≡ left) × (new.left ≡ old.left) × (new.zeros ≡ old.zeros)
+Leaves None segment piece left more old new =
+    let zeros = zeros_of old segment in
+    (more ≡ left + left_by zeros piece) × (new.left ≡ segment) × (new.zeros ≡ zeros_by zeros piece)
+
+-- A piece of a segment with a head came: it is the last then.
+abbrev pub Joins : ℕ → ℕ → ℕ → Reading → Reading → Type 0
+Joins segment left more old new = (more ≡ left) × (new.segment ≡ segment) × (new.left ≡ old.left) × (new.zeros ≡ old.zeros)
+
+-- A piece is of the segment that comes; or of the next; or of one that has no head.
+abbrev pub Comes : ℕ → List ℕ → Reading → Reading → List Head → List (List ℕ) → ℕ → List (List ℕ) → ℕ → Type 0
+Comes segment piece old new heads bytes left more more_left =
+    ((segment ≡ old.segment) × ((before : List (List ℕ)) × (came : List ℕ) × (bytes ≡ before ++ came ∷ [])
+    × (more ≡ before ++ (came ++ piece) ∷ [])) × Joins segment left more_left old new)
+    ⊎ ((old.segment < segment) × (next_number heads (length bytes) ≡ Some segment) × (more ≡ bytes ++ piece ∷ [])
+    × Joins segment left more_left old new)
+    ⊎ ((old.segment < segment) × IfSome (next_number heads (length bytes)) (λ next. segment < next) × (more ≡ bytes)
+    × (new.segment ≡ old.segment) × Leaves (next_number heads (length bytes)) segment piece left more_left old new)
 
 -- It came; or it is not its turn; or, without memory, all begins anew.
 abbrev pub TakesAt : ℕ → List ℕ → Told → Reading → Reading → Type 0
 TakesAt segment piece told old new =
-    ((told ≡ just DONE 0) × (new.last ≡ old.last) × ((start : Entries) (heads : List Head) (bytes : List (List ℕ)) → Holds old start heads bytes
-    → (more : List (List ℕ)) × Comes segment piece old.segment heads bytes more × Holds new start heads more))
+    ((told ≡ just DONE 0) × (new.last ≡ old.last) × ((start : Entries) (heads : List Head) (bytes : List (List ℕ)) (left : ℕ)
+    → Holds old start heads bytes left
+    → (more : List (List ℕ)) × (more_left : ℕ) × Comes segment piece old new heads bytes left more more_left × Holds new start heads more more_left))
     ⊎ ((told ≡ order_refused) × (new.last ≡ old.last)
-    × ((start : Entries) (heads : List Head) (bytes : List (List ℕ)) → Holds old start heads bytes → Holds new start heads bytes))
+    × ((start : Entries) (heads : List Head) (bytes : List (List ℕ)) (left : ℕ) → Holds old start heads bytes left
+    → Holds new start heads bytes left))
     ⊎ ((told ≡ just MEMORY 0) × (new ≡ anew old.first))
 
 -- The number 0 is that of a snapshot.
@@ -162,34 +192,39 @@ counts_of found = record {
   segment = found.segment;
   place = found.offset;
   dropped = found.dropped;
+  damaged = if is_some found.damage then 1 else 0;
 }
 
--- what came has just this in it
-abbrev pub Finds : Reading → Found → Type 0
-Finds old found = (start : Entries) (heads : List Head) (bytes : List (List ℕ)) → Holds old start heads bytes → IsFound start old.first heads bytes found
+-- What came has just this in it; whether it is damaged is said where so many bytes may have been in flight, and the frames up to one are known
+-- as synced.
+abbrev pub Finds : ℕ → ℕ → Reading → Found → Type 0
+Finds in_flight known old found = (found.is_damaged ≡ is_damaged in_flight known found)
+    × ((start : Entries) (heads : List Head) (bytes : List (List ℕ)) (left : ℕ) → Holds old start heads bytes left
+    → IsFound start old.first heads bytes left found)
 
 abbrev pub found_at : ℕ → Found → Reading → Reading
 found_at last found read = record read { stage = Stage.Found found.store; last = last; next = found.number }
 
 -- It is kept; or it is damaged, and is not; without memory it is not told either.
-abbrev pub Keeps : Found → ℕ → ℕ → ReadCounts → ReadCounts → Told → Reading → Reading → Type 0
-Keeps found last in_flight counts counted told old new =
+abbrev pub Keeps : Found → ℕ → ReadCounts → ReadCounts → Told → Reading → Reading → Type 0
+Keeps found last counts counted told old new =
     ((counted ≡ counts_of found)
-    × (((is_damaged in_flight found ≡ false) × (told ≡ just DONE 0) × (new ≡ found_at last found old))
-    ⊎ ((is_damaged in_flight found ≡ true) × (told ≡ just REFUSED 15) × (new ≡ old))))
+    × (((found.is_damaged ≡ false) × (told ≡ just DONE 0) × (new ≡ found_at last found old))
+    ⊎ ((found.is_damaged ≡ true) × (told ≡ just REFUSED 15) × (new ≡ old))))
     ⊎ ((told ≡ just MEMORY 0) × (new ≡ old) × (counted ≡ counts))
 
 -- What was found is kept; or it is damaged, or there is no memory, and all begins anew; or all was read before.
-abbrev pub EndsAt : ℕ → ReadCounts → ReadCounts → Told → Reading → Reading → Type 0
-EndsAt in_flight counts counted told old new =
-    ((found : Found) × Finds old found × Keeps found old.last in_flight counts counted told (anew old.first) new)
+abbrev pub EndsAt : ℕ → ℕ → ReadCounts → ReadCounts → Told → Reading → Reading → Type 0
+EndsAt in_flight known counts counted told old new =
+    ((found : Found) × Finds in_flight known old found × Keeps found old.last counts counted told (anew old.first) new)
     ⊎ ((told ≡ just MEMORY 0) × (new ≡ anew old.first) × (counted ≡ counts))
     ⊎ ((told ≡ order_refused) × (new.last ≡ old.last) × (counted ≡ counts)
-    × ((start : Entries) (heads : List Head) (bytes : List (List ℕ)) → Holds old start heads bytes → Holds new start heads bytes))
+    × ((start : Entries) (heads : List Head) (bytes : List (List ℕ)) (left : ℕ) → Holds old start heads bytes left
+    → Holds new start heads bytes left))
 
 -- Where what came is no snapshot nothing is counted.
-abbrev pub EndsWith : ℕ → ReadCounts → ReadCounts → Told → Reading → Reading → Type 0
-EndsWith in_flight counts counted = BeginsThen (EndsAt in_flight counts counted) (counted ≡ counts)
+abbrev pub EndsWith : ℕ → ℕ → ReadCounts → ReadCounts → Told → Reading → Reading → Type 0
+EndsWith in_flight known counts counted = BeginsThen (EndsAt in_flight known counts counted) (counted ≡ counts)
 
 -- ---- pieces of a snapshot
 

@@ -1,13 +1,13 @@
 //! A log that is read again, whose bytes come in pieces.
 ghost use Rattle.std.specs.Prelude.{◌≡◌, ◌+◌, ◌<◌, ◌≤◌, ◌^◌, ◌++◌, ℕ, drop, length, take, List, Ok, IfOk, OnErr};
-ghost use Rattle.sk_handles.specs.Base.{frame, Entries, Head};
-ghost use Rattle.sk_handles.specs.Reading.{anew, anew_told, is_damaged, no_piece, order_refused, AddsTo, BeginsAt, EndsAt, EndsWith, GivesPiece, GoesOn, GoesTo, HasCome, HoldsFrom, IsGiven, Keeps, Lets, MostIs, NextIs, Sets, StartsOn, TakesAt, TakesHead, TakesPiece, TakesStartAt};
+ghost use Rattle.sk_handles.specs.Base.{frame, Entries, Head, UsesFront};
+ghost use Rattle.sk_handles.specs.Reading.{anew, anew_told, left_by, next_number, no_piece, order_refused, zeros_by, zeros_of, AddsTo, BeginsAt, EndsAt, EndsWith, GivesPiece, GoesOn, GoesTo, HasCome, HoldsFrom, IsGiven, Keeps, Lets, MostIs, NextIs, Sets, StartsOn, TakesAt, TakesHead, TakesPiece, TakesStartAt};
 
 use crate::codes::{ABSENT, DONE, MEMORY, REFUSED, SHOWN};
 use crate::told::Told;
 use sk_commands::ByteString;
 use sk_log::frame::{NUMBER_LIMIT, PAYLOAD_LIMIT};
-use sk_log::{HEAD, Rest, seal};
+use sk_log::{HEAD, seal};
 use sk_plain_store::PlainStore;
 use sk_recovered::{FIRST_PIECE, Found, Heads, Recovered, SNAPSHOT, Segment};
 use sk_replay::Snapshot;
@@ -72,6 +72,8 @@ pub struct ReadCounts {
     pub place: u64,
     /// The bytes behind that count for nothing.
     pub dropped: u64,
+    /// 1 where a whole frame stands at that place that says no works, else 0.
+    pub damaged: u64,
 }
 
 /// Why all begins anew.
@@ -140,20 +142,14 @@ fn next_way(read: Recovered, segment: u64) -> Way
     }
 }
 
-/// Whether no crash left this: a frame says no works, or more was dropped than may have been in flight.
-fn is_damaged(found: &Found, in_flight: u64) -> bool
-    ensures { result ≡ is_damaged in_flight found.now }
-{
-    found.damage.is_some() || found.dropped > in_flight
-}
-
 /// What a snapshot sets, of which all came.
 fn set_by(now: Segment) -> Result<PlainStore, Anew>
     ensures { Sets now result }
 {
     let read = now.close()?;
-    let found = read.end();
-    if is_damaged(&found, 0) {
+    let found = read.end(0, 0);
+    let is_damaged = found.is_damaged;
+    if is_damaged {
         return Err(Anew::NoSnapshot);
     }
     Ok(found.store)
@@ -161,7 +157,8 @@ fn set_by(now: Segment) -> Result<PlainStore, Anew>
 
 /// How many bytes there are up to the last that is not 0.
 fn used_len(bytes: &[u8]) -> usize
-    ensures { result ≤ length bytes.now }
+    ensures within { result ≤ length bytes.now }
+    ensures used { UsesFront result bytes.now }
 {
     let mut len = bytes.len();
     while len > 0 && bytes[len - 1] == 0 {
@@ -171,7 +168,9 @@ fn used_len(bytes: &[u8]) -> usize
 }
 
 /// How many bytes more are dropped with a piece, where so many zeros stand before it, and how many zeros end it then.
-fn dropped_with(zeros: u64, piece: &[u8]) -> (u64, u64) {
+fn dropped_with(zeros: u64, piece: &[u8]) -> (u64, u64)
+    ensures { (result.0 ≡ left_by zeros piece.now) × (result.1 ≡ zeros_by zeros piece.now) }
+{
     let (used, len) = (used_len(piece), piece.len());
     if used == 0 {
         return (0, zeros.saturating_add(len as u64));
@@ -377,12 +376,12 @@ impl Reading {
     /// The segment that comes is done, where one of a greater number comes.
     fn closed(&self, alloc: Global, stage: Stage, segment: u64) -> Result<Stage, AllocError>
         ensures { IfOk result (λ now. (start : Entries) (heads : List Head) (bytes : List (List ℕ))
-            → HoldsFrom self.now.first stage start heads bytes
-            → HoldsFrom self.now.first now start heads bytes) }
+            (left : ℕ) → HoldsFrom self.now.first stage start heads bytes left
+            → HoldsFrom self.now.first now start heads bytes left) }
     {
         match stage {
             Stage::Heads(store, heads) => Ok(Stage::Between(Recovered::new(
-                alloc, store, self.first, heads, 0,
+                alloc, store, self.first, heads,
             ))),
             Stage::Within(now) if self.segment < segment => Ok(Stage::Between(now.close()?)),
             other => Ok(other),
@@ -446,35 +445,55 @@ impl Reading {
         }
     }
 
+    /// How many zeros end what came of a segment.
+    fn zeros_of(&self, segment: u64) -> u64
+        ensures { result ≡ zeros_of self.now segment }
+    {
+        if self.left == segment { self.zeros } else { 0 }
+    }
+
     /// A piece of a segment that has no head counts for nothing. Behind the last head it is dropped, up to the last byte that is
     /// not 0; what stands before a head was closed by that.
     fn without(&mut self, mut read: Recovered, segment: u64, piece: &[u8]) -> Recovered
-        ensures { Lets read result self.old self.new }
+        ensures { Lets (next_number read.heads read.opened) segment piece.now read result
+            self.old self.new }
     {
         if read.next_segment().is_some() {
             return read;
         }
-        let zeros = if self.left == segment { self.zeros } else { 0 };
-        let (dropped, zeros) = dropped_with(zeros, piece);
-        read.leave(Rest::Torn(dropped));
+        let (dropped, zeros) = dropped_with(self.zeros_of(segment), piece);
+        read.leave(dropped);
         self.left = segment;
         self.zeros = zeros;
         read
     }
 
-    /// All came: what was found, where no more was dropped than may have been in flight.
-    pub fn end(&mut self, alloc: Global, in_flight: u64, counts: &mut ReadCounts) -> Told
-        ensures { EndsWith in_flight counts.old counts.new result self.old self.new }
+    /// All came: what was found, where no more was dropped than may have been in flight, and no frame is missing that is known as
+    /// synced.
+    pub fn end(
+        &mut self,
+        alloc: Global,
+        in_flight: u64,
+        known: u64,
+        counts: &mut ReadCounts,
+    ) -> Told
+        ensures { EndsWith in_flight known counts.old counts.new result self.old self.new }
     {
         if let Err(why) = self.begin(alloc) {
             return anew_told(why);
         }
-        self.end_segments(alloc, in_flight, counts)
+        self.end_segments(alloc, in_flight, known, counts)
     }
 
     /// The same, where no piece of a snapshot comes any more.
-    fn end_segments(&mut self, alloc: Global, in_flight: u64, counts: &mut ReadCounts) -> Told
-        ensures { EndsAt in_flight counts.old counts.new result self.old self.new }
+    fn end_segments(
+        &mut self,
+        alloc: Global,
+        in_flight: u64,
+        known: u64,
+        counts: &mut ReadCounts,
+    ) -> Told
+        ensures { EndsAt in_flight known counts.old counts.new result self.old self.new }
     {
         let stage = replace(&mut self.stage, Stage::Nothing);
         let read = match self.closed(alloc, stage, u64::MAX) {
@@ -490,14 +509,14 @@ impl Reading {
         };
         let last = self.last;
         *self = Reading::new(self.first);
-        self.find(read.end(), last, in_flight, counts)
+        self.find(read.end(in_flight, known), last, counts)
     }
 
     /// Keeps what was found, unless it is damaged.
-    fn find(&mut self, found: Found, last: u64, in_flight: u64, counts: &mut ReadCounts) -> Told
-        ensures { Keeps found last in_flight counts.old counts.new result self.old self.new }
+    fn find(&mut self, found: Found, last: u64, counts: &mut ReadCounts) -> Told
+        ensures { Keeps found last counts.old counts.new result self.old self.new }
     {
-        let is_damaged = is_damaged(&found, in_flight);
+        let is_damaged = found.is_damaged;
         let next = found.number;
         let told = ReadCounts {
             frames: found.frames,
@@ -507,6 +526,7 @@ impl Reading {
             segment: found.segment,
             place: found.offset,
             dropped: found.dropped,
+            damaged: u64::from(found.damage.is_some()),
         };
         let Ok(entries) = Snapshot::new(found.store) else {
             return Told::of(MEMORY, 0);

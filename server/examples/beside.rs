@@ -13,6 +13,8 @@ mod http2;
 #[allow(dead_code)]
 #[path = "../src/etcd/proto.rs"]
 mod proto;
+#[path = "../src/etcd/trailers.rs"]
+mod trailers;
 
 use http2::Connection;
 use proto::Message;

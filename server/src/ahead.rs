@@ -10,6 +10,8 @@ pub struct Ahead {
     /// How many answers, and those that have not gone out yet.
     told: u64,
     pub waiting: VecDeque<Box<[u8]>>,
+    /// How many bytes these have.
+    pub bytes: usize,
     /// A part of the next that goes out, and the numbers of those that were undone.
     coming: Vec<u8>,
     pub undone: Vec<u64>,
@@ -20,6 +22,7 @@ impl Ahead {
     pub fn sent(&mut self, text: &[u8]) -> Vec<u8> {
         self.told += 1;
         self.waiting.push_back(text.into());
+        self.bytes += text.len();
         [format!("*2\r\n:{}\r\n", self.told).as_bytes(), text].concat()
     }
 
@@ -36,6 +39,7 @@ impl Ahead {
             } else {
                 break;
             }
+            self.bytes -= text.len();
             self.waiting.pop_front();
         }
         let rest = rest.to_vec();

@@ -40,6 +40,9 @@ impl Server {
         let words: Vec<&[u8]> = words.iter().map(Vec::as_slice).collect();
         if let Some(told) = self.told(channel, &words) {
             self.tell(channel, &told);
+            if door::is_wrong(&told) {
+                self.delay(channel);
+            }
         }
     }
 
@@ -58,10 +61,10 @@ impl Server {
                 return None;
             }
             (b"SAVE" | b"SNAPSHOT", []) => return self.wish(channel, None),
-            (b"BGSAVE", _) => {
-                self.wish(u16::MAX, None);
-                b"+Background saving started\r\n"
-            }
+            (b"BGSAVE", _) => match self.wish(u16::MAX, None) {
+                Some(no) => return Some(no),
+                None => b"+Background saving started\r\n",
+            },
             (b"BACKUP", [name]) if is_name(name) => return self.wish(channel, std::str::from_utf8(name).ok()),
             (b"BACKUP", _) => b"-ERR a backup has one name, of letters, digits, - and _\r\n",
             (b"INFO", of) => {

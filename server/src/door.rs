@@ -1,109 +1,89 @@
 //! The door: what of a client's bytes comes to the store. One that has not said the password is answered here, and nothing of it does.
 use crate::ahead::Ahead;
-use crate::house::House;
 use crate::options::Options;
+use crate::request::Does;
 use crate::server::State;
-use crate::trusted::channels::Fed;
+use crate::trusted::log::Room;
 use std::hint::black_box;
+use std::time::Instant;
 
-/// No request at the door is longer.
-const LONGEST: usize = 1 << 14;
+/// No request at the door is longer; and no other is longer than its words by more.
+pub const LONGEST: usize = 1 << 14;
 pub const OK: &[u8] = b"+OK\r\n";
+const WRONG: &[u8] = b"-WRONGPASS invalid username-password pair or user is disabled.\r\n";
 
-/// What the front of some bytes lacks to be a request: they are a part of one, or of none.
-enum Lack {
-    Part,
-    Fault,
-}
-
-/// Requests that write: the first two only take away.
-const WRITES: [&str; 10] = ["DEL", "FLUSHALL", "SET", "GETSET", "MSET", "APPEND", "INCR", "DECR", "INCRBY", "DECRBY"];
-
-/// What is done with the front of a client's bytes.
-pub enum Admit {
-    /// So many bytes are fed to the store, or this in the place of so many, which is a request that the store hands to its host.
-    Feed(usize),
-    Instead(&'static [u8], usize),
-    /// So many bytes are answered here, where nothing was fed of this client.
-    Tell(Vec<u8>, usize),
+/// What was queued since MULTI: bytes of requests that write, and of what all are to be told.
+#[derive(Clone, Copy, Default)]
+pub struct Queue {
+    pub writes: usize,
+    pub shows: usize,
 }
 
 /// What stands beside knows of a client.
-#[derive(Default)]
 pub struct Guest {
     /// A number that no other has or had.
     pub id: u64,
-    /// Whether it said the password, or needn't, and whether it said at the door that it goes.
+    /// Whether it said the password, or needn't; said at the door that it goes; and has just said a wrong one.
     pub is_in: bool,
     pub leaves: bool,
+    pub is_wrong: bool,
+    /// Whether it sends nothing more; and when it last sent something, or took what it was sent.
+    pub has_ended: bool,
+    pub heard: Instant,
     /// What it waits for, and what is waited for of its socket: to be read and to be written.
     pub state: State,
     pub asks: (bool, bool),
-    /// The batch up to which all is to be decided before it is answered, and what it was sent ahead.
+    /// The batch up to which all is to be decided before it is answered, what it was sent ahead, and what it queues.
     pub waits: Option<u64>,
     pub ahead: Option<Ahead>,
+    pub queue: Option<Queue>,
 }
 
 impl Guest {
-    /// What is done with the front of some bytes, of which the store has nothing yet; or more is to come first, or nothing more is taken.
-    pub fn admit(&mut self, bytes: &[u8], house: &House, has_room: bool) -> Result<Admit, Fed> {
-        if !self.is_in {
-            return self.greet(bytes, &house.options);
-        }
-        let (names, instead): (_, &[u8]) = match (has_room, house.is_heavy) {
-            (true, false) => return Ok(Admit::Feed(bytes.len())),
-            (false, _) => (&WRITES[..], b"NOROOM\r\n"),
-            _ => (&WRITES[2..], b"NOMEMORY\r\n"),
-        };
-        let is_away = |word: &&[u8]| names.iter().any(|name| word.eq_ignore_ascii_case(name.as_bytes()));
-        match request(bytes) {
-            Ok((words, count)) if words.first().is_some_and(is_away) => Ok(Admit::Instead(instead, count)),
-            Ok((_, count)) => Ok(Admit::Feed(count)),
-            Err(Lack::Part) if bytes.len() <= house.options.limits.bytes + LONGEST => Err(Fed::Lacks),
-            Err(_) => Ok(Admit::Feed(bytes.len())),
-        }
+    pub fn new(id: u64, is_in: bool) -> Guest {
+        let (state, heard) = (State::Free, Instant::now());
+        let (leaves, is_wrong, has_ended, asks) = (false, false, false, (false, false));
+        let (waits, ahead, queue) = (None, None, None);
+        Guest { id, is_in, leaves, is_wrong, has_ended, heard, state, asks, waits, ahead, queue }
     }
 
     /// Answers the request of a client that is not in.
-    fn greet(&mut self, bytes: &[u8], options: &Options) -> Result<Admit, Fed> {
-        match request(bytes) {
-            Ok((words, count)) => {
-                let (told, is_in) = greet(options, &words, false);
-                (self.is_in, self.leaves) =
-                    (is_in, words.first().is_some_and(|word| word.eq_ignore_ascii_case(b"QUIT")));
-                Ok(Admit::Tell(told.unwrap_or_default(), count))
+    pub fn greet(&mut self, words: &[&[u8]], options: &Options) -> Vec<u8> {
+        let (told, is_in) = greet(options, words, false);
+        self.is_in = is_in;
+        self.leaves = words.first().is_some_and(|word| word.eq_ignore_ascii_case(b"QUIT"));
+        let told = told.unwrap_or_default();
+        self.is_wrong = is_wrong(&told);
+        told
+    }
+
+    /// What is fed in the place of a request for which there is no room, or no memory: a queue takes none then, whatever it does.
+    pub fn instead(&self, does: Does, room: Room, is_heavy: bool) -> Option<&'static [u8]> {
+        match does {
+            Does::Adds | Does::TakesAway if room == Room::Lacks => Some(b"NOROOM\r\n"),
+            Does::Adds if is_heavy => Some(b"NOMEMORY\r\n"),
+            Does::TakesAway | Does::Shows | Does::Else if is_heavy && self.queue.is_some() => Some(b"NOMEMORY\r\n"),
+            _ => None,
+        }
+    }
+
+    /// What was queued by a request that was carried out.
+    pub fn has_queued(&mut self, does: Does, bytes: usize, shows: usize) {
+        match (does, &mut self.queue) {
+            (Does::Queues, queue) => _ = queue.get_or_insert_default(),
+            (Does::Drops | Does::CarriesOut, queue) => *queue = None,
+            (_, Some(queue)) => {
+                let writes = if matches!(does, Does::Adds | Does::TakesAway) { bytes } else { 0 };
+                (queue.writes, queue.shows) = (queue.writes + writes, queue.shows + shows);
             }
-            Err(Lack::Part) if bytes.len() <= LONGEST => Err(Fed::Lacks),
-            Err(_) => Err(Fed::Over),
+            (_, None) => (),
         }
     }
 }
 
-/// A line without its end, and what stands behind it.
-fn line(bytes: &[u8]) -> Result<(&[u8], &[u8]), Lack> {
-    let end = bytes.iter().position(|byte| *byte == b'\n').ok_or(Lack::Part)?;
-    Ok((bytes[..end].strip_suffix(b"\r").unwrap_or(&bytes[..end]), &bytes[end + 1..]))
-}
-
-fn number(line: &[u8], mark: &[u8]) -> Result<usize, Lack> {
-    let digits = line.strip_prefix(mark).and_then(|digits| std::str::from_utf8(digits).ok());
-    digits.and_then(|digits| digits.parse().ok()).filter(|number| *number < 1 << 29).ok_or(Lack::Fault)
-}
-
-/// The words of the request that bytes begin with, and how many bytes it has.
-fn request(bytes: &[u8]) -> Result<(Vec<&[u8]>, usize), Lack> {
-    let (head, mut rest) = line(bytes)?;
-    let mut words: Vec<_> = head.split(|byte| *byte == b' ').filter(|word| !word.is_empty()).collect();
-    if head.starts_with(b"*") {
-        words.clear();
-        for _ in 0..number(head, b"*")? {
-            let (head, behind) = line(rest)?;
-            let (word, behind) = behind.split_at_checked(number(head, b"$")?).ok_or(Lack::Part)?;
-            words.push(word);
-            rest = behind.get(2..).ok_or(Lack::Part)?;
-        }
-    }
-    Ok((words, bytes.len() - rest.len()))
+/// Whether what a client is told is that its password is wrong.
+pub fn is_wrong(told: &[u8]) -> bool {
+    told == WRONG
 }
 
 /// Whether a word is the password. How long that takes tells nothing of it.
@@ -128,16 +108,15 @@ pub fn greet(options: &Options, words: &[&[u8]], mut is_in: bool) -> (Option<Vec
         is_right
     };
     let Some((word, rest)) = words.split_first() else { return (Some(Vec::new()), is_in) };
-    let no_pass = b"-WRONGPASS invalid username-password pair or user is disabled.\r\n";
     let told: &[u8] = match (word.to_ascii_uppercase().as_slice(), rest) {
         (b"AUTH", [word]) if pass(b"default", word) => OK,
         (b"AUTH", [user, word]) if pass(user, word) => OK,
-        (b"AUTH", [_] | [_, _]) => no_pass,
+        (b"AUTH", [_] | [_, _]) => WRONG,
         (b"AUTH", _) => b"-ERR wrong number of arguments for 'auth' command\r\n",
         (b"QUIT", _) => OK,
         (b"PING", []) => b"+PONG\r\n",
         (b"HELLO", [version, ..]) if *version != b"2" => b"-NOPROTO unsupported protocol version\r\n",
-        (b"HELLO", [_, auth, user, word, ..]) if auth.eq_ignore_ascii_case(b"AUTH") && !pass(user, word) => no_pass,
+        (b"HELLO", [_, auth, user, word, ..]) if auth.eq_ignore_ascii_case(b"AUTH") && !pass(user, word) => WRONG,
         (b"HELLO", _) if is_in => return (Some(hello()), is_in),
         _ if is_in => return (None, is_in),
         _ => b"-NOAUTH Authentication required.\r\n",

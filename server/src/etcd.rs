@@ -5,3 +5,4 @@ mod http2;
 pub mod leader;
 mod proto;
 mod requests;
+mod trailers;

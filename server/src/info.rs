@@ -1,7 +1,10 @@
 //! What is counted, and told.
 use crate::house::House;
 use crate::server::Server;
+use crate::trusted::envelope::Ending;
 use crate::trusted::log::Segments;
+use crate::trusted::reading::Walked;
+use crate::trusted::recovery::Found;
 use crate::trusted::system;
 use hidewillow::store::{FramePlace, ReadCounts, StoreCounts};
 use std::io;
@@ -13,17 +16,33 @@ const FEW: u64 = 1000;
 
 /// In words what was found of a log.
 pub fn found(counts: &ReadCounts) -> String {
-    let ReadCounts { frames, commands, keys, next, segment, place, dropped } = counts;
+    let ReadCounts { frames, commands, keys, next, segment, place, dropped, .. } = counts;
     format!(
         "{keys} keys, {commands} commands in {frames} frames of the log; it ends at byte {place} of segment {segment}, before \
          frame {next}, and {dropped} bytes behind count for nothing"
     )
 }
 
-/// Why a start refuses a log.
-pub fn damaged(counts: &ReadCounts) -> io::Error {
-    let says = "the log is damaged, more than a crash explains, and nothing was changed; go back to a copy";
-    io::Error::other(format!("{says}. Before that place are {}", found(counts)))
+/// In words what was read of a folder, a line for each file.
+pub fn read(read: &Found) -> String {
+    let mut lines = Vec::new();
+    if let Some(Ending { pieces, entries, bytes, .. }) = read.ending {
+        let kept = read.kept;
+        lines.push(format!(
+            "snapshot up to segment {kept}: {pieces} pieces, {entries} entries, {bytes} bytes, and its end"
+        ));
+    }
+    for Walked { segment, first, next, place, rest, .. } in &read.walked {
+        let frames = first.map_or("no frame".into(), |first| format!("frames {first} to {}", next - 1));
+        lines.push(format!("segment {segment}: {frames}, up to byte {place}; {rest} bytes behind"));
+    }
+    let stopped = read.said.map(|said| said.mark).filter(|mark| mark.is_stopped && mark.known + 1 == read.counts.next);
+    lines.push(stopped.map_or("it was not stopped", |_| "it was stopped, and all is there").into());
+    lines.push(found(&read.counts));
+    if !read.is_explained {
+        lines.push("no crash explains that".into());
+    }
+    lines.join("\n")
 }
 
 /// What came of a file, an error with its name.
@@ -95,6 +114,20 @@ impl Server {
         (keys, counted.elapsed().as_secs())
     }
 
+    /// Who was let in, and who was not, or ended.
+    fn of_clients(&self) -> [(&'static str, u64); 7] {
+        let House { wrong, of_web, turned_away, owed, silent, .. } = self.house;
+        [
+            ("clients_at_most", self.house.options.clients as u64),
+            ("clients_turned_away", turned_away),
+            ("clients_owed_too_much", owed),
+            ("clients_silent", silent),
+            ("wrong_passwords", wrong),
+            ("web_requests", of_web),
+            ("bytes_for_clients", self.channels.waiting() as u64),
+        ]
+    }
+
     /// What is counted, a line for each.
     pub fn info(&mut self, counts_keys: bool) -> String {
         let (keys, keys_age) = self.keys(counts_keys);
@@ -122,15 +155,17 @@ impl Server {
             ("keys_taken_back", taken_back as u64),
             ("lacks_room", lacks_room.into()),
         ];
-        if let Some(Segments { written, made, .. }) = self.channels.log().segments() {
+        if let Some(Segments { written, last_bytes, .. }) = self.channels.log().segments() {
             let keeper = &self.house.keeper;
+            let full = (written - 1).saturating_sub(keeper.kept) * self.house.options.limits.segment;
             lines.extend([
-                ("log_bytes", (made - keeper.kept) * self.house.options.limits.segment),
+                ("log_bytes", full + last_bytes),
                 ("log_segment", written),
                 ("snapshot_bytes", keeper.bytes),
                 ("snapshot_segment", keeper.kept),
             ]);
         }
+        lines.extend(self.of_clients());
         lines.extend(of_log.lines());
         lines.iter().map(|(name, value)| format!("{name}:{value}\r\n")).collect()
     }

@@ -2,8 +2,9 @@
 use crate::info::named;
 use crate::server::Server;
 use crate::tell::Tell;
-use crate::trusted::folder::{Folder, Made};
+use crate::trusted::folder::Folder;
 use crate::trusted::log::{Closed, Segments};
+use crate::trusted::recovery::Made;
 use std::collections::VecDeque;
 use std::fs::{self, File};
 use std::io::{self, ErrorKind};
@@ -42,13 +43,13 @@ impl Keeper {
     }
 
     /// Makes a snapshot on a thread of its own.
-    fn begin(&mut self, wish: Wish, closed: Closed, folder: &str, undecided: u32) {
+    fn begin(&mut self, wish: Wish, closed: Closed, folder: &str) {
         let (folder, tell) = (Folder(folder.into()), self.tell.clone());
         self.is_keeping = true;
         thread::spawn(move || {
             let did = match &wish.backup {
-                Some(path) => backup(&folder, undecided, &closed, path),
-                None => folder.write(undecided, &closed, &folder).and_then(|made| folder.remove().map(|()| made)),
+                Some(path) => backup(&folder, &closed, path),
+                None => folder.write(&closed, &folder).and_then(|made| folder.remove().map(|()| made)),
             };
             drop(closed);
             tell.tell((wish, did));
@@ -57,7 +58,7 @@ impl Keeper {
 }
 
 /// Makes a folder with a snapshot of these segments, under its name once it is whole and on the disk.
-fn backup(folder: &Folder, undecided: u32, closed: &Closed, path: &Path) -> io::Result<Made> {
+fn backup(folder: &Folder, closed: &Closed, path: &Path) -> io::Result<Made> {
     let name = path.file_name().unwrap_or_default().display();
     let (home, new) = (Folder(path.with_file_name("")), Folder(path.with_file_name(format!(".{name}"))));
     home.make()?;
@@ -66,7 +67,7 @@ fn backup(folder: &Folder, undecided: u32, closed: &Closed, path: &Path) -> io::
     }
     let _ = fs::remove_dir_all(&new.0);
     new.make()?;
-    let made = folder.write(undecided, closed, &new)?;
+    let made = folder.write(closed, &new)?;
     named(path, fs::rename(&new.0, path).and_then(|()| File::open(&home.0)?.sync_all()))?;
     Ok(made)
 }
@@ -82,6 +83,10 @@ impl Server {
         let backups = options.backups.clone().unwrap_or_else(|| format!("{}/backups", options.folder));
         let backup = backup.map(|name| Path::new(&backups).join(name));
         keeper.tried = if backup.is_none() { up_to } else { keeper.tried };
+        if client == 0 && keeper.wishes.iter().any(|wish| wish.client == 0 && wish.up_to == up_to) {
+            // The same is wished for already, by nobody who is told.
+            return None;
+        }
         keeper.wishes.push_back(Wish { up_to, backup, channel, client });
         None
     }
@@ -100,10 +105,13 @@ impl Server {
         }
         let Some(wish) = keeper.wishes.pop_front() else { return Ok(()) };
         match self.channels.close_segments(wish.up_to)? {
+            None if lacks_room && !self.house.keeper.is_keeping && wish.client > 0 => {
+                self.snapshot_made(wish, Err(ErrorKind::StorageFull.into()))
+            }
             None => self.house.keeper.wishes.push_front(wish),
             Some(closed) => {
                 let (keeper, options) = (&mut self.house.keeper, &self.house.options);
-                keeper.begin(wish, closed, &options.folder, options.limits.undecided);
+                keeper.begin(wish, closed, &options.folder);
             }
         }
         Ok(())

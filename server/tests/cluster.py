@@ -298,7 +298,8 @@ class Host(Process):
         where = ",".join(f"{here}:{gate.port}" for gate in self.gates)
         super().__init__(place, [options.server, "--log", f"etcd:{where}", "--address", f"{self.at}:{self.port}", "--lease", LEASE,
                                  "--batches", options.batches, "--clock", options.clock, "--folder", self.folder, "--copies", f"{self.at}:0",
-                                 "--snapshot", options.snapshot, "--segment", "64k", "--undecided", "60k"], room / f"host-{name}.log")
+                                 "--snapshot", options.snapshot, "--segment", "64k", "--undecided", "60k", "--compact", "engine", "--no-password"],
+                         room / f"host-{name}.log")
 
     def link(self):
         """A connection of a client."""

@@ -54,37 +54,39 @@ WRONG = {
                        "                        done(store.synced(at.frame), \"synced\")?;\n                    }"),
                       ("log.rs", "Ok(()) => done(store.synced(at.frame), \"synced\"), // [2]", "Ok(()) => Ok(()),\n            Err(_) if !job.is_head => Ok(()),")],
     "no sync": [("disk.rs", "    file.sync_data()?; // [2]\n", "")],
-    "no cut": [("disk.rs", "let did = write(&folder, &mut own, &job.at, &job.bytes);",
-                "let did = if job.is_head { Ok(()) } else { write(&folder, &mut own, &job.at, &job.bytes) };")],
-    "shared file handle": [("disk.rs", """    let file = match own.take_if(|(of, _)| *of == at.segment) {
+    "no cut": [("disk.rs", "let did = write(&folder, &mut own, job.at.segment, job.from, bytes);",
+                "let did = if job.is_head { Ok(()) } else { write(&folder, &mut own, job.at.segment, job.from, bytes) };")],
+    "shared file handle": [("disk.rs", """    let file = match own.take_if(|(of, _)| *of == segment) {
         Some((_, file)) => file,
-        None => OpenOptions::new().write(true).open(folder.segment(at.segment))?,
+        None => opened(|| OpenOptions::new().write(true).open(folder.segment(segment)))?,
     };
 """, """    static SHARED: std::sync::Mutex<Option<(u64, &'static File)>> = std::sync::Mutex::new(None);
     let mut shared = SHARED.lock().unwrap();
-    if shared.is_none_or(|(of, _)| of != at.segment) {
-        let file = OpenOptions::new().write(true).open(folder.segment(at.segment))?;
-        *shared = Some((at.segment, Box::leak(Box::new(file))));
+    if shared.is_none_or(|(of, _)| of != segment) {
+        let file = OpenOptions::new().write(true).open(folder.segment(segment))?;
+        *shared = Some((segment, Box::leak(Box::new(file))));
     }
     let (_, file) = shared.unwrap();
     drop(shared);
-"""), ("disk.rs", "    *own = Some((at.segment, file)); // [4]\n", "    *own = None;\n")],
-    "short write taken for whole": [("disk.rs", "file.write_all_at(&bytes[..at.len], at.offset)?; // [1]",
-                                     "let _ = file.write_at(&bytes[..at.len], at.offset)?;")],
-    "start that writes nothing again": [("folder.rs", "read(path, again, feed)", "read(path, false, feed)")],
+"""), ("disk.rs", "    *own = Some((segment, file)); // [4]\n", "    *own = None;\n")],
+    "short write taken for whole": [("disk.rs", "file.write_all_at(bytes, place)?; // [1]",
+                                     "let _ = file.write_at(bytes, place)?;")],
+    "start that writes nothing again": [("recovery.rs", "Walk::begin(path, again, &owner", "Walk::begin(path, false, &owner")],
     "refusal before the cut": [("log.rs", "self.under_way.push(at);",
                                 "self.under_way.push(at);\n                    if self.cutting.is_some() {\n"
                                 "                        done(store.cut(1), \"cut\")?;\n                    }"),
                                ("log.rs", "                done(store.cut(1), \"cut\") // [5]", "                Ok(())"),
                                ("log.rs", "return done(store.turn(), \"turn\");", "return Ok(());")],
     "snapshot that isn't on the disk": [("folder.rs", "            file.sync_all()?;\n", "")],
-    "segments removed before the snapshot has its name": [("folder.rs", "            File::open(&self.0)?.sync_all()?;\n            Ok(did)", "            Ok(did)"),
+    "segments removed before the snapshot has its name": [("folder.rs", "            disk::opened(|| File::open(&self.0))?.sync_all()?;\n            Ok(did)", "            Ok(did)"),
                                                           ("folder.rs", "        File::open(&self.0)?.sync_all()?;\n        for", "        for")],
     "snapshot of what is written": [("log.rs", "self.under_way.iter().map(|at| at.segment).min().unwrap_or(self.at.written) - 1", "self.at.written")],
     "all stands before it is decided": [("asked.rs", "Some(ahead) => ahead.waiting.is_empty(),", "Some(_) => true,")],
     "replies wait for all": [("server.rs", "            self.take_output();", "            if self.channels.counts().undecided == 0 {\n"
                               "                self.take_output();\n            }")],
-    "start that serves before its head": [("log.rs", "disk::write(&folder, &mut None, &place, &head)?; // [5]", "let _ = head;")],
+    "mark too early": [("log.rs", "self.under_way.push(at);",
+                        "self.under_way.push(at);\n                    let _ = self.synced.marker.is(|mark| mark.known = at.frame);")],
+    "start that serves before its head": [("disk.rs", "                write(folder, &mut None, at.segment, 0, &bytes)?;\n", "")],
 }
 
 
@@ -610,9 +612,9 @@ def find(options, name, shim):
 
 
 def marks():
-    """Each of the ten sentences has its line, and no line has another number."""
-    found = {int(number) for path in (TOP / "src" / "trusted").glob("*.rs") for number in re.findall(r"// \[(\d+)\]", path.read_text())}
-    return found == set(range(1, 11))
+    """Each of the sentences has its line, and no line has another number."""
+    found = {int(number) for path in (TOP / "src").rglob("*.rs") for number in re.findall(r"// \[(\d+)\]", path.read_text())}
+    return found == set(range(1, 14))
 
 
 def main():
@@ -629,7 +631,7 @@ def main():
     words.add_argument("--wrong", nargs="*", metavar="NAME", help="those that have one of these names, or all")
     options = words.parse_args()
     if not marks():
-        sys.exit("the ten sentences and the marks of their lines don't agree")
+        sys.exit("the sentences and the marks of their lines don't agree")
     work, names = try_mode, options.modes.split(",")
     if options.wrong is not None:
         # Syncs that take a while, so that two are in flight at once.

@@ -512,8 +512,13 @@ class Trial:
         return sum(len(re.findall(text, path.read_text(errors="replace"))) for path in self.room.glob("host-*.log"))
 
     def loses(self, host):
-        """Its folder is gone, so it needs the snapshot of another where the log has been cut off."""
+        """Its folder is gone, so it needs the snapshot of another where the log has been cut off. It is another host then: who has lost it
+        deletes what it said that it has."""
         host.kill()
+        with contextlib.suppress(FileNotFoundError):
+            key = f"hidewillow/have/{(host.folder / 'store').read_bytes()[24:40].hex()}"
+            while "error" in self.dice.choice(self.members).asks("kv/deleterange", key=bytes64(key.encode())):
+                time.sleep(0.2)
         shutil.rmtree(host.folder)
         cuts, copies, until = self.said(CUT), self.said(COPIED), time.monotonic() + BACK
         host.start()

@@ -31,7 +31,7 @@
 #include <unistd.h>
 
 #define FDS 4096
-#define HEAD 24
+#define HEAD 136
 #define INODES 1024
 
 struct record { uint64_t kind, inode, id, offset, len; };

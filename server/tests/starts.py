@@ -19,7 +19,8 @@ import time
 HERE = pathlib.Path(__file__).resolve().parent
 TOP = HERE.parent
 sys.dont_write_bytecode = True
-sys.path.append(str(TOP / "clients"))
+sys.path.append(str(TOP / "clients/python"))
+import damage as damages
 import hidewillow
 FOUND = re.compile(r"(\d+) keys, (\d+) commands in (\d+) frames of the log; it ends at byte (\d+) of segment (\d+)")
 
@@ -99,6 +100,7 @@ def tries(program, room):
     yield from memory(program, room / "memory")
     yield "an option that is none", subprocess.run([program, "--nothing", "1"], capture_output=True).returncode == 2
     yield from damage(program, room / "damaged")
+    yield from older(program, room / "older")
 
 
 def password(program, folder):
@@ -223,6 +225,40 @@ def damage(program, folder):
     yield "damage is refused with its place", ended == 1 and "damaged" in server.said() and found and 0 < int(found[4]) <= 30_000
     told = subprocess.run([program, "--undecided", "4k", "--check", folder], capture_output=True, text=True)
     yield "--check says so too", told.returncode == 1 and "damaged" in told.stderr
+    frame = re.search(r"--accept-loss-from (\d+)", server.said())[1]
+    other = Server(program, folder, *words, "--accept-loss-from", str(int(frame) + 1))
+    yield "no other frame is given up", other.process.wait(60) == 1
+    server = Server(program, folder, *words, "--accept-loss-from", frame)
+    yield "from that frame on all is given up", server.says("listening on") and server.ask(b"GET key0\r\nGET key99\r\nSET new 1\r\n", b"$1000\r\n")
+    has = server.line(b"DBSIZE\r\n")
+    yield "it ends", server.end(signal.SIGKILL) == -9
+    server = Server(program, folder, *words)
+    yield "once", server.says("listening on") and server.line(b"DBSIZE\r\n") == has and server.end() == 0
+    (folder / "store").rename(folder / "gone")
+    server = Server(program, folder, *words)
+    yield "nothing is read where nobody says whose it is", server.process.wait(60) == 1 and "is gone" in server.said()
+
+
+def older(program, folder):
+    """A folder of a server from before, whose files are frames alone."""
+    server = Server(program, folder, "--segment", "64k", "--undecided", "16k")
+    server.says("listening on")
+    sets = b"".join(b"SET key%d %s\r\n" % (number, b"x" * 1000) for number in range(40))
+    yield "writes, and a snapshot", server.ask(sets + b"SAVE\r\nSET key0 y\r\nSET a 1\r\n", b"+OK\r\n" * 43) and server.end() == 0
+    for path in [*folder.glob("log-*"), *folder.glob("snapshot-*")]:
+        text, frames = damages.frames_of(path)
+        path.write_bytes(b"".join(text[at + 48:end] for at, end in frames).ljust(65536 if path.name.startswith("log") else 0, b"\0"))
+    (folder / "store").unlink()
+    told = subprocess.run([program, "--check", folder], capture_output=True, text=True)
+    yield "--check reads it", told.returncode == 0 and "41 keys" in told.stdout
+    for turn in range(2):
+        server = Server(program, folder, "--segment", "64k", "--undecided", "16k")
+        yield f"start {turn} on it", server.says("listening on") and server.ask(b"GET a\r\nDBSIZE\r\nSET a 1\r\n", b"$1\r\n1\r\n:41\r\n+OK\r\n")
+        yield f"stop {turn} of it", server.end() == 0
+    server = Server(program, folder, "--segment", "64k", "--undecided", "16k")
+    yield "a snapshot stands for it", server.says("listening on") and server.line(b"SAVE\r\n") == b"+OK\r\n" and server.end() == 0
+    told = subprocess.run([program, "--check", folder], capture_output=True, text=True)
+    yield "and is of the new form", told.returncode == 0 and "and its end" in told.stdout and "41 keys" in told.stdout
 
 
 def main():

@@ -7,6 +7,7 @@ use super::requests::{
     Request,
 };
 use crate::tell::Tell;
+use crate::trusted::envelope::Identity;
 use hidewillow::engine::{self, Answer, BatchSeen, FenceSeen, Held, Word};
 use std::collections::hash_map::RandomState;
 use std::hash::BuildHasher;
@@ -15,7 +16,7 @@ use std::mem;
 use std::os::unix::net::UnixStream;
 use std::sync::atomic::{AtomicBool, AtomicU64, Ordering};
 use std::sync::mpsc::Receiver;
-use std::sync::Arc;
+use std::sync::{Arc, Mutex};
 use std::thread;
 use std::time::{Duration, Instant};
 
@@ -70,11 +71,43 @@ impl Have {
     }
 }
 
-/// Tells what this host has.
-pub fn tell_have(members: &Members, keys: &Keys, host: &str, have: &Have) -> io::Result<()> {
+/// Tells what this host has. Hosts are told apart by what their folders have of their own: an older server's key, of its address, is gone then.
+pub fn tell_have(members: &Members, keys: &Keys, host: &Identity, old: &str, have: &Have) -> io::Result<()> {
     let value = format!("{} {}", have.value(), have.copies);
-    let request = transaction([], [put(&keys.of(&format!("have/{host}")), value.as_bytes(), 0)], []);
+    let (mine, old) = (keys.of(&format!("have/{}", text(host))), keys.of(&format!("have/{old}")));
+    let behind = [&old[..], &[0]].concat();
+    let request = transaction([], [put(&mine, value.as_bytes(), 0), delete(&old, &behind)], []);
     members.carry_out(&request, 0, PATIENCE).map(drop)
+}
+
+fn text(identity: &Identity) -> String {
+    identity.0.iter().map(|byte| format!("{byte:02x}")).collect()
+}
+
+fn identity_of(text: &[u8]) -> Option<Identity> {
+    let text = std::str::from_utf8(text).ok().filter(|text| text.len() == 32 && text.is_ascii())?;
+    let mut bits = [0; 16];
+    for (place, byte) in bits.iter_mut().enumerate() {
+        *byte = u8::from_str_radix(&text[2 * place..2 * place + 2], 16).ok()?;
+    }
+    Some(Identity(bits))
+}
+
+/// What tells the store in the engine from all others: the first host makes it, where the folder has none of a store yet.
+pub fn identity(members: &Members, keys: &Keys, may_make: bool) -> io::Result<Option<Identity>> {
+    let key = keys.of("store");
+    if may_make {
+        let new = text(&Identity::new()?);
+        members.carry_out(
+            &transaction([is_made(&key, 0)], [put(&key, new.as_bytes(), 0)], [read(&key)]),
+            1,
+            PATIENCE,
+        )?;
+    }
+    let found = members.read(&key, &[], 1, 0, PATIENCE)?;
+    let Some(entry) = found.entries.first() else { return Ok(None) };
+    let words = "something else writes the keys of the log";
+    identity_of(&entry.value).map(Some).ok_or_else(|| io::Error::new(ErrorKind::InvalidData, words))
 }
 
 /// What the hosts have that told so, the most first.
@@ -174,6 +207,8 @@ pub struct Leadership {
     runs_until: AtomicU64,
     /// Whether nobody wants it any more.
     is_over: AtomicBool,
+    /// What the engine last said instead of an answer.
+    said: Mutex<String>,
 }
 
 fn token() -> [u8; 16] {
@@ -199,7 +234,8 @@ impl Leadership {
             return Ok(None);
         };
         let (runs_until, is_over) = (AtomicU64::new(0), AtomicBool::new(false));
-        Ok(Some(Leadership { members, keys, revision, token, lease, seconds, begun, runs_until, is_over }))
+        let said = Mutex::default();
+        Ok(Some(Leadership { members, keys, revision, token, lease, seconds, begun, runs_until, is_over, said }))
     }
 
     /// The leadership that the leader is of, if it has this host's token.
@@ -212,9 +248,14 @@ impl Leadership {
         read_log(&self.members, &self.keys, first)
     }
 
+    /// Whether a batch is in the log.
+    pub fn has(&self, number: u64) -> io::Result<bool> {
+        Ok(!self.members.read(&self.keys.log(number), &[], 1, 0, PATIENCE)?.entries.is_empty())
+    }
+
     /// Cuts off all up to a number, for which a majority of hosts has snapshots: it is done once, since it wants what was cut off before to be
-    /// as it was read. Then the engine may forget it.
-    pub fn cut(&self, most: &Have, cut: u64, cut_at: u64) -> io::Result<()> {
+    /// as it was read. Then the engine may forget it, with what all others who share it had before, if it is to.
+    pub fn cut(&self, most: &Have, cut: u64, cut_at: u64, compacts: bool) -> io::Result<()> {
         if most.number <= cut {
             return Ok(());
         }
@@ -227,9 +268,11 @@ impl Leadership {
         let did = self.members.carry_out(&request, 0, MOST)?;
         if did.done {
             say!("the log is cut off up to batch {}", most.number);
-            self.members.compact(did.revision, MOST)?;
         }
-        Ok(())
+        match did.done && compacts {
+            true => self.members.compact(did.revision, MOST),
+            false => Ok(()),
+        }
     }
 
     /// Deletes all behind the gap of the log. It is done once in a leadership: a try that is carried out late would delete what has been
@@ -289,13 +332,25 @@ impl Leadership {
         self.members.ask(&question.request, patience).and_then(|answer| self.word(question, &answer))
     }
 
+    /// Says why the engine doesn't answer, where it didn't say the same before.
+    fn say(&self, error: &io::Error) {
+        let mut said = self.said.lock().expect("no thread ends that has it");
+        if *said != error.to_string() {
+            *said = error.to_string();
+            say!("the engine: {said}, so it is asked again");
+        }
+    }
+
     /// Asks until there is a definite word.
     fn settled(&self, question: &Question) -> Heard {
         let mut patience = PATIENCE;
         loop {
             match self.once(question, patience) {
                 Ok(heard) => return heard,
-                Err(_) => thread::sleep(PAUSE),
+                Err(error) => {
+                    self.say(&error);
+                    thread::sleep(PAUSE);
+                }
             }
             patience = MOST.min(patience * 3 / 2);
         }

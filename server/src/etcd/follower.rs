@@ -8,9 +8,11 @@ use crate::info::named;
 use crate::options::Options;
 use crate::trusted::folder::Folder;
 use crate::trusted::library::Recovery;
-use std::fs::File;
+use crate::trusted::mark::Said;
+use crate::trusted::recovery::Begun;
+use std::fs::{self, File};
 use std::io::{self, BufRead, BufReader, Read, Write};
-use std::net::{TcpListener, TcpStream};
+use std::net::{SocketAddr, TcpListener, TcpStream, ToSocketAddrs};
 use std::sync::{Arc, Mutex, MutexGuard, Weak};
 use std::thread;
 use std::time::Duration;
@@ -18,6 +20,8 @@ use std::time::Duration;
 /// How often it is looked what is new, and how long a copy waits for the next bytes.
 const PAUSE: Duration = Duration::from_millis(300);
 const SLOW: Duration = Duration::from_secs(10);
+/// So many copies are handed out at once.
+const COPIES: usize = 8;
 
 /// What was read of the log.
 #[derive(Default)]
@@ -40,6 +44,7 @@ struct Reader {
     follower: Follower,
     options: Options,
     folder: Folder,
+    said: Said,
     members: Members,
     keys: Keys,
     /// Where copies of the snapshot are to be had, and the number behind the one that others were told of.
@@ -49,14 +54,14 @@ struct Reader {
 
 impl Follower {
     /// Begins to read along, and to hand out copies of the newest snapshot.
-    pub fn start(options: &Options) -> io::Result<Follower> {
+    pub fn start(options: &Options, said: Said, members: Members) -> io::Result<Follower> {
         let listener = named(options.copies.as_ref(), TcpListener::bind(&options.copies))?;
-        let (follower, copies) = (Follower::default(), listener.local_addr()?.to_string());
-        let (folder, members) = (Folder(options.folder.clone().into()), Members::new(options.engine.clone()));
+        let (follower, copies) = (Follower::default(), announced(options, listener.local_addr()?)?);
+        let folder = Folder(options.folder.clone().into());
         let (options, keys) = (options.clone(), Keys(options.prefix.clone()));
         let hands_out = options.clone();
-        thread::spawn(move || listener.incoming().flatten().for_each(|socket| hand_out(socket, &hands_out)));
-        let mut reader = Reader { follower: follower.clone(), options, folder, members, keys, copies, told: 0 };
+        thread::spawn(move || hand_all_out(&listener, &hands_out));
+        let mut reader = Reader { follower: follower.clone(), options, folder, said, members, keys, copies, told: 0 };
         thread::spawn(move || {
             let mut told = String::new();
             loop {
@@ -76,22 +81,65 @@ impl Follower {
     }
 }
 
-/// Sends the newest snapshot to who says the password, behind a line of its segment, its number and its bytes.
-fn hand_out(socket: TcpStream, options: &Options) {
-    let options = options.clone();
-    thread::spawn(move || -> io::Result<()> {
-        socket.set_read_timeout(Some(SLOW))?;
-        socket.set_write_timeout(Some(SLOW))?;
-        let (mut word, mut socket) = (Vec::new(), socket);
-        BufReader::new(Read::take(&socket, 1 << 14)).read_until(b'\n', &mut word)?;
-        if !is_password(&options, word.strip_suffix(b"\n").unwrap_or(&word)) {
-            return Ok(());
+/// The address by which other hosts reach this one. Where the engine is on other machines nobody there reaches a loopback, or a wildcard.
+fn announced(options: &Options, listens: SocketAddr) -> io::Result<String> {
+    let text = match &options.announce {
+        None => listens.to_string(),
+        Some(host) if host.contains(':') => host.clone(),
+        Some(host) => format!("{host}:{}", listens.port()),
+    };
+    let is_near = |text: &str| text.to_socket_addrs().is_ok_and(|mut all| all.all(|at| at.ip().is_loopback()));
+    let is_none = text.to_socket_addrs().is_ok_and(|mut all| all.any(|at| at.ip().is_unspecified()));
+    if is_none || is_near(&text) && !options.engine.iter().all(|member| is_near(member)) {
+        let words = format!("no other host reaches {text}, where they are to copy snapshots: name the address that they reach by --announce, or by --copies");
+        return Err(io::Error::other(words));
+    }
+    Ok(text)
+}
+
+/// Hands copies out to a few at once; the next waits until one of them is done.
+fn hand_all_out(listener: &TcpListener, options: &Options) {
+    let places = Arc::new(());
+    for socket in listener.incoming() {
+        while Arc::strong_count(&places) > COPIES {
+            thread::sleep(PAUSE);
         }
-        let (segment, next, path) = Folder(options.folder.into()).newest()?;
-        let mut file = File::open(path.ok_or(io::ErrorKind::NotFound)?)?;
-        writeln!(socket, "{segment} {next} {}", file.metadata()?.len())?;
-        io::copy(&mut file, &mut socket).map(drop)
-    });
+        let (place, options) = (places.clone(), options.clone());
+        let work = move |socket| hand_out(socket, &options).map(|()| drop(place));
+        // Where there is no handle, or no thread, the other host tries again.
+        match socket.map(|socket| thread::Builder::new().spawn(move || work(socket))) {
+            Ok(Ok(_)) => (),
+            _ => thread::sleep(PAUSE),
+        }
+    }
+}
+
+/// Sends the newest snapshot to who says the password, behind a line of its segment, its number and its bytes.
+fn hand_out(mut socket: TcpStream, options: &Options) -> io::Result<()> {
+    socket.set_read_timeout(Some(SLOW))?;
+    socket.set_write_timeout(Some(SLOW))?;
+    let mut word = Vec::new();
+    BufReader::new(Read::take(&socket, 1 << 14)).read_until(b'\n', &mut word)?;
+    if !is_password(options, word.strip_suffix(b"\n").unwrap_or(&word)) {
+        thread::sleep(PAUSE);
+        return Ok(());
+    }
+    let (segment, next, path) = Folder(options.folder.clone().into()).newest()?;
+    let mut file = File::open(path.ok_or(io::ErrorKind::NotFound)?)?;
+    writeln!(socket, "{segment} {next} {}", file.metadata()?.len())?;
+    io::copy(&mut file, &mut socket).map(drop)
+}
+
+/// Connects to one of the addresses of a text, none of which is waited for longer than a while.
+fn connected(text: &str) -> io::Result<TcpStream> {
+    let mut did = Err(io::ErrorKind::AddrNotAvailable.into());
+    for address in text.to_socket_addrs()? {
+        did = TcpStream::connect_timeout(&address, SLOW);
+        if did.is_ok() {
+            break;
+        }
+    }
+    did
 }
 
 impl Reader {
@@ -127,21 +175,24 @@ impl Reader {
         self.make(&due)?;
         if self.told != first {
             let (number, copies) = (first - 1, self.copies.clone());
-            tell_have(&self.members, &self.keys, &self.options.address, &Have { number, segment, copies })?;
+            let have = Have { number, segment, copies };
+            tell_have(&self.members, &self.keys, &self.said.owner.host, &self.options.address, &have)?;
             self.told = first;
         }
         let leads = self.follower.along().leads.upgrade();
         let Some(leadership) = leads else { return Ok(()) };
-        have.get(have.len() / 2).map_or(Ok(()), |most| leadership.cut(most, cut, cut_at))
+        have.get(have.len() / 2).map_or(Ok(()), |most| leadership.cut(most, cut, cut_at, self.options.compacts))
     }
 
     /// Makes a snapshot of all up to the last end of a segment that was read.
     fn make(&self, batches: &[Batch]) -> io::Result<()> {
         let Some(last) = batches.iter().skip(1).rposition(|batch| batch.offset == 0) else { return Ok(()) };
-        let (mut recovery, ..) = self.folder.begin()?;
+        let mut recovery = self.folder.begin(Some(&self.said))?.log;
         let (segment, next) = (batches[last].segment, batches[last].number + 1);
-        recovered(&mut recovery, &batches[..=last], next)?;
-        let bytes = self.folder.write_of(&mut recovery, segment, next)?;
+        let keys = recovered(&mut recovery, &batches[..=last], next)?.keys;
+        let bytes = self.folder.write_of(&mut recovery, &self.said.owner.identity, (segment, next, keys))?;
+        drop(recovery);
+        self.folder.read_back(&self.said.owner.identity, (segment, next))?;
         self.folder.remove()?;
         say!("a snapshot up to batch {} has {bytes} bytes", next - 1);
         Ok(())
@@ -149,7 +200,7 @@ impl Reader {
 
     /// Copies the snapshot of another host.
     fn copy(&self, have: &Have) -> io::Result<()> {
-        let socket = TcpStream::connect(&have.copies)?;
+        let socket = connected(&have.copies)?;
         socket.set_read_timeout(Some(SLOW))?;
         (&socket).write_all(&[&self.options.password[..], b"\n"].concat())?;
         let (mut socket, mut line) = (BufReader::new(socket), String::new());
@@ -161,6 +212,8 @@ impl Reader {
             copied if copied == bytes => Ok(()),
             _ => Err(io::ErrorKind::UnexpectedEof.into()),
         })?;
+        let whole = self.folder.read_back(&self.said.owner.identity, (segment, next));
+        whole.inspect_err(|_| _ = fs::remove_file(&path))?;
         self.folder.remove()?;
         say!("a snapshot up to batch {} is copied from {}", next - 1, have.copies);
         Ok(())
@@ -168,7 +221,7 @@ impl Reader {
 }
 
 /// A log that has the newest snapshot, and the number behind that.
-pub fn warmed(options: &Options) -> io::Result<(Recovery, u64)> {
-    let (recovery, _, first) = Folder(options.folder.clone().into()).begin()?;
-    Ok((recovery, first))
+pub fn warmed(options: &Options, said: &Said) -> io::Result<(Recovery, u64)> {
+    let Begun { log, first, .. } = Folder(options.folder.clone().into()).begin(Some(said))?;
+    Ok((log, first))
 }

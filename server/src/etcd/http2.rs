@@ -1,7 +1,8 @@
 //! Calls of gRPC over one connection of HTTP/2: a call is a stream with one message out and one back.
 //!
-//! Headers that come back are passed over, so nothing of them has to be unpacked: a call is answered by a whole message, and one whose
-//! stream ends without is an error, of which nothing more is known. None of our own headers is shortened or remembered.
+//! Headers that come back are passed over: a call is answered by a whole message, and one whose stream ends without is an error, of which
+//! nothing more is known but the text that the headers behind it have. None of our own headers is shortened or remembered.
+use super::trailers;
 use std::collections::BTreeMap;
 use std::io::{self, BufReader, Read, Write};
 use std::mem;
@@ -23,6 +24,7 @@ const END_STREAM: u8 = 1;
 const ACK: u8 = 1;
 const END_HEADERS: u8 = 4;
 const PADDED: u8 = 8;
+const PRIORITY: u8 = 32;
 /// Settings: the table of headers that were sent before, whether streams are pushed, and the window of each stream.
 const TABLE: u16 = 1;
 const PUSH: u16 = 2;
@@ -185,11 +187,13 @@ impl Connection {
                 taken = 0;
             }
             let answer = state.take(&mut out, kind, flags, stream, &load)?;
-            state.send(out)?;
+            let did = state.send(out);
             drop(state);
+            // What was answered is told, though nothing more can be sent.
             if let Some((hears, answer)) = answer {
                 hears(answer);
             }
+            did?;
         }
     }
 }
@@ -239,6 +243,12 @@ impl State {
     /// Takes what came on a stream: an answer is told once it is whole.
     fn came(&mut self, kind: u8, flags: u8, stream: u32, load: &[u8]) -> io::Result<Answer> {
         let Some(call) = self.calls.get_mut(&stream) else { return Ok(None) };
+        let mut refusal = None;
+        if kind == HEADERS && flags & END_STREAM != 0 {
+            let pad = if flags & PADDED == 0 { 0 } else { 1 + usize::from(*load.first().unwrap_or(&0)) };
+            let from = pad.min(1) + if flags & PRIORITY == 0 { 0 } else { 5 };
+            refusal = load.get(from..(load.len() + pad.min(1)).saturating_sub(pad)).and_then(trailers::refusal);
+        }
         if kind == DATA {
             let pad = if flags & PADDED == 0 { 0 } else { 1 + usize::from(*load.first().unwrap_or(&0)) };
             let piece = load.get(pad.min(1)..(load.len() + pad.min(1)).saturating_sub(pad));
@@ -252,7 +262,7 @@ impl State {
             let answer = call.came.split_off(5);
             self.told(stream, Ok(answer))
         } else if flags & END_STREAM != 0 {
-            self.told(stream, Err(broken("no answer")))
+            self.told(stream, Err(broken(&refusal.unwrap_or("no answer".into()))))
         } else {
             None
         })

@@ -1,5 +1,5 @@
 //! The log in an engine, as the loop has it: frames to batches, what came of them, rounds, and the end of a leadership.
-use super::engine::{Batch, Engine, Heard, Keys};
+use super::engine::{self, Batch, Engine, Heard, Keys};
 use super::follower::{warmed, Follower};
 use super::requests::Members;
 use crate::house::House;
@@ -7,14 +7,15 @@ use crate::info::LogCounts;
 use crate::keeper::Keeper;
 use crate::options::Options;
 use crate::server::Server;
+use crate::trusted::bound::Bound;
 use crate::trusted::folder::Folder;
 use crate::trusted::library::{done, well, Next, Recovery, Store, ABSENT, DONE, HEAD, MEMORY};
 use crate::trusted::log::Log;
+use crate::trusted::mark::{self, Mark, Owner, Said};
 use crate::trusted::system::SIGUSR1;
 use hidewillow::engine::{Rounds, Word};
 use hidewillow::store::{FramePlace, ReadCounts, StoreLimits};
 use std::io::{self, ErrorKind, Read};
-use std::net::TcpListener;
 use std::os::unix::net::UnixStream;
 use std::sync::Arc;
 use std::time::Duration;
@@ -56,7 +57,7 @@ pub fn recovered(recovery: &mut Recovery, batches: &[Batch], next: u64) -> io::R
     for batch in batches {
         done(recovery.feed(batch.segment, &batch.frame), "frame")?;
     }
-    done(recovery.end(0, &mut counts), "log")?;
+    done(recovery.end(0, 0, &mut counts), "log")?;
     if counts.next != next || counts.dropped > 0 {
         let words = format!("the log has {} frames, and {} count", next - 1, counts.next - 1);
         return Err(io::Error::new(ErrorKind::InvalidData, words));
@@ -83,6 +84,13 @@ impl EtcdLog {
         };
         let ahead = first + batches.len() as u64;
         let log = engine.leadership.read_log(ahead)?;
+        if first > 1 && log.cut < first - 1 && !engine.leadership.has(first - 1)? {
+            let words = format!(
+                "the folder has a snapshot up to batch {}, which the log in the engine doesn't have",
+                first - 1
+            );
+            return Err(io::Error::new(ErrorKind::InvalidData, words));
+        }
         if log.cut >= ahead || !engine.leadership.fence(log.gap)? {
             return Ok(None);
         }
@@ -115,7 +123,7 @@ impl EtcdLog {
                 self.is_silent = false;
                 self.under_way.retain(|it| *it != number);
                 self.counts.synced(0, micros);
-                done(store.synced(number), "synced")?;
+                done(store.synced(number), "synced")?; // [11]
             }
             Word::Again => self.is_silent = true,
             Word::Still(round) => {
@@ -164,7 +172,7 @@ impl EtcdLog {
     /// has anything of them. Without memory for that it is tried again.
     fn wind_up(&mut self, store: &mut Store) -> io::Result<()> {
         for number in std::mem::take(&mut self.lost) {
-            done(store.failed(number), "failed")?;
+            done(store.failed(number), "failed")?; // [12]
         }
         let mut room = vec![0; store.counts().undecided + HEAD];
         self.is_over = well(store.lost(&mut room), &[DONE, MEMORY], "lost")?.answer == DONE;
@@ -198,11 +206,11 @@ impl Log for EtcdLog {
     fn send(&mut self, store: &mut Store) -> io::Result<()> {
         while !self.is_losing && self.under_way.len() < self.limits.in_flight.into() {
             let mut bytes = Vec::new();
-            match store.next_frame(false, &mut bytes)? {
+            match store.next_frame(false, &mut bytes, 0, u64::MAX)? {
                 Next::Frame(at) => {
                     self.counts.bytes += at.len as u64;
                     self.under_way.push(at.frame);
-                    let round = self.take();
+                    let round = self.take(); // [13]
                     self.engine.send(batch(self.engine.leadership.revision, &at, &bytes), round);
                 }
                 Next::Full => done(store.turn(), "turn")?,
@@ -250,9 +258,11 @@ impl Log for EtcdLog {
 
 /// Leads whenever nobody does, and serves then, until it is told to stop.
 pub fn serve(options: &Options, mut wake: UnixStream, waker: &UnixStream) -> io::Result<()> {
-    let _lock = Folder(options.folder.clone().into()).lock()?;
-    let (follower, members) = (Follower::start(options)?, Arc::new(Members::new(options.engine.clone())));
-    let (mut woken, mut told, mut warm) = ([0; 256], String::new(), None);
+    let folder = Folder(options.folder.clone().into());
+    let _lock = folder.lock(options.wait_for_folder, &options.address)?;
+    let mut bound = Some(Bound::at(&options.address)?);
+    let members = Arc::new(Members::new(options.engine.clone()));
+    let (mut woken, mut told, mut warm, mut follows) = ([0; 256], String::new(), None, None);
     loop {
         wake.set_nonblocking(false)?;
         wake.set_read_timeout(Some(WAIT))?;
@@ -260,7 +270,14 @@ pub fn serve(options: &Options, mut wake: UnixStream, waker: &UnixStream) -> io:
         if woken[..count].iter().any(|signal| *signal > 0 && u32::from(*signal) != SIGUSR1) {
             return Ok(());
         }
-        let (store, log) = match lead(options, &members, waker, &follower, &mut warm) {
+        let did = match &follows {
+            Some((said, follower)) => lead(options, said, &members, waker, follower, &mut warm),
+            None => follow(options, &folder, &members).map(|it| {
+                follows = Some(it);
+                None
+            }),
+        };
+        let (store, log) = match did {
             Ok(Some(it)) => it,
             Ok(None) => continue,
             Err(error) if error.kind() == ErrorKind::InvalidData => return Err(error),
@@ -272,7 +289,7 @@ pub fn serve(options: &Options, mut wake: UnixStream, waker: &UnixStream) -> io:
                 continue;
             }
         };
-        let listener = TcpListener::bind(&options.address)?;
+        let listener = bound.take().map_or_else(|| Bound::at(&options.address), Ok)?.listen()?;
         say!("listening on {}", listener.local_addr()?);
         let house = House::new(options.clone(), log.found, Keeper::new(0, waker.try_clone()?));
         if !Server::new(house, listener, wake.try_clone()?, store, Box::new(log))?.run()? {
@@ -281,9 +298,39 @@ pub fn serve(options: &Options, mut wake: UnixStream, waker: &UnixStream) -> io:
     }
 }
 
+/// Begins to read along, once the folder and the engine say that they are of one store.
+fn follow(options: &Options, folder: &Folder, members: &Members) -> io::Result<(Said, Follower)> {
+    let of_another = |what: &str| {
+        let words = format!(
+            "{}: {what}; start on another folder, or name the engine and the prefix that it is of",
+            options.folder
+        );
+        Err(io::Error::new(ErrorKind::InvalidData, words))
+    };
+    let said = folder.said()?;
+    if said.is_some_and(|said| !said.owner.is_of_engine) {
+        return of_another("this folder is of a server whose log is on a disk");
+    }
+    let is_new = said.is_none();
+    let identity = engine::identity(members, &Keys(options.prefix.clone()), is_new)?;
+    let said = match said {
+        Some(said) if Some(said.owner.identity) != identity => return of_another("the store in the engine is another"),
+        Some(said) => said,
+        None => {
+            let Some(identity) = identity else { return of_another("the engine has no store") };
+            let owner = Owner { identity, is_of_engine: true, old_snapshot: folder.newest()?.0, ..Owner::new()? };
+            mark::make(folder, owner, Mark::limits(&options.limits))?
+        }
+    };
+    let follower = Follower::start(options, said, members.beside())
+        .map_err(|error| io::Error::new(ErrorKind::InvalidData, error))?;
+    Ok((said, follower))
+}
+
 /// Leads where nobody does, and has the store then; until then the newest snapshot is read, so that this needn't be done then.
 fn lead(
     options: &Options,
+    said: &Said,
     members: &Arc<Members>,
     waker: &UnixStream,
     follower: &Follower,
@@ -298,7 +345,7 @@ fn lead(
     }
     let (recovery, of) = match warm.take() {
         Some(it) if it.1 == first => it,
-        _ => warmed(options)?,
+        _ => warmed(options, said)?,
     };
     let keys = Keys(options.prefix.clone());
     let Some(engine) = Engine::lead(members.clone(), &keys, options.lease, waker.try_clone()?)? else {

@@ -3,6 +3,7 @@ use super::http2::{Connection, Hears};
 use super::proto::{fields, Message, Value};
 use hidewillow::engine::Answer;
 use std::io;
+use std::sync::atomic::{AtomicU64, Ordering};
 use std::sync::{Arc, Mutex, MutexGuard};
 use std::time::Duration;
 
@@ -29,6 +30,25 @@ type Asked = (usize, Option<Arc<Connection>>);
 pub struct Members {
     addresses: Vec<String>,
     asked: Mutex<Asked>,
+    cluster: Cluster,
+}
+
+/// The cluster that the first answer was of. One of another isn't heard.
+#[derive(Clone, Default)]
+struct Cluster(Arc<AtomicU64>);
+
+impl Cluster {
+    fn of(&self, answer: io::Result<Vec<u8>>) -> io::Result<Vec<u8>> {
+        let answer = answer?;
+        let header = fields(&answer)?.into_iter().find(|(field, _)| *field == 1).ok_or_else(not_whole)?.1;
+        let of = number(header.bytes(), 1)?;
+        match self.0.compare_exchange(0, of, Ordering::AcqRel, Ordering::Acquire) {
+            Err(first) if first != of => {
+                Err(io::Error::other("a member is of another cluster than the first that answered"))
+            }
+            _ => Ok(answer),
+        }
+    }
 }
 
 /// A request that may be asked again with the same bytes.
@@ -197,7 +217,12 @@ fn of(path: &'static str, number: u64) -> Request {
 
 impl Members {
     pub fn new(addresses: Vec<String>) -> Members {
-        Members { addresses, asked: Mutex::new((0, None)) }
+        Members { addresses, asked: Mutex::new((0, None)), cluster: Cluster::default() }
+    }
+
+    /// The same, to be asked beside.
+    pub fn beside(&self) -> Members {
+        Members { addresses: self.addresses.clone(), asked: Mutex::new((0, None)), cluster: self.cluster.clone() }
     }
 
     fn asked(&self) -> MutexGuard<'_, Asked> {
@@ -219,7 +244,7 @@ impl Members {
     /// Has another member asked from now on, where that says that it leads the others: what these are asked goes by it anyway.
     pub fn prefer(&self) -> io::Result<()> {
         let leads = |connection: &Connection| {
-            let answer = connection.call(STATUS, &[], SHORT)?;
+            let answer = self.cluster.of(connection.call(STATUS, &[], SHORT))?;
             let header = fields(&answer)?.into_iter().find(|(field, _)| *field == 1).ok_or_else(not_whole)?.1;
             Ok::<_, io::Error>(number(header.bytes(), 2)? == number(&answer, 4)?)
         };
@@ -245,15 +270,16 @@ impl Members {
         // Nobody waits for one who connects.
         let asked = self.asked.try_lock().ok().and_then(|asked| asked.1.clone());
         let Some(connection) = asked else { return hears(Err(io::ErrorKind::NotConnected.into())) };
-        let ends = connection.clone();
-        let tell = move |answer: io::Result<_>| hears(answer.inspect_err(|error| ends.end(&error.to_string())));
+        let (ends, cluster) = (connection.clone(), self.cluster.clone());
+        let tell = move |answer| hears(cluster.of(answer).inspect_err(|error| ends.end(&error.to_string())));
         connection.ask(path, message, Box::new(tell));
     }
 
     /// Has it carry out a request, and waits for the answer.
     pub fn ask(&self, Request(path, message): &Request, patience: Duration) -> io::Result<Vec<u8>> {
         let connection = self.connection()?;
-        connection.call(path, message, patience).inspect_err(|error| connection.end(&error.to_string()))
+        let answer = self.cluster.of(connection.call(path, message, patience));
+        answer.inspect_err(|error| connection.end(&error.to_string()))
     }
 
     pub fn carry_out(&self, transaction: &Request, reads: usize, patience: Duration) -> io::Result<Did> {

@@ -1,19 +1,25 @@
 //! Sockets to channels of the store, and channels to sockets.
 use super::library::{shown, well, Store, ASKED, DECISION_DUE, DONE, FULL, MEMORY};
-use super::log::{Closed, Log};
+use super::log::{Closed, Log, Room};
+use super::replies::{Replies, Waiting};
 use crate::ahead::REFUSAL;
-use crate::door::{Admit, Guest};
+use crate::door::{Guest, LONGEST};
 use crate::house::House;
+use crate::request::{words, Does, Front, Lack};
+use crate::server::State;
 use hidewillow::store::StoreCounts;
 use hidewillow::Told;
 use std::collections::{BTreeMap, VecDeque};
-use std::io::{self, Read, Write};
+use std::io::{self, Read};
 use std::mem;
 use std::net::TcpStream;
 use std::os::fd::{AsRawFd, RawFd};
 
 /// So much room is kept for bytes of a client where none wait.
 const ROOM: usize = 1 << 12;
+/// What shows so many bytes or fewer is taken out with others; and what is told without showing anything has fewer.
+const SHORT: usize = 1 << 12;
+const TOLD: usize = 32;
 
 /// What the store has had of a client: nothing, whole requests, or behind these the front of one.
 #[derive(PartialEq)]
@@ -25,14 +31,27 @@ enum Had {
 
 /// What came of feeding.
 pub enum Fed {
-    /// A request was carried out, or is asked of the host; or what came is a part of one, or was answered at the door.
+    /// A request was carried out, and what it shows is long; or is asked of the host; or it was answered at the door, or asks nothing.
     Done,
+    Shows,
     Asked,
     Part,
-    /// There is nothing, or more is to come first; no more is taken of anyone until more is decided; and never of this client.
+    /// There is nothing, or more is to come first; no more is taken of it until more is decided; and never.
     Lacks,
     Full,
     Over,
+    /// Nor of this one, which is a web page's; or to which more would be owed than may wait.
+    Web,
+    Owed,
+}
+
+/// The request that is fed next, or bytes in which none is read: what it may do, how many bytes and words it has, and those that it shows.
+#[derive(Clone, Copy)]
+struct Next {
+    does: Does,
+    len: usize,
+    words: usize,
+    shows: usize,
 }
 
 /// A connection, and what stands beside knows of it.
@@ -40,41 +59,15 @@ pub struct Client {
     pub guest: Guest,
     socket: TcpStream,
     had: Had,
-    /// What came, and how much of it is fed; and the mark of what was carried out last.
+    /// What came, how much of it is fed, and how far the request behind that is read; and the mark of what was carried out last.
     came: Vec<u8>,
     taken: usize,
+    front: Front,
     mark: u64,
     replies: Replies,
-}
-
-/// What a socket is to have: so many bytes that may be sent, and those behind, so many each until what has a mark may be told.
-#[derive(Default)]
-struct Replies {
-    bytes: Vec<u8>,
-    free: usize,
-    held: VecDeque<(u64, usize)>,
-}
-
-impl Replies {
-    /// Takes bytes that may be sent once all before may, and what has this mark may be told, as it may now or not.
-    fn put(&mut self, bytes: &[u8], mark: u64, may_tell: bool) {
-        self.bytes.extend_from_slice(bytes); // [7]
-        match self.held.back_mut() {
-            None if may_tell => self.free += bytes.len(),
-            Some((last, count)) if mark <= *last => *count += bytes.len(),
-            _ if bytes.is_empty() => (),
-            _ => self.held.push_back((mark, bytes.len())),
-        }
-    }
-
-    /// Lets go of what may be told. Whether that is any.
-    fn let_go(&mut self, log: &dyn Log) -> bool {
-        let free = self.free;
-        while let Some((_, count)) = self.held.pop_front_if(|(mark, _)| log.may_tell(*mark)) {
-            self.free += count;
-        }
-        self.free > free
-    }
+    /// What the store may have for it until a batch is decided, in bytes, and all of these.
+    owed: VecDeque<(u64, usize)>,
+    owes: usize,
 }
 
 impl Client {
@@ -87,29 +80,88 @@ impl Client {
         self.taken < self.came.len()
     }
 
-    /// How many bytes wait to be sent, and how many of them may be now.
-    pub fn waits(&self) -> (usize, usize) {
-        (self.replies.bytes.len(), self.replies.free)
+    /// Whether more is to come before something is fed.
+    pub fn is_behind(&self) -> bool {
+        !self.has_come() || self.guest.state == State::Lacks
     }
 
-    /// What is fed next, and how much of what came it stands for, where it isn't that; or what came of it without.
-    fn front(&mut self, house: &House, has_room: bool) -> Result<(&[u8], Option<usize>), Fed> {
-        let rest = &self.came[self.taken..];
-        let admit = match self.had {
-            _ if rest.is_empty() => return Err(Fed::Lacks),
-            Had::Part => Admit::Feed(rest.len()),
-            _ => self.guest.admit(rest, house, has_room)?,
-        };
-        match admit {
-            Admit::Feed(count) => Ok((&rest[..count], None)),
-            Admit::Instead(bytes, count) => Ok((bytes, Some(count))),
-            Admit::Tell(text, count) if self.had == Had::Nothing => {
-                self.replies.put(&text, 0, true); // [7]
-                self.taken += count;
-                Err(Fed::Part)
-            }
-            Admit::Tell(..) => Err(Fed::Over),
+    /// How many bytes wait to be sent, and how many of them may be now.
+    pub fn waits(&self) -> (usize, usize) {
+        self.replies.waits()
+    }
+
+    /// How many bytes wait for it, here, in the store, and of what it was sent ahead.
+    pub fn owes(&self) -> usize {
+        self.waits().0 + self.owes + self.guest.ahead.as_ref().map_or(0, |ahead| ahead.bytes)
+    }
+
+    /// All up to a batch is decided, so that the store has nothing of it any more.
+    pub fn settle(&mut self, decided: u64) {
+        while let Some((_, bytes)) = self.owed.pop_front_if(|(batch, _)| *batch <= decided) {
+            self.owes -= bytes;
         }
+    }
+
+    /// So many bytes of it are taken out of the store.
+    fn was_told(&mut self, mut bytes: usize) {
+        while let Some((_, first)) = self.owed.front_mut().filter(|_| bytes > 0) {
+            let part = bytes.min(*first);
+            (*first, self.owes, bytes) = (*first - part, self.owes - part, bytes - part);
+            self.owed.pop_front_if(|(_, first)| *first == 0);
+        }
+    }
+
+    /// The store may have so many bytes for it until a batch is decided.
+    fn is_owed(&mut self, batch: u64, bytes: usize) {
+        match self.owed.back_mut().filter(|(last, _)| *last == batch) {
+            Some((_, all)) => *all += bytes,
+            None => self.owed.push_back((batch, bytes)),
+        }
+        self.owes += bytes;
+    }
+
+    /// What is fed next; or what came of it without.
+    fn next(&mut self, house: &House) -> Result<Next, Fed> {
+        let (rest, is_in) = (&self.came[self.taken..], self.guest.is_in);
+        let longest = if is_in { house.options.limits.bytes + LONGEST } else { LONGEST };
+        let unread = Next { does: Does::Unknown, len: rest.len(), words: 1, shows: 0 };
+        if rest.is_empty() || self.had == Had::Part {
+            return if rest.is_empty() { Err(Fed::Lacks) } else { Ok(unread) };
+        }
+        match self.front.read(rest) {
+            Ok(request) => {
+                let line = (rest[0] != b'*').then(|| &rest[..request.len]);
+                match request.does(line) {
+                    Does::Web => Err(Fed::Web),
+                    does => Ok(Next { does, len: request.len, words: request.words, shows: 0 }),
+                }
+            }
+            Err(Lack::Part) if rest.len() <= longest => Err(Fed::Lacks),
+            Err(_) if is_in => Ok(unread),
+            Err(_) => Err(Fed::Over),
+        }
+    }
+
+    /// The bytes of what is fed next.
+    fn bytes(&self, next: &Next) -> &[u8] {
+        &self.came[self.taken..][..next.len]
+    }
+
+    /// So much of what came is fed, or answered here.
+    fn has_fed(&mut self, count: usize) {
+        (self.taken, self.front) = (self.taken + count, Front::default()); // [6]
+    }
+
+    /// Answers what is said at the door.
+    fn greet(&mut self, next: &Next, house: &House) -> Result<Fed, Fed> {
+        if self.had != Had::Nothing {
+            return Err(Fed::Over);
+        }
+        let words = words(&self.came[self.taken..][..next.len]);
+        let told = self.guest.greet(&words, &house.options);
+        self.replies.put(&told, 0, true); // [7]
+        self.has_fed(next.len);
+        Ok(Fed::Part)
     }
 
     /// An answer that stands ahead of what goes out, where the client wishes so.
@@ -121,23 +173,16 @@ impl Client {
 
     /// Sends what may be sent, as much as the socket takes.
     pub fn write(&mut self) -> io::Result<()> {
-        let replies = &mut self.replies;
-        while replies.free > 0 {
-            let count = match self.socket.write(&replies.bytes[..replies.free]) {
-                Err(error) if error.kind() == io::ErrorKind::WouldBlock => break,
-                did => did?,
-            };
-            replies.bytes.drain(..count); // [7]
-            replies.free -= count;
-        }
-        Ok(())
+        self.replies.write(&self.socket) // [7]
     }
 
-    /// Lets go of what was fed, and of room that nothing uses.
+    /// Lets go of what was fed, where that is most of what came, and of room that nothing uses.
     pub fn tidy(&mut self) {
-        self.came.drain(..mem::take(&mut self.taken));
-        for bytes in [&mut self.came, &mut self.replies.bytes].into_iter().filter(|bytes| bytes.is_empty()) {
-            bytes.shrink_to(ROOM);
+        if self.taken * 2 >= self.came.len() {
+            self.came.drain(..mem::take(&mut self.taken));
+        }
+        if self.came.is_empty() {
+            self.came.shrink_to(ROOM);
         }
     }
 }
@@ -147,20 +192,26 @@ pub struct Channels {
     store: Store,
     log: Box<dyn Log>,
     clients: BTreeMap<u16, Client>,
+    waiting: Waiting,
     /// A room for what sockets read and channels put out.
     room: Vec<u8>,
 }
 
 impl Channels {
     pub fn new(store: Store, log: Box<dyn Log>) -> Channels {
-        Channels { store, log, clients: BTreeMap::new(), room: vec![0; 1 << 18] }
+        Channels { store, log, clients: BTreeMap::new(), waiting: Waiting::default(), room: vec![0; 1 << 18] }
     }
 
-    /// Gives a connection a channel.
-    pub fn connect(&mut self, socket: TcpStream, guest: Guest) -> io::Result<u16> {
-        let channel = well(self.store.connect(), &[DONE], "connect")?.number as u16;
-        let (had, came, replies) = (Had::Nothing, Vec::new(), Replies::default());
-        self.clients.insert(channel, Client { guest, socket, had, came, taken: 0, mark: 0, replies });
+    /// Gives a connection a channel, or back, where there is none.
+    pub fn connect(&mut self, socket: TcpStream, guest: Guest) -> Result<u16, TcpStream> {
+        let Ok(Told { number, .. }) = well(self.store.connect(), &[DONE], "connect") else { return Err(socket) };
+        let channel = number as u16;
+        #[rustfmt::skip]
+        let client = Client {
+            guest, socket, had: Had::Nothing, came: Vec::new(), taken: 0, front: Front::default(), mark: 0,
+            replies: Replies::new(self.waiting.clone()), owed: VecDeque::new(), owes: 0,
+        };
+        self.clients.insert(channel, client);
         Ok(channel)
     }
 
@@ -178,6 +229,15 @@ impl Channels {
         self.clients.iter().map(|(channel, client)| (*channel, client))
     }
 
+    /// How many there are; and how many bytes wait for all of them.
+    pub fn count(&self) -> usize {
+        self.clients.len()
+    }
+
+    pub fn waiting(&self) -> usize {
+        self.waiting.get()
+    }
+
     /// Reads what came: how many bytes, and 0 at the end.
     pub fn read(&mut self, channel: u16) -> io::Result<usize> {
         let client = self.clients.get_mut(&channel).ok_or(io::ErrorKind::NotFound)?;
@@ -186,32 +246,125 @@ impl Channels {
         Ok(count)
     }
 
-    /// Feeds what came on a channel, up to the end of a request.
+    /// Feeds the request that is at the front of what came on a channel.
     pub fn feed(&mut self, channel: u16, house: &House) -> Fed {
-        let Some(client) = self.clients.get_mut(&channel) else { return Fed::Over };
-        let is_ahead = client.guest.ahead.is_some();
-        let (bytes, whole) = match client.front(house, self.log.has_room()) {
-            Ok(front) => front,
-            Err(fed) => return fed,
+        self.try_to_feed(channel, house).unwrap_or_else(|fed| fed)
+    }
+
+    fn try_to_feed(&mut self, channel: u16, house: &House) -> Result<Fed, Fed> {
+        let client = self.clients.get_mut(&channel).ok_or(Fed::Over)?;
+        let mut next = client.next(house)?;
+        if !client.guest.is_in {
+            return client.greet(&next, house);
+        }
+        let is_settled = client.owed.is_empty() && client.guest.ahead.is_none() && client.guest.queue.is_none();
+        let counts = self.store.counts();
+        let instead = self.admitted(channel, &next, &counts, house)?;
+        // It may be the first of the next batch.
+        let batch = house.decided() + counts.open_batches as u64 + 1;
+        if is_settled && next.does == Does::Shows && next.words == 2 {
+            return self.show(channel, &next, batch);
+        }
+        next.shows = self.shows(channel, &next).ok_or(Fed::Over)?;
+        if next.shows > house.options.output {
+            return Err(Fed::Owed);
+        }
+        let fed = self.carry_out(channel, &next, instead)?;
+        if let Some(client) = self.clients.get_mut(&channel) {
+            client.is_owed(batch, next.shows.max(TOLD));
+        }
+        Ok(fed)
+    }
+
+    /// Feeds what shows a key to a client of which the store has nothing, which is told at once, unless that rests on something.
+    fn show(&mut self, channel: u16, next: &Next, batch: u64) -> Result<Fed, Fed> {
+        let begin = self.clients.get(&channel).map_or(0, |client| client.taken);
+        let fed = self.carry_out(channel, next, None)?;
+        let waited = self.waiting.get();
+        let has_memory = self.take(channel);
+        let shown = self.waiting.get() - waited;
+        if let Some(client) = self.clients.get_mut(&channel).filter(|_| shown == 0) {
+            let words = words(&client.came[begin..][..next.len]);
+            let bytes = words.last().map_or(0, |key| self.store.value(key, &mut []).bytes);
+            client.is_owed(batch, bytes + TOLD);
+        }
+        Ok(if shown > SHORT || !has_memory { Fed::Shows } else { fed })
+    }
+
+    /// What is fed in the place of a request, if it is to be; or it waits: what may write, until half of what may be undecided is,
+    /// and as there is no room for it yet. As large a request as may be may be undecided too; of a larger queue the store tells so.
+    fn admitted(
+        &mut self,
+        channel: u16,
+        next: &Next,
+        counts: &StoreCounts,
+        house: &House,
+    ) -> Result<Option<&'static [u8]>, Fed> {
+        let guest = &self.clients.get(&channel).ok_or(Fed::Over)?.guest;
+        let (is_queued, is_pressed) = (guest.queue.is_some(), house.is_pressed(counts));
+        let writes = match next.does {
+            Does::Adds | Does::TakesAway => Some(next.len),
+            Does::CarriesOut if is_queued => Some(0),
+            Does::Unknown if is_pressed => return Err(Fed::Full),
+            _ => None,
         };
+        let room = writes.map_or(Room::Is, |bytes| {
+            let all = (bytes + guest.queue.map_or(0, |queue| queue.writes)).min(house.half());
+            self.log.room(&mut self.store, all, next.does == Does::TakesAway)
+        });
+        let instead = guest.instead(next.does, room, house.is_heavy(self.waiting.get()));
+        let may_wait = writes.is_some() && !(is_queued && next.does != Does::CarriesOut);
+        match instead {
+            None if may_wait && (room != Room::Is || is_pressed) => Err(Fed::Full),
+            instead => Ok(instead),
+        }
+    }
+
+    /// How many bytes a request shows, where that may be many: what its keys have.
+    fn shows(&mut self, channel: u16, next: &Next) -> Option<usize> {
+        let client = self.clients.get(&channel)?;
+        match (next.does, next.words) {
+            (Does::CarriesOut, _) => return Some(client.guest.queue.map_or(0, |queue| queue.shows)),
+            (Does::Else, _) => return Some(next.len),
+            (Does::Shows, _) | (Does::Adds, 3..) => (),
+            _ => return Some(0),
+        }
+        let words = words(client.bytes(next));
+        let keys = match (next.does, words.split_first()?) {
+            (Does::Shows, (_, keys)) => keys,
+            (_, (name, keys)) if name.eq_ignore_ascii_case(b"GETSET") => &keys[..1],
+            (_, (name, keys)) if name.eq_ignore_ascii_case(b"SET") && keys.len() > 2 => &keys[..1],
+            _ => &[],
+        };
+        Some(keys.iter().map(|key| self.store.value(key, &mut []).bytes + TOLD).sum())
+    }
+
+    /// Feeds a request, or another in its place.
+    fn carry_out(&mut self, channel: u16, next: &Next, instead: Option<&[u8]>) -> Result<Fed, Fed> {
+        let client = self.clients.get_mut(&channel).ok_or(Fed::Over)?;
+        let (is_ahead, bytes) = (client.guest.ahead.is_some(), instead.unwrap_or(client.bytes(next)));
         let told = match is_ahead {
             true => self.store.feed_ahead(channel, bytes),
             false => self.store.feed(channel, bytes),
         };
         let Told { answer: DONE, bytes, number } = told else {
             let is_full = told.answer == MEMORY || matches!(told.number, FULL | DECISION_DUE);
-            return if is_full { Fed::Full } else { Fed::Over };
+            return Err(if is_full { Fed::Full } else { Fed::Over });
         };
-        client.mark = self.log.carried_out();
-        client.taken += whole.unwrap_or(bytes); // [6]
-        client.had = if number == 0 && !client.has_come() { Had::Part } else { Had::Whole };
+        client.mark = self.log.carried_out(); // [13]
+        client.has_fed(if instead.is_some() { next.len } else { bytes });
+        client.had = if number == 0 && next.words > 0 { Had::Part } else { Had::Whole };
+        if number == 1 {
+            client.guest.has_queued(next.does, next.len, next.shows);
+        }
         match number {
-            0 => return Fed::Part,
-            ASKED => return Fed::Asked,
+            0 => return Ok(Fed::Part),
+            ASKED => return Ok(Fed::Asked),
             _ if is_ahead => client.send_ahead(shown(&mut self.room, |room| self.store.ahead(room)).unwrap_or(REFUSAL)),
             _ => (),
         }
-        Fed::Done
+        let is_long = next.shows > SHORT || next.does == Does::Lists;
+        Ok(if is_long { Fed::Shows } else { Fed::Done })
     }
 
     /// A channel for which something may go out.
@@ -220,16 +373,19 @@ impl Channels {
         (told.answer == DONE).then_some(told.number as u16)
     }
 
-    /// Takes what may go out of a channel; whether there was memory for it.
+    /// Takes what may go out of a channel: whether there was memory for it.
     pub fn take(&mut self, channel: u16) -> bool {
         let Some(client) = self.clients.get_mut(&channel) else { return false };
-        let may_tell = self.log.may_tell(client.mark);
-        loop {
+        let (may_tell, most) = (self.log.may_tell(client.mark), self.room.len());
+        let mut count = most;
+        // Where the room has more than there was, nothing is left.
+        while count == most {
             let mut bytes = match self.store.output(channel, &mut self.room) {
-                Told { answer: DONE, bytes: 0, .. } => return true,
                 Told { answer: DONE, bytes, .. } => &self.room[..bytes],
                 _ => return false,
             };
+            count = bytes.len();
+            client.was_told(bytes.len());
             let waited_for;
             if let Some(ahead) = &mut client.guest.ahead {
                 waited_for = ahead.put_out(bytes);
@@ -243,6 +399,7 @@ impl Channels {
             }
             client.replies.put(bytes, client.mark, may_tell); // [7]
         }
+        true
     }
 
     /// Tells the store what came of frames.
@@ -260,8 +417,8 @@ impl Channels {
         if self.log.may_tell(u64::MAX) {
             return Ok(Vec::new());
         }
-        let held = self.clients.values().filter_map(|client| client.replies.held.back());
-        let Some(mark) = held.map(|(mark, _)| *mark).max() else { return Ok(Vec::new()) };
+        let held = self.clients.values().filter_map(|client| client.replies.mark());
+        let Some(mark) = held.max() else { return Ok(Vec::new()) };
         self.log.prove(&mut self.store, mark, may_ask)?;
         let log = &*self.log;
         let free = self.clients.iter_mut().filter_map(|(channel, it)| it.replies.let_go(log).then_some(*channel));
@@ -299,6 +456,11 @@ impl Channels {
     /// What is undecided.
     pub fn counts(&mut self) -> StoreCounts {
         self.store.counts()
+    }
+
+    /// At a stop, lets go of what was begun and is not used.
+    pub fn let_go(&mut self) -> io::Result<()> {
+        self.log.let_go()
     }
 
     /// The log, to be looked at.

@@ -1,5 +1,10 @@
 //! Threads that write frames and sync them, and make segments.
+use super::envelope::ROOM_BEFORE;
 use super::folder::Folder;
+use super::library::HEAD;
+use super::mark::Marker;
+use super::room::Growth;
+use super::system::is_of_handles;
 use crate::tell::Tell;
 use hidewillow::store::FramePlace;
 use std::fs::{File, OpenOptions};
@@ -13,37 +18,65 @@ use std::{mem, thread};
 
 /// A longer room for a frame isn't kept.
 const ROOM: usize = 1 << 20;
+/// How long it is waited where there are no handles.
+const NO_HANDLES: Duration = Duration::from_millis(50);
 
-/// A frame that is to be written, or the head of a cut, and the place of the thread that does it.
+/// A frame that is to be written, or the head of a cut, with what stands before it, and the place of the thread that does it.
 pub struct Job {
     place: usize,
     pub at: FramePlace,
     pub is_head: bool,
+    /// Where it is written in the file of its segment, and from where on it stands in the room.
+    pub from: u64,
+    room_from: usize,
     bytes: Vec<u8>,
     pub begun: Instant,
+}
+
+impl Job {
+    /// Where it ends in the file.
+    pub fn end(&self) -> u64 {
+        self.from + (ROOM_BEFORE - self.room_from + self.at.len) as u64
+    }
 }
 
 /// What came of something that went on beside the loop.
 pub enum Word {
     Written(Job, io::Result<()>),
     Segment(io::Result<()>),
+    /// A segment has more zeros.
+    Grown(Growth, io::Result<()>),
+}
+
+/// The head of a start, with what stands before it, which is written as soon as its segment is made.
+pub type Head = (FramePlace, [u8; ROOM_BEFORE + HEAD]);
+
+/// Opens something; where there are no handles left, once there are. Nothing waits for that but who called.
+pub fn opened(mut open: impl FnMut() -> io::Result<File>) -> io::Result<File> {
+    loop {
+        match open() {
+            Err(error) if is_of_handles(&error) => thread::sleep(NO_HANDLES),
+            did => return did,
+        }
+    }
 }
 
 /// Writes bytes where they are to be, and syncs them, through a handle that its caller alone writes by. It has one for the next time
 /// only where all went well.
-pub fn write(folder: &Folder, own: &mut Option<(u64, File)>, at: &FramePlace, bytes: &[u8]) -> io::Result<()> {
-    let file = match own.take_if(|(of, _)| *of == at.segment) {
+pub fn write(folder: &Folder, own: &mut Option<(u64, File)>, segment: u64, place: u64, bytes: &[u8]) -> io::Result<()> {
+    let file = match own.take_if(|(of, _)| *of == segment) {
         Some((_, file)) => file,
-        None => OpenOptions::new().write(true).open(folder.segment(at.segment))?,
+        None => opened(|| OpenOptions::new().write(true).open(folder.segment(segment)))?,
     };
-    file.write_all_at(&bytes[..at.len], at.offset)?; // [1]
+    file.write_all_at(bytes, place)?; // [1]
     file.sync_data()?; // [2]
-    *own = Some((at.segment, file)); // [4]
+    *own = Some((segment, file)); // [4]
     Ok(())
 }
 
 pub struct Disk {
     folder: Arc<Folder>,
+    marker: Arc<Marker>,
     /// Threads that write, and of those that are idle the places, each with a room for the next frame.
     threads: Vec<Sender<Job>>,
     idle: Vec<(usize, Vec<u8>)>,
@@ -52,14 +85,15 @@ pub struct Disk {
 }
 
 impl Disk {
-    pub fn start(folder: Folder, threads: u16, wake: UnixStream) -> Disk {
+    pub fn start(folder: Folder, marker: Arc<Marker>, threads: u16, wake: UnixStream) -> Disk {
         let ((tell, words), folder) = (Tell::new(wake), Arc::new(folder));
         let start = |_| {
             let ((jobs, taken), folder, tell) = (channel::<Job>(), folder.clone(), tell.clone());
             thread::spawn(move || {
                 let mut own = None;
                 for job in taken {
-                    let did = write(&folder, &mut own, &job.at, &job.bytes);
+                    let bytes = &job.bytes[job.room_from..ROOM_BEFORE + job.at.len];
+                    let did = write(&folder, &mut own, job.at.segment, job.from, bytes);
                     tell.tell(Word::Written(job, did));
                 }
             });
@@ -67,16 +101,54 @@ impl Disk {
         };
         let threads: Vec<_> = (0..threads.into()).map(start).collect();
         let idle = (0..threads.len()).map(|place| (place, Vec::new())).collect();
-        Disk { folder, threads, idle, words, tell }
+        Disk { folder, marker, threads, idle, words, tell }
     }
 
-    /// Has a segment made, after a while.
-    pub fn make_segment(&self, segment: u64, bytes: u64, wait: Duration) {
+    /// Does something with the folder on a thread of its own, after a while, and tells what came of it.
+    fn beside(&self, wait: Duration, does: impl FnOnce(&Folder) -> Word + Send + 'static) {
         let (folder, tell) = (self.folder.clone(), self.tell.clone());
-        thread::spawn(move || {
+        let work = move || {
             thread::sleep(wait);
-            tell.tell(Word::Segment(folder.make_segment(segment, bytes)));
+            tell.tell(does(&folder));
+        };
+        // Where no thread can be had, nothing else goes on either.
+        thread::Builder::new().spawn(work).expect("a thread for the folder");
+    }
+
+    /// Has a segment made, with the head of a start in it where there is one; then what is known of the log is on the disk too.
+    pub fn make_segment(&self, segment: u64, bytes: u64, head: Option<Head>, wait: Duration) {
+        let marker = self.marker.clone();
+        self.beside(wait, move |folder| {
+            let begin = |(at, bytes): Head| {
+                write(folder, &mut None, at.segment, 0, &bytes)?;
+                marker.sync(|mark| (mark.known, mark.segment, mark.place) = (at.frame, at.segment, bytes.len() as u64))
+            };
+            let mark = || {
+                if let Err(error) = marker.sync(|_| ()) {
+                    say!("what is known of the log is not on the disk: {error}");
+                }
+                Ok(())
+            };
+            let made = folder.make_segment(segment, bytes);
+            Word::Segment(made.and_then(|()| head.map_or_else(mark, begin)))
         });
+    }
+
+    /// Has a segment made longer.
+    pub fn grow(&self, growth: Growth, wait: Duration) {
+        self.beside(wait, move |folder| {
+            let did = folder.grow(&growth);
+            Word::Grown(growth, did)
+        });
+    }
+
+    /// The folder, and the next word, where it comes within a while.
+    pub fn folder(&self) -> &Folder {
+        &self.folder
+    }
+
+    pub fn last_word(&mut self, wait: Duration) -> Option<Word> {
+        self.words.recv_timeout(wait).ok()
     }
 
     /// A room for the next frame, where a thread is idle.
@@ -84,11 +156,13 @@ impl Disk {
         self.idle.last_mut().map(|(_, room)| room)
     }
 
-    /// Has that thread write what the room has.
-    pub fn send(&mut self, at: FramePlace, is_head: bool) {
+    /// Has that thread write what the room has from a place of it on, to a place in its file: where it ends there.
+    pub fn send(&mut self, at: FramePlace, is_head: bool, room_from: usize, from: u64) -> u64 {
         let (place, bytes) = self.idle.pop().expect("a thread is idle");
-        let job = Job { place, at, is_head, bytes, begun: Instant::now() };
+        let job = Job { place, at, is_head, from, room_from, bytes, begun: Instant::now() };
+        let end = job.end();
         self.threads[place].send(job).expect("disk threads don't end");
+        end
     }
 
     pub fn next_word(&mut self) -> Option<Word> {

@@ -73,7 +73,7 @@ impl Recovery {
         fn open(first: u64) = hidewillow_recovery_open(first);
         fn head(segment: u64, head: &[u8]) = hidewillow_recovery_head(segment, head.as_ptr(), head.len());
         fn feed(segment: u64, piece: &[u8]) = hidewillow_recovery_feed(segment, piece.as_ptr(), piece.len());
-        fn end(in_flight: u64, counts: &mut ReadCounts) = hidewillow_recovery_end(in_flight, counts);
+        fn end(in_flight: u64, known: u64, counts: &mut ReadCounts) = hidewillow_recovery_end(in_flight, known, counts);
         fn snapshot(room: &mut [u8]) = hidewillow_recovery_snapshot(room.as_mut_ptr(), room.len());
     }
 }
@@ -120,6 +120,7 @@ impl Store {
         fn take_frame(room: &mut [u8], at: &mut FramePlace)
             = hidewillow_store_take_frame(room.as_mut_ptr(), room.len(), at);
         fn turn() = hidewillow_store_turn();
+        fn value(key: &[u8], room: &mut [u8]) = hidewillow_store_value(key.as_ptr(), key.len(), room.as_mut_ptr(), room.len());
         fn synced(frame: u64) = hidewillow_store_synced(frame);
         fn failed(frame: u64) = hidewillow_store_failed(frame);
         fn cut_frame(room: &mut [u8], at: &mut FramePlace) = hidewillow_store_cut_frame(room.as_mut_ptr(), room.len(), at);
@@ -129,10 +130,15 @@ impl Store {
         fn count(counts: &mut StoreCounts) = hidewillow_store_counts(counts);
     }
 
-    /// Takes the next frame, or the head that cuts off what failed, into a room that is made long enough.
-    pub fn next_frame(&mut self, is_head: bool, room: &mut Vec<u8>) -> io::Result<Next> {
-        let mut at = FramePlace::default();
-        room.resize(self.counts().next_frame.max(room.len()), 0);
+    /// Takes the next frame, or the head that cuts off what failed, into a room that is made long enough, behind so many bytes of it;
+    /// or none where it is longer than there is room for in its segment.
+    pub fn next_frame(&mut self, is_head: bool, room: &mut Vec<u8>, before: usize, most: u64) -> io::Result<Next> {
+        let (mut at, next) = (FramePlace::default(), self.counts().next_frame);
+        if !is_head && next > HEAD && next as u64 > most {
+            return Ok(Next::Full);
+        }
+        room.resize((before + next.max(HEAD)).max(room.len()), 0);
+        let room = &mut room[before..];
         let told = if is_head { self.cut_frame(room, &mut at) } else { self.take_frame(room, &mut at) };
         match told {
             Told { answer: DONE, .. } => Ok(Next::Frame(at)),

@@ -1,16 +1,29 @@
 //! The log on a disk: frames to threads, what came of them, cuts, and the segments that they need.
-use super::disk::{self, Disk, Job, Word};
-use super::folder::{Folder, Found};
+use super::disk::{Disk, Head, Job, Word};
+use super::envelope::{wrap, Envelope, FileHead, Identity, ROOM_BEFORE};
+use super::folder::{Folder, Lock};
 use super::library::{done, Next, Store, HEAD};
+use super::mark::{self, GaveUp, Mark, Marker, Owner};
+use super::recovery::{Found, How};
+pub use super::room::Room;
+use super::room::{Growth, Zeros};
 use crate::info::{self, LogCounts};
 use hidewillow::store::{FramePlace, StoreLimits};
+use std::collections::BTreeMap;
 use std::os::unix::net::UnixStream;
 use std::sync::Arc;
 use std::time::Duration;
-use std::{fs::File, io};
+use std::{io, mem};
 
+/// How long a stop waits for a segment that is being made.
+const STOPS: Duration = Duration::from_secs(5);
 /// How often a cut fails, each time in another segment, until the store stops. A full disk counts for nothing.
 const TRIES: u32 = 3;
+
+/// Whether something failed for want of room.
+fn is_full(error: &io::Error) -> bool {
+    matches!(error.kind(), io::ErrorKind::StorageFull | io::ErrorKind::QuotaExceeded)
+}
 
 /// Where the frames of a store go.
 pub trait Log {
@@ -42,9 +55,17 @@ pub trait Log {
     fn prove(&mut self, _store: &mut Store, _mark: u64, _may_ask: bool) -> io::Result<()> {
         Ok(())
     }
-    /// Whether there is room for writes; else they are refused by name.
+    /// Whether there is room for a request of so many bytes that writes, or that only takes away; where that lacks, it is refused by name.
+    fn room(&mut self, _: &mut Store, _bytes: usize, _takes_away: bool) -> Room {
+        Room::Is
+    }
+    /// Whether there is room for writes.
     fn has_room(&self) -> bool {
         true
+    }
+    /// The store is to stop, and nothing is under way: what was begun and not used is let go of.
+    fn let_go(&mut self) -> io::Result<()> {
+        Ok(())
     }
     /// What it counted, as `INFO` tells it.
     fn counts(&self) -> &LogCounts;
@@ -58,10 +79,11 @@ pub trait Log {
     }
 }
 
-/// What a snapshot may stand for: all segments up to this one. Nothing is written in them any more, nor waits to be cut off, and there
-/// is one of these at a time.
+/// What a snapshot may stand for: all segments up to this one, behind which this frame is the next. Nothing is written in them any more,
+/// nor waits to be cut off, and there is one of these at a time.
 pub struct Closed {
     up_to: u64,
+    next: u64,
     _only: Arc<()>,
 }
 
@@ -69,10 +91,14 @@ impl Closed {
     pub fn up_to(&self) -> u64 {
         self.up_to
     }
+
+    pub fn next(&self) -> u64 {
+        self.next
+    }
 }
 
-/// The last segments: in which nothing is written any more, that is written, and that is made;
-/// whether the next is being made, and couldn't be before.
+/// The last segments: in which nothing is written any more, that is written, and that is made; whether the next is being made, and
+/// couldn't be before.
 #[derive(Default, Clone, Copy)]
 pub struct Segments {
     pub closed: u64,
@@ -80,36 +106,133 @@ pub struct Segments {
     pub made: u64,
     is_making: bool,
     pub lacks_room: bool,
+    /// How long the last two are.
+    pub last_bytes: u64,
 }
 
 pub struct DiskLog {
     disk: Disk,
-    limits: StoreLimits,
     /// Keeps others out of the folder while it is open.
-    _lock: File,
+    _lock: Lock,
     at: Segments,
-    /// How much of the segment is written, and what is being written.
-    end: u64,
+    /// How much of the segment is written, and how far there are zeros; whether it grows; and what is being written.
+    zeros: Zeros,
+    is_growing: bool,
     under_way: Vec<FramePlace>,
+    /// Whose the folder is, the first frame of each segment since the start, and what is known to be synced.
+    identity: Identity,
+    firsts: BTreeMap<u64, u64>,
+    synced: Synced,
+    /// The head of this start, as long as there was no room for its segment: until then nothing is written. And that segment.
+    opening: Option<Head>,
+    first: u64,
     /// Where a frame failed and is not cut off yet: how often a head failed that was to do it.
     cutting: Option<u32>,
     only: Arc<()>,
     counts: LogCounts,
 }
 
+/// Which frames were told as synced: all up to one, and where each of those behind ends, as their numbers needn't come in order.
+struct Synced {
+    known: u64,
+    ahead: BTreeMap<u64, (u64, u64)>,
+    marker: Arc<Marker>,
+    /// Whether the mark couldn't be written, which is said once.
+    is_mute: bool,
+}
+
+impl Synced {
+    /// A frame is on the disk, and ends there; or a head is, which stands for all before it.
+    fn is(&mut self, is_head: bool, at: &FramePlace, end: u64) {
+        if is_head {
+            self.ahead.clear();
+            self.known = at.frame - 1;
+        }
+        self.ahead.insert(at.frame, (at.segment, end));
+        let mut last = None;
+        while let Some(place) = self.ahead.remove(&(self.known + 1)) {
+            (self.known, last) = (self.known + 1, Some(place));
+        }
+        let Some((segment, place)) = last else { return };
+        let known = self.known;
+        let did = self.marker.is(|mark| (mark.known, mark.segment, mark.place) = (known, segment, place));
+        if let Some(error) = did.err().filter(|_| !self.is_mute) {
+            say!("what is known of the log is not written down: {error}");
+            self.is_mute = true;
+        }
+    }
+}
+
+/// What stands around a frame is put before it, in a room; from where on, and where that is written in the file of its segment.
+fn wrapped(room: &mut [u8], at: &FramePlace, identity: &Identity, known: u64, end: u64) -> (usize, u64) {
+    let (segment, frame) = (at.segment, at.frame);
+    let envelope = Envelope::around(segment, frame, known, &room[ROOM_BEFORE..ROOM_BEFORE + at.len]);
+    let head = (at.offset == 0).then_some(FileHead { of_snapshot: false, identity: *identity, segment, frame, known });
+    (wrap(room, head, &envelope, identity), if at.offset == 0 { 0 } else { end })
+}
+
+/// What `store` says of a log that goes on behind what was found, in this segment: it is made where there is none. On a full disk what it
+/// said before is as true, unless something is given up.
+fn marked(folder: &Folder, found: &Found, limits: &StoreLimits, segment: u64) -> io::Result<(mark::Said, Arc<Marker>)> {
+    let (next, mut mark) = (found.counts.next, Mark::limits(limits));
+    (mark.known, mark.segment, mark.place) = (next - 1, found.counts.segment, found.counts.place);
+    let said = match found.said {
+        Some(said) => said,
+        None => mark::make(folder, Owner { first: segment, old_snapshot: found.kept, ..Owner::new()? }, mark)?,
+    };
+    mark.gave_up = if found.gives_up { GaveUp { segment, frame: next } } else { said.mark.gave_up };
+    let marker = Arc::new(Marker::new(folder, &said)?);
+    match marker.sync(|now| now.goes_on(mark)) {
+        Err(error) if found.gives_up || !is_full(&error) => Err(error),
+        _ => Ok((said, marker)),
+    }
+}
+
 impl DiskLog {
-    /// Recovers the log of a folder, and goes on behind it, with what was found.
-    pub fn open(folder: Folder, limits: StoreLimits, wake: UnixStream) -> io::Result<(Store, DiskLog, Found)> {
-        let _lock = folder.lock()?;
-        let mut found = folder.recover(limits.undecided, u64::MAX, true)?;
+    /// Recovers the log of a folder, and goes on behind it, with what was found. On a full disk it begins without a segment, and has
+    /// no room for writes until that is made.
+    pub fn open(
+        folder: Folder,
+        lock: Lock,
+        limits: StoreLimits,
+        accept: Option<u64>,
+        wake: UnixStream,
+    ) -> io::Result<(Store, DiskLog, Found)> {
+        let how = How { up_to: u64::MAX, again: true, undecided: limits.undecided, accept, next: None };
+        let mut found = folder.recover(how)?;
+        if found.said.is_some_and(|said| said.owner.is_of_engine) {
+            return Err(io::Error::other("this folder is of a host whose log is in an engine"));
+        }
         let (store, place, head) = Store::open(&mut found.log, &limits)?;
-        folder.make_segment(place.segment, limits.segment)?;
-        disk::write(&folder, &mut None, &place, &head)?; // [5]
-        let disk = Disk::start(folder, limits.in_flight, wake);
-        let at = Segments { written: place.segment, made: place.segment, ..Segments::default() };
-        let (end, under_way, cutting, only) = (HEAD as u64, Vec::new(), None, Arc::new(()));
-        let counts = LogCounts::default();
-        Ok((store, DiskLog { disk, limits, _lock, at, end, under_way, cutting, only, counts }, found))
+        let (said, marker) = marked(&folder, &found, &limits, place.segment)?;
+        let (identity, first, known) = (said.owner.identity, place.segment, place.frame - 1);
+        let mut room = [0; ROOM_BEFORE + HEAD];
+        room[ROOM_BEFORE..].copy_from_slice(&head);
+        wrapped(&mut room, &place, &identity, known, 0);
+        let at = Segments { written: first, made: first - 1, ..Segments::default() };
+        let disk = Disk::start(folder, marker.clone(), limits.in_flight, wake);
+        let synced = Synced { known, ahead: BTreeMap::new(), marker, is_mute: false };
+        #[rustfmt::skip]
+        let mut log = DiskLog {
+            disk, _lock: lock, at, zeros: Zeros::new(limits.segment), is_growing: false, under_way: Vec::new(), identity,
+            firsts: BTreeMap::from([(first, place.frame)]), synced, opening: Some((place, room)), first, cutting: None,
+            only: Arc::new(()), counts: LogCounts::default(),
+        };
+        log.begin()?;
+        Ok((store, log, found))
+    }
+
+    /// Makes the first segment, with the head of this start; a full disk is tried again later.
+    fn begin(&mut self) -> io::Result<()> {
+        self.prepare();
+        while self.at.is_making {
+            match self.disk.last_word(Duration::MAX) {
+                Some(Word::Segment(Err(error))) if !is_full(&error) => return Err(error),
+                Some(Word::Segment(did)) => self.segment_made(did),
+                _ => (),
+            }
+        }
+        Ok(())
     }
 
     /// What came of a frame, or of the head of a cut.
@@ -117,6 +240,9 @@ impl DiskLog {
         let at = job.at;
         self.under_way.retain(|it| it.frame != at.frame);
         self.counts.written(&at, job.begun, &did);
+        if did.is_ok() {
+            self.synced.is(job.is_head, &at, job.end());
+        }
         match did {
             Ok(()) if job.is_head => {
                 self.cutting = None;
@@ -128,7 +254,7 @@ impl DiskLog {
                 if !job.is_head {
                     return done(store.failed(at.frame), "failed"); // [2]
                 }
-                *failed += u32::from(error.kind() != io::ErrorKind::StorageFull);
+                *failed += u32::from(!is_full(&error));
                 if *failed < TRIES {
                     return done(store.turn(), "turn");
                 }
@@ -138,25 +264,51 @@ impl DiskLog {
         }
     }
 
-    /// What came of the next segment.
+    /// What came of the next segment, or of the first with the head of this start.
     fn segment_made(&mut self, did: io::Result<()>) {
         info::say_segment(self.at.made + 1, self.at.lacks_room, &did);
         (self.at.is_making, self.at.lacks_room) = (false, did.is_err());
-        self.at.made += u64::from(did.is_ok());
+        if did.is_err() {
+            return;
+        }
+        self.at.made += 1;
+        self.zeros.next = Some(self.zeros.first());
+        if let Some((at, head)) = self.opening.take() {
+            self.zeros.turn();
+            self.zeros.end = head.len() as u64; // [5]
+            self.synced.is(true, &at, self.zeros.end);
+        }
+    }
+
+    /// What came of zeros that were to be made.
+    fn grown(&mut self, growth: Growth, did: io::Result<()>) {
+        info::say_segment(growth.segment, self.at.lacks_room, &did);
+        (self.is_growing, self.at.lacks_room) = (false, did.is_err());
+        if did.is_ok() {
+            self.zeros.has_grown(self.at.written, growth);
+        }
     }
 
     /// The log goes on in the next segment, which is made.
     fn turn(&mut self, store: &mut Store) -> io::Result<()> {
-        (self.at.written, self.end) = (self.at.written + 1, 0);
+        self.at.written += 1;
+        self.zeros.turn();
         done(store.turn(), "turn")
     }
 
-    /// Has the next segment made. Where that failed before it waits a second first.
+    /// Has the next segment made, and zeros where frames are to be. Where that failed before it waits a second first.
     fn prepare(&mut self) {
-        if !self.at.is_making && self.at.made == self.at.written {
+        let wait = Duration::from_secs(self.at.lacks_room.into());
+        if self.is_growing || self.at.is_making {
+            return;
+        }
+        if self.at.made <= self.at.written && self.zeros.next.is_none() {
             self.at.is_making = true;
-            let wait = Duration::from_secs(self.at.lacks_room.into());
-            self.disk.make_segment(self.at.made + 1, self.limits.segment, wait);
+            return self.disk.make_segment(self.at.made + 1, self.zeros.first(), self.opening, wait);
+        }
+        if let Some(growth) = self.zeros.growth(self.at.written) {
+            self.is_growing = true;
+            self.disk.grow(growth, wait);
         }
     }
 
@@ -172,6 +324,7 @@ impl Log for DiskLog {
             match word {
                 Word::Written(job, did) => self.written(store, job, did)?,
                 Word::Segment(did) => self.segment_made(did),
+                Word::Grown(growth, did) => self.grown(growth, did),
             }
         }
         Ok(())
@@ -179,17 +332,23 @@ impl Log for DiskLog {
 
     /// Gives idle threads the next frames, or the head of the cut that is due.
     fn send(&mut self, store: &mut Store) -> io::Result<()> {
-        while self.cutting.is_none() || self.under_way.is_empty() {
-            let Some(room) = self.disk.room() else { break };
+        while self.opening.is_none() && (self.cutting.is_none() || self.under_way.is_empty()) {
             let may_turn = self.at.written < self.at.made;
-            if self.cutting.is_some() && !may_turn {
+            let may_write = self.cutting.is_some() || self.zeros.takes(store.counts().next_frame as u64); // [3]
+            if self.cutting.is_some() && !may_turn || !may_write {
                 break;
             }
-            match store.next_frame(self.cutting.is_some(), room)? {
+            let Some(room) = self.disk.room() else { break };
+            match store.next_frame(self.cutting.is_some(), room, ROOM_BEFORE, self.zeros.most())? {
                 Next::Frame(at) => {
-                    (self.at.written, self.end) = (at.segment, at.offset + at.len as u64);
+                    if mem::replace(&mut self.at.written, at.segment) != at.segment {
+                        self.zeros.turn();
+                    }
+                    let (room_from, from) = wrapped(room, &at, &self.identity, self.synced.known, self.zeros.end);
+                    self.firsts.entry(at.segment).or_insert(at.frame);
                     self.under_way.push(at);
-                    self.disk.send(at, self.cutting.is_some());
+                    self.zeros.end = self.disk.send(at, self.cutting.is_some(), room_from, from);
+                    // [1]
                 }
                 Next::Full if may_turn => self.turn(store)?,
                 Next::Full | Next::None => break,
@@ -199,11 +358,39 @@ impl Log for DiskLog {
         Ok(())
     }
 
-    /// Whether there is room for more than may be undecided, or some can be made.
+    fn room(&mut self, store: &mut Store, bytes: usize, takes_away: bool) -> Room {
+        let kept_back = if takes_away { 0 } else { self.zeros.kept_back() };
+        let has = self.cutting.is_none() && self.zeros.takes_too(store.counts().next_frame, bytes, kept_back);
+        match (has && self.opening.is_none(), self.at.lacks_room) {
+            (true, _) => Room::Is,
+            (false, true) => Room::Lacks,
+            (false, false) => Room::Comes,
+        }
+    }
+
     fn has_room(&self) -> bool {
-        let wanted = u64::from(self.limits.undecided) + 64 * HEAD as u64;
-        let is_short = self.cutting.is_some() || self.end + wanted > self.limits.segment;
-        !(self.at.lacks_room && self.at.made == self.at.written && is_short)
+        !self.at.lacks_room
+    }
+
+    /// Where nothing was written but the head of this start, its segment goes, and the one that was made ahead.
+    fn let_go(&mut self) -> io::Result<()> {
+        while self.at.is_making || self.is_growing {
+            match self.disk.last_word(STOPS) {
+                Some(Word::Segment(did)) => self.segment_made(did),
+                Some(Word::Grown(growth, did)) => self.grown(growth, did),
+                _ => return Ok(()),
+            }
+        }
+        if self.cutting.is_some() || !self.under_way.is_empty() {
+            return Ok(());
+        }
+        let is_used = self.at.written != self.first || self.zeros.end > (ROOM_BEFORE + HEAD) as u64;
+        let (unused, known) = match is_used {
+            true => (self.at.written + 1, self.synced.known),
+            false => (self.first, self.firsts.first_key_value().map_or(self.synced.known, |(_, first)| first - 1)),
+        };
+        self.synced.marker.sync(|mark| (mark.is_stopped, mark.known) = (true, known))?;
+        self.disk.folder().remove_unused(unused..=self.at.made) // [9]
     }
 
     fn counts(&self) -> &LogCounts {
@@ -211,7 +398,8 @@ impl Log for DiskLog {
     }
 
     fn segments(&self) -> Option<Segments> {
-        Some(Segments { closed: self.closed(), ..self.at })
+        let last_bytes = self.zeros.here + self.zeros.next.unwrap_or(0);
+        Some(Segments { closed: self.closed(), last_bytes, ..self.at })
     }
 
     fn close(&mut self, store: &mut Store, up_to: u64) -> io::Result<Option<Closed>> {
@@ -221,7 +409,11 @@ impl Log for DiskLog {
         if self.at.written <= up_to && self.at.made > self.at.written {
             self.turn(store)?;
         }
-        Ok((self.closed() >= up_to).then(|| Closed { up_to, _only: self.only.clone() }))
-        // [9]
+        if self.closed() < up_to {
+            return Ok(None);
+        }
+        self.firsts = self.firsts.split_off(&(up_to + 1));
+        let next = self.firsts.first_key_value().map_or(self.synced.known + 1, |(_, first)| *first);
+        Ok(Some(Closed { up_to, next, _only: self.only.clone() })) // [9]
     }
 }

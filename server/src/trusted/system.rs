@@ -1,6 +1,8 @@
-//! What the system has ready, by `epoll`, the signals that it sends, and the memory that is in use.
+//! What the system has ready, by `epoll`, the signals that it sends, the memory that is in use, and how many handles may be.
 use std::ffi::{c_int, c_long, c_short, c_ulong, c_void};
+use std::fs::File;
 use std::io::{self, ErrorKind, Write};
+use std::net::TcpStream;
 use std::os::fd::{AsRawFd, FromRawFd, OwnedFd};
 use std::os::unix::net::UnixStream;
 use std::thread;
@@ -33,14 +35,27 @@ struct Span {
 #[repr(C)]
 struct Allocated([usize; 10]);
 
+/// How many of something may be: now, and at the most.
+#[repr(C)]
+struct Limit {
+    soft: u64,
+    hard: u64,
+}
+
 extern "C" {
+    fn getrlimit(of: c_int, limit: *mut Limit) -> c_int;
+    fn setrlimit(of: c_int, limit: *const Limit) -> c_int;
+    fn setsockopt(fd: c_int, level: c_int, name: c_int, value: *const c_void, len: u32) -> c_int;
+    fn umask(mask: u32) -> u32;
     fn epoll_create1(flags: c_int) -> c_int;
     fn epoll_ctl(epoll: c_int, op: c_int, fd: c_int, event: *mut Event) -> c_int;
     fn epoll_wait(epoll: c_int, events: *mut Event, most: c_int, timeout: c_int) -> c_int;
     fn ppoll(handles: *mut Waited, count: c_ulong, timeout: *const Span, mask: *const c_void) -> c_int;
     fn pthread_sigmask(how: c_int, set: *const [u64; 16], old: *mut [u64; 16]) -> c_int;
     fn mallinfo2() -> Allocated;
+    fn malloc_trim(kept: usize) -> c_int;
     fn sigwait(set: *const [u64; 16], signal: *mut c_int) -> c_int;
+    fn posix_fadvise64(fd: c_int, from: i64, len: i64, advice: c_int) -> c_int;
 }
 
 const CLOEXEC: c_int = 0o2000000;
@@ -50,7 +65,13 @@ const SIGINT: u32 = 2;
 pub const SIGUSR1: u32 = 10;
 const SIGTERM: u32 = 15;
 
-fn checked(did: c_int) -> io::Result<c_int> {
+/// Open handles, as a limit of the system; and those errors that tell of too many, in the process and in the system.
+const HANDLES: c_int = 7;
+const TOO_MANY: [i32; 2] = [24, 23];
+/// So many seconds a connection is silent until it is looked whether its other side is there, so many between tries, and so many tries.
+const KEPT_ALIVE: [(c_int, c_int, c_int); 4] = [(1, 9, 1), (6, 4, 300), (6, 5, 100), (6, 6, 3)];
+
+pub(super) fn checked(did: c_int) -> io::Result<c_int> {
     if did < 0 {
         return Err(io::Error::last_os_error());
     }
@@ -73,11 +94,58 @@ pub fn signals(mut tell: UnixStream) {
     });
 }
 
+/// What is read of a file from now on comes from the disk, where that is all the same to the system.
+pub fn forget(file: &File) {
+    const DONTNEED: c_int = 4;
+    // Safety: no pointer is given.
+    unsafe { posix_fadvise64(file.as_raw_fd(), 0, 0, DONTNEED) };
+}
+
 /// How many bytes of memory are in use.
 pub fn memory() -> u64 {
     // Safety: it takes nothing, and is told by value.
     let Allocated(of) = unsafe { mallinfo2() };
     (of[4] + of[7]) as u64
+}
+
+/// Lets this process have as many handles as it may: how many.
+pub fn raise_handles() -> u64 {
+    let mut limit = Limit { soft: 0, hard: 0 };
+    // Safety: both live for their calls, and are as the C library declares them.
+    unsafe {
+        getrlimit(HANDLES, &mut limit);
+        if setrlimit(HANDLES, &Limit { soft: limit.hard, ..limit }) == 0 {
+            return limit.hard;
+        }
+    }
+    limit.soft
+}
+
+/// Whether there were too many handles for what failed.
+pub fn is_of_handles(error: &io::Error) -> bool {
+    error.raw_os_error().is_some_and(|number| TOO_MANY.contains(&number))
+}
+
+/// Gives memory that nothing uses back to the system.
+pub fn give_memory_back() {
+    // Safety: it takes a number, of bytes that are kept.
+    unsafe { malloc_trim(0) };
+}
+
+/// Files and folders are made for their owner alone from now on.
+pub fn own_files() {
+    // Safety: it takes a number, and can't fail.
+    unsafe { umask(0o077) };
+}
+
+/// Has the system look from time to time whether the other side is there yet.
+pub fn keep_alive(socket: &TcpStream) -> io::Result<()> {
+    for (level, name, value) in KEPT_ALIVE {
+        let (at, len) = ((&raw const value).cast(), size_of::<c_int>() as u32);
+        // Safety: the value lives for the call, and has this length. A handle that isn't open is refused.
+        checked(unsafe { setsockopt(socket.as_raw_fd(), level, name, at, len) })?;
+    }
+    Ok(())
 }
 
 pub struct Poll(OwnedFd);

@@ -1,0 +1,243 @@
+"""A speculative kernel over your own keys and values, which are bytes; texts are taken as UTF-8.
+
+What a step gets, puts and says rests on the guesses that are undecided in what it got and put. A guess that fails takes back just what
+rests on it; output waits until what it rests on is decided.
+
+    shop = Speculator(guesses=64)
+    with shop.guess() as price:             # a step that goes on as if a price were right
+        price.put("apple", "12")
+    with shop.step() as s:
+        s.put("bill", s.get("apple"))       # rests on the guess, since it gets what that wrote
+        s.say(1, "a bill is out")           # held
+    shop.fail(price.guess)                  # the bill is gone, and nothing was said
+
+It stands on the library for C as a shared library: `libhidewillow.so` of the repository's build/, or what HIDEWILLOW_SO names. One thread
+uses a kernel at a time.
+"""
+from __future__ import annotations
+
+import ctypes
+import os
+import pathlib
+from contextlib import contextmanager
+from dataclasses import dataclass
+from typing import Iterator, Union
+
+Data = Union[bytes, str]
+
+
+class _Told(ctypes.Structure):
+    _fields_ = [("answer", ctypes.c_uint32), ("number", ctypes.c_uint64), ("bytes", ctypes.c_size_t)]
+
+
+class _Own(ctypes.Structure):
+    _fields_ = [("at", ctypes.c_void_p)]
+
+
+STEPPED, GUESSED, DONE, REFUSED, MEMORY, OPENED, SHOWN, WRITTEN = 0, 1, 2, 5, 7, 9, 10, 26
+_OWN, _BYTES, _SIZE, _U16, _U64 = ctypes.POINTER(_Own), ctypes.c_char_p, ctypes.c_size_t, ctypes.c_uint16, ctypes.c_uint64
+_CALLS = {
+    "open": (_U64, _U16, _U64), "clear": (), "look": (_BYTES, _SIZE), "put": (_BYTES, _SIZE, _BYTES, _SIZE), "remove": (_BYTES, _SIZE),
+    "say": (_U16, _BYTES, _SIZE), "take": (), "guess": (), "commit": (_U64,), "fail": (_U64,), "undone": (_SIZE, _BYTES, _SIZE),
+    "value": (_BYTES, _SIZE, _BYTES, _SIZE), "tag": (_BYTES, _SIZE, _SIZE), "released": (_U16, _BYTES, _SIZE),
+}
+_REFUSED = {1: "a key is longer than 65,536 bytes", 2: "a value is longer than 16,777,216 bytes",
+            3: "as many guesses are undecided as may be", 4: "the last number of a guess is drawn", 5: "no guess may ever be undecided"}
+
+
+class Refusal(Exception):
+    """Why a step was not taken. Nothing has changed."""
+
+
+def _library() -> ctypes.CDLL:
+    named = os.environ.get("HIDEWILLOW_SO")
+    beside = [it / "build/libhidewillow.so" for it in pathlib.Path(__file__).resolve().parents]
+    found = [named] if named else [str(it) for it in beside if it.exists()]
+    if not found:
+        raise ImportError("libhidewillow.so is not there: run `tools/build.py library` at the top of the repository, or set HIDEWILLOW_SO")
+    library = ctypes.CDLL(found[0])
+    for name, types in _CALLS.items():
+        call = getattr(library, f"hidewillow_own_{name}")
+        call.argtypes, call.restype = (_OWN, *types), _Told
+    library.hidewillow_own_close.argtypes, library.hidewillow_own_close.restype = (_OWN,), None
+    return library
+
+
+def _bytes(data: Data) -> bytes:
+    if isinstance(data, str):
+        return data.encode()
+    if not isinstance(data, bytes):
+        raise TypeError(f"a key, a value or an output is bytes or a text, and not {data!r}")
+    return data
+
+
+@dataclass(frozen=True)
+class Guess:
+    """A guess of a kernel, by its number."""
+
+    number: int
+
+
+@dataclass(frozen=True)
+class Decided:
+    """What a decision came to: 'committed', 'failed' with the keys that have what they had before and how many guesses went with it, or
+    'gone' where another guess's failure had taken it back."""
+
+    what: str
+    keys: tuple[bytes, ...] = ()
+    struck: int = 0
+
+
+class Step:
+    """A step that is being taken. It reads its own writes. `guess` is its guess, once it was taken as one."""
+
+    def __init__(self, kernel: Speculator) -> None:
+        self._kernel = kernel
+        self._looked: list[bytes] = []
+        self._written: list[tuple[bytes, bytes | None]] = []
+        self._said: tuple[int, bytes] | None = None
+        self.guess: Guess | None = None
+
+    def get(self, key: Data) -> bytes | None:
+        """What a key has, on which the step rests from now on; None where it is absent."""
+        key = _bytes(key)
+        for other, value in reversed(self._written):
+            if other == key:
+                return value
+        self._looked.append(key)
+        return self._kernel.value(key)
+
+    def put(self, key: Data, value: Data) -> None:
+        """Sets what a key has."""
+        self._written.append((_bytes(key), _bytes(value)))
+
+    def remove(self, key: Data) -> None:
+        """Makes a key absent."""
+        self._written.append((_bytes(key), None))
+
+    def say(self, channel: int, output: Data) -> None:
+        """Says this to a channel, from 0 to 65,535. Raises `Refusal` for a second output of a step."""
+        if self._said is not None:
+            raise Refusal("a step says one output")
+        if not 0 <= channel < 1 << 16:
+            raise ValueError(f"a channel is a number from 0 to 65,535, and not {channel}")
+        self._said = (channel, _bytes(output))
+
+    def _hand_over(self) -> None:
+        call = self._kernel._call
+        call("clear", WRITTEN)
+        for key in self._looked:
+            call("look", WRITTEN, key, len(key))
+        for key, value in self._written:
+            if value is None:
+                call("remove", WRITTEN, key, len(key))
+            else:
+                call("put", WRITTEN, key, len(key), value, len(value))
+        if self._said:
+            channel, output = self._said
+            call("say", WRITTEN, channel, output, len(output))
+
+
+class Speculator:
+    """A kernel in which no key is there, of whose guesses so many may be undecided at once. Who doesn't know the seed can't choose keys
+    that are found slowly. `close` fails the guesses that are undecided, and so does letting it go."""
+
+    def __init__(self, guesses: int = 64, seed: int | None = None) -> None:
+        if not 0 <= guesses < 1 << 16:
+            raise ValueError(f"as many guesses may be undecided as 1 to 65,535, and not {guesses}")
+        self._library = _library()
+        self._own = _Own()
+        drawn = int.from_bytes(os.urandom(8), "little") if seed is None else seed
+        self._call("open", OPENED, 1, guesses, drawn)
+
+    def __del__(self) -> None:
+        if hasattr(self, "_own"):
+            self.close()
+
+    def __enter__(self) -> Speculator:
+        return self
+
+    def __exit__(self, *_: object) -> None:
+        self.close()
+
+    def close(self) -> None:
+        """Lets go of all that it has."""
+        self._library.hidewillow_own_close(ctypes.byref(self._own))
+
+    @contextmanager
+    def step(self) -> Iterator[Step]:
+        """A step: what the block gets, puts and says. Where the block raises, nothing has changed."""
+        step = Step(self)
+        yield step
+        step._hand_over()
+        self._call("take", STEPPED)
+
+    @contextmanager
+    def guess(self) -> Iterator[Step]:
+        """The same under a guess of its own: `guess` of the step, behind the block."""
+        step = Step(self)
+        yield step
+        step._hand_over()
+        step.guess = Guess(self._call("guess", GUESSED).number)
+
+    def commit(self, guess: Guess) -> Decided:
+        """Commits a guess. Raises `LookupError` where it is decided, or was never drawn here."""
+        told = self._decide("commit", guess)
+        return Decided("committed" if told.answer == DONE else "gone")
+
+    def fail(self, guess: Guess) -> Decided:
+        """Fails a guess: what rests on it is taken back. Raises `LookupError` where it is decided, or was never drawn here."""
+        told = self._decide("fail", guess)
+        if told.answer != DONE:
+            return Decided("gone")
+        keys = tuple(self._shown("undone", place) or b"" for place in range(told.number))
+        return Decided("failed", keys, told.bytes)
+
+    def value(self, key: Data) -> bytes | None:
+        """What a key has; None where it is absent. A step that is to rest on it gets it itself."""
+        key = _bytes(key)
+        return self._shown("value", key, len(key))
+
+    def tags(self, key: Data) -> list[int]:
+        """The numbers of the undecided guesses that a key rests on, rising."""
+        key, tags = _bytes(key), []
+        while True:
+            told = self._told("tag", key, len(key), len(tags))
+            if told.answer != SHOWN:
+                return tags
+            tags.append(told.number)
+
+    def released(self, channel: int) -> Iterator[bytes]:
+        """The outputs of a channel that may go out now, one after another; each is gone from the kernel as it is handed out."""
+        while (output := self._shown("released", channel)) is not None:
+            yield output
+
+    def _told(self, name: str, *words: object) -> _Told:
+        return getattr(self._library, f"hidewillow_own_{name}")(ctypes.byref(self._own), *words)
+
+    def _call(self, name: str, wanted: int, *words: object) -> _Told:
+        told = self._told(name, *words)
+        if told.answer == REFUSED:
+            raise Refusal(_REFUSED.get(told.number, f"refused by number {told.number}"))
+        if told.answer != wanted:
+            raise MemoryError if told.answer == MEMORY else ValueError("the kernel is closed")
+        return told
+
+    def _decide(self, name: str, guess: Guess) -> _Told:
+        told = self._told(name, guess.number)
+        if told.answer not in (DONE, 3):
+            raise LookupError(f"guess {guess.number} is decided, or none of this kernel")
+        return told
+
+    def _shown(self, name: str, *words: object) -> bytes | None:
+        count = 256
+        while True:
+            room = ctypes.create_string_buffer(count)
+            told = self._told(name, *words, room, count)
+            if told.answer == MEMORY:
+                raise MemoryError
+            if told.answer != SHOWN:
+                return None
+            if told.bytes <= count:
+                return room.raw[:told.bytes]
+            count = told.bytes

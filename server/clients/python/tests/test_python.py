@@ -1,0 +1,170 @@
+"""Tests of the package, by unittest: `python3 -m unittest discover server/clients/python/tests`. Those of the client want a server at
+HIDEWILLOW_AT, as 127.0.0.1:7379; those of the kernel want libhidewillow.so. What is not there is skipped, and said so.
+"""
+import asyncio
+import os
+import pathlib
+import random
+import sys
+import unittest
+
+sys.path.insert(0, str(pathlib.Path(__file__).resolve().parent.parent))
+from hidewillow import Client, Refusal, Refused, Speculator, Undone, aio  # noqa: E402
+from hidewillow.client import carried, undone  # noqa: E402
+
+AT = os.environ.get("HIDEWILLOW_AT")
+
+
+class Plain:
+    """The steps that stand, each with what it wrote, said and depends on."""
+
+    def __init__(self):
+        self.steps = []
+
+    def last(self, key):
+        return next((it for it in reversed(self.steps) if key in it["written"]), None)
+
+    def value(self, key):
+        step = self.last(key)
+        return step["written"][key] if step else None
+
+    def rests(self, key):
+        step = self.last(key)
+        return set(step["rests"]) if step else set()
+
+    def take(self, looked, written, own):
+        rests = set().union(*(self.rests(key) for key in [*looked, *written])) | ({own} if own else set())
+        self.steps.append({"written": written, "rests": rests, "own": own})
+
+    def commit(self, guess):
+        for step in self.steps:
+            step["rests"].discard(guess)
+
+    def fail(self, guess):
+        gone = [it for it in self.steps if guess in it["rests"]]
+        self.steps = [it for it in self.steps if guess not in it["rests"]]
+        struck = {it["own"] for it in gone if it["own"] in it["rests"]} - {guess}
+        return {key for it in gone for key in it["written"]}, struck
+
+
+@unittest.skipUnless("HIDEWILLOW_SO" in os.environ or any(
+    (it / "build/libhidewillow.so").exists() for it in pathlib.Path(__file__).resolve().parents), "no libhidewillow.so is there")
+class OwnState(unittest.TestCase):
+    def test_runs_stand_as_the_plain_list_does(self):
+        for seed in range(60):
+            self.run_of(random.Random(seed))
+
+    def run_of(self, dice):
+        kernel, plain, open_guesses, struck = Speculator(guesses=5, seed=1), Plain(), [], set()
+        keys = [b"", b"a", b"b", b"c" * 300]
+        for _ in range(60):
+            if dice.random() < 0.7:
+                self.step_of(dice, kernel, plain, open_guesses, struck, keys)
+            elif open_guesses:
+                self.decision_of(dice, kernel, plain, open_guesses, struck)
+            for key in keys:
+                self.assertEqual(kernel.value(key), plain.value(key))
+                self.assertEqual(set(kernel.tags(key)), plain.rests(key))
+
+    def step_of(self, dice, kernel, plain, open_guesses, struck, keys):
+        looked, written = [], {}
+        is_guess = dice.random() < 0.5
+        try:
+            with (kernel.guess() if is_guess else kernel.step()) as step:
+                for key in dice.sample(keys, dice.randrange(3)):
+                    self.assertEqual(step.get(key), plain.value(key))
+                    looked.append(key)
+                for key in dice.sample(keys, dice.randrange(3)):
+                    value = dice.choice([None, bytes([dice.randrange(256)]) * dice.choice([0, 1, 257, 5000])])
+                    step.remove(key) if value is None else step.put(key, value)
+                    written[key] = value
+                    self.assertEqual(step.get(key), value)
+        except Refusal:
+            self.assertTrue(is_guess and len([it for it in open_guesses if it.number not in struck]) == 5)
+            return
+        plain.take(looked, written, step.guess.number if is_guess else None)
+        if is_guess:
+            open_guesses.append(step.guess)
+
+    def decision_of(self, dice, kernel, plain, open_guesses, struck):
+        guess = open_guesses.pop(dice.randrange(len(open_guesses)))
+        commits = dice.random() < 0.5
+        decided = kernel.commit(guess) if commits else kernel.fail(guess)
+        if guess.number in struck:
+            self.assertEqual(decided.what, "gone")
+        elif commits:
+            self.assertEqual(decided.what, "committed")
+            plain.commit(guess.number)
+        else:
+            keys, others = plain.fail(guess.number)
+            self.assertEqual((decided.what, set(decided.keys), len(decided.keys), decided.struck), ("failed", keys, len(keys), len(others)))
+            struck |= others
+        with self.assertRaises(LookupError):
+            kernel.commit(guess)
+
+    def test_output_waits(self):
+        with Speculator() as kernel:
+            with kernel.guess() as price:
+                price.say(3, "held")
+                with self.assertRaises(Refusal):
+                    price.say(3, "again")
+            self.assertEqual(list(kernel.released(3)), [])
+            kernel.commit(price.guess)
+            self.assertEqual(list(kernel.released(3)), [b"held"])
+
+    def test_a_block_that_raises_leaves_nothing(self):
+        with Speculator() as kernel:
+            with self.assertRaises(ZeroDivisionError), kernel.step() as step:
+                step.put("a", "1")
+                step.put("b", str(1 // 0))
+            self.assertIsNone(kernel.value("a"))
+            with self.assertRaises(Refusal), kernel.step() as step:
+                step.put("k" * 65537, "")
+            with self.assertRaises(TypeError), kernel.step() as step:
+                step.put("a", 7)
+
+
+class Words(unittest.TestCase):
+    def test_what_can_be_sent(self):
+        self.assertEqual(carried(("SET", b"k", 1)), b"*3\r\n$3\r\nSET\r\n$1\r\nk\r\n$1\r\n1\r\n")
+        for words in [("SET", "k", None), ("SET", "k", True), ("SET", "k", ["a"])]:
+            self.assertRaises(TypeError, carried, words)
+        for words in [("spec",), ("WAITALL",), ("QUIT",), ()]:
+            self.assertRaises(ValueError, carried, words)
+
+    def test_what_was_undone(self):
+        self.assertIsNone(undone("OK", []))
+        fault = undone(Refused("UNDONE 1 3"), [("A",), ("B",), ("C",)])
+        self.assertEqual((fault.first, fault.commands), (1, {1: ("A",), 3: ("C",)}))
+
+
+@unittest.skipUnless(AT, "no server is named by HIDEWILLOW_AT")
+class Store(unittest.TestCase):
+    def setUp(self):
+        self.host, port = AT.rsplit(":", 1)
+        self.port = int(port)
+
+    def test_ahead_and_waited_for(self):
+        with Client(self.host, self.port) as store:
+            first = store.ask("INCRBY", "python", 5)
+            self.assertEqual(store.ask("GET", "python"), str(first).encode())
+            store.send("PING")
+            store.wait_all()
+            with self.assertRaises(LookupError):
+                store.answer()
+            with self.assertRaises(Refused):
+                store.ask("NO SUCH COMMAND")
+            store.wait_all()
+
+    def test_asyncio(self):
+        async def job():
+            async with await aio.Client.connect(self.host, self.port) as store:
+                await store.ask("SET", "aio", "x" * 100_000)
+                self.assertEqual(await store.ask("GET", "aio"), b"x" * 100_000)
+                await store.wait_all()
+
+        asyncio.run(job())
+
+
+if __name__ == "__main__":
+    unittest.main()

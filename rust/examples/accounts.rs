@@ -31,29 +31,24 @@ impl From<Refusal> for Unpaid {
     }
 }
 
-fn number(value: Option<Vec<u8>>) -> i64 {
-    value
-        .and_then(|bytes| bytes.try_into().ok())
-        .map_or(0, i64::from_le_bytes)
-}
+type Bank = Speculator<str, i64>;
 
 /// One transfer, as a step.
-fn transfer(s: &mut Step<'_>, from: &str, to: &str, amount: i64) -> Result<(), Unpaid> {
-    let has = number(s.get(from)?);
+fn transfer(s: &mut Step<'_, str, i64>, from: &str, to: &str, amount: i64) -> Result<(), Unpaid> {
+    let has = s.get(from)?.unwrap_or(0);
     if has < amount {
         return Err(Unpaid::TooLittle(has));
     }
-    let more = number(s.get(to)?) + amount;
-    s.put(from, (has - amount).to_le_bytes());
-    s.put(to, more.to_le_bytes());
-    s.say(CHANNEL, format!("{from} pays {to} {amount}"));
-    Ok(())
+    let more = s.get(to)?.unwrap_or(0) + amount;
+    s.put(from, has - amount);
+    s.put(to, more);
+    Ok(s.say(CHANNEL, format!("{from} pays {to} {amount}"))?)
 }
 
-fn show(spec: &mut Speculator, when: &str) -> Result<(), Refusal> {
+fn show(spec: &mut Bank, when: &str) -> Result<(), Refusal> {
     let mut shown = Vec::new();
     for name in ["ann", "bob", "cy"] {
-        let has = number(spec.value(name)?);
+        let has = spec.value(name)?.unwrap_or(0);
         let tags: Vec<_> = spec.tags(name).iter().map(u64::to_string).collect();
         shown.push(match tags.is_empty() {
             true => format!("{name} {has}"),
@@ -67,42 +62,38 @@ fn show(spec: &mut Speculator, when: &str) -> Result<(), Refusal> {
     Ok(())
 }
 
-fn main() -> Result<(), Box<dyn std::error::Error>> {
-    if let Err(refusal) = Speculator::open(0, 42) {
+fn main() -> Result<(), Box<dyn std::error::Error + Send + Sync>> {
+    if let Err(refusal) = Bank::open(0, 42) {
         println!("not opened: {refusal}");
     }
-    let mut spec = Speculator::open(64, 42)?;
+    let mut spec = Bank::open(64, 42)?;
     spec.step(|s| {
-        s.put("ann", 100_i64.to_le_bytes());
-        s.put("cy", 10_i64.to_le_bytes());
-        Ok::<_, Refusal>(())
+        s.put("ann", 100);
+        s.put("cy", 10);
+        Ok(())
     })?;
     show(&mut spec, "paid in")?;
-    let ((), wages) = spec.guess(|s| transfer(s, "ann", "bob", 30))?;
-    let ((), rent) = spec.guess(|s| transfer(s, "bob", "cy", 5))?;
+    let ((), wages) = spec.try_guess(|s| transfer(s, "ann", "bob", 30))?;
+    let ((), rent) = spec.try_guess(|s| transfer(s, "bob", "cy", 5))?;
     show(&mut spec, "two guesses")?;
-    spec.step(|s| transfer(s, "cy", "ann", 1))?;
+    spec.try_step(|s| transfer(s, "cy", "ann", 1))?;
     show(&mut spec, "a step behind them")?;
-    if let Err(unpaid) = spec.step(|s| transfer(s, "bob", "ann", 1000)) {
+    if let Err(unpaid) = spec.try_step(|s| transfer(s, "bob", "ann", 1000)) {
         println!("bob can't pay 1000: {unpaid}");
     }
     if let Decided::Failed { mut keys, struck } = spec.fail(wages)? {
         keys.sort();
-        let names: Vec<_> = keys
-            .iter()
-            .map(|key| String::from_utf8_lossy(key))
-            .collect();
         println!(
             "the first fails: back to what they had are {}; {struck} guess struck",
-            names.join(", ")
+            keys.join(", ")
         );
     }
     println!("the other is gone: {}", spec.commit(rent)? == Decided::Gone);
     show(&mut spec, "after it")?;
-    let ((), dropped) = spec.guess(|s| transfer(s, "cy", "ann", 10))?;
+    let ((), dropped) = spec.try_guess(|s| transfer(s, "cy", "ann", 10))?;
     drop(dropped);
     show(&mut spec, "a guess whose token was dropped")?;
-    let ((), again) = spec.guess(|s| transfer(s, "ann", "bob", 20))?;
+    let ((), again) = spec.try_guess(|s| transfer(s, "ann", "bob", 20))?;
     println!("committed: {}", spec.commit(again)? == Decided::Committed);
     show(&mut spec, "a guess that holds")?;
     Ok(())

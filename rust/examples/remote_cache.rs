@@ -6,7 +6,7 @@
 use hidewillow::speculator::{Decided, Guess, Refusal, Speculator};
 use std::collections::{HashMap, VecDeque};
 
-type Wrong = Box<dyn std::error::Error>;
+type Wrong = Box<dyn std::error::Error + Send + Sync>;
 
 const KEYS: u64 = 1000;
 const OPERATIONS: u64 = 2000;
@@ -97,7 +97,7 @@ impl Client {
             for key in 0..KEYS {
                 s.put(copy_of(key), key.to_le_bytes());
             }
-            Ok::<_, Refusal>(())
+            Ok(())
         })?;
         let dice = Dice(7);
         let values = HashMap::new();
@@ -111,7 +111,7 @@ impl Client {
         })
     }
 
-    fn cursor(&mut self) -> Result<(u64, u64), Refusal> {
+    fn cursor(&self) -> Result<(u64, u64), Refusal> {
         Ok(numbers(&self.spec.value(CURSOR)?.unwrap_or_default()))
     }
 
@@ -128,8 +128,8 @@ impl Client {
             let (key, made) = numbers(&s.get(CURSOR)?.unwrap_or_default());
             let (copy, _) = numbers(&s.get(copy_of(key))?.unwrap_or_default());
             s.put(CURSOR, cursor_bytes(next_key(key, copy), made + 1));
-            s.say(0, copy.to_le_bytes());
-            Ok::<_, Refusal>(copy)
+            s.say(0, copy.to_le_bytes())?;
+            Ok(copy)
         })?;
         let answer = self.server.value(key);
         Ok(Asked {
@@ -150,7 +150,7 @@ impl Client {
         let failed = self.spec.fail(asked.guess)? != Decided::Gone;
         self.spec.step(|s| {
             s.put(copy_of(asked.key), asked.answer.to_le_bytes());
-            Ok::<_, Refusal>(())
+            Ok(())
         })?;
         Ok(!failed)
     }

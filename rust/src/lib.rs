@@ -1,8 +1,34 @@
-//! Safe Rust over the proved library. `.ci/declarations` compares what is declared here with the
-//! sources of the library.
+//! Programs that don't wait: they go on from a guess, and what rested on a wrong guess is taken back. Safe Rust over a library
+//! whose every call is proved against its contract.
+//!
+//! - [`speculator::Speculator`]: a kernel over keys and values of your own. A step is a closure that gets, puts and says.
+//! - [`store`]: a store whose replies wait for exactly what they depend on, for a host with sockets and a disk.
+//! - [`Play`]: the kernel of scripts, called line by line, with files, pipes and signals.
+//! - [`desk::Desk`]: a client of remote files whose server is yours; [`engine`]: what a consensus engine's answers mean.
+//!
+//! ```no_run
+//! # use hidewillow::speculator::Speculator;
+//! let mut shop: Speculator<str, u32> = Speculator::open(64, 1)?;
+//! let ((), price) = shop.guess(|s| {
+//!     s.put("apple", 12);
+//!     Ok(())
+//! })?;
+//! shop.step(|s| {
+//!     let apple = s.get("apple")?.unwrap_or_default();
+//!     s.put("bill", apple);
+//!     s.say(1, format!("a bill over {apple}")) // held until the price is decided
+//! })?;
+//! shop.fail(price)?; // the bill is gone, and nothing was said
+//! # Ok::<_, Box<dyn std::error::Error + Send + Sync>>(())
+//! ```
+//!
+//! It needs Rust 1.95 and the library in the repository's `build/` or where `HIDEWILLOW_LIB` says, and no other crate. Keys have
+//! at most 65,536 bytes, values and outputs 16,777,216; at most 65,535 guesses are undecided at once.
 #![warn(missing_docs)]
+pub mod data;
 pub mod desk;
 pub mod engine;
+pub mod shared;
 pub mod speculator;
 pub mod store;
 
@@ -80,8 +106,8 @@ pub struct OwnCounts {
 
 type Asks = unsafe extern "C" fn(*mut Handle, *const u8, usize, *mut u8, usize) -> Told;
 
-// Each of these takes for granted: the handle is of zeros, or as the last call left it, and this is
-// the thread that opened it; no pointer is null, not where a length is 0 either, and each is good
+// Each of these takes for granted: the handle is of zeros, or as the last call left it, and no other
+// thread uses it meanwhile; no pointer is null, not where a length is 0 either, and each is good
 // for its length; what one call is given does not overlap; a room is set, and so are the counts.
 unsafe extern "C" {
     fn hidewillow_open(handle: *mut Handle, text: *const u8, bytes: usize) -> Told;

@@ -1,17 +1,18 @@
-//! A kernel over its caller's own byte strings.
+//! A kernel over keys and values of your own.
+use crate::data::{Data, Like};
 use crate::{
     hidewillow_own_clear, hidewillow_own_close, hidewillow_own_commit, hidewillow_own_counts,
     hidewillow_own_fail, hidewillow_own_guess, hidewillow_own_look, hidewillow_own_open,
     hidewillow_own_put, hidewillow_own_released, hidewillow_own_remove, hidewillow_own_say,
-    hidewillow_own_tag, hidewillow_own_take, hidewillow_own_undone, hidewillow_own_value, room,
-    Error, Own, OwnCounts, Told, DONE, GUESSED, MEMORY, OPENED, REFUSED, ROOM_BYTES, SHOWN,
-    STEPPED, WRITTEN,
+    hidewillow_own_tag, hidewillow_own_take, hidewillow_own_undone, hidewillow_own_value, Own,
+    OwnCounts, Told, DONE, GUESSED, MEMORY, OPENED, REFUSED, SHOWN, STEPPED, WRITTEN,
 };
 use std::cell::RefCell;
 use std::fmt;
-use std::rc::Rc;
+use std::marker::PhantomData;
+use std::sync::{Arc, Mutex, MutexGuard, PoisonError};
 
-/// Why a step was not taken. Nothing has changed.
+/// Why a step was not taken, or nothing was read. Nothing has changed.
 #[derive(Debug, Clone, Copy, PartialEq, Eq)]
 #[non_exhaustive]
 pub enum Refusal {
@@ -25,6 +26,10 @@ pub enum Refusal {
     NoNumber,
     /// No guess may ever be undecided.
     NoGuesses,
+    /// The step says a second output; it has one.
+    SaidTwice,
+    /// The bytes that are there are no value, or no key, of the kernel's type.
+    Form,
     /// Want of memory.
     Memory,
 }
@@ -37,18 +42,14 @@ impl fmt::Display for Refusal {
             Refusal::TooMany => "as many guesses are undecided as may be",
             Refusal::NoNumber => "the last number of a guess is drawn",
             Refusal::NoGuesses => "no guess may ever be undecided",
+            Refusal::SaidTwice => "a step says one output",
+            Refusal::Form => "the bytes are no value of this type",
             Refusal::Memory => "out of memory",
         })
     }
 }
 
 impl std::error::Error for Refusal {}
-
-impl From<Error> for Refusal {
-    fn from(_error: Error) -> Refusal {
-        Refusal::Memory
-    }
-}
 
 /// What a call is told where it is refused.
 fn refusal(told: &Told) -> Refusal {
@@ -70,18 +71,29 @@ fn done(told: Told, answer: u32) -> Result<Told, Refusal> {
     }
 }
 
-/// The right to decide a guess. Dropping it fails the guess at the next call: what nobody decides must not stand, as where a `?`
-/// leaves a function early.
+/// The numbers of guesses whose tokens were dropped.
+#[derive(Debug, Default)]
+struct Dropped(Mutex<Vec<u64>>);
+
+impl Dropped {
+    fn lock(&self) -> MutexGuard<'_, Vec<u64>> {
+        self.0.lock().unwrap_or_else(PoisonError::into_inner)
+    }
+}
+
+/// The right to decide a guess. Dropping it fails the guess at the next call: what nobody decides must not stand, as where a
+/// `?` leaves a function early.
 #[must_use = "a guess whose token is dropped fails"]
 #[derive(Debug)]
 pub struct Guess {
     id: u64,
-    dropped: Rc<RefCell<Vec<u64>>>,
+    dropped: Arc<Dropped>,
     spent: bool,
 }
 
 impl Guess {
     /// Its number.
+    #[must_use]
     pub fn id(&self) -> u64 {
         self.id
     }
@@ -95,7 +107,7 @@ impl Guess {
 impl Drop for Guess {
     fn drop(&mut self) {
         if !self.spent {
-            self.dropped.borrow_mut().push(self.id);
+            self.dropped.lock().push(self.id);
         }
     }
 }
@@ -114,13 +126,13 @@ impl std::error::Error for Stranger {}
 
 /// What a decision came to.
 #[derive(Debug, Clone, PartialEq, Eq)]
-pub enum Decided {
-    /// The guess was committed.
+pub enum Decided<K = Vec<u8>> {
+    /// The guess was committed. What it wrote may still rest on other undecided guesses, and is taken back if one of them fails.
     Committed,
     /// The guess failed. These keys have what they had before it, each once, and so many guesses were struck.
     Failed {
         /// The keys, in no order of their own.
-        keys: Vec<Vec<u8>>,
+        keys: Vec<K>,
         /// How many other guesses rested on it.
         struck: usize,
     },
@@ -128,44 +140,142 @@ pub enum Decided {
     Gone,
 }
 
+/// The handle of the library, and a room for what it shows, which is used again.
+struct Inner {
+    /// It is of zeros or as the last call left it, since none but these methods pass it.
+    own: Own,
+    room: Vec<u8>,
+}
+
+// SAFETY: the handle is one pointer to a block of the C library's memory, which nothing else points to. The library has no
+// thread of its own and nothing that belongs to a thread, and calls of one handle don't overlap: they take it exclusively.
+unsafe impl Send for Inner {}
+
+impl Inner {
+    /// Fails the guesses whose tokens were dropped.
+    fn settle(&mut self, dropped: &Dropped) {
+        for id in std::mem::take(&mut *dropped.lock()) {
+            // SAFETY: as `Inner::own` says.
+            unsafe { hidewillow_own_fail(&mut self.own, id) };
+        }
+    }
+
+    /// What a call shows in the room, which is made again where the room is too short.
+    fn shown(
+        &mut self,
+        ask: impl Fn(&mut Own, &mut [u8]) -> Told,
+    ) -> Result<Option<&[u8]>, Refusal> {
+        loop {
+            let told = ask(&mut self.own, &mut self.room);
+            match told.answer {
+                SHOWN if told.bytes > self.room.len() => {
+                    let more = told.bytes - self.room.len();
+                    self.room.try_reserve(more).map_err(|_| Refusal::Memory)?;
+                    self.room.resize(told.bytes, 0);
+                }
+                SHOWN => return Ok(Some(&self.room[..told.bytes])),
+                MEMORY => return Err(Refusal::Memory),
+                _ => return Ok(None),
+            }
+        }
+    }
+
+    /// What a key has.
+    fn read(&mut self, key: &[u8]) -> Result<Option<&[u8]>, Refusal> {
+        // SAFETY: as `Inner::own` says; the room is set, and apart from the handle and the key.
+        self.shown(|own, room| unsafe {
+            hidewillow_own_value(own, key.as_ptr(), key.len(), room.as_mut_ptr(), room.len())
+        })
+    }
+
+    /// One of the keys that the last failure took back.
+    fn undone(&mut self, place: usize) -> Result<Option<&[u8]>, Refusal> {
+        // SAFETY: as `Inner::own` says; the room is set, and apart from the handle.
+        self.shown(|own, room| unsafe {
+            hidewillow_own_undone(own, place, room.as_mut_ptr(), room.len())
+        })
+    }
+}
+
+impl Drop for Inner {
+    fn drop(&mut self) {
+        // SAFETY: as `Inner::own` says, and nothing uses the handle behind this.
+        unsafe { hidewillow_own_close(&mut self.own) };
+    }
+}
+
+/// What a type is of, which has none of it.
+type Of<K, V> = PhantomData<(fn(&K), fn(&V))>;
+
 /// A step that is being taken: what it looked at and what it writes. It reads its own writes.
-pub struct Step<'a> {
-    kernel: &'a mut Speculator,
+pub struct Step<'a, K: ?Sized = [u8], V: ?Sized = [u8]> {
+    inner: &'a mut Inner,
     looked: Vec<Vec<u8>>,
     written: Vec<(Vec<u8>, Option<Vec<u8>>)>,
     said: Option<(u16, Vec<u8>)>,
+    of: Of<K, V>,
 }
 
-impl Step<'_> {
+impl<K: ?Sized + Data, V: ?Sized + Data> Step<'_, K, V> {
     /// What a key has, which the step rests on from now on; `None` where it is absent.
-    pub fn get(&mut self, key: impl AsRef<[u8]>) -> Result<Option<Vec<u8>>, Refusal> {
-        let key = key.as_ref();
+    ///
+    /// # Errors
+    /// [`Refusal::Memory`], and [`Refusal::Form`] where the bytes are no `V`.
+    pub fn get(&mut self, key: impl Like<K>) -> Result<Option<V::Owned>, Refusal> {
+        let mut read = None;
+        let there = self.look(&key.like().bytes(), |bytes| read = V::read(bytes))?;
+        if there && read.is_none() {
+            return Err(Refusal::Form);
+        }
+        Ok(read)
+    }
+
+    /// The same bytes into a buffer of the caller's, which is emptied first; whether the key is there.
+    ///
+    /// # Errors
+    /// [`Refusal::Memory`].
+    pub fn get_into(&mut self, key: impl Like<K>, into: &mut Vec<u8>) -> Result<bool, Refusal> {
+        into.clear();
+        self.look(&key.like().bytes(), |bytes| into.extend_from_slice(bytes))
+    }
+
+    /// Hands what a key has to the caller, if it is there; whether it is.
+    fn look(&mut self, key: &[u8], mut take: impl FnMut(&[u8])) -> Result<bool, Refusal> {
         if let Some((_, value)) = self.written.iter().rev().find(|(it, _)| it == key) {
-            return Ok(value.clone());
+            return Ok(value.as_deref().map(take).is_some());
         }
         self.looked.push(key.to_vec());
-        self.kernel.read(key)
+        Ok(self.inner.read(key)?.map(&mut take).is_some())
     }
 
     /// Sets what a key has.
-    pub fn put(&mut self, key: impl Into<Vec<u8>>, value: impl Into<Vec<u8>>) {
-        self.written.push((key.into(), Some(value.into())));
+    pub fn put(&mut self, key: impl Like<K>, value: impl Like<V>) {
+        let (key, value) = (key.like().bytes(), value.like().bytes());
+        self.written
+            .push((key.into_owned(), Some(value.into_owned())));
     }
 
     /// Makes a key absent.
-    pub fn remove(&mut self, key: impl Into<Vec<u8>>) {
-        self.written.push((key.into(), None));
+    pub fn remove(&mut self, key: impl Like<K>) {
+        self.written.push((key.like().bytes().into_owned(), None));
     }
 
-    /// Says this to a channel, and nothing that was said in this step before.
-    pub fn say(&mut self, channel: u16, output: impl Into<Vec<u8>>) {
+    /// Says this to a channel. It goes out once nothing that the step rests on is undecided.
+    ///
+    /// # Errors
+    /// [`Refusal::SaidTwice`] where this step said something before, which stays.
+    pub fn say(&mut self, channel: u16, output: impl Into<Vec<u8>>) -> Result<(), Refusal> {
+        if self.said.is_some() {
+            return Err(Refusal::SaidTwice);
+        }
         self.said = Some((channel, output.into()));
+        Ok(())
     }
 
     /// Writes the step into the kernel's draft.
     fn hand_over(self) -> Result<(), Refusal> {
-        let own = &mut self.kernel.own;
-        // SAFETY: as `Speculator::own` says; the slices are those of references, apart from the handle and never written.
+        let own = &mut self.inner.own;
+        // SAFETY: as `Inner::own` says; the slices are those of references, apart from the handle and never written.
         unsafe {
             done(hidewillow_own_clear(own), WRITTEN)?;
             for key in &self.looked {
@@ -190,70 +300,103 @@ impl Step<'_> {
     }
 }
 
-/// A speculative kernel over its caller's own byte strings. What a step looks at, writes and says rests on the guesses that are
-/// undecided in what it looked at and wrote. A guess that fails takes back just what rests on it; output waits until what it rests
-/// on is decided. Where it is dropped the guesses that are undecided fail. It may be moved, but it is neither `Send` nor `Sync`: it
-/// stays on its thread.
+/// A speculative kernel over keys and values of your own, `[u8]` where no types are named.
+///
+/// What a step looks at, writes and says rests on the guesses that are undecided in what it looked at and wrote. A guess that
+/// fails takes back just what rests on it; output waits until what it rests on is decided. Where the kernel is dropped the
+/// guesses that are undecided fail. It may go to another thread ([`Shared`](crate::shared::Shared) is for several at once).
 ///
 /// ```no_run
-/// # use hidewillow::speculator::{Decided, Refusal, Speculator};
-/// let mut spec = Speculator::open(64, 1)?;
+/// # use hidewillow::speculator::{Decided, Speculator};
+/// let mut spec: Speculator<str, i64> = Speculator::open(64, 1)?;
 /// spec.step(|s| {
-///     s.put("ann", "100");
-///     Ok::<_, Refusal>(())
+///     s.put("ann", 100);
+///     Ok(())
 /// })?;
 /// let ((), guess) = spec.guess(|s| {
-///     let ann = s.get("ann")?;
-///     s.put("bob", ann.unwrap_or_default());
-///     s.say(1, "bob has what ann has");
-///     Ok::<_, Refusal>(())
+///     let ann = s.get("ann")?.unwrap_or_default();
+///     s.put("bob", ann);
+///     s.say(1, "bob has what ann has")
 /// })?;
 /// assert_eq!(spec.released(1)?, None);
 /// assert_eq!(spec.commit(guess)?, Decided::Committed);
 /// assert!(spec.released(1)?.is_some());
-/// # Ok::<_, Box<dyn std::error::Error>>(())
+/// # Ok::<_, Box<dyn std::error::Error + Send + Sync>>(())
 /// ```
-pub struct Speculator {
-    /// It is of zeros or as the last call left it, since none but these methods pass it, and it is on its thread, since it has a
-    /// raw pointer and so is not `Send`.
-    own: Own,
-    dropped: Rc<RefCell<Vec<u64>>>,
+pub struct Speculator<K: ?Sized = [u8], V: ?Sized = [u8]> {
+    inner: RefCell<Inner>,
+    dropped: Arc<Dropped>,
+    of: Of<K, V>,
 }
 
-impl Speculator {
-    /// One in which no key is there, of whose guesses so many may be undecided at once. Who doesn't know the seed can't choose
-    /// keys that are found slowly. So many must not be 0.
-    pub fn open(guesses: u16, seed: u64) -> Result<Speculator, Refusal> {
-        let mut own = Own {
-            at: std::ptr::null_mut(),
-        };
-        // SAFETY: the handle is of zeros, and its pointer that of an exclusive reference.
-        let told = unsafe { hidewillow_own_open(&mut own, 1, guesses, seed) };
-        done(told, OPENED)?;
-        Ok(Speculator {
-            own,
-            dropped: Rc::default(),
-        })
+impl<K: ?Sized, V: ?Sized> fmt::Debug for Speculator<K, V> {
+    fn fmt(&self, f: &mut fmt::Formatter<'_>) -> fmt::Result {
+        let counts = self.counts();
+        f.debug_struct("Speculator")
+            .field("counts", &counts)
+            .finish_non_exhaustive()
+    }
+}
+
+impl<K: ?Sized, V: ?Sized> Speculator<K, V> {
+    /// How many keys and guesses there are.
+    #[must_use]
+    pub fn counts(&self) -> OwnCounts {
+        let mut counts = OwnCounts::default();
+        // SAFETY: as `Inner::own` says; the counts are set, and apart from the handle.
+        unsafe { hidewillow_own_counts(&mut self.settled().own, &mut counts) };
+        counts
     }
 
-    /// Fails the guesses whose tokens were dropped.
-    fn settle(&mut self) {
-        for id in self.dropped.take() {
-            // SAFETY: as `Speculator::own` says.
-            unsafe { hidewillow_own_fail(&mut self.own, id) };
-        }
+    /// The handle, behind the failures of dropped tokens.
+    fn settled(&self) -> std::cell::RefMut<'_, Inner> {
+        let mut inner = self.inner.borrow_mut();
+        inner.settle(&self.dropped);
+        inner
+    }
+
+    /// Whether a guess is this kernel's.
+    fn owns(&self, guess: &Guess) -> bool {
+        Arc::ptr_eq(&guess.dropped, &self.dropped)
+    }
+}
+
+impl<K: ?Sized + Data, V: ?Sized + Data> Speculator<K, V> {
+    /// One in which no key is there, of whose guesses so many may be undecided at once. Who doesn't know the seed can't choose
+    /// keys that are found slowly.
+    ///
+    /// # Errors
+    /// [`Refusal::NoGuesses`] where so many are 0, and [`Refusal::Memory`].
+    pub fn open(guesses: u16, seed: u64) -> Result<Self, Refusal> {
+        let mut inner = Inner {
+            own: Own {
+                at: std::ptr::null_mut(),
+            },
+            room: Vec::new(),
+        };
+        // SAFETY: the handle is of zeros, and its pointer that of an exclusive reference.
+        let told = unsafe { hidewillow_own_open(&mut inner.own, 1, guesses, seed) };
+        done(told, OPENED)?;
+        Ok(Speculator {
+            inner: RefCell::new(inner),
+            dropped: Arc::default(),
+            of: PhantomData,
+        })
     }
 
     fn write<R, E: From<Refusal>>(
         &mut self,
-        step: impl FnOnce(&mut Step<'_>) -> Result<R, E>,
+        step: impl FnOnce(&mut Step<'_, K, V>) -> Result<R, E>,
     ) -> Result<R, E> {
-        self.settle();
+        let inner = self.inner.get_mut();
+        inner.settle(&self.dropped);
+        let (looked, written) = (Vec::new(), Vec::new());
         let mut draft = Step {
-            kernel: self,
-            looked: Vec::new(),
-            written: Vec::new(),
+            inner,
+            looked,
+            written,
             said: None,
+            of: PhantomData,
         };
         let result = step(&mut draft)?;
         draft.hand_over()?;
@@ -261,104 +404,128 @@ impl Speculator {
     }
 
     /// Takes a step: what the closure looks at, writes and says. Where it ends with an error nothing has changed.
-    pub fn step<R, E: From<Refusal>>(
+    ///
+    /// # Errors
+    /// What the closure says, [`Refusal::LongKey`], [`Refusal::LongValue`] and [`Refusal::Memory`].
+    pub fn step<R>(
         &mut self,
-        step: impl FnOnce(&mut Step<'_>) -> Result<R, E>,
+        step: impl FnOnce(&mut Step<'_, K, V>) -> Result<R, Refusal>,
+    ) -> Result<R, Refusal> {
+        self.try_step(step)
+    }
+
+    /// The same where the closure has errors of its own.
+    ///
+    /// # Errors
+    /// As of [`step`](Self::step).
+    pub fn try_step<R, E: From<Refusal>>(
+        &mut self,
+        step: impl FnOnce(&mut Step<'_, K, V>) -> Result<R, E>,
     ) -> Result<R, E> {
         let result = self.write(step)?;
-        // SAFETY: as `Speculator::own` says.
-        done(unsafe { hidewillow_own_take(&mut self.own) }, STEPPED)?;
+        // SAFETY: as `Inner::own` says.
+        done(
+            unsafe { hidewillow_own_take(&mut self.inner.get_mut().own) },
+            STEPPED,
+        )?;
         Ok(result)
     }
 
     /// Draws a guess with its step, which rests on it.
-    pub fn guess<R, E: From<Refusal>>(
+    ///
+    /// # Errors
+    /// As of [`step`](Self::step), and [`Refusal::TooMany`] and [`Refusal::NoNumber`].
+    pub fn guess<R>(
         &mut self,
-        step: impl FnOnce(&mut Step<'_>) -> Result<R, E>,
-    ) -> Result<(R, Guess), E> {
-        let result = self.write(step)?;
-        // SAFETY: as `Speculator::own` says.
-        let told = done(unsafe { hidewillow_own_guess(&mut self.own) }, GUESSED)?;
-        let guess = Guess {
-            id: told.number,
-            dropped: Rc::clone(&self.dropped),
-            spent: false,
-        };
-        Ok((result, guess))
+        step: impl FnOnce(&mut Step<'_, K, V>) -> Result<R, Refusal>,
+    ) -> Result<(R, Guess), Refusal> {
+        self.try_guess(step)
     }
 
-    /// Commits a guess of this kernel: nothing rests on it any more. A guess of another is given back.
-    pub fn commit(&mut self, guess: Guess) -> Result<Decided, Stranger> {
-        if !Rc::ptr_eq(&guess.dropped, &self.dropped) {
+    /// The same where the closure has errors of its own.
+    ///
+    /// # Errors
+    /// As of [`guess`](Self::guess).
+    pub fn try_guess<R, E: From<Refusal>>(
+        &mut self,
+        step: impl FnOnce(&mut Step<'_, K, V>) -> Result<R, E>,
+    ) -> Result<(R, Guess), E> {
+        let result = self.write(step)?;
+        // SAFETY: as `Inner::own` says.
+        let told = done(
+            unsafe { hidewillow_own_guess(&mut self.inner.get_mut().own) },
+            GUESSED,
+        )?;
+        let dropped = Arc::clone(&self.dropped);
+        Ok((
+            result,
+            Guess {
+                id: told.number,
+                dropped,
+                spent: false,
+            },
+        ))
+    }
+
+    /// Commits a guess of this kernel: nothing rests on it any more.
+    ///
+    /// # Errors
+    /// A guess of another kernel is given back.
+    pub fn commit(&mut self, guess: Guess) -> Result<Decided<K::Owned>, Stranger> {
+        if !self.owns(&guess) {
             return Err(Stranger(guess));
         }
-        self.settle();
-        // SAFETY: as `Speculator::own` says.
-        let told = unsafe { hidewillow_own_commit(&mut self.own, guess.spend()) };
+        // SAFETY: as `Inner::own` says.
+        let told = unsafe { hidewillow_own_commit(&mut self.settled().own, guess.spend()) };
         Ok(match told.answer {
             DONE => Decided::Committed,
             _ => Decided::Gone,
         })
     }
 
-    /// Fails a guess of this kernel: what rests on it is taken back. A guess of another is given back.
-    pub fn fail(&mut self, guess: Guess) -> Result<Decided, Stranger> {
-        if !Rc::ptr_eq(&guess.dropped, &self.dropped) {
+    /// Fails a guess of this kernel: what rests on it is taken back. Keys whose bytes are no `K`, or for which there is no
+    /// memory, are not told.
+    ///
+    /// # Errors
+    /// A guess of another kernel is given back.
+    pub fn fail(&mut self, guess: Guess) -> Result<Decided<K::Owned>, Stranger> {
+        if !self.owns(&guess) {
             return Err(Stranger(guess));
         }
-        self.settle();
-        // SAFETY: as `Speculator::own` says.
-        let told = unsafe { hidewillow_own_fail(&mut self.own, guess.spend()) };
+        let mut inner = self.settled();
+        // SAFETY: as `Inner::own` says.
+        let told = unsafe { hidewillow_own_fail(&mut inner.own, guess.spend()) };
         if told.answer != DONE {
             return Ok(Decided::Gone);
         }
-        let keys = (0..told.number as usize).map(|place| self.undone(place));
+        let places = 0..usize::try_from(told.number).unwrap_or(usize::MAX);
+        let keys = places.filter_map(|place| inner.undone(place).ok().flatten().and_then(K::read));
         Ok(Decided::Failed {
             keys: keys.collect(),
             struck: told.bytes,
         })
     }
 
-    /// One of the keys that the last failure took back.
-    fn undone(&mut self, place: usize) -> Vec<u8> {
-        let own = &mut self.own;
-        let mut key = vec![0; 64];
-        loop {
-            // SAFETY: as `Speculator::own` says; the room is set, and apart from the handle.
-            let told = unsafe { hidewillow_own_undone(own, place, key.as_mut_ptr(), key.len()) };
-            if told.bytes <= key.len() {
-                key.truncate(told.bytes);
-                return key;
-            }
-            key.resize(told.bytes, 0);
-        }
-    }
-
-    /// What a key has; `None` where it is absent.
-    pub fn value(&mut self, key: impl AsRef<[u8]>) -> Result<Option<Vec<u8>>, Refusal> {
-        self.settle();
-        self.read(key.as_ref())
-    }
-
-    /// The same while a step is taken, in which no guess fails.
-    fn read(&mut self, key: &[u8]) -> Result<Option<Vec<u8>>, Refusal> {
-        let own = &mut self.own;
-        // SAFETY: as `Speculator::own` says; the room is set, and apart from the handle and the key.
-        shown(|room| unsafe {
-            let (to, of) = (room.as_mut_ptr(), room.len());
-            hidewillow_own_value(own, key.as_ptr(), key.len(), to, of)
-        })
+    /// What a key has; `None` where it is absent. A step that is to rest on it gets it itself ([`Step::get`]).
+    ///
+    /// # Errors
+    /// [`Refusal::Memory`], and [`Refusal::Form`] where the bytes are no `V`.
+    pub fn value(&self, key: impl Like<K>) -> Result<Option<V::Owned>, Refusal> {
+        let mut inner = self.settled();
+        let there = inner.read(&key.like().bytes())?;
+        there
+            .map(|bytes| V::read(bytes).ok_or(Refusal::Form))
+            .transpose()
     }
 
     /// The undecided guesses that a key rests on, by rising number.
-    pub fn tags(&mut self, key: impl AsRef<[u8]>) -> Vec<u64> {
-        self.settle();
-        let key = key.as_ref();
+    pub fn tags(&self, key: impl Like<K>) -> Vec<u64> {
+        let (mut inner, key) = (self.settled(), key.like().bytes());
         let mut tags = Vec::new();
         loop {
-            let place = tags.len();
-            // SAFETY: as `Speculator::own` says; the key is apart from the handle.
-            let told = unsafe { hidewillow_own_tag(&mut self.own, key.as_ptr(), key.len(), place) };
+            // SAFETY: as `Inner::own` says; the key is apart from the handle.
+            let told =
+                unsafe { hidewillow_own_tag(&mut inner.own, key.as_ptr(), key.len(), tags.len()) };
             if told.answer != SHOWN {
                 return tags;
             }
@@ -367,46 +534,41 @@ impl Speculator {
     }
 
     /// The next output of a channel that rests on nothing and behind which nothing older waits. It is gone from the kernel then.
+    ///
+    /// # Errors
+    /// [`Refusal::Memory`]; the output stays.
     pub fn released(&mut self, channel: u16) -> Result<Option<Vec<u8>>, Refusal> {
-        self.settle();
-        let own = &mut self.own;
-        // SAFETY: as `Speculator::own` says; the room is set, and apart from the handle.
-        shown(|room| unsafe {
+        let mut inner = self.settled();
+        // SAFETY: as `Inner::own` says; the room is set, and apart from the handle.
+        let shown = inner.shown(|own, room| unsafe {
             hidewillow_own_released(own, channel, room.as_mut_ptr(), room.len())
-        })
-    }
-
-    /// How many keys and guesses there are.
-    pub fn counts(&mut self) -> OwnCounts {
-        self.settle();
-        let mut counts = OwnCounts::default();
-        // SAFETY: as `Speculator::own` says; the counts are set, and apart from the handle.
-        unsafe { hidewillow_own_counts(&mut self.own, &mut counts) };
-        counts
+        })?;
+        Ok(shown.map(<[u8]>::to_vec))
     }
 }
 
-impl Drop for Speculator {
-    fn drop(&mut self) {
-        self.settle();
-        // SAFETY: as `Speculator::own` says, and nothing uses the handle behind this.
-        unsafe { hidewillow_own_close(&mut self.own) };
-    }
-}
+#[cfg(test)]
+mod tests {
+    use super::*;
 
-/// What a call shows, which is made again where the room is too short.
-fn shown(mut ask: impl FnMut(&mut [u8]) -> Told) -> Result<Option<Vec<u8>>, Refusal> {
-    let mut into = room(ROOM_BYTES)?;
-    loop {
-        let told = ask(&mut into);
-        match told.answer {
-            SHOWN if told.bytes > into.len() => into = room(told.bytes)?,
-            SHOWN => {
-                into.truncate(told.bytes);
-                return Ok(Some(into));
-            }
-            MEMORY => return Err(Refusal::Memory),
-            _ => return Ok(None),
+    fn inner() -> Inner {
+        let own = Own {
+            at: std::ptr::null_mut(),
+        };
+        Inner {
+            own,
+            room: Vec::new(),
         }
+    }
+
+    #[test]
+    fn want_of_memory_is_no_absent_key() {
+        let told = |answer| Told {
+            answer,
+            number: 0,
+            bytes: 0,
+        };
+        assert_eq!(inner().shown(|_, _| told(MEMORY)), Err(Refusal::Memory));
+        assert_eq!(inner().shown(|_, _| told(crate::ABSENT)), Ok(None));
     }
 }

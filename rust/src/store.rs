@@ -37,6 +37,8 @@ pub struct ReadCounts {
     pub place: u64,
     /// The bytes behind that count for nothing.
     pub dropped: u64,
+    /// 1 where a whole frame stands at that place that says no commands, else 0.
+    pub damaged: u64,
 }
 
 /// What a store takes.
@@ -125,10 +127,12 @@ unsafe extern "C" {
         bytes_count: usize,
     ) -> Told;
 
-    /// All came: counts what was read, where no more was dropped than may have been in flight.
+    /// All came: counts what was read, where no more was dropped than may have been in flight, and no frame is missing of those up to
+    /// the one that is known as synced.
     pub fn hidewillow_recovery_end(
         recovery: *mut Recovering,
         in_flight: u64,
+        known: u64,
         counts: *mut ReadCounts,
     ) -> Told;
 

@@ -1,0 +1,474 @@
+//! Random runs of a kernel over byte strings, each held against a plain list of the steps that stand: what every key has and rests
+//! on, what goes out, and what a failure tells. `RUNS` says how many runs there are, `SEED` with which one they begin.
+use hidewillow::speculator::{Decided, Guess, Refusal, Speculator, Stranger};
+use std::collections::{BTreeMap, BTreeSet, HashMap, VecDeque};
+
+/// Numbers that look random (splitmix64).
+struct Dice(u64);
+
+impl Dice {
+    fn roll(&mut self, below: usize) -> usize {
+        self.0 = self.0.wrapping_add(0x9E37_79B9_7F4A_7C15);
+        let mut x = self.0;
+        x = (x ^ (x >> 30)).wrapping_mul(0xBF58_476D_1CE4_E5B9);
+        x = (x ^ (x >> 27)).wrapping_mul(0x94D0_49BB_1331_11EB);
+        (x ^ (x >> 31)) as usize % below
+    }
+
+    fn pick<'a, T>(&mut self, from: &'a [T]) -> &'a T {
+        &from[self.roll(from.len())]
+    }
+}
+
+type Bytes = Vec<u8>;
+
+/// A step as the plain list has it.
+#[derive(Clone)]
+struct Taken {
+    own: Option<u64>,
+    written: Vec<(Bytes, Option<Bytes>)>,
+    said: Option<(u16, Bytes)>,
+    /// The undecided guesses that it depends on.
+    rests: BTreeSet<u64>,
+}
+
+/// The plain list: the steps that stand, in order.
+#[derive(Default)]
+struct Plain {
+    steps: Vec<Taken>,
+    /// How many outputs of each channel are out.
+    out: HashMap<u16, usize>,
+}
+
+impl Plain {
+    fn value(&self, key: &[u8]) -> Option<Bytes> {
+        let last = self
+            .steps
+            .iter()
+            .rev()
+            .find_map(|it| it.written.iter().rev().find(|(k, _)| k == key));
+        last.and_then(|(_, value)| value.clone())
+    }
+
+    /// What a key rests on: what its last writer does.
+    fn rests(&self, key: &[u8]) -> BTreeSet<u64> {
+        let last = self
+            .steps
+            .iter()
+            .rev()
+            .find(|it| it.written.iter().any(|(k, _)| k == key));
+        last.map(|it| it.rests.clone()).unwrap_or_default()
+    }
+
+    fn take(&mut self, looked: &[Bytes], mut step: Taken) {
+        for key in looked.iter().chain(step.written.iter().map(|(key, _)| key)) {
+            step.rests.extend(self.rests(key));
+        }
+        step.rests.extend(step.own);
+        self.steps.push(step);
+    }
+
+    fn commit(&mut self, guess: u64) {
+        for step in &mut self.steps {
+            step.rests.remove(&guess);
+        }
+    }
+
+    /// Takes out what rests on a guess: the keys that it wrote, and the other guesses that go with it.
+    fn fail(&mut self, guess: u64) -> (BTreeSet<Bytes>, BTreeSet<u64>) {
+        let (gone, stay): (Vec<_>, Vec<_>) = self
+            .steps
+            .drain(..)
+            .partition(|it| it.rests.contains(&guess));
+        self.steps = stay;
+        let keys = gone
+            .iter()
+            .flat_map(|it| it.written.iter().map(|(key, _)| key.clone()))
+            .collect();
+        // A committed guess is no longer among what its own step rests on.
+        let struck = gone
+            .iter()
+            .filter_map(|it| it.own.filter(|own| it.rests.contains(own) && *own != guess));
+        (keys, struck.collect())
+    }
+
+    /// The next output of a channel that may go out.
+    fn released(&mut self, channel: u16) -> Option<Bytes> {
+        let out = self.out.entry(channel).or_default();
+        let said = self
+            .steps
+            .iter()
+            .filter(|it| it.said.as_ref().is_some_and(|(c, _)| *c == channel));
+        let next = said.clone().nth(*out)?;
+        next.rests.is_empty().then(|| {
+            *out += 1;
+            next.said
+                .as_ref()
+                .map(|(_, bytes)| bytes.clone())
+                .unwrap_or_default()
+        })
+    }
+}
+
+/// A key of the run: some are long, one is empty.
+fn key(dice: &mut Dice) -> Bytes {
+    match dice.roll(10) {
+        0 => Bytes::new(),
+        1 => vec![b'k'; 65],
+        2 => vec![b'k'; 700 + dice.roll(3)],
+        n => vec![b'a' + n as u8],
+    }
+}
+
+fn value(dice: &mut Dice, count: usize) -> Bytes {
+    let len = *dice.pick(&[0, 1, 8, 100, 4096, 4097, 9000]);
+    let mut bytes = vec![dice.roll(256) as u8; len];
+    bytes.extend(count.to_le_bytes());
+    bytes
+}
+
+struct Run {
+    dice: Dice,
+    kernel: Speculator,
+    other: Speculator,
+    plain: Plain,
+    /// Tokens of undecided and struck guesses, and which of these are struck.
+    tokens: VecDeque<Guess>,
+    struck: BTreeSet<u64>,
+    count: usize,
+}
+
+const LIMIT: u16 = 6;
+const CHANNELS: u16 = 3;
+
+impl Run {
+    fn new(seed: u64) -> Result<Run, Refusal> {
+        Ok(Run {
+            dice: Dice(seed),
+            kernel: Speculator::open(LIMIT, seed)?,
+            other: Speculator::open(LIMIT, seed)?,
+            plain: Plain::default(),
+            tokens: VecDeque::new(),
+            struck: BTreeSet::new(),
+            count: 0,
+        })
+    }
+
+    /// A step, or the step of a guess: looks, writes that are read again, removals, an output.
+    fn step(&mut self, as_guess: bool) {
+        let Run {
+            dice,
+            kernel,
+            plain,
+            count,
+            ..
+        } = self;
+        let (mut looked, mut taken) = (
+            Vec::new(),
+            Taken {
+                own: None,
+                written: Vec::new(),
+                said: None,
+                rests: BTreeSet::new(),
+            },
+        );
+        *count += 1;
+        let write = |s: &mut hidewillow::speculator::Step<'_>| {
+            for _ in 0..dice.roll(4) {
+                let key = key(dice);
+                let had = taken
+                    .written
+                    .iter()
+                    .rev()
+                    .find(|(k, _)| *k == key)
+                    .map(|(_, value)| value.clone());
+                match dice.roll(5) {
+                    0 | 1 => {
+                        let seen = if dice.roll(2) == 0 {
+                            s.get(&key)?
+                        } else {
+                            let mut into = b"not empty".to_vec();
+                            s.get_into(&key, &mut into)?.then_some(into)
+                        };
+                        assert_eq!(
+                            seen,
+                            had.clone().unwrap_or_else(|| plain.value(&key)),
+                            "a step reads what is there, and its own writes"
+                        );
+                        if had.is_none() {
+                            looked.push(key);
+                        }
+                    }
+                    2 => {
+                        s.remove(&key);
+                        taken.written.push((key, None));
+                    }
+                    _ => {
+                        let value = value(dice, *count);
+                        s.put(&key, &value);
+                        taken.written.push((key, Some(value)));
+                    }
+                }
+            }
+            if dice.roll(3) == 0 {
+                let channel = dice.roll(CHANNELS.into()) as u16;
+                s.say(channel, count.to_le_bytes())?;
+                assert_eq!(s.say(channel, "again"), Err(Refusal::SaidTwice));
+                taken.said = Some((channel, count.to_le_bytes().to_vec()));
+            }
+            Ok(())
+        };
+        if as_guess {
+            let undecided = self
+                .tokens
+                .iter()
+                .filter(|it| !self.struck.contains(&it.id()))
+                .count();
+            match kernel.guess(write) {
+                Ok(((), guess)) => {
+                    assert!(undecided < LIMIT.into());
+                    taken.own = Some(guess.id());
+                    self.tokens.push_back(guess);
+                }
+                Err(refusal) => {
+                    assert_eq!(refusal, Refusal::TooMany);
+                    assert_eq!(undecided, LIMIT.into());
+                    return;
+                }
+            }
+        } else {
+            assert_eq!(kernel.step(write), Ok(()));
+        }
+        plain.take(&looked, taken);
+    }
+
+    /// Decides a guess, whose token may go to a kernel that is not its own first, or is dropped.
+    fn decide(&mut self) -> Option<()> {
+        let place = self.dice.roll(self.tokens.len().max(1));
+        let mut guess = self.tokens.remove(place)?;
+        let id = guess.id();
+        if self.dice.roll(4) == 0 {
+            let Err(Stranger(back)) = self.other.commit(guess) else {
+                panic!("a stranger's token was taken")
+            };
+            let Err(Stranger(back)) = self.other.fail(back) else {
+                panic!("a stranger's token was taken")
+            };
+            guess = back;
+        }
+        let is_gone = self.struck.remove(&id);
+        match self.dice.roll(5) {
+            0 | 1 => {
+                let decided = self.kernel.commit(guess).expect("its own");
+                assert_eq!(decided == Decided::Gone, is_gone);
+                if !is_gone {
+                    self.plain.commit(id);
+                }
+            }
+            2 => {
+                drop(guess);
+                self.fails(id, is_gone);
+            }
+            _ => {
+                let decided = self.kernel.fail(guess).expect("its own");
+                let fallen = self.fails(id, is_gone);
+                match (decided, fallen) {
+                    (Decided::Failed { keys, struck }, Some((wanted, others))) => {
+                        assert_eq!(struck, others, "so many guesses went with it");
+                        assert_eq!(keys.len(), wanted.len(), "each key once");
+                        assert_eq!(keys.into_iter().collect::<BTreeSet<_>>(), wanted);
+                    }
+                    (decided, None) => assert_eq!(decided, Decided::Gone),
+                    (decided, _) => panic!("{decided:?} of a guess that stood"),
+                }
+            }
+        }
+        Some(())
+    }
+
+    fn fails(&mut self, id: u64, is_gone: bool) -> Option<(BTreeSet<Bytes>, usize)> {
+        if is_gone {
+            return None;
+        }
+        let (keys, struck) = self.plain.fail(id);
+        let others = struck.len();
+        self.struck.extend(struck);
+        Some((keys, others))
+    }
+
+    /// Everything that is seen is as in the plain list.
+    fn compare(&mut self) {
+        let written = self
+            .plain
+            .steps
+            .iter()
+            .flat_map(|it| it.written.iter().map(|(key, _)| key.clone()));
+        let mut keys: BTreeSet<Bytes> = written.collect();
+        keys.extend([vec![b'd'], Bytes::new(), vec![b'k'; 700]]);
+        let seen: BTreeMap<_, _> = keys
+            .iter()
+            .map(|it| (it, (self.kernel.value(it), self.kernel.tags(it))))
+            .collect();
+        for (key, (value, tags)) in seen {
+            assert_eq!(value, Ok(self.plain.value(key)), "the value of {key:?}");
+            assert_eq!(
+                tags.into_iter().collect::<BTreeSet<_>>(),
+                self.plain.rests(key),
+                "what {key:?} rests on"
+            );
+        }
+        for channel in 0..CHANNELS {
+            while let Some(wanted) = self.plain.released(channel) {
+                assert_eq!(self.kernel.released(channel), Ok(Some(wanted)));
+            }
+            assert_eq!(self.kernel.released(channel), Ok(None));
+        }
+        let undecided = self
+            .tokens
+            .iter()
+            .filter(|it| !self.struck.contains(&it.id()))
+            .count();
+        let counts = self.kernel.counts();
+        assert_eq!(
+            (counts.undecided, counts.struck),
+            (undecided, self.struck.len())
+        );
+        let present = keys
+            .iter()
+            .filter(|it| self.plain.value(it).is_some())
+            .count();
+        assert!(
+            counts.keys >= present,
+            "{} of at least {present} keys are counted",
+            counts.keys
+        );
+    }
+}
+
+fn number(name: &str, default: u64) -> u64 {
+    std::env::var(name)
+        .ok()
+        .and_then(|it| it.parse().ok())
+        .unwrap_or(default)
+}
+
+#[test]
+fn runs_stand_as_the_plain_list_does() {
+    let first = number("SEED", 1);
+    for seed in first..first + number("RUNS", 1500) {
+        let mut run = Run::new(seed).expect("a kernel");
+        for _ in 0..40 {
+            match run.dice.roll(10) {
+                0..=3 => run.step(false),
+                4..=6 => run.step(true),
+                _ => _ = run.decide(),
+            }
+            // Sometimes another call comes before anything is asked.
+            if run.dice.roll(4) > 0 {
+                run.compare();
+            }
+        }
+    }
+}
+
+#[test]
+fn a_key_and_a_value_have_limits() -> Result<(), Refusal> {
+    let mut kernel: Speculator = Speculator::open(2, 1)?;
+    let (longest, too_long) = (vec![b'k'; 65_536], vec![b'k'; 65_537]);
+    kernel.step(|s| {
+        s.put(&longest, "there");
+        Ok(())
+    })?;
+    assert_eq!(kernel.value(&longest)?, Some(b"there".to_vec()));
+    assert_eq!(
+        kernel.step(|s| {
+            s.put(&too_long, "");
+            Ok(())
+        }),
+        Err(Refusal::LongKey)
+    );
+    assert_eq!(
+        kernel.step(|s| {
+            s.put("k", vec![0; 16_777_217]);
+            Ok(())
+        }),
+        Err(Refusal::LongValue)
+    );
+    assert_eq!(kernel.value("k")?, None);
+    let ((), guess) = kernel.guess(|s| {
+        s.remove(&longest);
+        Ok(())
+    })?;
+    let Ok(Decided::Failed { keys, .. }) = kernel.fail(guess) else {
+        panic!("it failed")
+    };
+    assert_eq!(keys, [longest]);
+    Ok(())
+}
+
+#[test]
+fn typed_keys_and_values() -> Result<(), Refusal> {
+    let mut kernel: Speculator<u64, str> = Speculator::open(2, 1)?;
+    kernel.step(|s| {
+        s.put(7, "seven");
+        Ok(())
+    })?;
+    assert_eq!(kernel.value(7)?.as_deref(), Some("seven"));
+    let ((), guess) = kernel.guess(|s| {
+        s.put(7, String::from("other"));
+        Ok(())
+    })?;
+    let Ok(Decided::Failed { keys, .. }) = kernel.fail(guess) else {
+        panic!("it failed")
+    };
+    assert_eq!(keys, [7]);
+    let mut other: Speculator<str, u32> = Speculator::open(2, 1)?;
+    other.step(|s| {
+        s.put("n", 5);
+        Ok(())
+    })?;
+    assert_eq!(other.step(|s| s.get("n")), Ok(Some(5)));
+    Ok(())
+}
+
+#[test]
+fn no_guess_may_be_drawn_where_none_may_be_open() {
+    assert_eq!(
+        Speculator::<[u8], [u8]>::open(0, 1).err(),
+        Some(Refusal::NoGuesses)
+    );
+}
+
+#[test]
+fn a_kernel_and_a_token_may_go_to_another_thread(
+) -> Result<(), Box<dyn std::error::Error + Send + Sync>> {
+    let shop = hidewillow::shared::Shared::new(Speculator::<str, u64>::open(64, 1)?);
+    let (_, guess) = shop.guess(|s| {
+        s.put("stock", 1);
+        Ok(())
+    })?;
+    let there = shop.clone();
+    let decided = std::thread::spawn(move || there.commit(guess))
+        .join()
+        .expect("no panic")?;
+    assert_eq!(
+        (decided, shop.value("stock")?),
+        (Decided::Committed, Some(1))
+    );
+    Ok(())
+}
+
+#[test]
+fn a_step_that_panics_leaves_nothing() -> Result<(), Refusal> {
+    let shop = hidewillow::shared::Shared::new(Speculator::<str, u64>::open(64, 1)?);
+    let there = shop.clone();
+    let panicked = std::thread::spawn(move || {
+        there.step(|s| -> Result<(), Refusal> {
+            s.put("stock", 1);
+            panic!("on purpose")
+        })
+    });
+    assert!(panicked.join().is_err());
+    assert_eq!(shop.value("stock")?, None);
+    Ok(())
+}

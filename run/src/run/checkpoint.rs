@@ -1,0 +1,389 @@
+//! A checkpoint of all processes at one moment: a stopped fork of each, and what a fork has not.
+use crate::name::Name;
+use crate::run::descriptors::{self, Descriptor, Kind};
+use crate::run::inject::{self, to_be_restarted, Call};
+use crate::run::paths::{bytes, Where};
+use crate::run::supervisor::{Done, Supervisor};
+use crate::run::sys::{self, Pid, Regs, Stop, Told};
+use crate::run::tree::{Copy, Facts, State, Thread};
+use std::collections::{HashMap, HashSet};
+use std::fs::File;
+use std::io::Read;
+use std::os::fd::{AsRawFd, OwnedFd, RawFd};
+use std::rc::Rc;
+use std::time::Instant;
+
+pub struct Snapshot {
+    pub processes: Vec<(Pid, Facts, Rc<Copy>)>,
+    /// Descriptors that are shared: the number of the description, and its offset.
+    pub shared: HashMap<(Pid, RawFd), (usize, u64)>,
+    /// What was in pipes.
+    pub pipes: Vec<(Rc<OwnedFd>, Vec<u8>)>,
+    /// Files that had to be stored, and what was said after they were closed.
+    pub due: Vec<Name>,
+    pub said: Vec<(usize, Vec<u8>)>,
+    pub root_status: Option<i32>,
+}
+
+/// The registers with which a stopped process goes on, and with which its copy does.
+fn registers_behind(state: State, r: &Regs) -> (Regs, Regs) {
+    let mut a = *r;
+    let number = a.orig_rax;
+    let result = a.rax as i64;
+    a.orig_rax = u64::MAX;
+    match state {
+        State::Entry => {
+            a.rip -= 2;
+            a.rax = number;
+            (a, a)
+        }
+        State::Stopped if number as i64 >= 0 && to_be_restarted(result) => {
+            a.rip -= 2;
+            a.rax = number;
+            let mut own = a;
+            if result == -516 {
+                own.rax = libc::SYS_restart_syscall as u64;
+            }
+            (own, a)
+        }
+        _ => (a, a),
+    }
+}
+
+/// A process that is copied now.
+struct Copied {
+    pid: Pid,
+    own: Regs,
+    its: Regs,
+    pending: [Vec<sys::SigInfo>; 2],
+}
+
+impl Supervisor {
+    /// Makes a checkpoint of all processes, which begins an epoch; false where one can't be copied now.
+    pub fn checkpoint(&mut self, at: Option<Pid>) -> Done<bool> {
+        if self.stopping {
+            return Ok(false);
+        }
+        // [17]
+        if let Some(why) = self.hinders() {
+            self.why.waits(why);
+            return Ok(false);
+        }
+        let begin = Instant::now();
+        self.stop_all()?; // [13]
+        let why = if self.tree.all.is_empty() { Some("all have ended") } else { self.hinders() };
+        let why = match why {
+            Some(w) => Some(w),
+            None => self.copy_all()?,
+        };
+        if let Some(why) = why {
+            self.why.waits(why);
+            self.go_all(at)?;
+            return Ok(false);
+        }
+        self.stats.checkpoints += 1;
+        self.stats.checkpoint_time += begin.elapsed();
+        self.epochs.cost = (self.epochs.cost * 3 + begin.elapsed()) / 4;
+        self.go_all(at)?;
+        Ok(true)
+    }
+    /// Why there can be no copy now of some process.
+    fn hinders(&self) -> Option<&'static str> {
+        let all = &self.tree.all;
+        let has = |of: fn(&crate::run::tree::Process) -> bool| all.values().any(of);
+        if let Some(b) = self.tree.bounds().first() {
+            return Some(b.words());
+        }
+        match () {
+            () if has(|p| p.vforked.is_some()) => Some("a child has its parent's memory until it runs a program"),
+            () if has(|p| p.listens) => Some("a process is stopped by a signal"),
+            () if has(|p| p.reads_terminal) => Some("a terminal being read"),
+            () if has(|p| p.facts.site == 0 && p.state != State::Running) => Some("a program has just begun"),
+            () if all.values().any(|p| p.thread && !all.contains_key(&p.facts.process)) => {
+                Some("a process has lost its first thread")
+            }
+            () => None,
+        }
+    }
+    /// Stops every process. One whose memory a child has stands still as long as that does.
+    pub fn stop_all(&mut self) -> Done {
+        self.stopping = true;
+        let done = self.stop_running();
+        self.stopping = false;
+        done
+    }
+    fn stop_running(&mut self) -> Done {
+        loop {
+            let mut running: Vec<Pid> =
+                self.tree.all.iter().filter(|(_, p)| p.state == State::Running).map(|(i, _)| *i).collect();
+            running.retain(|pid| !self.tree.lends_memory(*pid));
+            if running.is_empty() {
+                return Ok(());
+            }
+            running.sort_unstable();
+            for pid in &running {
+                let _ = sys::interrupt(*pid);
+            }
+            for pid in running {
+                self.stop(pid)?;
+            }
+        }
+    }
+    /// Waits until a process that was interrupted has stopped.
+    fn stop(&mut self, pid: Pid) -> Done {
+        while self.tree.get(pid).is_some_and(|p| p.state == State::Running) && !self.tree.lends_memory(pid) {
+            let Some(w) = sys::wait(pid) else { return Ok(()) };
+            match w.told {
+                Told::Stopped(Stop::Trap(signal)) => {
+                    self.fix_registers(pid);
+                    let Ok(r) = sys::registers(pid) else { continue };
+                    let p = self.tree.at(pid);
+                    p.regs = r;
+                    p.state = State::Stopped;
+                    p.reads_terminal = false;
+                    p.listens = signal != libc::SIGTRAP;
+                }
+                Told::Stopped(Stop::Filter) => {
+                    if self.at_filter(pid) {
+                        self.tree.queue.push_back(pid);
+                    }
+                }
+                Told::Stopped(_) => {
+                    self.on_event(w)?;
+                    let _ = sys::interrupt(pid);
+                }
+                Told::Ended(_) => self.on_event(w)?,
+            }
+        }
+        Ok(())
+    }
+    /// Lets those go on that were stopped for others' sake.
+    pub fn go_all(&mut self, but: Option<Pid>) -> Done {
+        let stopped: Vec<Pid> = self
+            .tree
+            .all
+            .iter()
+            .filter(|(i, p)| Some(**i) != but && p.hold.is_none() && matches!(p.state, State::Again | State::Stopped))
+            .map(|(i, _)| *i)
+            .collect();
+        for pid in stopped {
+            self.tree.queue.retain(|q| *q != pid);
+            if self.tree.at(pid).listens {
+                self.tree.at(pid).state = State::Running;
+                let _ = sys::listen(pid);
+            } else {
+                self.go(pid);
+            }
+        }
+        Ok(())
+    }
+    /// Copies all that have run since they were copied, and begins an epoch; or says why that can't be.
+    fn copy_all(&mut self) -> Done<Option<&'static str>> {
+        self.stopping = true;
+        let taken = self.take_output();
+        self.stopping = false;
+        taken?;
+        let all = self.tree.processes();
+        let due: Vec<Pid> =
+            all.iter().copied().filter(|p| self.tree.get(*p).is_some_and(|p| p.copy.is_none())).collect();
+        self.stats.kept_copies += (all.len() - due.len()) as u64;
+        let mut tables = HashMap::new();
+        for pid in &due {
+            let t = descriptors::of(*pid, &self.streams);
+            if let Some(why) = self.unkept(&t) {
+                return Ok(Some(why));
+            }
+            tables.insert(*pid, t);
+        }
+        if !self.fork_all(&due, &mut tables)? {
+            return Ok(Some("a process has ended"));
+        }
+        let snapshot = self.snapshot(&all);
+        let writing = self.open_for_writing(&all);
+        self.begin_epoch(snapshot)?;
+        if let Some(epoch) = self.epochs.newest() {
+            for handle in writing.values() {
+                // [15]
+                if let Some(u) = self.undo.keep_open(handle) {
+                    self.undo.add(epoch, u);
+                }
+            }
+        }
+        Ok(None)
+    }
+    /// Why one of these descriptors can't be opened once more.
+    fn unkept(&self, table: &[Descriptor]) -> Option<&'static str> {
+        table.iter().find_map(|d| match d.kind {
+            Kind::Other => Some("a socket, an event queue, a timer or another descriptor without a name is open"),
+            Kind::Terminal if d.fd != 0 => Some("a terminal is open"),
+            Kind::File { writing: true } if d.device != self.ground.device => {
+                let path = d.path();
+                let text = bytes(&path).strip_suffix(b" (deleted)").unwrap_or(bytes(&path));
+                let scratch = matches!(self.paths.place(text), Where::Scratch(_));
+                (!scratch).then_some("a file outside of the mount is open for writing")
+            }
+            _ => None,
+        })
+    }
+    /// The calls that fork these.
+    fn forks(&mut self, due: &[Pid]) -> (Vec<Call>, Vec<Copied>) {
+        let (mut forks, mut copied) = (Vec::new(), Vec::new());
+        for pid in due {
+            let p = self.tree.at(*pid);
+            let (own, its) = registers_behind(p.state, &p.regs);
+            let at_filter = p.state == State::Entry;
+            let base = if at_filter { p.regs } else { own };
+            let args = [(libc::CLONE_PARENT | libc::SIGCHLD) as u64, 0, 0, 0];
+            forks.push(Call::new(*pid, base, at_filter, p.facts.site, libc::SYS_clone, args));
+            let mut pending = [sys::pending(*pid, false), sys::pending(*pid, true)];
+            pending[0].extend(p.signals.iter().map(|s| signal_of_user(*s)));
+            copied.push(Copied { pid: *pid, own, its, pending });
+        }
+        (forks, copied)
+    }
+    /// All forks at once; then all copies close their descriptors at once.
+    fn fork_all(&mut self, due: &[Pid], tables: &mut HashMap<Pid, Vec<Descriptor>>) -> Done<bool> {
+        let (mut forks, copied) = self.forks(due);
+        let mut ends = inject::make(&mut forks);
+        let mut closes = Vec::new();
+        for (f, c) in forks.iter_mut().zip(&copied) {
+            let _ = sys::set_registers(c.pid, &c.own);
+            let p = self.tree.at(c.pid);
+            p.state = State::Again;
+            p.regs = c.own;
+            p.signals.append(&mut f.signals);
+            let all = [0, u64::from(u32::MAX), 0, 0];
+            closes.push(Call::new(f.child, c.its, false, p.facts.site, libc::SYS_close_range, all));
+        }
+        let whole = forks.iter().all(|f| !f.gone && f.child > 0 && f.result > 0);
+        if whole {
+            ends.extend(inject::make(&mut closes));
+        }
+        for (f, c) in forks.iter().zip(copied) {
+            if f.child <= 0 {
+                continue;
+            }
+            let threads = self.copy_threads(c.pid);
+            let descriptors = tables.remove(&c.pid).unwrap_or_default();
+            let (pid, robust) = (f.child, sys::robust_list(c.pid));
+            let copy = Rc::new(Copy { pid, regs: c.its, descriptors, threads, pending: c.pending, robust });
+            self.stats.copies += 1;
+            self.tree.at(c.pid).copy = whole.then_some(copy);
+        }
+        self.ended_meanwhile(ends)?;
+        Ok(whole && closes.iter().all(|c| !c.gone))
+    }
+    fn ended_meanwhile(&mut self, ends: Vec<sys::Waited>) -> Done {
+        self.stopping = true;
+        for w in ends {
+            self.on_event(w)?;
+        }
+        self.stopping = false;
+        Ok(())
+    }
+    fn copy_threads(&mut self, process: Pid) -> Vec<Thread> {
+        let mut v = Vec::new();
+        for tid in self.tree.threads_of(process) {
+            let p = self.tree.at(tid);
+            let (_, its) = registers_behind(p.state, &p.regs);
+            v.push(Thread {
+                tid,
+                facts: p.facts.clone(),
+                regs: its,
+                float: sys::float_state(tid),
+                mask: sys::signal_mask(tid),
+                rseq: sys::rseq(tid),
+                robust: sys::robust_list(tid),
+                pending: sys::pending(tid, false),
+            });
+        }
+        v
+    }
+    fn snapshot(&self, all: &[Pid]) -> Snapshot {
+        let processes: Vec<(Pid, Facts, Rc<Copy>)> = all
+            .iter()
+            .filter_map(|i| self.tree.get(*i).map(|p| (*i, p)))
+            .filter_map(|(i, p)| p.copy.clone().map(|c| (i, p.facts.clone(), c)))
+            .collect();
+        let mut pipes: HashMap<u64, Rc<OwnedFd>> = HashMap::new();
+        for d in processes.iter().flat_map(|(_, _, c)| &c.descriptors).filter(|d| d.kind == Kind::Pipe) {
+            pipes.entry(d.inode).or_insert_with(|| d.handle.clone());
+        }
+        Snapshot {
+            shared: shared_descriptions(&processes),
+            pipes: pipes.into_values().map(|h| (h.clone(), peek_pipe(&h))).collect(),
+            processes,
+            due: self.stored.due.clone(),
+            said: self.streams.pending.clone(),
+            root_status: self.tree.root_status,
+        }
+    }
+    /// Files that are open for writing, by their inodes.
+    fn open_for_writing(&self, all: &[Pid]) -> HashMap<(u64, u64), Rc<OwnedFd>> {
+        let copies = all.iter().filter_map(|p| self.tree.get(*p)?.copy.as_ref());
+        let writing = copies.flat_map(|c| &c.descriptors).filter(|d| d.kind == Kind::File { writing: true });
+        writing.map(|d| ((d.device, d.inode), d.handle.clone())).collect()
+    }
+    /// Whether a process has this file open for writing, as of the last copies.
+    pub fn is_open_for_writing(&self, name: &Name) -> bool {
+        use std::os::unix::fs::MetadataExt;
+        let all: HashSet<(u64, u64)> = self.open_for_writing(&self.tree.processes()).into_keys().collect();
+        let m = std::fs::symlink_metadata(self.names.local(name));
+        !all.is_empty() && m.is_ok_and(|m| all.contains(&(m.dev(), m.ino())))
+    }
+}
+
+fn signal_of_user(signal: i32) -> sys::SigInfo {
+    let mut i = [0; 32];
+    i[0] = signal;
+    i
+}
+
+/// Which descriptors of files are one description, with its offset.
+fn shared_descriptions(processes: &[(Pid, Facts, Rc<Copy>)]) -> HashMap<(Pid, RawFd), (usize, u64)> {
+    let mut same_file: HashMap<(u64, u64, i32), Vec<(Pid, RawFd)>> = HashMap::new();
+    for (pid, _, c) in processes {
+        for d in c.descriptors.iter().filter(|d| matches!(d.kind, Kind::File { .. } | Kind::Folder)) {
+            same_file.entry((d.device, d.inode, d.flags)).or_default().push((*pid, d.fd));
+        }
+    }
+    let mut shared = HashMap::new();
+    let mut groups = 0;
+    for all in same_file.values().filter(|v| v.len() > 1) {
+        let mut first: Vec<((Pid, RawFd), usize)> = Vec::new();
+        for one in all {
+            let known = first.iter().find(|(f, _)| sys::same_description(*f, *one)).map(|(_, g)| *g);
+            let group = known.unwrap_or_else(|| {
+                groups += 1;
+                first.push((*one, groups));
+                groups
+            });
+            let offset = descriptors::position(one.0, one.1).map_or(0, |(o, _)| o);
+            shared.insert(*one, (group, offset));
+        }
+    }
+    shared
+}
+
+/// What is in a pipe, which stays there.
+fn peek_pipe(pipe: &OwnedFd) -> Vec<u8> {
+    let path = sys::fd_path(pipe.as_raw_fd());
+    let Ok(from) = sys::open(&path, libc::O_RDONLY | libc::O_NONBLOCK) else { return Vec::new() };
+    let mut n: libc::c_int = 0;
+    // SAFETY: the number is ours.
+    unsafe { libc::ioctl(from.as_raw_fd(), libc::FIONREAD, &raw mut n) };
+    let Ok((read, write)) = crate::run::output::pipe() else { return Vec::new() };
+    if n <= 0 {
+        return Vec::new();
+    }
+    let room = libc::c_int::max(n, 65536);
+    // SAFETY: numbers only.
+    unsafe {
+        libc::fcntl(write.as_raw_fd(), libc::F_SETPIPE_SZ, room);
+        libc::tee(from.as_raw_fd(), write.as_raw_fd(), n as usize, libc::SPLICE_F_NONBLOCK);
+    }
+    drop(write);
+    let mut v = Vec::new();
+    let _ = File::from(read).read_to_end(&mut v);
+    v
+}

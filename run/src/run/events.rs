@@ -1,0 +1,317 @@
+//! What happens to processes: births, execs, ends, signals, and calls of which the filter tells.
+use crate::run::supervisor::{Done, Supervisor};
+use crate::run::sys::{self, Pid, Regs, Stop, Told, Waited};
+use crate::run::tree::{Bound, Ended, Facts, Hold, Process, State};
+use std::time::Instant;
+
+impl Supervisor {
+    pub fn on_event(&mut self, w: Waited) -> Done {
+        let stop = match w.told {
+            Told::Ended(status) => {
+                self.tree.early.remove(&w.pid);
+                return if self.tree.all.contains_key(&w.pid) { self.on_end(&w, status) } else { Ok(()) };
+            }
+            Told::Stopped(s) => s,
+        };
+        if !self.tree.all.contains_key(&w.pid) {
+            self.tree.early.insert(w.pid);
+            return Ok(());
+        }
+        match stop {
+            Stop::Filter => self.on_filter(w.pid)?,
+            Stop::Fork | Stop::Vfork | Stop::Clone => self.on_birth(w.pid, stop),
+            Stop::Exec => self.on_exec(w.pid),
+            Stop::Trap(libc::SIGTRAP) => {
+                self.fix_registers(w.pid);
+                self.go(w.pid);
+            }
+            Stop::Trap(_) => {
+                let _ = sys::listen(w.pid);
+                self.tree.at(w.pid).listens = true;
+            }
+            Stop::Signal(s) => self.on_signal(w.pid, s),
+            Stop::Call | Stop::Other => self.go(w.pid),
+        }
+        Ok(())
+    }
+    /// It is at a call: notes that, without looking at it.
+    pub fn at_filter(&mut self, pid: Pid) -> bool {
+        let Ok(r) = sys::registers(pid) else { return false };
+        let p = self.tree.at(pid);
+        p.regs = r;
+        p.state = State::Entry;
+        p.facts.site = r.rip - 2;
+        p.listens = false;
+        true
+    }
+    fn on_filter(&mut self, pid: Pid) -> Done {
+        if self.at_filter(pid) {
+            self.on_call(pid)?;
+        }
+        Ok(())
+    }
+    /// The arguments of a fork that was made into a clone are what they were.
+    pub fn fix_registers(&mut self, pid: Pid) {
+        let Some((a, b)) = self.tree.get_mut(pid).and_then(|p| p.fix.take()) else { return };
+        if let Ok(mut r) = sys::registers(pid) {
+            r.rdi = a;
+            r.rsi = b;
+            let _ = sys::set_registers(pid, &r);
+        }
+    }
+    fn on_birth(&mut self, pid: Pid, stop: Stop) {
+        let child = sys::event_pid(pid);
+        let Ok(r) = sys::registers(pid) else { return };
+        let thread = stop == Stop::Clone && r.rdi & libc::CLONE_THREAD as u64 != 0;
+        let fix = self.tree.at(pid).fix;
+        let mut p = Process::new(self.facts_of_child(pid, child, &r, thread), State::Running, r, thread);
+        p.vforked = (stop == Stop::Vfork).then_some(pid);
+        p.fix = fix;
+        let early = self.tree.early.remove(&child);
+        self.tree.all.insert(child, p);
+        self.trace.note("birth", &[("process", child as u64), ("of", pid as u64), ("thread", u64::from(thread))]);
+        self.fix_registers(pid);
+        if early {
+            self.fix_registers(child);
+            let _ = sys::go_on(child, 0);
+        }
+        self.go(pid);
+    }
+    fn facts_of_child(&self, pid: Pid, child: Pid, r: &Regs, thread: bool) -> Facts {
+        let of = self.tree.get(pid).map(|p| p.facts.clone()).unwrap_or_else(|| Facts::of_first(child, 0));
+        let parent = self.tree.get(of.process);
+        let bound = if thread { Vec::new() } else { inherited(&of.bound) };
+        Facts {
+            parent: if thread { of.parent } else { of.process },
+            hears_ends: parent.is_some_and(|p| p.facts.hears_ends),
+            ignores_ends: parent.is_some_and(|p| p.facts.ignores_ends),
+            ended: Vec::new(),
+            process: if thread { of.process } else { child },
+            clear_at: if r.rdi & libc::CLONE_CHILD_CLEARTID as u64 != 0 { r.r10 } else { 0 },
+            signal_stack: if thread { None } else { of.signal_stack },
+            bound,
+            ..of
+        }
+    }
+    fn on_exec(&mut self, pid: Pid) {
+        let was = sys::event_pid(pid);
+        self.tree.all.retain(|i, p| *i == pid || p.facts.process != pid);
+        if was != pid {
+            self.tree.all.remove(&was);
+        }
+        let p = self.tree.at(pid);
+        p.vforked = None;
+        p.thread = false;
+        p.facts.hears_ends = false;
+        p.facts.site = 0;
+        p.facts.signal_stack = None;
+        p.facts.bound.retain(|b| matches!(b, Bound::OwnFilter | Bound::Timer | Bound::Timers | Bound::Lock));
+        self.go(pid);
+    }
+    fn on_signal(&mut self, pid: Pid, signal: i32) {
+        self.tree.forget_copy(pid);
+        let p = self.tree.at(pid);
+        p.listens = false;
+        if let Some(r) = p.woken.take() {
+            // as where the signal ends the call: again, or not, as its handler wants it
+            let _ = sys::set_registers(pid, &r);
+        }
+        let process = p.facts.process;
+        if signal == libc::SIGCHLD {
+            if let Some(e) = self.tree.get(process).and_then(|p| p.facts.ended.last()) {
+                sys::set_signal_info(pid, &super::waiting::end_info(e));
+            }
+        }
+        if signal == libc::SIGALRM {
+            if let Some(p) = self.tree.get_mut(process) {
+                p.facts.bind(Bound::Timer, false);
+            }
+        }
+        self.tree.at(pid).state = State::Running;
+        let _ = sys::go_on(pid, signal);
+    }
+    fn on_end(&mut self, w: &Waited, status: i32) -> Done {
+        let pid = w.pid;
+        let Some(p) = self.tree.all.remove(&pid) else { return Ok(()) };
+        self.tree.queue.retain(|q| *q != pid);
+        if pid == self.tree.root {
+            self.tree.root_status = Some(status);
+        }
+        self.trace.note("end", &[("process", pid as u64), ("status", status as u64)]);
+        if p.thread {
+            self.tree.forget_copy(p.facts.process);
+            return self.store_if_possible();
+        }
+        for c in self.tree.all.values_mut().filter(|c| c.facts.parent == pid) {
+            c.facts.parent = 1;
+        }
+        let parent = p.facts.parent;
+        self.tree.forget_copy(parent);
+        if let Some(q) = self.tree.get_mut(parent).filter(|q| !q.facts.ignores_ends) {
+            q.facts.ended.push(Ended { pid, status, usage: w.usage });
+        }
+        // what it wrote is stored before its end is known
+        self.store_if_possible()?;
+        if self.tree.get(parent).is_some_and(|q| q.facts.hears_ends) {
+            sys::kill(parent, libc::SIGCHLD);
+        }
+        self.retry_waits();
+        Ok(())
+    }
+    fn store_if_possible(&mut self) -> Done {
+        if self.stopping {
+            self.stored.drain(&self.paths);
+            return Ok(());
+        }
+        self.store_closed(None).map(drop)
+    }
+
+    /// A process is about to make one of the calls that are looked at.
+    pub fn on_call(&mut self, pid: Pid) -> Done {
+        let begin = Instant::now();
+        self.stats.stops += 1;
+        let done = self.call(pid);
+        self.stats.handling_time += begin.elapsed();
+        done
+    }
+    fn call(&mut self, pid: Pid) -> Done {
+        let Some(p) = self.tree.get(pid) else { return Ok(()) };
+        match p.state {
+            // it was copied while it was held
+            State::Again => {
+                self.go(pid);
+                return Ok(());
+            }
+            State::Entry => {}
+            _ => return Ok(()),
+        }
+        let (r, number) = (p.regs, p.regs.orig_rax as i64);
+        match number {
+            libc::SYS_clone | libc::SYS_fork | libc::SYS_vfork => self.fork_call(pid, number, r),
+            // the C library makes a clone then
+            libc::SYS_clone3 => self.finish(pid, -i64::from(libc::ENOSYS)),
+            libc::SYS_getppid => {
+                let parent = self.tree.at(pid).facts.parent.max(1);
+                self.finish(pid, i64::from(parent));
+            }
+            libc::SYS_wait4 | libc::SYS_waitid => {
+                if self.store_closed(Some(pid))? {
+                    self.wait_call(pid);
+                }
+            }
+            libc::SYS_sigaltstack | libc::SYS_rt_sigaction => self.signal_call(pid, number, &r),
+            libc::SYS_setpgid | libc::SYS_setsid => self.group_call(pid, number, &r),
+            libc::SYS_read => self.terminal_read(pid)?,
+            _ if self.binding_call(pid, number, &r) => self.go(pid),
+            _ => return self.file_call(pid, number, &r),
+        }
+        Ok(())
+    }
+    /// All processes are the supervisor's children, so that they keep their parents when they are made anew.
+    fn fork_call(&mut self, pid: Pid, number: i64, r: Regs) {
+        let mut n = r;
+        n.orig_rax = libc::SYS_clone as u64;
+        match number {
+            libc::SYS_fork => (n.rdi, n.rsi) = (libc::SIGCHLD as u64, 0),
+            libc::SYS_vfork => (n.rdi, n.rsi) = ((libc::CLONE_VFORK | libc::CLONE_VM | libc::SIGCHLD) as u64, 0),
+            _ => {}
+        }
+        if n.rdi & libc::CLONE_THREAD as u64 == 0 {
+            n.rdi |= libc::CLONE_PARENT as u64;
+        }
+        self.tree.at(pid).fix = Some((r.rdi, r.rsi));
+        let _ = sys::set_registers(pid, &n);
+        self.go(pid);
+    }
+    fn signal_call(&mut self, pid: Pid, number: i64, r: &Regs) {
+        let process = self.tree.at(pid).facts.process;
+        if number == libc::SYS_sigaltstack && r.rdi != 0 {
+            let word = |i: u64| sys::read_word(pid, r.rdi + i * 8).unwrap_or(0);
+            self.tree.at(pid).facts.signal_stack = Some([word(0), word(1), word(2)]);
+        } else if number == libc::SYS_rt_sigaction && r.rsi != 0 {
+            let handler = sys::read_word(pid, r.rsi).unwrap_or(0);
+            let flags = sys::read_word(pid, r.rsi + 8).unwrap_or(0);
+            if let Some(p) = self.tree.get_mut(process) {
+                p.facts.hears_ends = handler > 1;
+                p.facts.ignores_ends = handler == 1 || flags & libc::SA_NOCLDWAIT as u64 != 0;
+            }
+        }
+        self.go(pid);
+    }
+    /// A process changes its group, or another's: who waits for a group has to know.
+    fn group_call(&mut self, pid: Pid, number: i64, r: &Regs) {
+        let own = self.tree.at(pid).facts.process;
+        let whose = if number == libc::SYS_setsid || r.rdi == 0 { own } else { r.rdi as Pid };
+        let group = if number == libc::SYS_setsid || r.rsi == 0 { whose } else { r.rsi as Pid };
+        // SAFETY: numbers only. Where the call fails, the group stays; it is asked for at the next wait.
+        let now = unsafe { libc::getpgid(whose) };
+        if let Some(p) = self.tree.get_mut(whose).filter(|_| now >= 0) {
+            p.facts.group = group;
+        }
+        self.go(pid);
+    }
+    /// What is read from a terminal can't be unread: all is decided before.
+    fn terminal_read(&mut self, pid: Pid) -> Done {
+        let path = std::fs::read_link(format!("/proc/{pid}/fd/0")).unwrap_or_default();
+        if !path.starts_with("/dev") || path.ends_with("null") {
+            self.go(pid);
+            return Ok(());
+        }
+        // [16]
+        if !self.epochs.decides.may_act() || !self.epochs.is_quiet() {
+            self.settle()?;
+            self.tree.hold(pid, Hold::Settled);
+            return Ok(());
+        }
+        self.why.waits(Bound::Terminal.words());
+        self.go(pid);
+        self.tree.at(pid).reads_terminal = true;
+        Ok(())
+    }
+    /// Calls after which a fork of the process has not all that it has; true where it is one.
+    fn binding_call(&mut self, pid: Pid, number: i64, r: &Regs) -> bool {
+        let (what, on) = match number {
+            libc::SYS_setitimer => return self.set_timer(pid, r),
+            libc::SYS_alarm => (Bound::Timer, r.rdi != 0),
+            libc::SYS_timer_create => (Bound::Timers, true),
+            libc::SYS_flock | libc::SYS_fcntl => (Bound::Lock, true),
+            libc::SYS_shmat | libc::SYS_semget | libc::SYS_msgget | libc::SYS_mq_open => (Bound::SharedMemory, true),
+            libc::SYS_mmap => (Bound::SharedMemory, true),
+            libc::SYS_seccomp | libc::SYS_prctl => (Bound::OwnFilter, true),
+            _ => return false,
+        };
+        if number != libc::SYS_mmap || is_written_through(pid, r) {
+            self.bind(pid, what, on);
+        }
+        true
+    }
+    fn bind(&mut self, pid: Pid, what: Bound, on: bool) {
+        let process = self.tree.at(pid).facts.process;
+        if let Some(p) = self.tree.get_mut(process) {
+            p.facts.bind(what, on);
+        }
+    }
+    fn set_timer(&mut self, pid: Pid, r: &Regs) -> bool {
+        // interval and first time, each in seconds and microseconds
+        let word = |i: u64| sys::read_word(pid, r.rsi + i * 8).unwrap_or(0);
+        let (repeats, goes_off) = (word(0) | word(1) != 0, word(2) | word(3) != 0);
+        if r.rsi != 0 {
+            let once = goes_off && !repeats && r.rdi == libc::ITIMER_REAL as u64;
+            self.bind(pid, Bound::Timer, once);
+            self.bind(pid, Bound::Timers, goes_off && !once);
+        }
+        true
+    }
+}
+
+/// Whether memory that is shared is written: not where a file that can only be read is mapped.
+fn is_written_through(pid: Pid, r: &Regs) -> bool {
+    let anonymous = r.r10 & libc::MAP_ANONYMOUS as u64 != 0;
+    let flags = if anonymous { None } else { super::descriptors::position(pid, r.r8 as i32).map(|(_, f)| f) };
+    flags.is_none_or(|f| f & libc::O_ACCMODE != libc::O_RDONLY)
+}
+
+/// Bounds that a child has, too.
+fn inherited(of: &[Bound]) -> Vec<Bound> {
+    of.iter().copied().filter(|b| matches!(b, Bound::SharedMemory | Bound::OwnFilter | Bound::Lock)).collect()
+}

@@ -1,0 +1,263 @@
+//! What is not here yet of the server's folder, and stores of what was written here.
+use crate::codec::Bytes;
+use crate::name::Name;
+use crate::run::acts::put;
+use crate::run::calls::Use;
+use crate::run::epochs::{Alone, Need};
+use crate::run::names::Known;
+use crate::run::supervisor::{Done, Supervisor};
+use crate::run::sys::Pid;
+use crate::run::tree::Hold;
+use crate::wire::{Entry, Kind, Request, Version, LONGEST_PIECE};
+use std::collections::HashMap;
+use std::fs;
+use std::os::unix::fs::MetadataExt;
+
+/// A file's contents as they come.
+struct Contents {
+    version: Version,
+    bytes: Vec<u8>,
+    left: usize,
+    spoilt: bool,
+}
+
+#[derive(Default)]
+pub struct Fetching {
+    next: u64,
+    contents: HashMap<Name, Contents>,
+    /// Pieces that were asked for: of which name, and from where on.
+    pieces: HashMap<u64, (Name, u64)>,
+    /// Folders and single entries that were asked for.
+    entries: HashMap<u64, Asked>,
+}
+
+struct Asked {
+    name: Name,
+    /// All names of a folder, not a single entry.
+    listing: bool,
+    entries: Vec<Entry>,
+}
+
+impl Asked {
+    fn new(name: &Name, listing: bool) -> Asked {
+        Asked { name: name.clone(), listing, entries: Vec::new() }
+    }
+}
+
+impl Fetching {
+    fn number(&mut self) -> u64 {
+        self.next += 1;
+        self.next
+    }
+    /// Answers that are under way are of what is no more.
+    pub fn forget_all(&mut self) {
+        self.contents.clear();
+        self.pieces.clear();
+        self.entries.clear();
+    }
+}
+
+impl Supervisor {
+    /// Fetches what the uses need and what is not here; true where the process waits for it.
+    pub fn fetch_missing(&mut self, pid: Pid, uses: &[Use]) -> Done<bool> {
+        for u in uses {
+            for n in u.names() {
+                match self.names.lookup(n) {
+                    Err(folder) => return self.fetch_folder(pid, &folder),
+                    Ok(k) if k.kind == Kind::File && !k.have && needs_contents(u, n) => {
+                        return self.fetch_contents(pid, n);
+                    }
+                    Ok(k) if k.kind == Kind::Folder && !k.listed && needs_names(u) => {
+                        return self.fetch_folder(pid, n);
+                    }
+                    Ok(_) => {}
+                }
+            }
+        }
+        Ok(false)
+    }
+    fn fetch_folder(&mut self, pid: Pid, folder: &Name) -> Done<bool> {
+        self.tree.hold(pid, Hold::Fetch);
+        if self.fetching.entries.values().all(|a| a.name != *folder) {
+            self.close_epoch()?;
+            let id = self.fetching.number();
+            self.stats.fetches += 1;
+            self.fetching.entries.insert(id, Asked::new(folder, true));
+            self.link.send(Request::Folder { id, name: folder.clone() })?;
+        }
+        Ok(true)
+    }
+    fn fetch_contents(&mut self, pid: Pid, name: &Name) -> Done<bool> {
+        let size = fs::symlink_metadata(self.names.local(name)).map_or(0, |m| m.size());
+        self.tree.hold(pid, Hold::Fetch);
+        if self.fetching.contents.contains_key(name) {
+            return Ok(true);
+        }
+        // what this epoch has done to the name has to be there before
+        self.close_epoch()?;
+        self.stats.fetches += 1;
+        let pieces = size.div_ceil(LONGEST_PIECE as u64).max(1);
+        let version = self.names.get(name).version;
+        let all = Contents { version, bytes: Vec::new(), left: pieces as usize, spoilt: false };
+        self.fetching.contents.insert(name.clone(), all);
+        for i in 0..pieces {
+            let (id, offset) = (self.fetching.number(), i * LONGEST_PIECE as u64);
+            self.fetching.pieces.insert(id, (name.clone(), offset));
+            self.link.send(Request::Read { id, name: name.clone(), offset, len: LONGEST_PIECE as u32 })?;
+        }
+        Ok(true)
+    }
+    pub fn on_content(&mut self, id: u64, version: Version, size: u64, bytes: Bytes) -> Done {
+        let Some((name, offset)) = self.fetching.pieces.remove(&id) else { return Ok(()) };
+        let Some(c) = self.fetching.contents.get_mut(&name) else { return Ok(()) };
+        c.left -= 1;
+        c.spoilt |= version != c.version || offset != c.bytes.len() as u64;
+        c.bytes.extend_from_slice(&bytes.0);
+        if c.left > 0 {
+            return Ok(());
+        }
+        let Some(c) = self.fetching.contents.remove(&name) else { return Ok(()) };
+        let k = self.names.get(&name);
+        if !c.spoilt && k.version == c.version && size == c.bytes.len() as u64 {
+            let _ = self.names.fill(&name, &c.bytes);
+            self.tree.wake(Hold::Fetch);
+            return Ok(());
+        }
+        // it has changed meanwhile: what it is now comes first
+        let id = self.fetching.number();
+        self.fetching.entries.insert(id, Asked::new(&name, false));
+        self.link.send(Request::Entry { id, name })?;
+        Ok(())
+    }
+    pub fn on_entries(&mut self, id: u64, entries: Vec<Entry>, more: bool) {
+        let Some(asked) = self.fetching.entries.get_mut(&id) else { return };
+        asked.entries.extend(entries);
+        if more {
+            return;
+        }
+        let Some(asked) = self.fetching.entries.remove(&id) else { return };
+        if asked.listing {
+            self.fresh_folder(&asked.entries);
+        } else {
+            asked.entries.iter().for_each(|e| self.fresh_entry(e));
+        }
+        self.tree.wake(Hold::Fetch);
+    }
+    /// A name is what the server says now; but where we have changed it, that is on top of it.
+    pub fn fresh_entry(&mut self, e: &Entry) {
+        let old = self.names.get(&e.name);
+        if self.epochs.newest().is_some() && old.version.is_own() {
+            // an answer of before we changed it
+            return;
+        }
+        if old.version == e.version && old.kind == e.kind && old.kind != Kind::Absent {
+            return;
+        }
+        if self.stored.due.contains(&e.name) || self.is_open_for_writing(&e.name) {
+            let kind = if e.kind == Kind::Absent { Kind::Absent } else { old.kind };
+            self.set_told(&e.name, Known { version: e.version, kind, have: true, looked: 0, ..old });
+            return;
+        }
+        if e.kind == Kind::Absent {
+            for n in self.names.within(&e.name).into_iter().filter(|n| *n != e.name) {
+                self.set_told(&n, Known::default());
+            }
+        }
+        self.stored.forget(&e.name);
+        let k = self.names.install(e);
+        self.set_told(&e.name, k);
+        if e.kind == Kind::Folder {
+            self.stored.watch(&self.names, &e.name);
+        }
+    }
+    /// A folder's own entry, then those of its names.
+    pub fn fresh_folder(&mut self, entries: &[Entry]) {
+        let Some((folder, inside)) = entries.split_first() else { return };
+        self.fresh_entry(folder);
+        if folder.kind != Kind::Folder {
+            return;
+        }
+        for n in self.names.children(&folder.name) {
+            if inside.iter().all(|e| e.name != n) && !self.stored.due.contains(&n) {
+                self.fresh_entry(&Entry { name: n, ..Entry::default() });
+            }
+        }
+        inside.iter().for_each(|e| self.fresh_entry(e));
+        self.names.listed(&folder.name);
+    }
+
+    /// Stores what was closed; false: the process has to wait, or makes its call once more.
+    pub fn store_closed(&mut self, pid: Option<Pid>) -> Done<bool> {
+        self.stored.drain(&self.paths);
+        while let Some(name) = self.stored.due.first().cloned() {
+            if self.stored.changed(&self.names, &name).is_none() {
+                self.stored.due.remove(0);
+                continue;
+            }
+            let need = if self.epochs.is_storing() { Need::Hold } else { self.need(pid)? };
+            if self.stored.due.first() != Some(&name) {
+                continue;
+            }
+            match (need, pid) {
+                (Need::Go, _) => self.store(&name, false)?,
+                (Need::Wait, _) => self.store(&name, true)?,
+                (Need::Again, Some(pid)) => {
+                    self.go(pid);
+                    return Ok(false);
+                }
+                (_, Some(pid)) => {
+                    self.tree.hold(pid, Hold::Settled);
+                    return Ok(false);
+                }
+                (_, None) => return Ok(false),
+            }
+        }
+        match pid {
+            Some(pid) if self.epochs.is_storing() => {
+                self.tree.hold(pid, Hold::Settled);
+                Ok(false)
+            }
+            _ => Ok(true),
+        }
+    }
+    /// What was closed belongs to the current epoch, where there is one.
+    pub fn book_stores(&mut self) -> Done {
+        while self.epochs.current.is_some() && !self.epochs.is_storing() {
+            let Some(name) = self.stored.due.first().cloned() else { break };
+            if self.stored.changed(&self.names, &name).is_none() {
+                self.stored.due.remove(0);
+                continue;
+            }
+            self.store(&name, false)?;
+        }
+        Ok(())
+    }
+    fn store(&mut self, name: &Name, alone: bool) -> Done {
+        let Some((m, mark)) = self.stored.changed(&self.names, name) else { return Ok(()) };
+        let contents = fs::read(self.names.local(name)).unwrap_or_default();
+        self.stats.stores += 1;
+        self.stats.stored_bytes += contents.len() as u64;
+        let base = self.names.get(name).version;
+        let steps = vec![put(name, base, self.epochs.new_version(), &m, contents)];
+        self.stored.stored(name, mark);
+        if !alone {
+            self.guess(steps);
+            return Ok(());
+        }
+        self.apply(&steps);
+        let store = Some(name.clone());
+        self.ask_alone(Alone { pid: None, steps, undo: Vec::new(), made: None, store, falls: false })
+    }
+}
+
+fn needs_contents(u: &Use, name: &Name) -> bool {
+    match u {
+        Use::Read(_) | Use::Truncate(_) => true,
+        Use::Open { truncates, .. } => !truncates,
+        Use::Link(from, _) => from.remote() == Some(name),
+        _ => false,
+    }
+}
+fn needs_names(u: &Use) -> bool {
+    matches!(u, Use::List(_) | Use::Read(_) | Use::RemoveFolder(_))
+}

@@ -1,0 +1,159 @@
+//! Calls that a stopped process is made to make.
+use crate::run::sys::{self, Pid, Regs, Stop, Told, Waited};
+use std::collections::{HashMap, HashSet};
+
+/// A process ended, or could not be made to make its call.
+#[derive(Debug, Clone, Copy)]
+pub struct Gone(pub Pid);
+
+/// A call that a stopped process is to make. Afterwards it is stopped, and its registers are for the caller to set.
+pub struct Call {
+    pub pid: Pid,
+    base: Regs,
+    /// It is at a stop of the filter (so the call it is at is replaced), or within the call.
+    inside: bool,
+    site: u64,
+    number: i64,
+    args: [u64; 4],
+    /// The child that it made.
+    pub child: Pid,
+    pub result: i64,
+    /// Signals that came in the meantime: they are due when it goes on.
+    pub signals: Vec<i32>,
+    pub gone: bool,
+}
+
+/// Results by which the kernel tells that a call is made again behind a signal.
+pub fn to_be_restarted(result: i64) -> bool {
+    (-516..=-512).contains(&result)
+}
+
+impl Call {
+    /// `site`: where the process has a `syscall` instruction.
+    pub fn new(pid: Pid, base: Regs, at_filter: bool, site: u64, number: i64, args: [u64; 4]) -> Call {
+        Call { pid, base, inside: at_filter, site, number, args, child: 0, result: 0, signals: Vec::new(), gone: false }
+    }
+    fn start(&self) -> bool {
+        let mut r = self.base;
+        [r.rdi, r.rsi, r.rdx, r.r10] = self.args;
+        if self.inside {
+            r.orig_rax = self.number as u64;
+        } else {
+            r.rip = self.site;
+            r.rax = self.number as u64;
+            r.orig_rax = u64::MAX;
+        }
+        sys::set_registers(self.pid, &r).is_ok() && sys::to_call(self.pid).is_ok()
+    }
+    /// Takes in what happened to the process; true where its call is made.
+    fn on(&mut self, told: Told) -> bool {
+        match told {
+            Told::Ended(_) => {
+                self.gone = true;
+                return true;
+            }
+            Told::Stopped(Stop::Fork | Stop::Vfork | Stop::Clone) => self.child = sys::event_pid(self.pid),
+            Told::Stopped(Stop::Call) if !self.inside => self.inside = true,
+            Told::Stopped(Stop::Call) => {
+                self.result = sys::registers(self.pid).map_or(-(libc::ESRCH as i64), |r| r.rax as i64);
+                if !to_be_restarted(self.result) {
+                    return true;
+                }
+                self.inside = false;
+                self.gone = !self.start();
+                return self.gone;
+            }
+            Told::Stopped(Stop::Signal(s)) => self.signals.push(s),
+            Told::Stopped(_) => {}
+        }
+        self.gone = sys::to_call(self.pid).is_err();
+        self.gone
+    }
+}
+
+/// Has each of these make its call, all at once; a child that one makes is stopped then. Returns the ends of others,
+/// which came in between.
+pub fn make(calls: &mut [Call]) -> Vec<Waited> {
+    if let [one] = calls {
+        make_one(one);
+        return Vec::new();
+    }
+    let mut ends = Vec::new();
+    let mut at: HashMap<Pid, usize> = HashMap::new();
+    for (k, c) in calls.iter_mut().enumerate() {
+        c.gone = !c.start();
+        if !c.gone {
+            at.insert(c.pid, k);
+        }
+    }
+    let mut born: HashSet<Pid> = HashSet::new();
+    while !at.is_empty() {
+        let Some(w) = sys::wait(-1) else { break };
+        match at.get(&w.pid) {
+            Some(k) if calls[*k].on(w.told) => drop(at.remove(&w.pid)),
+            Some(_) => {}
+            None if matches!(w.told, Told::Ended(_)) => ends.push(w),
+            None => drop(born.insert(w.pid)),
+        }
+    }
+    for c in calls.iter() {
+        if c.child != 0 && !born.remove(&c.child) {
+            sys::wait(c.child);
+        }
+    }
+    ends
+}
+
+fn make_one(c: &mut Call) {
+    c.gone = !c.start();
+    while !c.gone {
+        let Some(w) = sys::wait(c.pid) else {
+            c.gone = true;
+            return;
+        };
+        if c.on(w.told) {
+            break;
+        }
+    }
+    if c.child != 0 {
+        sys::wait(c.child);
+    }
+}
+
+/// A process that is stopped outside of its calls, with where it has a `syscall` instruction.
+pub struct Puppet {
+    pub pid: Pid,
+    pub regs: Regs,
+    pub site: u64,
+    pub signals: Vec<i32>,
+}
+
+impl Puppet {
+    /// Has it make a call; the result is what the kernel gave.
+    pub fn call(&mut self, number: i64, args: [u64; 4]) -> Result<i64, Gone> {
+        self.run(number, args).map(|c| c.result)
+    }
+    fn run(&mut self, number: i64, args: [u64; 4]) -> Result<Call, Gone> {
+        let mut c = Call::new(self.pid, self.regs, false, self.site, number, args);
+        make_one(&mut c);
+        self.signals.append(&mut c.signals);
+        if c.gone {
+            Err(Gone(self.pid))
+        } else {
+            Ok(c)
+        }
+    }
+    /// Has it make a process or a thread, which is stopped then.
+    pub fn clone(&mut self, args: [u64; 4]) -> Result<Pid, Gone> {
+        let c = self.run(libc::SYS_clone, args)?;
+        if c.child == 0 || c.result <= 0 {
+            Err(Gone(self.pid))
+        } else {
+            Ok(c.child)
+        }
+    }
+    /// Memory that it does not use: below its stack, with room for what compilers keep there.
+    pub fn spare(&self) -> u64 {
+        (self.regs.rsp - 1024) & !15
+    }
+}

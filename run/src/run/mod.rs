@@ -1,0 +1,30 @@
+//! The supervisor: runs a command over a remote folder, and lets it go on from what is likely.
+
+mod acts;
+mod calls;
+mod checkpoint;
+mod decides;
+mod descriptors;
+mod epochs;
+mod events;
+mod fetching;
+mod filter;
+mod ground;
+mod inject;
+mod names;
+pub mod options;
+mod output;
+mod paths;
+mod replies;
+mod restore;
+mod start;
+mod stats;
+mod stored;
+mod supervisor;
+mod sys;
+mod tree;
+mod undo;
+mod waiting;
+mod wrong;
+
+pub use start::run;

@@ -1,0 +1,468 @@
+#!/usr/bin/env python3
+"""Tries what runs commands over a remote folder: whether they do as they do here.
+
+    run/tests/runs.py [--build FOLDER] [--wrong FOLDER] [--rounds N] [PART..]
+
+FOLDER of --build has hidewillow-run and hidewillow-files (build/ where it isn't named); that of --wrong has a hidewillow-run that was
+built with the feature `wrong`, for the part of that name. Parts: ways, same, foreign, copy, held, deaths, wrong; all but `wrong` where none is
+named. The last line is 'N passed, M failed'.
+
+ways     over ssh, and over a server that is started here; by another user than root
+same     commands and a build, with epochs refused at random: status, output and each file are as of a local run
+foreign  the same while another program gives the files new versions
+copy     clients that count under a lock folder: no number is lost or made twice
+held     with a long way nothing is shown, and no outside file appears, before the server has answered
+deaths   either side is killed at random moments: what was shown is on the server, and the rest is as if it never began
+wrong    supervisors and servers that are wrong on purpose: each is found by one of the others
+"""
+import argparse
+import os
+import pathlib
+import random
+import shutil
+import signal
+import stat
+import subprocess
+import sys
+import tempfile
+import threading
+import time
+
+TOP = pathlib.Path(__file__).resolve().parents[2]
+ROOM = pathlib.Path("/dev/shm" if os.path.isdir("/dev/shm") else tempfile.gettempdir())
+FIXED = {
+    "LC_ALL": "C", "HOME": "/nowhere", "GIT_AUTHOR_NAME": "a", "GIT_AUTHOR_EMAIL": "a@b", "GIT_COMMITTER_NAME": "a",
+    "GIT_COMMITTER_EMAIL": "a@b", "GIT_AUTHOR_DATE": "2020-01-01T00:00:00Z", "GIT_COMMITTER_DATE": "2020-01-01T00:00:00Z",
+    "GIT_CONFIG_NOSYSTEM": "1", "GIT_CONFIG_COUNT": "2", "GIT_CONFIG_KEY_0": "core.trustctime", "GIT_CONFIG_VALUE_0": "false",
+    "GIT_CONFIG_KEY_1": "core.checkStat", "GIT_CONFIG_VALUE_1": "minimal",
+}
+LONG = 120
+
+
+class Served:
+    """A folder that is served at a port, as long as the block lasts."""
+
+    def __init__(self, build, folder, *options):
+        self.folder, self.secret = folder, folder.parent / f"{folder.name}.secret"
+        self.secret.write_text(f"secret {random.random()}")
+        self.command = [build / "hidewillow-files", "--listen", "127.0.0.1:0", "--secret-file", self.secret, *options, folder]
+
+    def __enter__(self):
+        self.process = subprocess.Popen([str(it) for it in self.command], stderr=subprocess.PIPE, text=True)
+        line = self.process.stderr.readline()
+        self.at = f"tcp:{line.strip().rsplit(':', 1)[1]}:{self.secret}"
+        threading.Thread(target=self.process.stderr.read, daemon=True).start()
+        return self
+
+    def __exit__(self, *_):
+        self.process.kill()
+        self.process.wait()
+
+
+class Place:
+    """A room of its own for a run: a tree for each side, and where it is mounted."""
+
+    def __init__(self, tree=None):
+        self.room = pathlib.Path(tempfile.mkdtemp(prefix="hidewillow-", dir=ROOM))
+        self.here, self.there, self.mount = self.room / "here", self.room / "there", self.room / "mount"
+        self.stats = self.room / "stats"
+        for it in (self.here, self.there, self.mount):
+            it.mkdir()
+        for it in (self.here, self.there):
+            fill(it, tree or {})
+
+    def command(self, build, at, words, *options):
+        inside = f'cd {self.mount} && exec "$@"'
+        return [str(it) for it in (build / "hidewillow-run", "--at", at, "--mount", self.mount, f"--stats={self.stats}",
+                                   *options, "--", "sh", "-c", inside, "sh", *words)]
+
+    def counted(self, what):
+        lines = self.stats.read_text().splitlines() if self.stats.exists() else []
+        values = [it.split()[1] for it in lines if it.startswith(f"{what} ")]
+        return int(values[0]) if values else 0
+
+    def away(self):
+        shutil.rmtree(self.room, ignore_errors=True)
+
+
+def fill(folder, tree):
+    """Makes files from their contents; a name that ends with / is a folder."""
+    for name, contents in tree.items():
+        path = folder / name
+        path.parent.mkdir(parents=True, exist_ok=True)
+        if name.endswith("/"):
+            path.mkdir(exist_ok=True)
+        else:
+            path.write_text(contents)
+            path.chmod(0o755 if contents.startswith("#!") else 0o644)
+
+
+def ran(command, **how):
+    how = {"stdin": subprocess.DEVNULL, "capture_output": True, "timeout": LONG, "env": {**os.environ, **FIXED}, **how}
+    return subprocess.run(command, check=False, **how)
+
+
+def locally(place, words):
+    """The same command on this side's tree, at the same path."""
+    inside = (f'mount --bind {place.here} {place.mount} && cd {place.mount} && exec "$@"')
+    rights = [] if os.geteuid() == 0 else ["-Ur"]
+    return ran(["unshare", *rights, "-m", "sh", "-c", inside, "sh", *words])
+
+
+def picture(folder, but=()):
+    found = {}
+    for at, folders, files in os.walk(folder):
+        folders[:] = [it for it in folders if it != ".hidewillow-files"]
+        for it in folders + files:
+            path = pathlib.Path(at, it)
+            name = str(path.relative_to(folder))
+            if name in but:
+                continue
+            mode = path.lstat().st_mode
+            contents = os.readlink(path) if stat.S_ISLNK(mode) else path.read_bytes() if stat.S_ISREG(mode) else None
+            found[name] = (stat.S_IFMT(mode), 0 if stat.S_ISLNK(mode) else stat.S_IMODE(mode), contents)
+    return found
+
+
+def c_project(files):
+    tree = {"Makefile": "CFLAGS=-O0\nOBJ=" + " ".join(f"f{at}.o" for at in range(files)) + " main.o\n"
+            "all: app\n\t./app > said\n\tcat said\napp: $(OBJ)\n\t$(CC) -o $@ $^\n%.o: %.c all.h\n\t$(CC) $(CFLAGS) -c -o $@ $<\n"
+            "clean:\n\trm -f *.o app said\n"}
+    tree["all.h"] = "".join(f"int f{at}(int);\n" for at in range(files))
+    for at in range(files):
+        tree[f"f{at}.c"] = f'#include "all.h"\nint f{at}(int x) {{ return x * {at + 3} + {at}; }}\n'
+    calls = " + ".join(f"f{at}({at})" for at in range(files))
+    tree["main.c"] = f'#include "all.h"\n#include <stdio.h>\nint main(void) {{ printf("%d\\n", {calls}); return 0; }}\n'
+    return tree
+
+
+SHELL = """
+set -u
+for i in 1 2 3 4 5 6 7 8; do echo "line $i" >> log; mkdir d$i; echo $i > d$i/n; done
+cat d*/n | sort -r | while read n; do echo "read $n"; echo $n >> back; done
+{ read a; read b; cat > rest; } < log; echo "$a,$b"; wc -l < rest
+exec 3< log 4>> both; read x <&3; echo "$x" >&4; ( read y <&3; echo "sub $y" >&4 ); read z <&3; echo "$z" >&4; cat both
+ln log hard; ln -s log soft; echo more >> hard; tail -n 1 soft; ls; mv d1 e1; rmdir d2 2>/dev/null || echo "not empty"
+rm -r d3; test -e d3 || echo gone; chmod 600 log; stat -c %a hard; mkfifo p; (echo through > p &) ; cat p; rm p
+i=0; while [ $i -lt 20 ]; do echo $i > w; read v < w; [ "$v" = $i ] || echo "bad $v"; i=$((i+1)); done; kill -0 $$ && exit 7
+"""
+PYTHON = """
+import os, threading, subprocess, json
+def work(n):
+    for k in range(8):
+        with open(f'f{n}', 'a') as f: f.write(f'{n} {k}\\n')
+        os.replace(f'f{n}', f'g{n}'); os.rename(f'g{n}', f'f{n}')
+ts = [threading.Thread(target=work, args=(n,)) for n in range(4)]
+[t.start() for t in ts]; [t.join() for t in ts]
+with open('data.json', 'w') as f: json.dump(list(range(1000)), f)
+f = open('data.json', 'r+'); f.seek(5); at = f.tell(); f.write('9'); f.close()
+print(at, len(open('data.json').read()), sorted(os.listdir('.')))
+print(subprocess.run(['wc', '-l', 'f0', 'f1', 'f2', 'f3'], capture_output=True, text=True).stdout)
+for n in range(4): assert open(f'f{n}').read().split('\\n')[:-1] == [f'{n} {k}' for k in range(8)]
+"""
+GIT = """
+git init -q -b main . && git add . && git commit -qm one && echo '/* more */' >> f0.c && git diff --stat && git commit -qam two &&
+git checkout -q -b side HEAD~1 && echo side > side && git add side && git commit -qm three && git checkout -q main && git merge -q side -m m &&
+git log --format=%H && git status --short && git fsck 2>&1 | head -3
+"""
+FILES = "mkdir -m 700 own && tar cf x.tar *.c *.h && mkdir y && tar xf x.tar -C y && cp -r y z && diff -r y z && echo same && rm -r y && tar tvf x.tar | wc -l && rm x.tar && ls -R"
+PIPE = "seq 1 150 | while read n; do echo $n >> back; mv back over; mv over back; done; wc -l < back; cat back"
+OFFSETS = "seq 1 80 > lines; exec 3< lines; while read n <&3; do echo $n >> back; mkdir x; rmdir x; done; cat back"
+COMMANDS = {
+    "pipe": ({}, ["sh", "-c", PIPE], ()),
+    "offsets": ({}, ["sh", "-c", OFFSETS], ()),
+    "shell": ({}, ["sh", "-c", SHELL], ()),
+    "make": (c_project(6), ["make", "-s"], ()),
+    "make -j3": (c_project(8), ["make", "-s", "-j3"], ()),
+    "git": (c_project(4), ["sh", "-c", GIT], {".git/index"}),
+    "files": (c_project(9), ["sh", "-c", FILES], ()),
+    "python": ({}, [sys.executable, "-c", PYTHON], ()),
+}
+
+
+def compare(place, here, there, but):
+    """What differs between a local run and one over the server; nothing where they are the same."""
+    bad = []
+    if here.returncode != there.returncode:
+        bad.append(f"status {here.returncode} there {there.returncode}")
+    for name, one, other in (("output", here.stdout, there.stdout), ("errors", here.stderr, there.stderr)):
+        if one != other:
+            bad.append(f"{name}: {one[-300:]!r} there {other[-300:]!r}")
+    one, other = picture(place.here, but), picture(place.there, but)
+    bad += [f"{it}: {one.get(it)!r:.120} there {other.get(it)!r:.120}" for it in sorted({*one, *other}) if one.get(it) != other.get(it)]
+    return bad
+
+
+def change_versions(folder, stop, seed):
+    """Gives files new versions that change nothing, as where somebody writes the same once more."""
+    dice = random.Random(seed)
+    while not stop.wait(dice.uniform(0.001, 0.05)):
+        files = [pathlib.Path(at, it) for at, folders, names in os.walk(folder)
+                 for it in names if ".hidewillow" not in at and ".git" not in at]
+        for it in files and [dice.choice(files)]:
+            try:
+                os.chmod(it, stat.S_IMODE(it.lstat().st_mode), follow_symlinks=True)
+            except OSError:
+                pass
+
+
+def same(given, name, percent, seed, foreign=False, env=None, options=()):
+    """Runs a command on both sides; what differs, and how often it went back."""
+    tree, words, but = COMMANDS[name]
+    place, stop = Place(tree), threading.Event()
+    try:
+        here = locally(place, words)
+        with Served(given.build, place.there, "--delay-ms", "5", "--refuse-percent", str(percent), "--seed", str(seed), *options) as served:
+            changing = threading.Thread(target=change_versions, args=(place.there, stop, seed))
+            if foreign:
+                changing.start()
+            try:
+                build = given.wrong if env else given.build
+                there = ran(place.command(build, served.at, words), env={**os.environ, **FIXED, **(env or {})})
+            finally:
+                stop.set()
+                if foreign:
+                    changing.join()
+        return compare(place, here, there, but), place.counted("rollbacks")
+    except subprocess.TimeoutExpired:
+        return ["it did not end"], 0
+    finally:
+        place.away()
+
+
+class Counted:
+    passed = failed = 0
+
+    def said(self, what, bad):
+        if bad:
+            self.failed += 1
+            print(f"runs: {what}: " + "\n  ".join(str(it) for it in bad[:6]), flush=True)
+        else:
+            self.passed += 1
+
+
+def part_same(given, counted):
+    back = 0
+    for seed in range(given.rounds):
+        for percent in (0, 1, 10, 30):
+            for name in COMMANDS:
+                bad, count = same(given, name, percent, seed * 31 + percent)
+                back += count
+                counted.said(f"same: {name}, {percent} % refused, seed {seed}", bad)
+    print(f"runs: same: went back {back} times", flush=True)
+
+
+def part_foreign(given, counted):
+    back = 0
+    for seed in range(given.rounds):
+        for name in COMMANDS:
+            bad, count = same(given, name, 0, seed, foreign=True)
+            back += count
+            counted.said(f"foreign: {name}, seed {seed}", bad)
+    print(f"runs: foreign: went back {back} times", flush=True)
+
+
+COUNT = """
+i=0
+while [ $i -lt $2 ]; do
+  until mkdir lock 2>/dev/null; do :; done
+  read n < count; n=$((n+1)); echo $n > new.$1; mv new.$1 count; echo "$1 $n" >> order; rmdir lock; echo "$n"; i=$((i+1))
+done
+"""
+
+
+def count_together(given, clients, rounds, env=None):
+    place = Place({"count": "0\n", "order": "", "count.sh": COUNT})
+    try:
+        with Served(given.build, place.there, "--delay-ms", "3") as served:
+            running = []
+            for at in range(clients):
+                mount = place.room / f"mount{at}"
+                mount.mkdir()
+                place.mount, place.stats = mount, place.room / f"stats{at}"
+                command = place.command(given.wrong if env else given.build, served.at, ["sh", "count.sh", f"c{at}", str(rounds)])
+                running.append(subprocess.Popen(command, stdout=subprocess.PIPE, stderr=subprocess.PIPE, text=True,
+                                                stdin=subprocess.DEVNULL, env={**os.environ, **(env or {})}))
+            said = [it.communicate(timeout=LONG) for it in running]
+        bad = [f"status {it.returncode}: {err[-200:]}" for it, (_, err) in zip(running, said) if it.returncode]
+        numbers = sorted(int(it) for out, _ in said for it in out.split())
+        order = [int(it.split()[1]) for it in (place.there / "order").read_text().splitlines()]
+        all_of = list(range(1, clients * rounds + 1))
+        if numbers != all_of or order != all_of or (place.there / "count").read_text() != f"{clients * rounds}\n":
+            bad.append(f"count {(place.there / 'count').read_text()!r}, shown {numbers}, order {order}")
+        return bad
+    except subprocess.TimeoutExpired:
+        for it in running:
+            it.kill()
+        return ["it did not end"]
+    finally:
+        place.away()
+
+
+def part_copy(given, counted):
+    for at in range(given.rounds * 2):
+        counted.said(f"copy, {at}", count_together(given, 2 + at % 3, 6))
+
+
+HELD = "cat a >/dev/null; t=$(date +%s.%N); echo $t; echo $t > {outside}"
+
+
+def is_held(given, env=None):
+    place = Place({"a": "1\n"})
+    outside = place.room / "outside"
+    try:
+        with Served(given.build, place.there, "--delay-ms", "2000") as served:
+            command = place.command(given.wrong if env else given.build, served.at, ["sh", "-c", HELD.format(outside=outside)])
+            process = subprocess.Popen(command, stdout=subprocess.PIPE, stdin=subprocess.DEVNULL, text=True, env={**os.environ, **(env or {})})
+            line = process.stdout.readline()
+            shown, bad = time.time(), []
+            process.wait(LONG)
+        if not line.strip():
+            return ["nothing was shown"]
+        began = float(line)
+        if shown - began < 1.8:
+            bad.append(f"shown {shown - began:.2f} s after it was said")
+        if not outside.exists() or outside.stat().st_mtime - began < 1.8:
+            bad.append("the outside file came too soon")
+        return bad
+    finally:
+        place.away()
+
+
+def part_held(given, counted):
+    counted.said("held", is_held(given))
+
+
+LOOP = "i=0; while [ $i -lt 400 ]; do i=$((i+1)); echo $i >> log; mkdir d$i; mv d$i e$i; echo $i; done"
+
+
+def dies(given, dice, whom):
+    """Kills one side; what then is there must be some moment of the loop, and all that was shown behind it."""
+    place = Place()
+    try:
+        with Served(given.build, place.there, "--delay-ms", "5") as served:
+            command = place.command(given.build, served.at, ["sh", "-c", LOOP])
+            process = subprocess.Popen(command, stdout=subprocess.PIPE, stderr=subprocess.PIPE, stdin=subprocess.DEVNULL, text=True)
+            dying = threading.Timer(dice.uniform(0.1, 1.5), (served.process if whom == "server" else process).kill)
+            dying.start()
+            out, err = process.communicate(timeout=LONG)
+            dying.cancel()
+            ended = served.process.poll() is not None
+        # A start makes good what was decided.
+        ran([str(given.build / "hidewillow-files"), str(place.there)])
+        shown = [int(it) for it in out.split("\n")[:-1]]
+        log = [int(it) for it in (place.there / "log").read_text().split()] if (place.there / "log").exists() else []
+        folders = sorted(int(it.name[1:]) for it in place.there.iterdir() if it.name[0] in "de" and it.name[1:].isdigit())
+        bad = []
+        if whom == "server" and ended and (process.returncode not in (0, 75) or (process.returncode == 75 and not err.strip())):
+            bad.append(f"status {process.returncode}, {err[-200:]!r}")
+        if shown != list(range(1, len(shown) + 1)) or log != list(range(1, len(log) + 1)) or len(log) < len(shown):
+            bad.append(f"shown {shown[-3:]}, log {log[-3:]}")
+        if folders != list(range(1, len(folders) + 1)) or not len(log) - 1 <= len(folders) <= len(log):
+            bad.append(f"folders to {len(folders)}, log to {len(log)}")
+        if left := left_behind(place.mount):
+            bad.append(f"processes left: {left}")
+        return bad
+    except subprocess.TimeoutExpired:
+        process.kill()
+        return ["it did not end"]
+    finally:
+        place.away()
+
+
+def left_behind(mount):
+    """The processes that still have a command of this mount, after a moment."""
+    for _ in range(20):
+        left = [it.name for it in pathlib.Path("/proc").iterdir() if it.name.isdigit() and has_word(it, str(mount))]
+        if not left:
+            return []
+        time.sleep(0.1)
+    return left
+
+
+def has_word(process, word):
+    try:
+        return word in (process / "cmdline").read_text()
+    except OSError:
+        return False
+
+
+def part_deaths(given, counted):
+    dice = random.Random(17)
+    for at in range(given.rounds * 4):
+        whom = ("server", "client")[at % 2]
+        counted.said(f"deaths: {whom}, {at}", dies(given, dice, whom))
+
+
+def part_ways(given, counted):
+    """Over what ssh would start (a script stands for it), and over a server started here; as another user than root, too."""
+    for way in ("ssh", "local", "local, as nobody"):
+        place = Place()
+        folder = place.room / "it's there"
+        fill(folder, {"a": "1\n"})
+        script = place.room / "ssh"
+        fill(place.room, {"ssh": '#!/bin/sh\n[ "$1" = host ] && shift && exec sh -c "$*"\n'})
+        at = f"ssh:host:{folder}" if way == "ssh" else f"local:{folder}"
+        command = place.command(given.build, at, ["sh", "-c", "cat a; echo 2 > b; cat b; exit 3"])
+        if way.endswith("nobody"):
+            if os.geteuid() != 0:
+                continue
+            subprocess.run(["chown", "-R", "65534:65534", place.room], check=True)
+            command = ["setpriv", "--reuid", "65534", "--regid", "65534", "--clear-groups", *command]
+        files = given.build / "hidewillow-files"
+        did = ran(command, env={**os.environ, "HIDEWILLOW_SSH": str(script), "HIDEWILLOW_FILES": str(files)})
+        there = (folder / "b").read_text() if (folder / "b").exists() else None
+        bad = [] if (did.returncode, did.stdout, there) == (3, b"1\n2\n", "2\n") else [did, there]
+        counted.said(f"ways: {way}", bad)
+        place.away()
+
+
+WRONG = ["output-at-once", "late-checkpoint", "undo-missed", "pipe-empty", "offsets", "predicted", "write-early"]
+
+
+def part_wrong(given, counted):
+    global LONG
+    LONG = 40
+    for wrong in WRONG:
+        begin = time.time()
+        found = is_found(given, {"HIDEWILLOW_RUN_WRONG": wrong})
+        counted.said(f"wrong: {wrong}", [] if found else ["it was not found"])
+        print(f"runs: wrong: {wrong}: {found or 'not found'}, {time.time() - begin:.0f} s", flush=True)
+    found = any(same(given, name, 0, seed, foreign=True, options=("--wrong", "half"))[0]
+                for seed in range(8) for name in ("shell", "files", "make"))
+    counted.said("wrong: a server that does half an epoch", [] if found else ["it was not found"])
+
+
+def is_found(given, env):
+    """By which test a wrong supervisor is found, if it is."""
+    if env["HIDEWILLOW_RUN_WRONG"] in ("output-at-once", "write-early"):
+        return "held" if is_held(given, env) else None
+    for seed in range(4):
+        for percent in (30, 10):
+            for name in ("pipe", "offsets", "shell", "python", "make", "files"):
+                # What takes too long on a slow machine isn't wrong.
+                if [it for it in same(given, name, percent, seed, env=env)[0] if it != "it did not end"]:
+                    return f"{name}, {percent} %, seed {seed}"
+    return None
+
+
+def main():
+    words = argparse.ArgumentParser(description=__doc__, formatter_class=argparse.RawDescriptionHelpFormatter)
+    words.add_argument("--build", type=pathlib.Path, default=TOP / "build")
+    words.add_argument("--wrong", type=pathlib.Path)
+    words.add_argument("--rounds", type=int, default=1)
+    words.add_argument("parts", nargs="*")
+    given = words.parse_args()
+    parts = {"ways": part_ways, "same": part_same, "foreign": part_foreign, "copy": part_copy, "held": part_held, "deaths": part_deaths, "wrong": part_wrong}
+    counted = Counted()
+    for it in given.parts or [name for name in parts if name != "wrong" or given.wrong]:
+        begin = time.time()
+        parts[it](given, counted)
+        print(f"runs: {it}: {time.time() - begin:.0f} s", flush=True)
+    print(f"{counted.passed} passed, {counted.failed} failed")
+    return 1 if counted.failed else 0
+
+
+if __name__ == "__main__":
+    signal.signal(signal.SIGPIPE, signal.SIG_DFL)
+    sys.exit(main())

@@ -96,13 +96,15 @@ impl Kernel for Speculator<u32, u64, u64, Sum> {
     }
 
     fn has_keys(&self, keys: u64) -> bool {
-        let mut told = self.keys();
-        for key in 0..KEYS {
-            if keys & bit_of(key as usize) != 0 && told.next() != Some(&key) {
+        let mut told: u64 = 0;
+        for key in self.keys() {
+            let bit = bit_of(*key as usize);
+            if told & bit != 0 {
                 return false;
             }
+            told |= bit;
         }
-        told.next().is_none()
+        told == keys
     }
 
     fn dependents(&self, id: GuessId) -> Option<u64> {

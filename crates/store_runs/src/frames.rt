@@ -85,6 +85,18 @@ impl Frames {
         false
     }
 
+    /// The last frame up to which all are; the one before the first where none is.
+    pub(crate) fn known(&self) -> u64 {
+        let mut known = self.first.saturating_sub(1);
+        for _ in 0..self.synced.len() {
+            let next = known.saturating_add(1);
+            if self.synced.contains(&next) {
+                known = next;
+            }
+        }
+        known
+    }
+
     /// Whether all frames up to one are.
     fn are_synced(&self, last: u64) -> bool {
         for frame in self.first..last.saturating_add(1) {

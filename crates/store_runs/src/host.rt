@@ -6,7 +6,7 @@ use crate::disk::{Disk, zeros};
 use crate::frames::Frames;
 use crate::model::{FIRST_KEY, KEYS, Model};
 use crate::played::Played;
-use crate::recovery::recover;
+use crate::recovery::{Known, recover};
 use crate::requests::any_bytes;
 use crate::script::Script;
 use crate::snapshot::{Base, write};
@@ -14,7 +14,7 @@ use crate::wrong::{Wrong, holds};
 use sk_batched::Outcome;
 use sk_batches::{Cut, Sealed};
 use sk_channels::{Ask, Asked, Channel};
-use sk_commands::Work;
+use sk_commands::{ByteString, Reply, Work};
 use sk_durable::{End, Fed, Limits, Next, Refusal};
 use sk_log::HEAD;
 use sk_plain_store::PlainStore;
@@ -72,11 +72,14 @@ pub(crate) struct Host {
 }
 
 /// The work of what was asked for.
-fn work_of(asked: Asked) -> Result<(u64, Work), Wrong> {
+fn work_of(alloc: Global, asked: Asked) -> Result<(u64, Work), Wrong> {
     let Asked { ticket, ask } = asked;
     match ask {
         Ask::Do(work) => Ok((ticket, work)),
-        Ask::Reject(_) => Err(Wrong::Asked),
+        Ask::Reject(rejection) => {
+            let words = ByteString::new(rejection.words(alloc)?);
+            Ok((ticket, Work::Say(Reply::Rejected(words))))
+        }
     }
 }
 
@@ -365,7 +368,7 @@ impl Host {
 
     /// This was carried out, and is answered as in the model.
     fn was_done(&mut self, order: usize, asked: Asked) -> Result<(), Wrong> {
-        let (ticket, work) = work_of(asked)?;
+        let (ticket, work) = work_of(self.alloc, asked)?;
         self.model.carry(order, ticket, work)?;
         let ahead = self.store.store().ahead();
         holds(ahead == self.model.last_answer(), Wrong::Answer)
@@ -584,13 +587,16 @@ impl Host {
 
     /// What is read of the disk.
     fn found(&mut self) -> Result<Found, Wrong> {
-        let most = u64::from(self.limits.undecided).saturating_add(64 * HEAD as u64);
+        let known = Known {
+            in_flight: u64::from(self.limits.undecided).saturating_add(64 * HEAD as u64),
+            synced: self.frames.known(),
+        };
         recover(
             self.alloc,
             &mut self.chance,
             &self.base,
             self.disk.segments(),
-            most,
+            known,
             self.store.script(),
         )
     }

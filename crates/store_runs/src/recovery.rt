@@ -123,21 +123,28 @@ fn heads(
     Ok(heads)
 }
 
-/// Reads a snapshot and all segments behind it, where so many bytes may have been in flight.
+/// What a host knows of a disk: how many bytes may have been in flight, and up to which frame all are on it.
+#[derive(Clone, Copy)]
+pub(crate) struct Known {
+    pub(crate) in_flight: u64,
+    pub(crate) synced: u64,
+}
+
+/// Reads a snapshot and all segments behind it.
 pub(crate) fn recover(
     alloc: Global,
     chance: &mut Chance,
     base: &Base,
     segments: &[Segment],
-    in_flight: u64,
+    known: Known,
     script: &mut Script,
 ) -> Result<Found, Wrong> {
     tell(b"> reset", &[base.first], script)?;
     let store = read(alloc, chance, base, script)?;
-    let recovered = behind(alloc, store, base, segments, in_flight, script)?;
+    let recovered = behind(alloc, store, base, segments, script)?;
     let read = read_all(recovered, chance, segments, script)?;
-    let found = read.end();
-    match tell(b"> end", &[], script) {
+    let found = read.end(known.in_flight, known.synced);
+    match tell(b"> end", &[known.in_flight, known.synced], script) {
         Ok(()) => Ok(found),
         Err(wrong) => Err(wrong),
     }
@@ -149,11 +156,10 @@ fn behind(
     store: PlainStore,
     base: &Base,
     segments: &[Segment],
-    in_flight: u64,
     script: &mut Script,
 ) -> Result<Recovered, Wrong> {
     match heads(alloc, base, segments, script) {
-        Ok(heads) => Ok(Recovered::new(alloc, store, base.first, heads, in_flight)),
+        Ok(heads) => Ok(Recovered::new(alloc, store, base.first, heads)),
         Err(wrong) => Err(wrong),
     }
 }

@@ -147,8 +147,8 @@ fn read_pieces(
     script: &mut Script,
 ) -> Result<PlainStore, Wrong> {
     let heads = head(alloc, pieces.bytes.as_slice())?;
-    let empty = Recovered::new(alloc, PlainStore::new(alloc), 1, heads, 0);
-    store_of(read_whole(empty, chance, pieces, script)?.end())
+    let empty = Recovered::new(alloc, PlainStore::new(alloc), 1, heads);
+    store_of(read_whole(empty, chance, pieces, script)?.end(0, 0))
 }
 
 /// What was found where nothing is damaged.

@@ -1,8 +1,7 @@
 //! What a store has again of the segments of a log, some of which are torn, cut, or another's. Each frame appends a letter to one key.
 use crate::wrong::{Wrong, holds};
 use sk_commands::{Fault, Look};
-use sk_log::frame::SEGMENT_LIMIT;
-use sk_log::{Recovery, Rest, append};
+use sk_log::append;
 use sk_plain_store::PlainStore;
 use sk_recovered::{Damage, Found, Heads, Place, Recovered, Segment};
 use sk_replay::Refusal;
@@ -127,50 +126,46 @@ fn read(recovered: Recovered, bytes: &[u8]) -> Result<Recovered, Wrong> {
     }
 }
 
-/// What stands in a segment without a whole head.
-fn rest_of(alloc: Global, bytes: &[u8]) -> Result<Rest, Wrong> {
-    let mut left = Recovery::new(alloc, SEGMENT_LIMIT, 0);
-    match left.feed(bytes) {
-        Ok(()) => Ok(left.end(0).rest),
-        Err(refusal) => Err(refusal.into()),
+/// How many bytes stand in a segment up to the last that is not 0.
+fn used_len(bytes: &[u8]) -> u64 {
+    match bytes.iter().rposition(|byte| *byte != 0) {
+        Some(last) => last as u64 + 1,
+        None => 0,
     }
 }
 
 /// A segment without a whole head counts for nothing.
-fn leave(alloc: Global, mut recovered: Recovered, bytes: &[u8]) -> Result<Recovered, Wrong> {
-    match rest_of(alloc, bytes) {
-        Ok(rest) => {
-            recovered.leave(rest);
-            Ok(recovered)
-        }
-        Err(wrong) => Err(wrong),
-    }
+fn leave(mut recovered: Recovered, bytes: &[u8]) -> Recovered {
+    recovered.leave(used_len(bytes));
+    recovered
 }
 
-fn read_next(alloc: Global, recovered: Recovered, segment: &Written) -> Result<Recovered, Wrong> {
+fn read_next(recovered: Recovered, segment: &Written) -> Result<Recovered, Wrong> {
     if recovered.next_segment() == Some(segment.number) {
         read(recovered, segment.bytes.as_slice())
     } else {
-        leave(alloc, recovered, segment.bytes.as_slice())
+        Ok(leave(recovered, segment.bytes.as_slice()))
     }
 }
 
-fn read_all(
-    alloc: Global,
-    mut recovered: Recovered,
-    segments: &[Written],
-) -> Result<Recovered, Wrong> {
+fn read_all(mut recovered: Recovered, segments: &[Written]) -> Result<Recovered, Wrong> {
     for segment in segments {
-        recovered = read_next(alloc, recovered, segment)?;
+        recovered = read_next(recovered, segment)?;
     }
     Ok(recovered)
 }
 
-/// What is found in segments, the first frame of which is the first, where a hundred bytes may have been in flight.
-fn found(alloc: Global, segments: &[Written]) -> Result<Found, Wrong> {
+/// What is found in segments, the first frame of which is the first, where a hundred bytes may have been in flight, and the
+/// frames up to one are known as synced.
+fn found_known(alloc: Global, segments: &[Written], known: u64) -> Result<Found, Wrong> {
     let heads = heads_of(alloc, segments)?;
-    let empty = Recovered::new(alloc, PlainStore::new(alloc), 1, heads, 100);
-    Ok(read_all(alloc, empty, segments)?.end())
+    let empty = Recovered::new(alloc, PlainStore::new(alloc), 1, heads);
+    Ok(read_all(empty, segments)?.end(100, known))
+}
+
+/// The same, where nothing is known.
+fn found(alloc: Global, segments: &[Written]) -> Result<Found, Wrong> {
+    found_known(alloc, segments, 0)
 }
 
 /// What is found in the segments of these rows.
@@ -337,6 +332,21 @@ fn found_without(alloc: Global, rows: &[Row], place: usize) -> Result<Found, Wro
     let mut segments = segments_of(alloc, rows)?;
     lose(&mut segments, place);
     found(alloc, &segments)
+}
+
+/// Of three frames one that is known as synced is missing just where its number is the next, or greater.
+fn is_missing(alloc: Global, known: u64) -> Result<(), Wrong> {
+    let segments = segments_of(alloc, WHOLE)?;
+    let found = found_known(alloc, segments.as_slice(), known)?;
+    holds(found.is_damaged == (known > 3), Wrong::Payload)
+}
+
+#[test]
+fn frame_known_as_synced_that_is_missing_is_damage(rt: HostRuntime) -> Result<(), Wrong> {
+    for known in 0..6 {
+        is_missing(rt.alloc(), known)?;
+    }
+    Ok(())
 }
 
 const FIVE: &[Row] = &[(1, &[(1, 1, b"abcde")])];

@@ -234,7 +234,7 @@ impl Client {
 #[inline(never)]
 fn recover(alloc: Global, log: &[u8]) -> Result<u64, RunStop> {
     let heads = head(alloc, log)?;
-    let recovered = Recovered::new(alloc, PlainStore::new(alloc), 1, heads, 0);
+    let recovered = Recovered::new(alloc, PlainStore::new(alloc), 1, heads);
     match recovered.open() {
         Ok(segment) => works_of(feed_all(segment, log)?.close()?),
         Err(_recovered) => Err(RunStop::Silent),
@@ -260,7 +260,7 @@ fn feed_all(mut segment: Segment, log: &[u8]) -> Result<Segment, RunStop> {
 
 /// How many commands were found.
 fn works_of(recovered: Recovered) -> Result<u64, RunStop> {
-    let found = recovered.end();
+    let found = recovered.end(0, 0);
     if found.is_damaged {
         Err(RunStop::Silent)
     } else {

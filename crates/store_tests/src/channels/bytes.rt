@@ -62,3 +62,26 @@ fn bytes_ask_for_the_same_cut_at_every_place(rt: HostRuntime) {
         is_cut(&rt, rt.alloc(), place);
     }
 }
+
+/// A queue that has room for one of two commands, and is not carried out then.
+const QUEUED: &[u8] = b"MULTI\r\nGET k\r\nGET k\r\nEXEC\r\n";
+
+/// What its requests ask for.
+const QUEUED_ASKS: &[u8] = b"ssrs";
+
+fn fills_a_queue(rt: &impl Abort, channel: &mut Channel, letters: &mut Vec<u8>) {
+    feed_all(rt, channel, QUEUED.get(..14).unwrap_or(&[]), letters);
+    check(rt, channel.queued(), channel.queued() == 132);
+    feed_all(rt, channel, QUEUED.get(14..).unwrap_or(&[]), letters);
+    check(rt, channel.queued(), channel.queued() == 0);
+    check(rt, letters.len(), letters.as_slice() == QUEUED_ASKS);
+}
+
+#[test]
+fn queue_takes_no_more_bytes_than_may(rt: HostRuntime) {
+    let mut channel = new_channel(rt.alloc());
+    let mut letters = Vec::new(rt.alloc());
+    fills_a_queue(&rt, &mut channel, &mut letters);
+    drop(channel);
+    drop(letters);
+}

@@ -82,3 +82,20 @@ const QUEUE: &[Call] = &[
 fn queue_is_carried_out_as_one(rt: HostRuntime) -> Result<(), Wrong> {
     plays(rt.alloc(), 1000, 1000, QUEUE)
 }
+
+/// A request of several lines and words is taken in one call.
+const WHOLE: &[Call] = &[
+    Connects(0),
+    Feeds(
+        0,
+        b"*3\r\n$3\r\nSET\r\n$1\r\na\r\n$1\r\n1\r\nGET a\r\n",
+        27,
+        End::Done,
+    ),
+    Has(b"a", b"1"),
+];
+
+#[test]
+fn whole_request_is_taken_in_one_call(rt: HostRuntime) -> Result<(), Wrong> {
+    plays(rt.alloc(), 1000, 1000, WHOLE)
+}

@@ -1,8 +1,8 @@
 //! What a store takes no more of.
 use crate::durable::bench::plays;
 use crate::durable::call::Call::{
-    self, Connects, Decides, Feeds, FeedsLetters, HangsUp, Lacks, Refuses, Says, Synced, Takes,
-    Undecided, Waits,
+    self, Connects, Decides, Feeds, FeedsLetters, HangsUp, Lacks, Ready, Refuses, Says, Synced,
+    Takes, Undecided, Waits,
 };
 use crate::durable::wrong::Wrong;
 use sk_batched::Outcome;
@@ -87,4 +87,27 @@ const COMMANDS: &[Call] = &[
 #[test]
 fn no_more_commands_wait_than_may(rt: HostRuntime) -> Result<(), Wrong> {
     plays(rt.alloc(), 1000, 2, COMMANDS)
+}
+
+const LOST: &[u8] = b"-IOERR the write did not reach the disk, nothing of it was done\r\n";
+
+/// Each channel of which nothing was done is named, one after another, though none has an answer.
+const NAMED: &[Call] = &[
+    Connects(0),
+    Connects(1),
+    Connects(2),
+    Ready(None),
+    Feeds(0, b"SET a 1\r\n", 9, End::Done),
+    Feeds(1, b"SET b 1\r\n", 9, End::NotDone(NotDone::Full)),
+    Feeds(2, b"SET c 1\r\n", 9, End::NotDone(NotDone::Full)),
+    Ready(Some(1)),
+    Says(1, LOST),
+    Ready(Some(2)),
+    Says(2, LOST),
+    Ready(None),
+];
+
+#[test]
+fn each_that_was_not_done_is_named(rt: HostRuntime) -> Result<(), Wrong> {
+    plays(rt.alloc(), 40, 1000, NAMED)
 }

@@ -1,10 +1,7 @@
 #!/usr/bin/env python3
-"""Writes docs/API.md: the public items of the crates behind `hidewillow`, for threads and for own state, with their contracts.
+"""The public items of the crates behind `hidewillow`, for threads and for own state, with their contracts.
 
-    tools/api.py            the page
-    tools/api.py --write    puts it into docs/API.md
-    tools/api.py --check    whether it stands there, each definition that it lists has a comment, and `hidewillow` passes on
-                            what the contracts behind it cite; the last line is 'N passed, M failed'
+    tools/api.py            the page, as `tools/pages.py` has it
     tools/api.py --bare     the definitions that contracts cite and that have no comment
 """
 import re
@@ -13,11 +10,10 @@ sys.dont_write_bytecode = True
 from definitions import SAID
 from sources import Index, ROOT, crates, imports_of, module_of, words_of
 
-PAGE = ROOT / "docs/API.md"
 DOOR = ROOT / "crates/hidewillow"
 HEAD = """# The calls and their contracts
 
-Made from the sources by `tools/api.py`; the gate compares. Each item has its first words and its contract. In a
+Each item has its first words and its contract. In a
 contract `S` is what `self` is at the call, `S'` what it is at the return, and `x'` what `x` is there. `result` is the
 answer. A clause that begins with `IfOk`, `IfErr` or `IfSome` speaks of that answer alone. The words that contracts
 cite stand in a table at the end, each with what it says and its file in `crates/`.
@@ -117,7 +113,7 @@ def listed():
     """The crates of the page: those that `hidewillow` passes on, highest first, and then those for threads and for own state."""
     passed = passed_on()
     beside = ["sk_crew", "sk_workers", "sk_wire", "sk_bytes", "sk_index", "sk_speculator", "sk_outputs", "sk_slots", "sk_deeds"]
-    return [it for it in reversed(crates()) if it in passed] + beside
+    return list(dict.fromkeys([it for it in reversed(crates()) if it in passed] + beside))
 
 
 def cited_by(index, crate, names):
@@ -158,24 +154,21 @@ def page(index):
     return "\n".join(out) + "\n", list(cited.values())
 
 
+def bare(cited):
+    """The definitions that contracts cite and that have no comment."""
+    return [f"{it.file.relative_to(ROOT)}: {it.name}" for it in cited if not it.comment and it.name not in SAID.get(it.crate, {})]
+
+
+def faults(index, cited):
+    """What the page names and nobody says, and what `hidewillow` lacks."""
+    yield from (f"{it} has no comment" for it in bare(cited))
+    yield from (f"hidewillow does not pass on {it}" for it in not_passed_on(index))
+
+
 def main():
-    index = Index()
-    new, cited = page(index)
-    bare = [f"{it.file.relative_to(ROOT)}: {it.name}" for it in cited if not it.comment and it.name not in SAID.get(it.crate, {})]
-    if sys.argv[1:] == ["--write"]:
-        PAGE.write_text(new)
-    elif sys.argv[1:] == ["--bare"]:
-        print("\n".join(bare))
-    elif sys.argv[1:] == ["--check"]:
-        faults = [f"{it} has no comment" for it in bare] + [f"hidewillow does not pass on {it}" for it in not_passed_on(index)]
-        if not PAGE.exists() or PAGE.read_text() != new:
-            faults.append("docs/API.md is not what `tools/api.py --write` makes")
-        print("\n".join(faults))
-        print(f"{int(not faults)} passed, {len(faults)} failed")
-        return int(bool(faults))
-    else:
-        print(new, end="")
-    return 0
+    text, cited = page(Index())
+    print("\n".join(bare(cited)) if sys.argv[1:] == ["--bare"] else text)
 
 
-sys.exit(main())
+if __name__ == "__main__":
+    main()

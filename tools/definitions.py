@@ -1,10 +1,7 @@
 #!/usr/bin/env python3
-"""Writes docs/DEFINITIONS.md: crate by crate the definitions that contracts of public functions cite, each with what it says.
+"""Crate by crate the definitions that contracts of public functions cite, each with what it says.
 
-    tools/definitions.py            the page
-    tools/definitions.py --write    puts it into docs/DEFINITIONS.md
-    tools/definitions.py --check    whether it stands there, each definition of it has a sentence, and each sentence below is of a
-                                    definition that there is and that has no comment; the last line is 'N passed, M failed'
+    tools/definitions.py    the page, as `tools/pages.py` has it
 
 A sentence is the comment above the definition in its file of `specs`. Where none stands there, `SAID` has it; a definition that is
 named there is on the page also where no contract of a public function cites it itself.
@@ -14,10 +11,9 @@ import sys
 sys.dont_write_bytecode = True
 from sources import Index, ROOT, crates, imports_of, words_of
 
-PAGE = ROOT / "docs/DEFINITIONS.md"
 HEAD = """# Definitions
 
-Made from the sources by `tools/definitions.py`; the gate compares. A contract says what a call does in words that are defined in `specs/` of
+A contract says what a call does in words that are defined in `specs/` of
 its crate. Here are, crate by crate from the lowest on, those that the contracts of public functions cite, each with what it says.
 
 - What has to be believed for the headline: the list in [HEADLINE](HEADLINE.md), which is computed, and the text in [BELIEVE](BELIEVE.md).
@@ -115,6 +111,7 @@ SAID = {
         "Runs": "any calls, one after another, with what the kernel inside is told",
     },
     "sk_commands": {
+        "spoilt": "a queue that is not to be carried out",
         "AreAsked": "each of these works is of commands that some request says, and more than a reply",
         "reply_text": "the bytes of a reply",
         "set_as": "a key gets a value, where it may by NX and XX",
@@ -133,7 +130,6 @@ SAID = {
         "AreWritten": "segments, what was written into them, and what a crash left",
         "CountedIsJoined": "what counts of segments is what `joined` of `sk_log` makes of them",
         "counting": "what counts of a segment that begins with the next number",
-        "HasTaken": "the first payloads say works that made this store",
         "joined_all": "what `joined` of `sk_log` makes of segments, one after another",
         "lower": "the least number from which one of these segments goes on",
         "synced_at": "how many frames in a row were told as synced",
@@ -358,23 +354,5 @@ def faults(index, its):
     yield from (f"{crate}: {name} has a comment, or is not there" for crate, name in said if (crate, name) not in bare)
 
 
-def main():
-    index = Index()
-    its = cited(index)
-    new = page(its)
-    if sys.argv[1:] == ["--write"]:
-        PAGE.write_text(new)
-    elif sys.argv[1:] == ["--check"]:
-        found = list(faults(index, its))
-        if not PAGE.exists() or PAGE.read_text() != new:
-            found.append("docs/DEFINITIONS.md is not what `tools/definitions.py --write` makes")
-        print("\n".join(found))
-        print(f"{int(not found)} passed, {len(found)} failed")
-        return int(bool(found))
-    else:
-        print(new, end="")
-    return 0
-
-
 if __name__ == "__main__":
-    sys.exit(main())
+    print(page(cited(Index())))

@@ -1,8 +1,13 @@
 #!/usr/bin/env python3
-"""Holds the table of docs/GROWTHS.md against the sources.
+"""Holds the table of what grows, `.ci/growths.table`, against the sources.
 
     tools/growths.py            tells what is missing from the table, and what stands there that is not in the sources
     tools/growths.py --calls    prints the public calls that can answer want of memory, by crate
+
+The contracts allow want of memory wherever something grows, so a body that gives up at a number is proved; that none does where no
+memory was refused can only be tried. With ample memory whatever can grow is grown past 70,000, and no answer is want of memory.
+What has a limit below that goes to it, many times over; what takes the square of its number is grown to 9,001, and guesses over
+own keys that rest on each other to 1,500.
 
 A call is a public function of a library whose result can be want of memory: an `AllocError`, or an error or an answer that has it
 among its cases, at any depth. Each has a row, which names what grows past 70,000 through it: rows of `.ci/growths`, tests of the
@@ -15,7 +20,7 @@ sys.dont_write_bytecode = True
 from kit import listed
 from sources import ROOT, crates
 
-PAGE = "docs/GROWTHS.md"
+PAGE = ".ci/growths.table"
 TYPE = re.compile(r"^(?:pub(?:\(crate\))? )?(?:enum|struct) (\w+)[^;{]*?\{(.*?)^\}", re.M | re.S)
 FUNCTION = re.compile(r"^( *)pub (?:const )?fn (\w+)(.*?)(?:\{$|^ *(?:requires|ensures|decreases)\b)", re.M | re.S)
 IMPL = re.compile(r"^impl(?:<[^\n]*?>)? (\w+)(?:<[^\n]*?>)?(?: |$)", re.M)

@@ -13,8 +13,8 @@ request is given one round trip after it was made.
 `wait` gives a process no turn while a request of it has no reply, as a client that waits for its server does.
 `guess` gives it turns at once. Both must end with the same files of the server and the same released texts; the status
 is 1 where they do not. Two clients that do not guess stand beside them, by the scripts alone: `lease` fetches what it has a
-good copy of without a round trip, `ahead` asks for each file before its fetch comes. --write puts the tables into
-docs/LATENCY.md and the plot into docs/pictures/latency.svg; --check compares both with those measured now, and ends with
+good copy of without a round trip, `ahead` asks for each file before its fetch comes. --write puts the table of ratios
+into docs/SPEED.md and the plot into docs/pictures/latency.svg; --check compares both with those measured now, and ends with
 'N passed, M failed'.
 """
 import argparse
@@ -27,7 +27,7 @@ sys.dont_write_bytecode = True
 import told  # noqa: E402
 
 TOP = os.path.dirname(os.path.dirname(os.path.abspath(__file__)))
-PAGE = os.path.join(TOP, "docs/LATENCY.md")
+PAGE = os.path.join(TOP, "docs/SPEED.md")
 PLOT = os.path.join(TOP, "docs/pictures/latency.svg")
 TRIPS = [0, 1, 3, 10, 30, 100, 300, 1000]
 LONGEST_TRIP = 1_000_000
@@ -317,15 +317,21 @@ COLUMNS = ["round trip", "wait", "lease", "ahead", "guess", "ratio", "requests: 
            "turns: wait", "guess"]
 
 
-def tables(rows, trips):
-    """The page's part that is measured: the ratios, and below them a table for each load."""
+def ratios(rows, trips):
+    """The table that the page has: how many times as long waiting takes, by load and round trip."""
     abouts = {row.name: row.about for row in rows}
     ratio = {(row.name, row.trip): [f"{it:.1f}" for it in row.ratios] for row in rows}
     lines = ["| load, at a round trip of | " + " | ".join(f"{trip:,}" for trip in trips) + " |", "|---|" + "---|" * len(trips)]
     for name, about in abouts.items():
         for at, how in enumerate((f"{name}: {about}; guess", "lease", "ahead")):
             lines.append(f"| {how} | " + " | ".join(ratio[name, trip][at] for trip in trips) + " |")
-    for name, about in abouts.items():
+    return lines
+
+
+def tables(rows, trips):
+    """What is printed: the ratios, and below them a table for each load."""
+    lines = ratios(rows, trips)
+    for name, about in {row.name: row.about for row in rows}.items():
         lines += ["", f"### {name}: {about}", "", "| " + " | ".join(COLUMNS) + " |", "|---" * len(COLUMNS) + "|"]
         lines += ["| " + " | ".join(row.cells()) + " |" for row in rows if row.name == name]
     return "\n".join(lines)
@@ -368,7 +374,7 @@ BEGIN, END = "<!-- measured by tools/latency.py -->\n\n", "\n\n<!-- measured so 
 
 
 def page_with(measured):
-    """docs/LATENCY.md with its measured part replaced."""
+    """The page with its measured part replaced."""
     with open(PAGE, encoding="utf-8") as file:
         before, _, rest = file.read().partition(BEGIN)
     return before + BEGIN + measured + END + rest.partition(END)[2]
@@ -377,7 +383,7 @@ def page_with(measured):
 def check(rows, drawn):
     """Compares the page and the plot with what was measured now."""
     failed = 0
-    for name, wanted in ((PAGE, page_with(tables(rows, TRIPS))), (PLOT, drawn)):
+    for name, wanted in ((PAGE, page_with("\n".join(ratios(rows, TRIPS)))), (PLOT, drawn)):
         with open(name, encoding="utf-8") as file:
             if file.read() != wanted:
                 print(f"latency: {os.path.relpath(name, TOP)} has other numbers")
@@ -435,7 +441,7 @@ def main():
     if given.write:
         with open(PLOT, "w", encoding="utf-8") as file:
             file.write(plot(rows, [trip for trip in TRIPS if trip]))
-        whole = page_with(tables(rows, trips))
+        whole = page_with("\n".join(ratios(rows, trips)))
         with open(PAGE, "w", encoding="utf-8") as file:
             file.write(whole)
     else:

@@ -2,8 +2,7 @@
 """Prints what a reader of the headline has to believe: the definitions that the public clauses of `Kernel` reach.
 
     tools/reading.py            the list as docs/HEADLINE.md has it
-    tools/reading.py --write    puts it there, and the text of its first two parts into docs/BELIEVE.md
-    tools/reading.py --check    whether both stand there; the last line is 'N passed, M failed'
+    tools/reading.py --write    puts it there
 
 The heart comes first, then the kernel, then all that the plain kernel does at a step. In each part a file comes behind
 those that it cites. Lengths are lines, with the comments above a definition; types of the code are listed with their file.
@@ -14,12 +13,11 @@ sys.dont_write_bytecode = True
 from sources import Index, ROOT, crates, depth, imports_of, words_of
 
 PAGE = ROOT / "docs/HEADLINE.md"
-BELIEVE = ROOT / "docs/BELIEVE.md"
 BEGIN, END = "<!-- tools/reading.py writes from here -->", "<!-- to here -->"
 CALLS = [ROOT / "crates/sk_kernel/src" / name for name in ("kernel.rt", "hand_in.rt")]
 BELIEVE_HEAD = """# What there is to believe
 
-Written by `tools/reading.py --write`: the definitions that the clauses of the public calls of `Kernel` come to, each behind those that it
+The definitions that the clauses of the public calls of `Kernel` come to, each behind those that it
 cites, and last those clauses. Who has read this page has read what [HEADLINE](HEADLINE.md) says of the kernel, but for the table of
 instructions, whose files HEADLINE lists. The rest is proof, which the prover has read.
 """
@@ -144,25 +142,26 @@ def page(found, index):
     return "\n".join(lines + [END])
 
 
+def with_list(found, index):
+    """The text of docs/HEADLINE.md with the list in its place."""
+    head, rest = PAGE.read_text().split(BEGIN)
+    return head + page(found, index) + rest.split(END)[1]
+
+
+def faults(found, index):
+    """Whether the list stands there."""
+    if PAGE.read_text() != with_list(found, index):
+        yield "docs/HEADLINE.md is not what `tools/reading.py --write` makes of it"
+
+
 def main():
     index = Index()
     found = reached(index)
-    new, text, told = page(found, index), PAGE.read_text(), believe(found, index)
-    if sys.argv[1:] == []:
-        print(new)
-        return 0
-    head, rest = text.split(BEGIN)
-    whole = head + new + rest.split(END)[1]
-    if sys.argv[1] == "--write":
-        PAGE.write_text(whole)
-        BELIEVE.write_text(told)
-        return 0
-    stands = {PAGE: whole == text, BELIEVE: BELIEVE.exists() and BELIEVE.read_text() == told}
-    for file in (file for file, same in stands.items() if not same):
-        print(f"{file.relative_to(ROOT)} is not what `tools/reading.py --write` makes of it")
-    failed = len(stands) - sum(stands.values())
-    print(f"{len(stands) - failed} passed, {failed} failed")
-    return min(failed, 1)
+    if sys.argv[1:] == ["--write"]:
+        PAGE.write_text(with_list(found, index))
+    else:
+        print(page(found, index))
 
 
-sys.exit(main())
+if __name__ == "__main__":
+    main()

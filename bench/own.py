@@ -131,14 +131,14 @@ def main(program, costs=None, library=None):
         for guesses, limit, name in ((False, 1.1, "a step"), (True, 1.5, "a guess with its decision")):
             ratio = beside(costs, 1_000, 1_100, guesses) / beside(costs, 0, 1_100, guesses)
             rows.row(ratio, limit, f"{name} beside 1,000 open guesses of others / beside none")
-    rows.row(a_key(program), 96, "bytes of a present key beyond key and value, nothing open")
+    rows.row(a_key(program), 60, "bytes of a present key beyond key and value, nothing open")
     if costs:
         rows.row(byte_keys(costs), 900, "a step over keys of 16 bytes with values of 100")
     if library:
         rows.row(through_c(library), 1_100, "the same through C")
-    for keys in (1, 100, 60_000):
-        rows.row(under_own(program, "mixed", keys), None, f"a larger step under an own guess, keys: {keys:,}")
-    rows.row(guess_with(program, "mixed", "mixed"), None, "a guess with a larger step and its decision")
+    for keys, limit in ((1, 1_500), (100, 1_600), (60_000, 1_100)):
+        rows.row(under_own(program, "mixed", keys), limit, f"a larger step under an own guess, keys: {keys:,}")
+    rows.row(guess_with(program, "mixed", "mixed"), 2_600, "a guess with a larger step and its decision")
     for name, left, right in (("guesses", (2_000, 9, 100), (1_000, 9, 100)), ("steps of a guess", (100, 1_000, 100), (100, 500, 100))):
         rows.row(twice(program, left, right), TWICE, f"twice as many {name}")
     return 1 if rows.over else 0

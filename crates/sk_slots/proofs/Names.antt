@@ -24,7 +24,7 @@ pub use Rattle.sk_record.proofs.UndoStates.{and_both}
 pub use Rattle.sk_record.specs.Effects.{is_in}
 pub use Rattle.sk_record.specs.Merged.{Merges, merged, same_tags}
 pub use Rattle.sk_record.specs.Notes.{Note, last_tags, cut, has, committed, noted, unwound, without}
-pub use Rattle.sk_slots.specs.Kept.{CanGoBack, seen, newest_tags, rewound}
+pub use Rattle.sk_slots.specs.Kept.{CanGoBack, seen, newest_tags, rewound, ready_tags, without_ready}
 pub use Rattle.sk_slots.specs.Slot.{goes_unnoted, noted_on, is_empty, is_bare, SlotView, is_settled, IsPrepared}
 pub use Rattle.sk_slots.specs.Slots.{IsReady, log_at, slot_in, HasPrepared, found, look_at, AllSettled, SettledBut}
 pub use Rattle.sk_slots.specs.declared.notes.Kept.{Kept}

@@ -215,7 +215,7 @@ module _ {A : Type 0} where
 
 module _ {V U : Type 0} where
   -- ---- the newest note
-  newest_at : (t : List ℕ) (ks : List (Kept V U)) (k : Kept V U) (i : ℕ) → i + 1 ≡ length ks → k ≡ slice_index_or ks i k → k.tags ≡ newest_tags t ks
+  pub newest_at : (t : List ℕ) (ks : List (Kept V U)) (k : Kept V U) (i : ℕ) → i + 1 ≡ length ks → k ≡ slice_index_or ks i k → k.tags ≡ newest_tags t ks
   newest_at t [] k i is at = absurd (omega arith)
   newest_at t (x ∷ []) k zero is at = ap (λ (m : Kept V U). m.tags) at
   newest_at t (x ∷ []) k (suc i) is at = absurd (omega arith)

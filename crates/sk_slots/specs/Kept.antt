@@ -1,5 +1,5 @@
 -- Notes as they are kept, with the value before a write or the undo of a change, and the log that is seen of them.
-use Rattle.std.specs.Prelude.{ℕ, List, [], ◌∷◌, Option}
+use Rattle.std.specs.Prelude.{ℕ, ◌-◌, Bool, List, [], ◌∷◌, Option, Some, None, take, length, if◌then◌else◌}
 use Rattle.sk_record.specs.Notes.{Note}
 use Rattle.sk_inversion.specs.Undone.{value_before, FitsBefore}
 use Rattle.sk_inversion.specs.declared.before.Before.{Before}
@@ -10,6 +10,14 @@ module _ {V U : Type 0} where
   abbrev pub newest_tags : List ℕ → List (Kept V U) → List ℕ
   newest_tags tags [] = tags
   newest_tags tags (n ∷ ns) = newest_tags n.tags ns
+
+  -- the notes but the last, where that is ready for the next write
+  abbrev pub without_ready : Bool → List (Kept V U) → List (Kept V U)
+  without_ready has_ready ns = if has_ready then take (length ns - 1) ns else ns
+
+  -- the tags of the one that is ready
+  abbrev pub ready_tags : Bool → List (Kept V U) → Option (List ℕ)
+  ready_tags has_ready ns = if has_ready then Some (newest_tags [] ns) else None
 
 module _ {V U : Type 0} (undone : U → V → V) where
   -- what was there before the oldest of these notes, from what is there now

@@ -1,10 +1,10 @@
 //! The notes of what a key has, the newest last.
-ghost use Rattle.std.specs.Prelude.{◌≡◌, ◌<◌, ◌≤◌, ◌+◌, [], Option, not, length, take, drop, vec_len, vec_capacity};
+ghost use Rattle.std.specs.Prelude.{◌≡◌, false, ◌<◌, ◌≤◌, ◌+◌, [], Option, not, length, take, drop, vec_len, vec_capacity};
 ghost use Rattle.std.specs.List.{prefix_len, remove};
 ghost use Rattle.sk_record.specs.Notes.{has, without, committed};
 ghost use Rattle.sk_record.specs.Merged.{merged, same_tags};
 ghost use Rattle.sk_inversion.specs.Undone.{value_before, CanJoin, FitsBefore};
-ghost use Rattle.sk_slots.specs.Kept.{newest_tags, seen, rewound, CanGoBack, CanTakeIn, IsLog};
+ghost use Rattle.sk_slots.specs.Kept.{newest_tags, seen, rewound, without_ready, CanGoBack, CanTakeIn, IsLog};
 ghost use Rattle.sk_slots.specs.Slot.{is_empty};
 
 use sk_ids::{GuessId, TagSet};
@@ -50,6 +50,37 @@ fn take_in<V: Drop, I: Inversion<V>>(note: &mut Kept<V, I::Undo>, later: Before<
     }
     let earlier = mem::replace(&mut note.before, Before::Was(None));
     note.before = join::<V, I>(later, earlier);
+}
+
+/// The notes but the one that is ready, which is the last.
+pub(crate) fn noted<V, U>(log: &[Kept<V, U>], has_ready: bool) -> &[Kept<V, U>]
+    ensures { result.now ≡ without_ready has_ready log.now }
+{
+    if has_ready {
+        &log[..log.len().saturating_sub(1)]
+    } else {
+        log
+    }
+}
+
+/// Lets go of the note that is ready, where there is one.
+pub(crate) fn let_go<V: Drop, I: Inversion<V>>(log: &mut Notes<V, I>, has_ready: &mut bool)
+    ensures none { has_ready.new ≡ false }
+    ensures log { log.new.items ≡ without_ready has_ready.old log.old.items }
+    ensures len { vec_len log.new ≤ vec_len log.old }
+    ensures capacity { vec_capacity log.new ≡ vec_capacity log.old }
+{
+    if *has_ready {
+        let _ready = log.pop();
+        *has_ready = false;
+    }
+}
+
+/// Puts what puts a write back into the note that is ready for it.
+pub(crate) fn fill<V: Drop, U: Drop>(note: &mut Kept<V, U>, before: Before<V, U>)
+    ensures { note.new ≡ record { tags = note.old.tags; before = before } }
+{
+    note.before = before;
 }
 
 /// Whether a write with these tags is not noted.

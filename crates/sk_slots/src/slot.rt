@@ -1,34 +1,33 @@
 //! What a key has, with its undo log.
-ghost use Rattle.std.specs.Prelude.{◌≡◌, ◌<◌, [], OnOk, IsOk, Option, None, Some, true, false, not, is_some, vec_len, vec_capacity};
+ghost use Rattle.std.specs.Prelude.{◌≡◌, [], OnOk, IsOk, Option, None, Some, true, false, not};
 ghost use Rattle.std.specs.Option.{option_copied, unwrap_or};
 ghost use Rattle.sk_record.specs.Notes.{last_tags, unwound, cut, committed};
 ghost use Rattle.sk_record.specs.Merged.{merged, same_tags};
 ghost use Rattle.sk_inversion.specs.Undone.{value_before, FitsBefore};
-ghost use Rattle.sk_slots.specs.Kept.{newest_tags, seen, CanGoBack, CanTakeIn};
+ghost use Rattle.sk_slots.specs.Kept.{newest_tags, ready_tags, seen, without_ready, CanGoBack, CanTakeIn};
 ghost use Rattle.sk_slots.specs.Slot.{goes_unnoted, noted_on, is_bare, is_settled, IsPrepared};
 
 use crate::notes::{
-    Kept, Notes, before_first, go_back, goes_unnoted, lighten, merge, take_in_newest,
+    Kept, Notes, before_first, fill, go_back, goes_unnoted, let_go, lighten, merge, noted,
+    take_in_newest,
 };
 use sk_ids::{GuessId, TagSet};
 use sk_inversion::{Before, Inversion, Whole};
 use std::alloc::{AllocError, Global};
 use std::marker::Model;
-use std::mem;
 
 /// What a key has, and the writes that can be undone.
 #[derive(Drop)]
 pub struct Slot<V, I: Inversion<V> = Whole> {
     value: Option<V>,
+    /// The notes. Where one is ready for the next write, it is the last.
     log: Vec<Kept<V, I::Undo>>,
-    /// The tags of the next note, for which there is room.
-    ready: Option<TagSet>,
+    has_ready: bool,
 }
 
 impl<V, I: Inversion<V>> Model for Slot<V, I> {
-    ghost use Rattle.std.specs.Prelude.{◌<◌, vec_len, vec_capacity, is_some, ◌≡◌, true};
     ghost use Rattle.sk_slots.specs.Slot.{SlotView, slot_code};
-    ghost use Rattle.sk_slots.specs.Kept.{seen, CanGoBack};
+    ghost use Rattle.sk_slots.specs.Kept.{seen, ready_tags, without_ready, CanGoBack};
 
     ghost Value = { SlotView V };
 
@@ -36,44 +35,47 @@ impl<V, I: Inversion<V>> Model for Slot<V, I> {
 
     ghost view = { λ s. record {
       value = s.value;
-      log = seen I.undone s.value s.log.items;
-      ready = s.ready;
+      log = seen I.undone s.value (without_ready s.has_ready s.log.items);
+      ready = ready_tags s.has_ready s.log.items;
     } };
 
-    ghost invariant = { λ s. (is_some s.ready ≡ true → vec_len s.log < vec_capacity s.log)
-        × CanGoBack I.undone I.fits s.value s.log.items };
+    ghost invariant = { λ s. CanGoBack I.undone I.fits s.value
+        (without_ready s.has_ready s.log.items) };
 }
 
-/// Notes what puts a write back: a note for which there is room, or the newest one, where that has these tags.
+/// Notes what puts a write back: in the note that is ready, or in the newest one, where that has these tags.
 fn note<V: Drop, I: Inversion<V>>(
     log: &mut Notes<V, I>,
-    ready: &mut Option<TagSet>,
+    has_ready: &mut bool,
     tags: &TagSet,
     before: Before<V, I::Undo>,
 )
-    requires can { CanTakeIn I.undone I.fits before log.old.items }
-    requires room { is_some ready.old ≡ true → vec_len log.old < vec_capacity log.old }
-    requires ready { same_tags tags.now (newest_tags [] log.old.items) ≡ false
-        → ready.old ≡ Some tags.now }
+    requires can { CanTakeIn I.undone I.fits before (without_ready has_ready.old log.old.items) }
+    requires ready { same_tags tags.now
+        (newest_tags [] (without_ready has_ready.old log.old.items)) ≡ false
+        → ready_tags has_ready.old log.old.items ≡ Some tags.now }
+    ensures none { has_ready.new ≡ false }
     ensures seen { (now : Option V) → FitsBefore I.fits before now
-        → CanGoBack I.undone I.fits (value_before I.undone before now) log.old.items
+        → CanGoBack I.undone I.fits (value_before I.undone before now)
+        (without_ready has_ready.old log.old.items)
         → seen I.undone now log.new.items
         ≡ noted_on tags.now (value_before I.undone before now)
-        (seen I.undone (value_before I.undone before now) log.old.items) }
+        (seen I.undone (value_before I.undone before now)
+        (without_ready has_ready.old log.old.items)) }
     ensures can { (now : Option V) → FitsBefore I.fits before now
-        → CanGoBack I.undone I.fits (value_before I.undone before now) log.old.items
+        → CanGoBack I.undone I.fits (value_before I.undone before now)
+        (without_ready has_ready.old log.old.items)
         → CanGoBack I.undone I.fits now log.new.items }
-    ensures room { is_some ready.new ≡ true → vec_len log.new < vec_capacity log.new }
     ensures again { same_tags tags.now (newest_tags [] log.new.items) ≡ true }
 {
-    if goes_unnoted(log.as_slice(), tags) {
+    if goes_unnoted(noted(log.as_slice(), *has_ready), tags) {
+        let_go::<V, I>(log, has_ready);
         take_in_newest::<V, I>(log, before);
         return;
     }
-    let Some(own) = mem::replace(ready, None) else {
-        unreachable!();
-    };
-    log.push_reserved(Kept { tags: own, before });
+    let len = log.len();
+    fill(&mut log[len - 1], before);
+    *has_ready = false;
 }
 
 impl<V, I: Inversion<V>> Slot<V, I> {
@@ -84,7 +86,7 @@ impl<V, I: Inversion<V>> Slot<V, I> {
         Slot {
             value: None,
             log: Vec::new(alloc),
-            ready: None,
+            has_ready: false,
         }
     }
 
@@ -101,7 +103,7 @@ impl<V, I: Inversion<V>> Slot<V, I> {
     pub fn tags(&self) -> Option<&TagSet>
         ensures { unwrap_or (option_copied result) [] ≡ last_tags [] self.now.log }
     {
-        match self.log.last() {
+        match noted(self.log.as_slice(), self.has_ready).last() {
             Some(newest) => Some(&newest.tags),
             None => None,
         }
@@ -111,27 +113,27 @@ impl<V, I: Inversion<V>> Slot<V, I> {
     fn is_bare(&self) -> bool
         ensures { result ≡ is_bare self.now }
     {
-        self.value.is_none() && self.log.is_empty()
+        self.value.is_none() && noted(self.log.as_slice(), self.has_ready).is_empty()
     }
 
     /// Whether there is a value or a note, and no room for the next note.
     fn is_settled(&self) -> bool
         ensures { result ≡ is_settled self.now }
     {
-        self.ready.is_none() && !self.is_bare()
+        !self.has_ready && !self.is_bare()
     }
+}
 
+impl<V: Drop, I: Inversion<V>> Slot<V, I> {
     /// Lets go of the room that was made for the next note, and answers whether there is a value or a note.
     pub fn settle(&mut self) -> bool
         ensures slot { self.new ≡ record self.old { ready = None } }
         ensures left { result ≡ not (is_bare self.old) }
     {
-        self.ready = None;
+        let_go::<V, I>(&mut self.log, &mut self.has_ready);
         !self.is_bare()
     }
-}
 
-impl<V: Drop, I: Inversion<V>> Slot<V, I> {
     /// Makes room for what a write with these tags notes.
     pub fn prepare(&mut self, tags: &TagSet) -> Result<(), AllocError>
         ensures value { self.new.value ≡ self.old.value }
@@ -140,12 +142,17 @@ impl<V: Drop, I: Inversion<V>> Slot<V, I> {
         ensures kept { IsPrepared tags.now self.old → IsPrepared tags.now self.new }
         ensures room { goes_unnoted tags.now self.old.log ≡ true → IsOk result }
     {
-        if goes_unnoted(self.log.as_slice(), tags) {
+        if goes_unnoted(noted(self.log.as_slice(), self.has_ready), tags) {
             return Ok(());
         }
         let own = tags.copy()?;
         self.log.reserve(1)?;
-        self.ready = Some(own);
+        let_go::<V, I>(&mut self.log, &mut self.has_ready);
+        self.log.push_reserved(Kept {
+            tags: own,
+            before: Before::Was(None),
+        });
+        self.has_ready = true;
         Ok(())
     }
 
@@ -159,7 +166,7 @@ impl<V: Drop, I: Inversion<V>> Slot<V, I> {
         ensures settled { result ≡ is_settled self.new }
     {
         let before = I::write(&mut self.value, write);
-        note::<V, I>(&mut self.log, &mut self.ready, tags, before);
+        note::<V, I>(&mut self.log, &mut self.has_ready, tags, before);
         self.is_settled()
     }
 
@@ -170,6 +177,7 @@ impl<V: Drop, I: Inversion<V>> Slot<V, I> {
         ensures log { self.new.log ≡ merged [] (committed id self.old.log) }
         ensures settled { result ≡ is_settled self.new }
     {
+        let_go::<V, I>(&mut self.log, &mut self.has_ready);
         lighten::<V, I>(&mut self.log, id);
         merge::<V, I>(&mut self.log);
         self.is_settled()
@@ -180,6 +188,7 @@ impl<V: Drop, I: Inversion<V>> Slot<V, I> {
         ensures value { self.new.value ≡ unwound id self.old.log self.old.value }
         ensures log { self.new.log ≡ cut id self.old.log }
     {
+        let_go::<V, I>(&mut self.log, &mut self.has_ready);
         let place = before_first(self.log.as_slice(), id);
         go_back::<V, I>(&mut self.value, &mut self.log, place);
     }

@@ -1,5 +1,5 @@
 //! All keys with their slots.
-ghost use Rattle.std.specs.Prelude.{◌≡◌, ◌∷◌, [], List, Some, true, is_some, position, OnOk, IsOk, if◌then◌else◌};
+ghost use Rattle.std.specs.Prelude.{◌≡◌, ◌∷◌, [], List, Some, length, true, is_some, position, OnOk, IsOk, if◌then◌else◌};
 ghost use Rattle.std.specs.Option.{option_copied, unwrap_or};
 ghost use Rattle.std.specs.Ordering.{eq_by_cmp};
 ghost use Rattle.sk_record.specs.Effects.{is_in};
@@ -64,6 +64,13 @@ impl<K: Key + Hash, V, I: Inversion<V>> Slots<K, V, I> {
         ensures { result ≡ position (eq_by_cmp K.order key.now) (keys_of self.now) }
     {
         self.slots.find(key)
+    }
+
+    /// How many keys have slots. A new one comes to this place.
+    pub fn len(&self) -> usize
+        ensures { result ≡ length self.now }
+    {
+        self.slots.len()
     }
 
     /// The tags of a key, where it has a note.

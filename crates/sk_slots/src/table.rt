@@ -1,5 +1,5 @@
 //! Values by keys, which are found by their hashes.
-ghost use Rattle.std.specs.Prelude.{◌≡◌, OnOk, OnErr, OnSome, None, Some, slice_get, position, true};
+ghost use Rattle.std.specs.Prelude.{◌≡◌, OnOk, OnErr, OnSome, None, Some, length, slice_get, position, true};
 ghost use Rattle.std.specs.Option.{option_copied, option_copied_mut};
 ghost use Rattle.std.specs.Borrow.{LendsSo, sem};
 ghost use Rattle.std.specs.Ordering.{eq_by_cmp};
@@ -50,6 +50,13 @@ impl<K: Key + Hash, V> Table<K, V> {
     /// What it takes its memory from.
     pub(crate) fn alloc(&self) -> Global {
         self.alloc
+    }
+
+    /// How many keys have a value.
+    pub(crate) fn len(&self) -> usize
+        ensures { result ≡ length self.now }
+    {
+        self.entries.len()
     }
 
     /// The value of a key, `None` where it is absent.

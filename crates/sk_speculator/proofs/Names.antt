@@ -10,6 +10,7 @@ pub use Rattle.std.proofs.lemmas.Bool.{false≢true, eqb-true, ltb-true, eq-eqb,
 pub use Rattle.std.proofs.lemmas.List.{append-nil, take_all, drop_all}
 pub use Rattle.std.proofs.lemmas.Grind.{drop_more_same}
 pub use Rattle.std.proofs.lemmas.List.Folds.{list_any-append}
+pub use Rattle.std.proofs.lemmas.List.Sorted.{list_any-IsPermutation}
 pub use Rattle.std.proofs.lemmas.Map.Keys.{sorted_from_strictly_increasing}
 pub use Rattle.std.specs.Cmp.{eq_by_cmp_equiv, Equal-is, IsTotalOrder}
 pub use Rattle.std.specs.FinMap.{get-empty, empty, FinMap, IsAntisymmetric}

@@ -5,7 +5,7 @@ use Rattle.sk_speculator.proofs.Names.{OnOk, OnErr, is_err, drop-cons, suc-eq-ad
 use Rattle.sk_speculator.proofs.Names.{IsTotalOrder, eq_by_cmp_equiv, Equal-is, IsAntisymmetric, true≢false, or_left}
 use Rattle.sk_speculator.proofs.Names.{or_right, append-nil, exact_bytes, is_in, written_value, Note, noted, last_tags}
 use Rattle.sk_speculator.proofs.Names.{Merges, all_kept, left_out, SlotView, goes_unnoted, noted_on, look_at, log_at}
-use Rattle.sk_speculator.proofs.Names.{IsReady, noted_again, keys_of, made_by, Performed}
+use Rattle.sk_speculator.proofs.Names.{IsReady, noted_again, keys_of, made_by, Performed, AllAlmostExact, OpenGuess}
 use Rattle.std.specs.Prelude.{Result, Ok, Err}
 
 module _ {V : Type 0} where
@@ -151,6 +151,26 @@ in_place total [] i w lt is = absurd (omega arith)
 in_place {K} {A} {R} total (x ∷ ws) zero w lt is = or_left _ _ (ap (λ (y : K × A). eq_by_cmp R w.0 y.0) (sym is) ∙ (eq_by_cmp_equiv total).refl w.0)
 in_place {K} {A} {R} total (x ∷ ws) (suc i) w lt is = or_right _ _ (in_place {R = R} total ws i w (omega arith) is)
 
+-- ---- keys by themselves
+pub among_first : {K : Type 0} (R : K → K → Ordering) (ks : List K) (i : ℕ) (k : K) → is_in R (take i ks) k ≡ true → is_in R ks k ≡ true
+among_first R [] zero k here = here
+among_first R [] (suc i) k here = here
+among_first R (x ∷ ks) zero k here = absurd (true≢false (sym here))
+among_first R (x ∷ ks) (suc i) k here =
+    elim (eq_by_cmp R k x) as (λ b. (b || is_in R (take i ks) k) ≡ true → (b || is_in R ks k) ≡ true) [ true ↦ λ _. refl | false ↦ λ later. among_first R ks i k later ] here
+
+pub among_them : {K : Type 0} {R : K → K → Ordering} → IsTotalOrder R → (ks : List K) (i : ℕ) (k : K) → i < length ks → k ≡ get_or ks i k → is_in R ks k ≡ true
+among_them total [] i k lt is = absurd (omega arith)
+among_them {K} {R} total (x ∷ ks) zero k lt is = or_left _ _ (ap (eq_by_cmp R k) (sym is) ∙ (eq_by_cmp_equiv total).refl k)
+among_them {K} {R} total (x ∷ ks) (suc i) k lt is = or_right _ _ (among_them {R = R} total ks i k (omega arith) is)
+
+-- lists that are almost exact for some keys are so for the same keys in another order
+pub almost_as : {K : Type 0} (R : K → K → Ordering) (tags : K → List ℕ) (ks all : List K) → ((k : K) → is_in R ks k ≡ is_in R all k)
+    → (os : List (OpenGuess K)) → AllAlmostExact R tags ks os → AllAlmostExact R tags all os
+almost_as R tags ks all same [] almost = tt
+almost_as R tags ks all same (o ∷ os) almost =
+    (record { kept = almost.0.kept; others = λ k out. almost.0.others k (same k ∙ out) }, almost_as R tags ks all same os almost.1)
+
 -- ---- answers
 pub when_ok : {A E P Q : Type 0} (r : Result A E) → OnOk r P → (P → Q) → OnOk r Q
 when_ok (Ok x) p f = f p
@@ -167,3 +187,7 @@ from_err (Err why) is p = p
 pub always_ok : {A E P : Type 0} (r : Result A E) → P → OnOk r P
 always_ok (Ok x) p = p
 always_ok (Err why) p = tt
+
+pub always_err : {A E P : Type 0} (r : Result A E) → P → OnErr r P
+always_err (Ok x) p = tt
+always_err (Err why) p = p

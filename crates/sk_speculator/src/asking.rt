@@ -1,5 +1,5 @@
 //! What a step asks for before it is taken, so that nothing can be refused then, and its taking.
-ghost use Rattle.std.specs.Prelude.{◌≡◌, ◌||◌, ℕ, true, [], None, Some, is_some, length, IfOk, IfSome, OnErr, OnOk};
+ghost use Rattle.std.specs.Prelude.{◌≡◌, ◌||◌, ℕ, true, [], None, Some, is_some, length, IfSome, OnErr, OnOk};
 ghost use Rattle.sk_speculator.specs.Base.{IsStrictlySortedBy, nat_cmp, tags_by, with_tags, AllExact, Covers, keys_of};
 ghost use Rattle.sk_speculator.specs.Base.{HasKeptRoom, opens_of, is_in, is_marked, HasRoom, has, look_at, log_at};
 ghost use Rattle.sk_speculator.specs.Base.{AllSettled, IsReady, SettledBut};
@@ -38,13 +38,13 @@ fn own_tags(alloc: Global, own: &Option<GuessId>) -> TagSet
     }
 }
 
-/// A set once more, for the guess that is drawn.
-fn copy_for(alloc: Global, own: &Option<GuessId>, tags: &TagSet) -> Result<TagSet, AllocError>
-    ensures { is_some own.now ≡ true → IfOk result (λ copy. copy ≡ tags.now) }
-{
-    match own {
-        Some(_) => tags.copy(),
-        None => Ok(TagSet::new(alloc)),
+impl StepTags {
+    /// Those of a step that touches nothing and draws no guess.
+    pub(crate) fn new(alloc: Global) -> StepTags {
+        StepTags {
+            tags: TagSet::new(alloc),
+            own: TagSet::new(alloc),
+        }
     }
 }
 
@@ -52,23 +52,25 @@ fn copy_for(alloc: Global, own: &Option<GuessId>, tags: &TagSet) -> Result<TagSe
 fn tags_of_step<K: Key + Hash, V, O, I: Inversion<V>>(
     alloc: Global,
     slots: &Slots<K, V, I>,
+    both: &mut StepTags,
     places: &[usize],
     own: &Option<GuessId>,
     step: &Step<K, V, O, I>,
-) -> Result<StepTags, AllocError>
-    ensures members { IfOk result
-        (λ both. (g : ℕ) → has g both.tags
+) -> Result<(), AllocError>
+    ensures members { OnOk result ((g : ℕ) → has g both.new.tags
         ≡ ((is_marked own.now g || any_rests K.order slots.now g step.now.looked.items)
         || any_rests K.order slots.now g (keys_of step.now.written.items))) }
-    ensures rising { IfOk result (λ both. IsStrictlySortedBy nat_cmp both.tags) }
-    ensures own { IfOk result (λ both. is_some own.now ≡ true → both.own ≡ both.tags) }
+    ensures rising { OnOk result (IsStrictlySortedBy nat_cmp both.new.tags) }
+    ensures own { OnOk result (is_some own.now ≡ true → both.new.own ≡ both.new.tags) }
 {
-    let marked = own_tags(alloc, own);
-    let read = add_tags(slots, marked, step.looked.as_slice(), places)?;
-    let tags = add_written_tags(slots, read, step.written.as_slice(), places)?;
-    let _rising = tags.ids();
-    let own = copy_for(alloc, own, &tags)?;
-    Ok(StepTags { tags, own })
+    both.tags = own_tags(alloc, own);
+    add_tags(slots, &mut both.tags, step.looked.as_slice(), places)?;
+    add_written_tags(slots, &mut both.tags, step.written.as_slice(), places)?;
+    let _rising = both.tags.ids();
+    if own.is_some() {
+        both.own = both.tags.copy()?;
+    }
+    Ok(())
 }
 
 /// Makes room for the output of a step.
@@ -104,6 +106,7 @@ fn reserve_guess<K: Key>(
 /// Makes room for the notes of writes, adds their keys to the lists of the guesses that they come to rest on, and makes
 /// room for the guess of the step. Without memory the lists have what they had.
 fn make_ready<K: Key + Hash, V: Drop, I: Inversion<V>>(
+    alloc: Global,
     slots: &mut Slots<K, V, I>,
     guesses: &mut OpenGuesses<K>,
     no_tags: &TagSet,
@@ -134,7 +137,7 @@ fn make_ready<K: Key + Hash, V: Drop, I: Inversion<V>>(
         (AllExact K.order (tags_by (log_at K.order slots.old)) guesses.new.opens) }
 {
     prepare_all(slots, tags, written, places)?;
-    depend_all(guesses, slots, no_tags, tags, written, places)?;
+    depend_all(alloc, guesses, slots, no_tags, tags, written, places)?;
     if reserve_guess(guesses, own, written.len()).is_err() {
         relieve_written(guesses, slots, no_tags, written);
         return Err(AllocError);
@@ -142,8 +145,8 @@ fn make_ready<K: Key + Hash, V: Drop, I: Inversion<V>>(
     Ok(())
 }
 
-/// Answers the guesses that a step rests on, and makes all room that it wants. Nothing that is seen changes. Without memory
-/// no room stays but what is free for all.
+/// Finds the guesses that a step rests on, and makes all room that it wants. Nothing that is seen changes. Without memory no
+/// room stays but what is free for all.
 pub(crate) fn ask<K: Key + Hash, V: Drop, O: Drop, I: Inversion<V>>(
     alloc: Global,
     slots: &mut Slots<K, V, I>,
@@ -152,8 +155,9 @@ pub(crate) fn ask<K: Key + Hash, V: Drop, O: Drop, I: Inversion<V>>(
     places: &mut Vec<usize>,
     no_tags: &TagSet,
     own: &Option<GuessId>,
+    both: &mut StepTags,
     step: &Step<K, V, O, I>,
-) -> Result<StepTags, AllocError>
+) -> Result<(), AllocError>
     requires settled { AllSettled K.order slots.old }
     requires exact { AllExact K.order (tags_by (log_at K.order slots.old)) guesses.old.opens }
     requires no_tags { no_tags.now ≡ [] }
@@ -165,20 +169,18 @@ pub(crate) fn ask<K: Key + Hash, V: Drop, O: Drop, I: Inversion<V>>(
     ensures settled { OnErr result (AllSettled K.order slots.new) }
     ensures lists { OnErr result
         (AllExact K.order (tags_by (log_at K.order slots.old)) guesses.new.opens) }
-    ensures members { IfOk result
-        (λ both. (g : ℕ) → has g both.tags
+    ensures members { OnOk result ((g : ℕ) → has g both.new.tags
         ≡ ((is_marked own.now g || any_rests K.order slots.old g step.now.looked.items)
         || any_rests K.order slots.old g (keys_of step.now.written.items))) }
-    ensures rising { IfOk result (λ both. IsStrictlySortedBy nat_cmp both.tags) }
-    ensures own { IfOk result (λ both. is_some own.now ≡ true → both.own ≡ both.tags) }
+    ensures rising { OnOk result (IsStrictlySortedBy nat_cmp both.new.tags) }
+    ensures own { OnOk result (is_some own.now ≡ true → both.new.own ≡ both.new.tags) }
     ensures unsettled { OnOk result
         (SettledBut K.order (keys_of step.now.written.items) slots.new) }
-    ensures ready { IfOk result
-        (λ both. (q : K) → is_in K.order (keys_of step.now.written.items) q ≡ true
-        → IsReady K.order both.tags slots.new q) }
-    ensures exact { IfOk result
-        (λ both. AllExact K.order
-        (with_tags K.order both.tags (keys_of step.now.written.items)
+    ensures ready { OnOk result ((q : K) → is_in K.order (keys_of step.now.written.items) q ≡ true
+        → IsReady K.order both.new.tags slots.new q) }
+    ensures exact { OnOk result
+        (AllExact K.order
+        (with_tags K.order both.new.tags (keys_of step.now.written.items)
         (tags_by (log_at K.order slots.old))) guesses.new.opens) }
     ensures places { OnOk result (is_some own.now ≡ true
         → HasKeptRoom guesses.new (length step.now.written.items)) }
@@ -187,13 +189,17 @@ pub(crate) fn ask<K: Key + Hash, V: Drop, O: Drop, I: Inversion<V>>(
     let written = step.written.as_slice();
     find_all(slots, places, written)?;
     let places = places.as_slice();
-    let both = tags_of_step(alloc, slots, places, own, step)?;
+    tags_of_step(alloc, slots, both, places, own, step)?;
     reserve_output(said, &step.said)?;
-    if make_ready(slots, guesses, no_tags, own, &both.tags, written, places).is_err() {
+    if make_ready(
+        alloc, slots, guesses, no_tags, own, &both.tags, written, places,
+    )
+    .is_err()
+    {
         settle_all(slots, written);
         return Err(AllocError);
     }
-    Ok(both)
+    Ok(())
 }
 
 /// Makes the writes of a step, for which all is ready, and says its output. The step's buffers are empty then, with their

@@ -1,7 +1,7 @@
 //! The lists of what rests on each undecided guess, as steps and failures change them.
-ghost use Rattle.std.specs.Prelude.{◌≡◌, ℕ, [], true, OnErr, OnOk};
+ghost use Rattle.std.specs.Prelude.{◌≡◌, ℕ, [], true, IfOk, OnErr, OnOk, IsSorted};
 ghost use Rattle.sk_speculator.specs.Base.{tags_by, with_tags, AllAlmostExact, AllExact, Covers, Depends, keys_of};
-ghost use Rattle.sk_speculator.specs.Base.{opens_of, has, last_tags, log_at};
+ghost use Rattle.sk_speculator.specs.Base.{is_in, opens_of, has, last_tags, log_at};
 
 use crate::writes::next_place;
 use sk_guesses::OpenGuesses;
@@ -9,8 +9,11 @@ use sk_ids::TagSet;
 use sk_inversion::Inversion;
 use sk_map::Key;
 use sk_slots::Slots;
-use std::alloc::AllocError;
+use std::alloc::{AllocError, Global};
 use std::hash::Hash;
+
+/// No more keys than these are added to lists in the order in which a step writes them.
+const FEW: usize = 8;
 
 /// The guesses that a key rests on, where this is the set of none.
 pub(crate) fn tags_of<'a, K: Key + Hash, V, I: Inversion<V>>(
@@ -56,7 +59,11 @@ fn is_known_to_rest<K: Key + Hash, V, I: Inversion<V>>(
         → (g : ℕ) → has g tags.now ≡ true
         → has g (last_tags [] (log_at K.order slots.now key.now)) ≡ true }
 {
-    no_tags.covers(tags) || tags_near(slots, no_tags, place, key).covers(tags)
+    if tags.ids().is_empty() {
+        return true;
+    }
+    let own = tags_near(slots, no_tags, place, key);
+    own.is_same(tags) || own.covers(tags)
 }
 
 /// Adds a key to the lists of these guesses.
@@ -81,9 +88,9 @@ fn depend<K: Key + Hash, V, I: Inversion<V>>(
     guesses.depend(tags, key)
 }
 
-/// Adds what a step writes to the lists of the guesses that the step rests on. Without memory the lists have what they
-/// had.
-pub(crate) fn depend_all<K: Key + Hash, V, I: Inversion<V>>(
+/// Adds what a step writes to the lists of the guesses that the step rests on, in the order of its writes. Without memory the
+/// lists have what they had.
+fn depend_few<K: Key + Hash, V, I: Inversion<V>>(
     guesses: &mut OpenGuesses<K>,
     slots: &Slots<K, V, I>,
     no_tags: &TagSet,
@@ -119,6 +126,83 @@ pub(crate) fn depend_all<K: Key + Hash, V, I: Inversion<V>>(
             relieve_written(guesses, slots, no_tags, written);
             return Err(AllocError);
         }
+    }
+    Ok(())
+}
+
+/// The keys of writes, by rising order.
+fn rising_keys<K: Key, W>(alloc: Global, written: &[(K, W)]) -> Result<Vec<K>, AllocError>
+    ensures keys { IfOk result
+        (λ keys. (k : K) → is_in K.order keys.items k ≡ is_in K.order (keys_of written.now) k) }
+    ensures rising { IfOk result (λ keys. IsSorted K.cmp keys.items) }
+{
+    let mut keys = Vec::new(alloc);
+    for write in written {
+        keys.push(write.0)?;
+    }
+    keys.sort_unstable();
+    Ok(keys)
+}
+
+/// Adds keys to the lists of these guesses. Without memory some of them may be there.
+fn depend_each<K: Key + Hash, V, I: Inversion<V>>(
+    guesses: &mut OpenGuesses<K>,
+    slots: &Slots<K, V, I>,
+    no_tags: &TagSet,
+    tags: &TagSet,
+    keys: &[K],
+) -> Result<(), AllocError>
+    requires exact { AllExact K.order (tags_by (log_at K.order slots.now)) guesses.old.opens }
+    requires covers { Covers K.order tags.now keys.now (tags_by (log_at K.order slots.now)) }
+    requires no_tags { no_tags.now ≡ [] }
+    ensures view { guesses.new.view ≡ guesses.old.view }
+    ensures opens { opens_of guesses.new.opens ≡ opens_of guesses.old.opens }
+    ensures ok { OnOk result
+        (AllExact K.order
+        (with_tags K.order tags.now keys.now (tags_by (log_at K.order slots.now)))
+        guesses.new.opens) }
+    ensures err { OnErr result
+        (AllAlmostExact K.order (tags_by (log_at K.order slots.now)) keys.now
+        guesses.new.opens) }
+{
+    for key in keys {
+        depend(guesses, slots, no_tags, tags, usize::MAX, key)?;
+    }
+    Ok(())
+}
+
+/// Adds what a step writes to the lists of the guesses that the step rests on. Where it writes many keys these are added by
+/// rising order: then each stands behind those that were added, and none has to move. Without memory the lists have what
+/// they had.
+pub(crate) fn depend_all<K: Key + Hash, V, I: Inversion<V>>(
+    alloc: Global,
+    guesses: &mut OpenGuesses<K>,
+    slots: &Slots<K, V, I>,
+    no_tags: &TagSet,
+    tags: &TagSet,
+    written: &[(K, I::Write)],
+    places: &[usize],
+) -> Result<(), AllocError>
+    requires exact { AllExact K.order (tags_by (log_at K.order slots.now)) guesses.old.opens }
+    requires covers { Covers K.order tags.now (keys_of written.now)
+        (tags_by (log_at K.order slots.now)) }
+    requires no_tags { no_tags.now ≡ [] }
+    ensures view { guesses.new.view ≡ guesses.old.view }
+    ensures opens { opens_of guesses.new.opens ≡ opens_of guesses.old.opens }
+    ensures ok { OnOk result
+        (AllExact K.order
+        (with_tags K.order tags.now (keys_of written.now) (tags_by (log_at K.order slots.now)))
+        guesses.new.opens) }
+    ensures err { OnErr result
+        (AllExact K.order (tags_by (log_at K.order slots.now)) guesses.new.opens) }
+{
+    if written.len() <= FEW {
+        return depend_few(guesses, slots, no_tags, tags, written, places);
+    }
+    let keys = rising_keys(alloc, written)?;
+    if depend_each(guesses, slots, no_tags, tags, keys.as_slice()).is_err() {
+        relieve_written(guesses, slots, no_tags, written);
+        return Err(AllocError);
     }
     Ok(())
 }

@@ -243,7 +243,8 @@ impl<K: Key + Hash, V: Drop, O: Drop, I: Inversion<V>> Speculator<K, V, O, I> {
         if self.is_idle() {
             return self.take_alone(step);
         }
-        let asked = ask(
+        let mut both = StepTags::new(self.alloc);
+        ask(
             self.alloc,
             &mut self.slots,
             &mut self.guesses,
@@ -251,11 +252,9 @@ impl<K: Key + Hash, V: Drop, O: Drop, I: Inversion<V>> Speculator<K, V, O, I> {
             &mut self.places,
             &self.no_tags,
             &None,
+            &mut both,
             step,
-        );
-        let Ok(both) = asked else {
-            return Err(AllocError);
-        };
+        )?;
         let StepTags { tags, own: _ } = both;
         perform(
             &mut self.slots,
@@ -316,6 +315,7 @@ impl<K: Key + Hash, V: Drop, O: Drop, I: Inversion<V>> Speculator<K, V, O, I> {
         let Some(id) = self.guesses.free() else {
             return Err(Refusal::NoNumber);
         };
+        let mut both = StepTags::new(self.alloc);
         let asked = ask(
             self.alloc,
             &mut self.slots,
@@ -324,9 +324,10 @@ impl<K: Key + Hash, V: Drop, O: Drop, I: Inversion<V>> Speculator<K, V, O, I> {
             &mut self.places,
             &self.no_tags,
             &Some(id),
+            &mut both,
             step,
         );
-        let Ok(both) = asked else {
+        let Ok(()) = asked else {
             return Err(Refusal::Memory);
         };
         let StepTags { tags, own } = both;

@@ -1,5 +1,5 @@
 //! The writes of a step: the guesses that their keys rest on, the room for their notes, and the writes themselves.
-ghost use Rattle.std.specs.Prelude.{◌≡◌, ◌||◌, ◌∷◌, ℕ, Option, true, [], None, IfOk, OnOk};
+ghost use Rattle.std.specs.Prelude.{◌≡◌, ◌||◌, ◌∷◌, ℕ, Option, true, [], None, OnOk};
 ghost use Rattle.sk_speculator.specs.Base.{keys_of, is_in, has, look_at, log_at, AllSettled, IsReady, SettledBut};
 ghost use Rattle.sk_speculator.specs.Parts.{any_rests, made_by, Performed};
 
@@ -12,6 +12,20 @@ use std::hash::Hash;
 use std::mem;
 use std::slice::Iter;
 
+/// The place of a key, or the one behind the last that is taken, where its slot would come.
+fn place_of<K: Key + Hash, V, I: Inversion<V>>(
+    slots: &Slots<K, V, I>,
+    next: &mut usize,
+    key: &K,
+) -> usize {
+    if let Some(place) = slots.find(key) {
+        return place;
+    }
+    let place = *next;
+    *next = place.saturating_add(1);
+    place
+}
+
 /// The places of the keys that a step writes. They save searches: a key is looked for at its place first, and found wherever it
 /// is.
 pub(crate) fn find_all<K: Key + Hash, V, I: Inversion<V>>(
@@ -20,9 +34,10 @@ pub(crate) fn find_all<K: Key + Hash, V, I: Inversion<V>>(
     written: &[(K, I::Write)],
 ) -> Result<(), AllocError> {
     places.clear();
+    let mut next = slots.len();
     for write in written {
         places.reserve(1)?;
-        places.push_reserved(slots.find(&write.0).unwrap_or(usize::MAX));
+        places.push_reserved(place_of(slots, &mut next, &write.0));
     }
     Ok(())
 }
@@ -35,67 +50,66 @@ pub(crate) fn next_place(places: &mut Iter<'_, usize>) -> usize {
     }
 }
 
-/// Adds guesses to a set. Most sets have them.
-fn with_tags(all: TagSet, more: &TagSet) -> Result<TagSet, AllocError>
-    ensures { IfOk result (λ both. (g : ℕ) → has g both ≡ (has g all || has g more.now)) }
+/// Adds guesses to a set. Most sets are the same.
+fn with_tags(all: &mut TagSet, more: &TagSet) -> Result<(), AllocError>
+    ensures { OnOk result ((g : ℕ) → has g all.new ≡ (has g all.old || has g more.now)) }
 {
-    if all.covers(more) {
-        return Ok(all);
+    if all.ids().is_empty() {
+        *all = more.copy()?;
+    } else if !all.is_same(more) && !all.covers(more) {
+        *all = all.union(more)?;
     }
-    all.union(more)
+    Ok(())
 }
 
 /// Adds to a set the guesses that a key rests on.
 fn add_tags_at<K: Key + Hash, V, I: Inversion<V>>(
     slots: &Slots<K, V, I>,
-    tags: TagSet,
+    all: &mut TagSet,
     place: usize,
     key: &K,
-) -> Result<TagSet, AllocError>
-    ensures { IfOk result
-        (λ all. (g : ℕ) → has g all ≡ (has g tags || any_rests K.order slots.now g (key.now ∷ []))) }
+) -> Result<(), AllocError>
+    ensures { OnOk result ((g : ℕ) → has g all.new
+        ≡ (has g all.old || any_rests K.order slots.now g (key.now ∷ []))) }
 {
     match slots.tags_near(place, key) {
-        Some(more) => with_tags(tags, more),
-        None => Ok(tags),
+        Some(more) => with_tags(all, more),
+        None => Ok(()),
     }
 }
 
 /// Adds to a set the guesses that these keys rest on.
 pub(crate) fn add_tags<K: Key + Hash, V, I: Inversion<V>>(
     slots: &Slots<K, V, I>,
-    tags: TagSet,
+    all: &mut TagSet,
     keys: &[K],
     places: &[usize],
-) -> Result<TagSet, AllocError>
-    ensures { IfOk result
-        (λ all. (g : ℕ) → has g all ≡ (has g tags || any_rests K.order slots.now g keys.now)) }
+) -> Result<(), AllocError>
+    ensures { OnOk result ((g : ℕ) → has g all.new
+        ≡ (has g all.old || any_rests K.order slots.now g keys.now)) }
 {
-    let mut all = tags;
     let mut near = places.iter();
     for key in keys {
-        all = add_tags_at(slots, all, next_place(&mut near), key)?;
+        add_tags_at(slots, all, next_place(&mut near), key)?;
     }
-    Ok(all)
+    Ok(())
 }
 
 /// Adds to a set the guesses that the keys of writes rest on.
 pub(crate) fn add_written_tags<K: Key + Hash, V, I: Inversion<V>>(
     slots: &Slots<K, V, I>,
-    tags: TagSet,
+    all: &mut TagSet,
     written: &[(K, I::Write)],
     places: &[usize],
-) -> Result<TagSet, AllocError>
-    ensures { IfOk result
-        (λ all. (g : ℕ) → has g all
-        ≡ (has g tags || any_rests K.order slots.now g (keys_of written.now))) }
+) -> Result<(), AllocError>
+    ensures { OnOk result ((g : ℕ) → has g all.new
+        ≡ (has g all.old || any_rests K.order slots.now g (keys_of written.now))) }
 {
-    let mut all = tags;
     let mut near = places.iter();
     for write in written {
-        all = add_tags_at(slots, all, next_place(&mut near), &write.0)?;
+        add_tags_at(slots, all, next_place(&mut near), &write.0)?;
     }
-    Ok(all)
+    Ok(())
 }
 
 /// Makes room for what writes with these tags note.

@@ -9,7 +9,7 @@ use Rattle.sk_speculator.proofs.asking.ask.Goals as goal
 pub make_ready-requires-clause-covers : goal.make_ready-requires-clause-covers
 make_ready-requires-clause-covers g c = λ k n here rests.
     let exact = subst IsAntisymmetric g.met.K.Key.same g.met.K.Key.exact in
-    c.in_ok-both.ensures.members n ∙ or_right _ _ (any_of g.K.Key.order exact c.args.slots.now n (keys_of c.args.step.now.written.items) k (ap (λ xs. is_in g.K.Key.order (keys_of xs) k) (sym c.as_slice-written.ensures.value) ∙ here) rests)
+    c.in_ok-tags_of_step.ensures.members n ∙ or_right _ _ (any_of g.K.Key.order exact c.args.slots.now n (keys_of c.args.step.now.written.items) k (ap (λ xs. is_in g.K.Key.order (keys_of xs) k) (sym c.as_slice-written.ensures.value) ∙ here) rests)
 
 pub returns-then-is_err-clause-look : goal.returns-then-is_err-clause-look
 returns-then-is_err-clause-look g c = λ q. c.settle_all.ensures.look q ∙ c.make_ready.ensures.look q
@@ -27,7 +27,7 @@ returns-clause-unsettled g c = λ k s is out.
 pub returns-clause-exact : goal.returns-clause-exact
 returns-clause-exact g c =
     let R = g.K.Key.order in
-    subst (λ xs. AllExact R (with_tags R c.in_ok-both.both.tags (keys_of xs) (tags_by (log_at R c.args.slots.now))) c.make_ready.new.guesses.opens) c.as_slice-written.ensures.value
+    subst (λ xs. AllExact R (with_tags R c.tags_of_step.new.both.tags (keys_of xs) (tags_by (log_at R c.args.slots.now))) c.make_ready.new.guesses.opens) c.as_slice-written.ensures.value
     (from_ok c.make_ready.result c.if-is_err.ensures.value c.make_ready.ensures.ok)
 
 pub returns-clause-places : goal.returns-clause-places

@@ -46,7 +46,7 @@ perform-requires-clause-clean g c = λ q here none.
     let d : Deed _ _ _ = record { looked = looked; written = made_by R wr (look_at R a.slots) ws; said = c.args.step.now.said } in
     let keys = keys_made R wr (look_at R a.slots) ws in
     let members = λ (n : ℕ). c.in-Ok.ensures.members n ∙ ap (λ ks. (is_marked (Some c.in-Some.id) n || any_rests R a.slots n looked) || any_rests R a.slots n ks) (sym keys) in
-    c.ask-asked.ensures.log q ∙ clean total exact a os c.self.invariant.1 d (Some c.in-Some.id) c.in-Ok.both.tags members q (ap (λ ks. is_in R ks q) keys ∙ here) none
+    c.ask-asked.ensures.log q ∙ clean total exact a os c.self.invariant.1 d (Some c.in-Some.id) c.ask-asked.new.both.tags members q (ap (λ ks. is_in R ks q) keys ∙ here) none
 
 taken : (g : Over) (c : After-perform g) →
     let b : Parts _ _ _ = record { slots = c.perform.new.slots; guesses = c.draw-guess.new.self.view; opens = opens_of c.draw-guess.new.self.opens; said = c.perform.new.said.said } in
@@ -65,11 +65,11 @@ taken g c =
     let d : Deed _ _ _ = record { looked = looked; written = made_by R wr (look_at R a.slots) ws; said = c.args.step.now.said } in
     let keys = keys_made R wr (look_at R a.slots) ws in
     let members = λ (n : ℕ). c.in-Ok.ensures.members n ∙ ap (λ ks. (is_marked (Some c.in-Some.id) n || any_rests R a.slots n looked) || any_rests R a.slots n ks) (sym keys) in
-    let writes = subst (λ vs. Performed R c.ask-asked.new.slots c.in-Ok.both.tags vs c.perform.new.slots) (λ i. made_by R wr (λ q. c.ask-asked.ensures.look q i) ws) c.perform.ensures.writes in
-    let exactly = subst (λ ks. AllExact R (with_tags R c.in-Ok.both.tags ks (tags_by (log_at R a.slots))) c.ask-asked.new.guesses.opens) (sym keys) c.in-Ok.ensures.exact in
-    after_guess total exact a os c.self.invariant.1 c.ask-asked.new.slots c.perform.new.slots d c.in-Ok.both.tags c.ask-asked.new.guesses.view c.ask-asked.new.guesses.opens c.ask-asked.new.said.said c.perform.new.said.said
+    let writes = subst (λ vs. Performed R c.ask-asked.new.slots c.ask-asked.new.both.tags vs c.perform.new.slots) (λ i. made_by R wr (λ q. c.ask-asked.ensures.look q i) ws) c.perform.ensures.writes in
+    let exactly = subst (λ ks. AllExact R (with_tags R c.ask-asked.new.both.tags ks (tags_by (log_at R a.slots))) c.ask-asked.new.guesses.opens) (sym keys) c.in-Ok.ensures.exact in
+    after_guess total exact a os c.self.invariant.1 c.ask-asked.new.slots c.perform.new.slots d c.ask-asked.new.both.tags c.ask-asked.new.guesses.view c.ask-asked.new.guesses.opens c.ask-asked.new.said.said c.perform.new.said.said
     c.ask-asked.ensures.look c.ask-asked.ensures.log c.ask-asked.ensures.view c.ask-asked.ensures.opens c.ask-asked.ensures.said c.in-Ok.ensures.rising writes c.perform.ensures.says c.perform.ensures.settled exactly
-    c.in-Ok.both.own c.in-Some.id c.draw-guess.new.self.view c.draw-guess.new.self.opens (keys_of c.as_slice.result.now) c.in-Some.ensures.0 members (c.in-Ok.ensures.own refl) c.draw-guess.ensures.view
+    c.ask-asked.new.both.own c.in-Some.id c.draw-guess.new.self.view c.draw-guess.new.self.opens (keys_of c.as_slice.result.now) c.in-Some.ensures.0 members (c.in-Ok.ensures.own refl) c.draw-guess.ensures.view
     c.draw-guess.ensures.opens (ap keys_of c.as_slice.ensures.value ∙ sym keys) c.draw-guess.ensures.statuses
 
 pub invariant_of-self-2 : goal.invariant_of-self-2

@@ -1,6 +1,6 @@
 -- The keys so far are in the lists of all the guesses.
 use Rattle.sk_speculator.proofs.Names.{◌≡◌, take, AllExact, tags_by, with_tags, keys_of, opens_of, log_at}
-use Rattle.sk_speculator.proofs.lists.depend_all.Given as goal
+use Rattle.sk_speculator.proofs.lists.depend_few.Given as goal
 
 abbrev pub invariant-loop-write : goal.invariant-loop-write
 invariant-loop-write g l =

@@ -11,4 +11,5 @@ pub mod Works
 pub mod Bulks
 pub mod Placed
 pub mod Placings
+mod InOrder
 pub mod Spoken

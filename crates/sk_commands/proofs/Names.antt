@@ -78,3 +78,11 @@ pub use Rattle.std.specs.Cmp.Lexicographic.{nat_list_cmp_total}
 pub use Rattle.std.specs.FinMap.{slice_cmp-IsAntisymmetric, nat_cmp-IsAntisymmetric}
 pub use Rattle.std.specs.Ordering.{eq_by_cmp, is_eq, match_ordering}
 pub use Rattle.std.proofs.Common.{zero}
+pub use Rattle.std.proofs.lemmas.List.{take_more}
+pub use Rattle.std.specs.BTreeSet.{insert_key}
+pub use Rattle.std.specs.List.{AllByRecursion}
+pub use Rattle.std.specs.List.Sorted.{IsStrictlySortedBy}
+pub use Rattle.std.proofs.lemmas.Map.Keys.{sorted_from_all_adjacent}
+pub use Rattle.std.specs.Ordering.{ordering_reverse}
+pub use Rattle.std.proofs.lemmas.List.{get_or-map}
+pub use Rattle.std.proofs.lemmas.Bool.{ltb-true, ltb-false}

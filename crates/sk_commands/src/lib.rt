@@ -13,6 +13,7 @@ mod number;
 mod parse;
 mod reply;
 mod requests;
+mod rising;
 mod run;
 mod session;
 mod text;

@@ -15,7 +15,7 @@ use std::alloc::{AllocError, Global};
 pub const VALUE_LIMIT: usize = 16_777_216;
 
 /// No more keys than these are looked for among each other one by one.
-const FEW: usize = 8;
+pub(crate) const FEW: usize = 8;
 
 /// What keys get, one after another; nothing, where a key is made absent.
 pub type Writes = Vec<(Vec<u8>, Option<ByteString>)>;

@@ -6,6 +6,8 @@ ghost use Rattle.sk_commands.specs.Work.{after, comes_to, each, known_after, loo
 
 use crate::asking::copy_keys;
 use crate::noted::Noted;
+use crate::rising::{are_rising, rising_after};
+use crate::run::FEW;
 use crate::{ByteString, Command, Look, Reply, Writes};
 use std::alloc::{AllocError, Global};
 use std::cmp::Ordering;
@@ -164,8 +166,9 @@ fn place_key(alloc: Global, key: &[u8], keys: &mut Vec<Vec<u8>>) -> Result<(), A
     Ok(())
 }
 
-/// Copies of all keys when this is written, each once, in the order of their bytes where they stood so.
-fn known_after(
+/// Copies of all keys when this is written, each once, in the order of their bytes where they stood so. Each write is placed by
+/// itself.
+fn place_each(
     alloc: Global,
     written: &[(Vec<u8>, Option<ByteString>)],
     known: &[Vec<u8>],
@@ -179,6 +182,22 @@ fn known_after(
         place_key(alloc, write.0.as_slice(), &mut all)?;
     }
     Ok(all)
+}
+
+/// The same for any number of writes: keys that stand in the order of their bytes are looked through once for all of them.
+fn known_after(
+    alloc: Global,
+    written: &[(Vec<u8>, Option<ByteString>)],
+    known: &[Vec<u8>],
+) -> Result<Vec<Vec<u8>>, AllocError>
+    ensures { IfOk result (λ all. map vec_items all.items
+        ≡ known_after (told written.now) (map vec_items known.now)) }
+{
+    if written.len() > FEW && are_rising(known) {
+        rising_after(alloc, written, known)
+    } else {
+        place_each(alloc, written, known)
+    }
 }
 
 /// What a command writes behind what is written so far, and replies: it sees that.

@@ -19,6 +19,8 @@ use Rattle.sk_batched.specs.Batched as batched
 use Rattle.sk_channels.specs.declared.refusal.Refusal.{Refusal as Channels}
 use Rattle.sk_channels.specs.declared.refusal.Refusal.TheVariants as channels
 use Rattle.sk_durable.specs.declared.refusal.Refusal.TheVariants.{Full, Memory}
+use Rattle.sk_durable.proofs.Names.{cond, ◌==◌, OutputPost}
+use Rattle.sk_durable.specs.Posts.{moved}
 use Rattle.sk_durable.proofs.Ways.{now_there, past_goes}
 
 -- ---- calls one after another
@@ -303,6 +305,17 @@ there_brought t (Err NoChannel) a b c (answers, m, serves, held, stops) there is
     some_none (channel_at m.channels t) c (ap (λ (s : StoreView). channel_at s.channels t) (sym stops) ∙ there) held
 there_brought t (Ok unit) a b c post there is = cc
 there_brought t (Err why) a b c post there is = cc
+
+-- what is told of it is want of memory just where nothing was moved out for that
+pub moved_out : (t count : ℕ) (brought : Result (Unit {0}) Refusal) (room filled : List ℕ) (a m b : StoreView) → brought ≢ Err NoChannel
+    → BringPost t brought a m → HandsOver t count room filled m b → OutputPost t (moved brought count) room filled a b
+moved_out t count (Err Memory) room filled a m b is post hands =
+    elim (count == 0) as (λ empty. (count == 0) ≡ empty → OutputPost t (cond empty (Err Memory) (Ok count)) room filled a b) [
+      | true ↦ λ e. let none : count ≡ 0 = grind (arith, nat_tests, e) in (m, post, subst (λ n. HandsOver t n room filled m b) none hands)
+      | false ↦ λ e. let some : 0 < count = grind (arith, nat_tests, e) in (Err Memory, is, m, post, hands, λ _. some)
+    ] refl
+moved_out t count (Ok unit) room filled a m b is post hands = (Ok unit, is, m, post, hands, λ e. cc)
+moved_out t count (Err why) room filled a m b is post hands = (Err why, is, m, post, hands, λ e. cc)
 
 -- ---- what is let go of
 

@@ -1,5 +1,5 @@
 -- What each call of a store answers, and what it leaves.
-use Rattle.std.specs.Prelude.{◌≡◌, ◌≢◌, ◌⊎◌, ◌||◌, ◌+◌, ◌-◌, ◌<◌, ◌≤◌, ◌^◌, ℕ, Bool, true, false, is_some, nat_le, min, List, [], ◌++◌, length, map, take, drop, Option, Some, None, Result, Ok, Err}
+use Rattle.std.specs.Prelude.{◌≡◌, ◌≢◌, ◌⊎◌, ◌||◌, ◌==◌, if◌then◌else◌, ◌+◌, ◌-◌, ◌<◌, ◌≤◌, ◌^◌, ℕ, Bool, true, false, is_some, nat_le, min, List, [], ◌++◌, length, map, take, drop, Option, Some, None, Result, Ok, Err}
 use Rattle.sk_durable.specs.Base.{list_any, AllByRecursion, released, said_at, frame, word_refused, next_segment, cut_due, is_refused}
 use Rattle.sk_durable.specs.Base.{undecided, Stage, Sealed, Cut, Queued, NextPost, Outcome, Channel, Ask, Do}
 use Rattle.sk_durable.specs.Base.{posed_ticket, channel_at, Answer, Work, answer_text, Entries, Requests, after_work}
@@ -176,9 +176,14 @@ abbrev pub HandsOver : ℕ → ℕ → List ℕ → List ℕ → StoreView → S
 HandsOver t count room filled a b = Does a (Hands t (take count filled)) b × (drop count filled ≡ drop count room)
     × ((channel : Channel) → channel_at a.channels t ≡ Some channel → count ≡ min (length room) (length channel.outlet.waiting))
 
+-- what is told where so many bytes were moved out, and this came of what was brought: where none was, for want of memory, that
+abbrev pub moved : Result (Unit {0}) Refusal → ℕ → Result ℕ Refusal
+moved (Err Memory) count = if count == 0 then Err Memory else Ok count
+moved other count = Ok count
+
 abbrev pub OutputPost : ℕ → Result ℕ Refusal → List ℕ → List ℕ → StoreView → StoreView → Type 0
 OutputPost t (Ok count) room filled a b = (brought : Result (Unit {0}) Refusal) × (brought ≢ Err NoChannel)
-    × (m : StoreView) × BringPost t brought a m × HandsOver t count room filled m b
+    × (m : StoreView) × BringPost t brought a m × HandsOver t count room filled m b × (brought ≡ Err Memory → 0 < count)
 OutputPost t (Err NoChannel) room filled a b = (channel_at a.channels t ≡ None) × (b ≡ a) × (filled ≡ room)
 OutputPost t (Err Memory) room filled a b = (m : StoreView) × BringPost t (Err Memory) a m × HandsOver t 0 room filled m b
 OutputPost t (Err other) room filled a b = ⊥

@@ -89,6 +89,11 @@ abbrev pub is_closed : Option Channel → Bool
 is_closed None = false
 is_closed (Some channel) = channel.inlet.closed
 
+-- how many bytes the commands take that wait for EXEC on it
+abbrev pub queued : Option Channel → ℕ
+queued None = 0
+queued (Some channel) = channel.inlet.session.bytes
+
 -- a word of the request that the host is asked on it
 abbrev pub asked_at : ℕ → Option Channel → Option (List ℕ)
 asked_at place None = None

@@ -3,9 +3,9 @@ ghost use Rattle.std.specs.Prelude.{◌≡◌, ◌+◌, [], true, false, length,
 ghost use Rattle.sk_durable.specs.Base.{option_copied, look_at, bytes_cmp, next_payload, cut_due, in_flight, undecided};
 ghost use Rattle.sk_durable.specs.Base.{error_text, words_of, Failed, Synced, Unknown, names_reserved, channel_at};
 ghost use Rattle.sk_durable.specs.Limits.{are_sound};
-ghost use Rattle.sk_durable.specs.Posts.{AnswerPost, BringAnswersPost, BringPost, ConnectPost, CutFramePost, CutPost, DecidePost, FeedAheadPost, FeedPost, FramePost, HangUpPost, LearnPost, LetGoPost, OutputPost, PosedPost, ReadyPost, RefusedPost, RestorePost, TakePost, TellPost, TryPost, TurnPost, end_of, is_at_limit};
+ghost use Rattle.sk_durable.specs.Posts.{AnswerPost, BringAnswersPost, BringPost, ConnectPost, CutFramePost, CutPost, DecidePost, FeedAheadPost, FeedPost, FramePost, HangUpPost, LearnPost, LetGoPost, OutputPost, PosedPost, ReadyPost, RefusedPost, RestorePost, TakePost, TellPost, TryPost, TurnPost, end_of, is_at_limit, moved};
 ghost use Rattle.sk_durable.specs.Works.{CarryPost};
-ghost use Rattle.sk_durable.specs.Store.{asked_at, first_answer, has_refusals, is_closed, rests_on_at, IsNew};
+ghost use Rattle.sk_durable.specs.Store.{asked_at, first_answer, has_refusals, is_closed, queued, rests_on_at, IsNew};
 
 use crate::asked::{UNKNOWN, text, too_long, work_of};
 use crate::works::{Asker, Batches, NOBODY, WorkStep, carry_out, restore};
@@ -57,6 +57,16 @@ pub struct Next {
     pub offset: u64,
 }
 
+/// What is told where so many bytes were moved out, and this came of what was brought: where none was, for want of memory, that.
+fn moved(brought: Result<(), Refusal>, count: usize) -> Result<usize, Refusal>
+    ensures { result ≡ moved brought count }
+{
+    match brought {
+        Err(Refusal::Memory) if count == 0 => Err(Refusal::Memory),
+        _ => Ok(count),
+    }
+}
+
 /// A store whose replies wait for exactly what they rest on.
 #[derive(Drop)]
 pub struct Store {
@@ -98,7 +108,8 @@ impl Store {
     /// keys don't know keeps them from choosing keys that are found slowly.
     pub fn new(alloc: Global, limits: Limits, number: u64, next: Next, seed: u64) -> Store
         requires { are_sound limits ≡ true }
-        ensures { IsNew limits next [] result }
+        ensures new { IsNew limits next [] result }
+        ensures number { result.batched.kernel.parts.guesses.kernel ≡ number }
     {
         Store {
             alloc,
@@ -164,6 +175,17 @@ impl Store {
         match self.channels.channel(channel) {
             Some(channel) => channel.is_closed(),
             None => false,
+        }
+    }
+
+    /// How many bytes the commands take that wait for EXEC on a channel, at most four times as many as a request may have; none where
+    /// no queue is open.
+    pub fn queued(&self, channel: u16) -> usize
+        ensures { result ≡ queued (channel_at self.now.channels channel) }
+    {
+        match self.channels.get(channel) {
+            Some(channel) => channel.queued(),
+            None => 0,
         }
     }
 
@@ -399,10 +421,7 @@ impl Store {
             return Err(Refusal::NoChannel);
         };
         let count = to.output(room);
-        match brought {
-            Err(Refusal::Memory) if count == 0 => Err(Refusal::Memory),
-            _ => Ok(count),
-        }
+        moved(brought, count)
     }
 
     /// Tells the tickets of a channel all that they may be told.

@@ -12,10 +12,10 @@ returns c =
     let first = c.new-store.result in
     let store = c.fill.new.store in
     let room = c.args.room.now in
-    let takes : first.limits ≡ limits = c.new-store.ensures.takes in
+    let takes : first.limits ≡ limits = c.new-store.ensures.new.takes in
     let is : c.in_ok-head.head ≡ head_of last = c.in_ok-head.ensures.2 in
     let begun : IsNew limits (next_of last) [] first =
-    subst (λ (h : Sealed). IsNew limits (record { frame = last.frame + 1; segment = h.segment; offset = 24 }) [] first) is c.new-store.ensures in
+    subst (λ (h : Sealed). IsNew limits (record { frame = last.frame + 1; segment = h.segment; offset = 24 }) [] first) is c.new-store.ensures.new in
     let filled : IsNew first.limits (next_of last) (after_works (map set_of entries) []) store =
     c.in_ok-fill.ensures.1 (next_of last) [] (subst (λ (l : Limits). IsNew l (next_of last) [] first) (sym takes) begun) in
     let all : IsNew first.limits (next_of last) entries store =

@@ -1,10 +1,8 @@
 -- What was brought is handed over.
-use Rattle.sk_durable.proofs.Names.{◌≡◌, Some, None, Ok, Err, sym, ◌∙◌, ap, refl, take, rules, subst, channel_at}
+use Rattle.sk_durable.proofs.Names.{◌≡◌, Some, None, sym, ◌∙◌, ap, refl, take, rules, subst, channel_at}
 use Rattle.sk_durable.proofs.Names.{with_channel, the_view, StoreView, BringPost, HandsOver, OutputPost}
-use Rattle.sk_durable.specs.declared.refusal.Refusal.TheVariants.{Memory}
-use Rattle.sk_durable.proofs.Out.{handed_pasts, hands_over, none_brought, there_brought}
+use Rattle.sk_durable.proofs.Out.{handed_pasts, hands_over, moved_out, none_brought, there_brought}
 use Rattle.sk_durable.proofs.store.Store.output.Goals as goal
-use Rattle.sk_durable.proofs.store.Store.output.Goals.{in-Err-Memory, in_default-brought-3, in_default-brought, in_default-brought-2}
 
 pub returns-in_default : goal.returns-in_default
 returns-in_default c =
@@ -41,34 +39,7 @@ returns c =
     hands_over old new c.args.channel to c.output-count.new.self (there, refl, c.output-count.ensures.most)
     c.output-count.result c.args.room.now c.output-count.new.room
     c.output-count.ensures.handed c.output-count.ensures.count c.output-count.ensures.behind (refl, refl, refl) in
-    let some : OutputPost c.args.channel (Ok c.output-count.result) c.args.room.now c.output-count.new.room
-    c.args.self.now new = (
-      c.bring-brought.result,
-      there_brought c.args.channel c.bring-brought.result c.args.self.now old to brought there,
-      old,
-      brought,
-      hands,
-    ) in
-    elim c.match-brought.branch [
-      | in-Err-Memory w ↦
-          let none : OutputPost c.args.channel (Err Memory) c.args.room.now c.output-count.new.room c.args.self.now
-          new = (
-            old,
-            (let is = rw w.in-Err-Memory.is at w.in-Err-Memory.field-0-is in
-                subst (λ why. BringPost c.args.channel (Err why) c.args.self.now old) is
-                (subst (λ result. BringPost c.args.channel result c.args.self.now old) w.in-Err-Memory.is brought)),
-            subst (λ n. HandsOver c.args.channel n c.args.room.now c.output-count.new.room old new) w.if-count-eq0.true
-                hands,
-          ) in
-          subst (λ result. OutputPost c.args.channel result c.args.room.now c.output-count.new.room c.args.self.now new)
-          (sym w.result-is) none
-      | in_default-brought-3 w ↦
-          subst (λ result. OutputPost c.args.channel result c.args.room.now c.output-count.new.room c.args.self.now new)
-          (sym w.result-is) some
-      | in_default-brought w ↦
-          subst (λ result. OutputPost c.args.channel result c.args.room.now c.output-count.new.room c.args.self.now new)
-          (sym w.result-is) some
-      | in_default-brought-2 w ↦
-          subst (λ result. OutputPost c.args.channel result c.args.room.now c.output-count.new.room c.args.self.now new)
-          (sym w.result-is) some
-    ]
+    subst (λ result. OutputPost c.args.channel result c.args.room.now c.output-count.new.room c.args.self.now new)
+    (sym c.moved.ensures)
+    (moved_out c.args.channel c.output-count.result c.bring-brought.result c.args.room.now c.output-count.new.room c.args.self.now old new
+    (there_brought c.args.channel c.bring-brought.result c.args.self.now old to brought there) brought hands)

@@ -1,0 +1,16 @@
+-- The handle's pointer is the cell's, with what is owned there.
+use Rattle.sk_cells.proofs.Names.{refl, plain, yes, Goes-dropped}
+use Rattle.sk_cells.proofs.Passing.{passes}
+use Rattle.hidewillow_epochs.proofs.handle.Handle.TheLaws.{lowers}
+use Rattle.hidewillow_epochs.specs.contracts.session.Session.{the_row as R}
+use Rattle.sk_cells.specs.contracts.cell.Cell as cell
+use Rattle.hidewillow_epochs.specs.contracts.handle.Handle.{the_row}
+use Rattle.hidewillow_epochs.specs.contracts.handle.HandleHolds.into_cell as f
+use Rattle.hidewillow_epochs.proofs.handle.HandleHolds.into_cell.Statement.{statement}
+use Rattle.hidewillow_epochs.proofs.handle.HandleHolds.into_cell.Code as code
+
+pub into_cell_spec : {M : Type 1} → statement M
+into_cell_spec 𝓤 𝓛 𝓜 𝓡 wired =
+    passes R the_row (cell.the_row R) (λ h. h.at) (λ h. h.held) (λ p x. record { at = p; held = x }) (λ c. c.held) 𝓤 𝓛 𝓜 𝓡 _ _
+    (Goes-dropped 𝓛 0 (plain (λ _. the_row)) yes (λ κs x w. refl)) lowers.val_is
+    (λ h. tt) (λ h. refl) (λ p x. refl) (λ p x. refl) f.Key.name (code.unfolded 𝓤 𝓛.H 𝓜 𝓡 wired)

@@ -1,0 +1,43 @@
+//! What C holds.
+ghost use Rattle.std.specs.Prelude.{◌≡◌, Option};
+ghost use Rattle.sk_cells.specs.Kept.{cell_at, cell_code};
+ghost use Rattle.hidewillow_epochs.specs.contracts.session.Session.{the_row};
+ghost use Rattle.hidewillow_epochs.specs.declared.session.Session.{Session as SessionView};
+
+use crate::session::Session;
+use sk_cells::cell::Cell;
+use sk_cells::holds::Holds;
+use std::marker::Model;
+
+/// Where epochs lie, or nothing, as in a handle of zeros. It can't be dropped: what it holds has to be closed.
+#[repr(C)]
+pub struct Handle {
+    at: *mut u8,
+    pub ghost held: { Option SessionView } by { cell_code the_row },
+}
+
+impl Model for Handle {
+    ghost also_owns = { λ h. cell_at the_row h.at h.held };
+}
+
+impl Holds for Handle {
+    type Held = Session;
+
+    ghost holds = { λ h. h.held };
+
+    fn of(cell: Cell<Session>) -> Handle
+        ensures { result.held ≡ cell.held }
+    {
+        let Cell { at } = cell;
+        Handle { at: at as *mut u8 }
+    }
+
+    fn into_cell(self) -> Cell<Session>
+        ensures { result.held ≡ self.held }
+    {
+        let Handle { at } = self;
+        Cell {
+            at: at as *mut Session,
+        }
+    }
+}

@@ -1,0 +1,9 @@
+pub mod Names
+pub mod Chain
+pub mod Stories
+pub mod Moves
+pub mod Begin
+pub mod Reply
+pub mod Read
+pub mod Plugs
+pub mod Law

@@ -1,0 +1,10 @@
+pub mod Story
+pub mod Host
+pub mod Clean
+pub mod Tells
+pub mod Kernel
+pub mod Refusals
+pub mod Answers
+pub mod Forgotten
+pub mod Calls
+pub mod Law

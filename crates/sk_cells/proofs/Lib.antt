@@ -1,0 +1,4 @@
+pub mod Names
+mod Heap
+pub mod Pointer
+pub mod Passing

@@ -1,20 +1,26 @@
 #!/usr/bin/env python3
 """Measures what a command over a remote folder costs: wall times, one way after the other in each round, the least of the rounds.
 
-    run/bench.py [--build FOLDER] [--delays 0,2,30] [--rounds 3] [--bandwidth BYTES] [--sources FOLDER] [--room FOLDER] [--cpu N] [WORK..]
+    run/bench.py [--build FOLDER] [--delays 0,2,30] [--rounds 3] [--bandwidth BYTES] [--sources FOLDER] [--room FOLDER] [--cpu N] [--processor] [WORK..]
 
 The ways: `local` (the same command on a folder here), `waits` (`--strict`: each call waits for its reply), `believed` (the same, but
-attributes are believed for 3 s, as by other clients; opens and changes are asked), `here` (hidewillow-run as it is), `sshfs` (where it
-and a server of ssh on this machine are there that lets us in without a question; `tests/delay` isn't before it, so at 0 ms only).
+attributes are believed for 3 s, as by other clients; opens and changes are asked), `stops` (the same, but calls on paths of this machine are
+stopped, too), `here` (hidewillow-run as it is), `sshfs` (where it and ssh's file server are installed; it speaks with that directly,
+each byte half the delay later).
 Works: gcc, small, git, files; and lua, zlib where --sources has their sources unpacked (folders whose names begin so). Folders are in
-memory unless --room names one on a disk, whose syncs then count. Delays are milliseconds there and back.
+memory unless --room names one on a disk, whose syncs then count. Delays are milliseconds there and back. With --processor the times
+are those of processors, of all processes of a side: what a way costs, whatever else the machine does.
 """
 import argparse
 import os
 import pathlib
 import shutil
+import queue
+import resource
+import socket
 import subprocess
 import sys
+import threading
 import time
 
 sys.dont_write_bytecode = True
@@ -50,8 +56,52 @@ WORKS = {
     "lua": ("lua", ["make", "-s", "linux", "MYCFLAGS=-O0"]),
     "zlib": ("zlib", ["sh", "-c", "CFLAGS=-O0 ./configure --static && make -s"]),
 }
-WAYS = ["local", "waits", "believed", "here", "sshfs"]
-OPTIONS = {"waits": ["--strict"], "believed": ["--strict", "--believe-seconds", "3"], "here": []}
+WAYS = ["local", "waits", "believed", "stops", "here", "sshfs"]
+OPTIONS = {"waits": ["--strict"], "believed": ["--strict", "--believe-seconds", "3"], "stops": [], "here": []}
+SFTP = pathlib.Path("/usr/lib/openssh/sftp-server")
+
+
+class Sftp:
+    """A file server of ssh at a port, each byte some time later, as long as the block lasts."""
+
+    def __init__(self, delay_ms):
+        self.delay = delay_ms / 2000
+
+    def __enter__(self):
+        self.listener = socket.create_server(("127.0.0.1", 0))
+        self.port = self.listener.getsockname()[1]
+        threading.Thread(target=self.serve, daemon=True).start()
+        return self
+
+    def __exit__(self, *_):
+        self.listener.close()
+
+    def serve(self):
+        try:
+            client, _ = self.listener.accept()
+        except OSError:
+            return
+        client.setsockopt(socket.IPPROTO_TCP, socket.TCP_NODELAY, 1)
+        server = subprocess.Popen([SFTP], stdin=subprocess.PIPE, stdout=subprocess.PIPE)
+        self.pumped(lambda: client.recv(1 << 16), lambda it: (server.stdin.write(it), server.stdin.flush()))
+        self.pumped(lambda: server.stdout.read1(1 << 16), client.sendall)
+
+    def pumped(self, read, write):
+        waiting = queue.Queue()
+
+        def later():
+            while (it := waiting.get())[1]:
+                time.sleep(max(0, it[0] - time.monotonic()))
+                write(it[1])
+
+        def pump():
+            got = True
+            while got:
+                got = read()
+                waiting.put((time.monotonic() + self.delay, got))
+
+        for it in (later, pump):
+            threading.Thread(target=it, daemon=True).start()
 
 
 def place_of(given, tree):
@@ -64,10 +114,17 @@ def place_of(given, tree):
     return place
 
 
-def timed(command, pinned, **how):
-    begin = time.monotonic()
+def spent():
+    of = resource.getrusage(resource.RUSAGE_CHILDREN)
+    return of.ru_utime + of.ru_stime
+
+
+def timed(command, pinned, by_processor=False, **how):
+    """Wall time, or that of processors in all that the command began; and its status."""
+    clock = spent if by_processor else time.monotonic
+    begin = clock()
     did = runs.ran([*pinned, *command], timeout=900, **how)
-    return time.monotonic() - begin, did.returncode
+    return clock() - begin, did.returncode
 
 
 def once(given, work, way, delay, pinned):
@@ -78,26 +135,29 @@ def once(given, work, way, delay, pinned):
         if way == "local":
             inside = f'mount --bind {place.here} {place.mount} && cd {place.mount} && exec "$@"'
             rights = [] if os.geteuid() == 0 else ["-Ur"]
-            return *timed(["unshare", *rights, "-m", "sh", "-c", inside, "sh", *words], pinned), {}
+            return *timed(["unshare", *rights, "-m", "sh", "-c", inside, "sh", *words], pinned, given.processor), {}
         if way == "sshfs":
-            subprocess.run(["sshfs", "-o", "BatchMode=yes", f"localhost:{place.there}", place.mount], check=True)
-            try:
-                return *timed(["sh", "-c", f'cd {place.mount} && exec "$@"', "sh", *words], pinned), {}
-            finally:
-                subprocess.run(["fusermount3", "-u", place.mount], check=False)
+            return *over_sshfs(place, words, delay, pinned), {}
         slow = ["--delay-ms", str(delay)] + (["--bandwidth", str(given.bandwidth)] if given.bandwidth else [])
         with runs.Served(given.build, place.there, *slow) as served:
-            took = timed(place.command(given.build, served.at, words, *OPTIONS[way]), pinned)
+            env = {**os.environ, **runs.FIXED, **({"HIDEWILLOW_RUN_STOPS": "1"} if way == "stops" else {})}
+            took = timed(place.command(given.build, served.at, words, *OPTIONS[way]), pinned, given.processor, env=env)
         return *took, {it: place.counted(it) for it in ("guesses", "epochs", "checkpoints", "rollbacks", "waits")}
     finally:
         place.away()
 
 
+def over_sshfs(place, words, delay, pinned):
+    with Sftp(delay) as served:
+        subprocess.run(["sshfs", "-o", f"directport={served.port}", f"localhost:{place.there}", place.mount], check=True)
+        try:
+            return timed(["sh", "-c", f'cd {place.mount} && exec "$@"', "sh", *words], pinned)
+        finally:
+            subprocess.run(["fusermount3", "-u", place.mount], check=False)
+
+
 def has_sshfs():
-    if not (shutil.which("sshfs") and shutil.which("ssh")):
-        return False
-    return subprocess.run(["ssh", "-o", "BatchMode=yes", "-o", "ConnectTimeout=2", "localhost", "true"], check=False,
-                          capture_output=True).returncode == 0
+    return shutil.which("sshfs") and SFTP.exists() and os.path.exists("/dev/fuse")
 
 
 def measured(given, work, delay, ways, pinned):
@@ -124,6 +184,7 @@ def main():
     words.add_argument("--sources", type=pathlib.Path)
     words.add_argument("--room", type=pathlib.Path)
     words.add_argument("--cpu")
+    words.add_argument("--processor", action="store_true")
     words.add_argument("--ways", default=",".join(WAYS))
     words.add_argument("works", nargs="*")
     given = words.parse_args()
@@ -132,7 +193,8 @@ def main():
     ways = [it for it in given.ways.split(",") if it != "sshfs" or has_sshfs()]
     pinned = ["taskset", "-c", given.cpu] if given.cpu else []
     print(f"{os.uname().release}, {os.cpu_count()} processors, load {os.getloadavg()[0]:.1f}, {time.strftime('%Y-%m-%d %H:%M')}, "
-          f"folders in {runs.ROOM}, {given.bandwidth or 'any number of'} bytes/s, least of {given.rounds}\n")
+          f"folders in {runs.ROOM}, {given.bandwidth or 'any number of'} bytes/s, least of {given.rounds}"
+          f"{', processor time' if given.processor else ''}\n")
     print("| work | delay, ms | " + " | ".join(ways) + " | guesses | epochs | checkpoints | rollbacks |")
     print("|---|---|" + "---|" * (len(ways) + 4))
     for work in works:

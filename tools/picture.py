@@ -6,7 +6,8 @@
 PATH is the program `speculate`: `build/speculate` where none is given, which `tools/build.py` builds in some two minutes where
 it does not stand. The page stands alone and replays the run by a slider; `PAGE#at=8` opens it after event 8, the keys g and f
 go to the next guess and the next failure (G and F back), + and - draw it larger and smaller. The SVG is its last state, for documents. Where neither is asked for, the page is written to NAME.html in the current folder. The
-status is 1 where the program refuses the scenario, which is one of `steps` or of a `world`.
+status is 1 where the program refuses the scenario, which is one of `steps` or of a `world`. Where SCENARIO is what
+`hidewillow-run --trace` wrote, that is drawn (tools/traced.py), as an SVG.
 """
 import argparse
 import html
@@ -17,6 +18,7 @@ import sys
 
 sys.dont_write_bytecode = True
 import told  # noqa: E402
+import traced  # noqa: E402
 
 HERE = os.path.dirname(os.path.abspath(__file__))
 INK, SOFT, RULE, GREY, RED, GREEN = "#1f2328", "#6e7781", "#d8dee4", "#8c959f", "#cf222e", "#1a7f37"
@@ -604,6 +606,8 @@ def main():
     words.add_argument("--html")
     words.add_argument("--svg")
     given = words.parse_args()
+    if traced.is_trace(given.scenario):
+        return traced.write(given.scenario, given.svg or os.path.basename(given.scenario) + ".svg")
     if not given.html and not given.svg:
         given.html = re.sub(r"\.scenario$", "", os.path.basename(given.scenario)) + ".html"
     try:

@@ -71,6 +71,8 @@ pub struct Link {
     waiting: Vec<u8>,
     written: usize,
     uploads: u64,
+    /// Why it has ended: that shows where a reply is asked for.
+    broken: Option<io::Error>,
     /// How many bytes went out and came in.
     pub sent: u64,
     pub received: u64,
@@ -79,21 +81,30 @@ pub struct Link {
 impl Link {
     /// Connects, and says the greeting; the first reply is `Reply::Welcome`.
     pub fn open(place: &Place) -> io::Result<Link> {
+        Link::open_as(place, &[])
+    }
+
+    /// The same in a session, which a later connection can go on with.
+    pub fn open_as(place: &Place, session: &[u8]) -> io::Result<Link> {
         match place {
-            Place::Ssh { host, folder } => Link::start(over_ssh(host, folder)),
-            Place::Local { folder } => Link::start(beside(folder)),
+            Place::Ssh { host, folder } => Link::start_as(over_ssh(host, folder), session),
+            Place::Local { folder } => Link::start_as(beside(folder), session),
             Place::Port { port, secret_file } => {
                 let secret = fs::read(secret_file)?;
                 let stream = TcpStream::connect(("127.0.0.1", *port))?;
                 stream.set_nodelay(true)?;
                 let input = File::from(OwnedFd::from(stream.try_clone()?));
-                Link::greet(input, File::from(OwnedFd::from(stream)), None, secret)
+                Link::greet(input, File::from(OwnedFd::from(stream)), None, (secret, session))
             }
         }
     }
 
     /// Starts a server, and speaks with it over its standard input and output.
-    pub fn start(mut command: Command) -> io::Result<Link> {
+    pub fn start(command: Command) -> io::Result<Link> {
+        Link::start_as(command, &[])
+    }
+
+    fn start_as(mut command: Command, session: &[u8]) -> io::Result<Link> {
         command.stdin(Stdio::piped()).stdout(Stdio::piped());
         // SAFETY: between fork and exec only `signal` is called, which may be called there.
         unsafe {
@@ -109,17 +120,21 @@ impl Link {
         let (Some(output), Some(input)) = (server.stdin.take(), server.stdout.take()) else {
             return Err(io::Error::other("no pipes to the server"));
         };
-        Link::greet(File::from(OwnedFd::from(input)), File::from(OwnedFd::from(output)), Some(server), Vec::new())
+        let (input, output) = (File::from(OwnedFd::from(input)), File::from(OwnedFd::from(output)));
+        Link::greet(input, output, Some(server), (Vec::new(), session))
     }
 
-    fn greet(input: File, output: File, server: Option<Child>, secret: Vec<u8>) -> io::Result<Link> {
+    fn greet(input: File, output: File, server: Option<Child>, says: (Vec<u8>, &[u8])) -> io::Result<Link> {
         for file in [&input, &output] {
             let flags = OFlag::from_bits_truncate(fcntl(file.as_raw_fd(), FcntlArg::F_GETFL)?);
             fcntl(file.as_raw_fd(), FcntlArg::F_SETFL(flags | OFlag::O_NONBLOCK))?;
         }
         let (frames, waiting) = (Frames::default(), Vec::new());
-        let mut link = Link { input, output, server, frames, waiting, written: 0, uploads: 0, sent: 0, received: 0 };
-        link.send(Request::Hello { protocol: PROTOCOL, secret: Bytes(secret) })?;
+        let (sent, received) = (0, 0);
+        let (written, uploads, broken) = (0, 0, None);
+        let mut link = Link { input, output, server, frames, waiting, written, uploads, broken, sent, received };
+        let (secret, session) = (Bytes(says.0), Bytes(says.1.to_vec()));
+        link.send(Request::Hello { protocol: PROTOCOL, secret, session })?;
         Ok(link)
     }
 
@@ -138,7 +153,8 @@ impl Link {
         self.written < self.waiting.len()
     }
 
-    /// Says it as soon as there is room; long contents in an epoch's steps go ahead in pieces.
+    /// Says it as soon as there is room; long contents in an epoch's steps go ahead in pieces. That the connection has ended is told
+    /// by the next `receive`: so nothing is left half done where it does.
     pub fn send(&mut self, mut request: Request) -> io::Result<()> {
         if let Request::Epoch { steps, .. } = &mut request {
             for step in steps {
@@ -151,8 +167,19 @@ impl Link {
     fn queue(&mut self, request: &Request) -> io::Result<()> {
         let bytes = frame(request);
         self.sent += bytes.len() as u64;
-        self.waiting.extend_from_slice(&bytes);
-        self.flush().map(drop)
+        if self.broken.is_none() {
+            self.waiting.extend_from_slice(&bytes);
+            if let Err(error) = self.flush() {
+                self.ended(error);
+            }
+        }
+        Ok(())
+    }
+
+    fn ended(&mut self, error: io::Error) {
+        self.broken = Some(error);
+        self.waiting.clear();
+        self.written = 0;
     }
 
     fn send_ahead(&mut self, step: &mut Step) -> io::Result<()> {
@@ -184,8 +211,9 @@ impl Link {
             self.queue(&Request::Piece { upload, bytes: Bytes(bytes) })?;
             while self.waiting.len() - self.written > 8 * LONGEST_PIECE {
                 self.wait(Duration::from_secs(3600))?;
-                self.flush()?;
-                self.take_in()?;
+                if let Err(error) = self.flush().and_then(|_| self.take_in()) {
+                    self.ended(error);
+                }
             }
             if is_last {
                 return Ok(Body::Sent(upload));
@@ -230,6 +258,9 @@ impl Link {
 
     /// The next reply, if it is there. An error of the kind `UnexpectedEof`: the server has gone.
     pub fn receive(&mut self) -> io::Result<Option<Reply>> {
+        if let Some(error) = self.broken.take() {
+            return Err(error);
+        }
         if let Some(frame) = self.frames.next_frame()? {
             return Ok(Some(message(frame)?));
         }

@@ -19,7 +19,7 @@ use crate::codec::{Bytes, Decode, Encode, Fields, Malformed};
 use crate::name::Name;
 
 /// The number of this protocol; both sides must have the same.
-pub const PROTOCOL: u32 = 1;
+pub const PROTOCOL: u32 = 2;
 /// What a greeting begins with.
 pub const GREETING: [u8; 8] = *b"hwfiles\n";
 /// Longer contents go ahead by pieces.
@@ -204,8 +204,9 @@ pub enum Step {
 /// What a client says.
 #[derive(Clone, PartialEq, Eq, Debug)]
 pub enum Request {
-    /// The greeting; a server at a port wants its secret.
-    Hello { protocol: u32, secret: Bytes },
+    /// The greeting; a server at a port wants its secret. Where a session is named, the server keeps on the disk which of its
+    /// epochs was done last.
+    Hello { protocol: u32, secret: Bytes, session: Bytes },
     /// All names from here on downwards, parents first.
     Tree { id: u64, name: Name },
     /// A folder's own entry and those of its names.
@@ -225,8 +226,8 @@ pub enum Request {
 /// What a server says.
 #[derive(Clone, PartialEq, Eq, Debug)]
 pub enum Reply {
-    /// The greeting.
-    Welcome { protocol: u32, root: Entry },
+    /// The greeting, and the last epoch with changes that was done in the session (0: none).
+    Welcome { protocol: u32, root: Entry, done: u64 },
     /// Entries that were asked for; more come where `more`.
     Entries { id: u64, entries: Vec<Entry>, more: bool },
     /// What is there of the part asked for, and the version of the file that it is of; `ABSENT` where there is no file.
@@ -292,7 +293,7 @@ coded!(enum Step {
     b'a' Attributes { name, base, new, mode, modified }
 });
 coded!(enum Request {
-    b'H' Hello { protocol, secret }
+    b'H' Hello { protocol, secret, session }
     b'T' Tree { id, name }
     b'F' Folder { id, name }
     b'N' Entry { id, name }
@@ -302,7 +303,7 @@ coded!(enum Request {
     b'A' Acknowledge { number }
 });
 coded!(enum Reply {
-    b'w' Welcome { protocol, root }
+    b'w' Welcome { protocol, root, done }
     b'e' Entries { id, entries, more }
     b'c' Content { id, version, size, bytes }
     b'a' Accepted { number, versions }

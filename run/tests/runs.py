@@ -1,10 +1,10 @@
 #!/usr/bin/env python3
 """Tries what runs commands over a remote folder: whether they do as they do here.
 
-    run/tests/runs.py [--build FOLDER] [--wrong FOLDER] [--rounds N] [PART..]
+    run/tests/runs.py [--build FOLDER] [--wrong FOLDER] [--rounds N] [--seed N] [PART..]
 
 FOLDER of --build has hidewillow-run and hidewillow-files (build/ where it isn't named); that of --wrong has a hidewillow-run that was
-built with the feature `wrong`, for the part of that name. Parts: ways, same, foreign, copy, held, deaths, wrong; all but `wrong` where none is
+built with the feature `wrong`, for the part of that name. Parts: ways, same, foreign, copy, held, deaths, resume, wrong; all but `wrong` where none is
 named. The last line is 'N passed, M failed'.
 
 ways     over ssh, and over a server that is started here; by another user than root
@@ -12,6 +12,7 @@ same     commands and a build, with epochs refused at random: status, output and
 foreign  the same while another program gives the files new versions
 copy     clients that count under a lock folder: no number is lost or made twice
 held     with a long way nothing is shown, and no outside file appears, before the server has answered
+resume   a server that is killed and comes back: status, output and files are as of a local run
 deaths   either side is killed at random moments: what was shown is on the server, and the rest is as if it never began
 wrong    supervisors and servers that are wrong on purpose: each is found by one of the others
 """
@@ -42,15 +43,20 @@ LONG = 120
 class Served:
     """A folder that is served at a port, as long as the block lasts."""
 
+    port = 0
+
     def __init__(self, build, folder, *options):
         self.folder, self.secret = folder, folder.parent / f"{folder.name}.secret"
         self.secret.write_text(f"secret {random.random()}")
-        self.command = [build / "hidewillow-files", "--listen", "127.0.0.1:0", "--secret-file", self.secret, *options, folder]
+        self.build, self.options = build, options
 
     def __enter__(self):
+        self.command = [self.build / "hidewillow-files", "--listen", f"127.0.0.1:{self.port}", "--secret-file", self.secret, *self.options,
+                        self.folder]
         self.process = subprocess.Popen([str(it) for it in self.command], stderr=subprocess.PIPE, text=True)
         line = self.process.stderr.readline()
-        self.at = f"tcp:{line.strip().rsplit(':', 1)[1]}:{self.secret}"
+        self.port = int(line.strip().rsplit(":", 1)[1])
+        self.at = f"tcp:{self.port}:{self.secret}"
         threading.Thread(target=self.process.stderr.read, daemon=True).start()
         return self
 
@@ -160,6 +166,38 @@ print(at, len(open('data.json').read()), sorted(os.listdir('.')))
 print(subprocess.run(['wc', '-l', 'f0', 'f1', 'f2', 'f3'], capture_output=True, text=True).stdout)
 for n in range(4): assert open(f'f{n}').read().split('\\n')[:-1] == [f'{n} {k}' for k in range(8)]
 """
+ODD = """
+import ctypes, os, signal
+libc = ctypes.CDLL(None, use_errno=True)
+def exchange(a, b): return libc.renameat2(-100, a.encode(), -100, b.encode(), 2)
+os.mkdir('d')
+for name, text in (('a', '1'), ('d/b', '2'), ('x', '')):
+    with open(name, 'w') as f: f.write(text)
+for n in range(9): print(exchange('a', 'd/b'), open('a').read(), open('d/b').read())
+print(exchange('d', 'a'), os.path.isdir('a'), open('d').read(), os.listdir('a'), exchange('a', 'none'), ctypes.get_errno())
+for n in range(30):
+    t = os.stat('a').st_mtime_ns
+    with open('x', 'a') as f: f.write('x')
+    assert os.stat('a').st_mtime_ns == t
+    open(f'a/n{n}', 'w').close(); os.unlink(f'a/n{n}')
+read, write = os.pipe()
+child = os.fork()
+if not child:
+    os.close(write)
+    os.kill(os.getpid(), signal.SIGSTOP)
+    os.read(read, 1)
+    open('on', 'w').close()
+    os._exit(3)
+print(os.WSTOPSIG(os.waitpid(child, os.WUNTRACED)[1]) == signal.SIGSTOP, os.waitpid(child, os.WNOHANG))
+os.kill(child, signal.SIGCONT)
+print(os.WIFCONTINUED(os.waitpid(child, os.WCONTINUED)[1]))
+try: os.setpgid(child, 1)
+except PermissionError: print('no such group')
+os.setpgid(child, child)
+os.write(write, b'x')
+print(os.waitpid(-child, 0)[1], os.path.exists('on'))
+os.chown('on', os.getuid(), -1)
+"""
 GIT = """
 git init -q -b main . && git add . && git commit -qm one && echo '/* more */' >> f0.c && git diff --stat && git commit -qam two &&
 git checkout -q -b side HEAD~1 && echo side > side && git add side && git commit -qm three && git checkout -q main && git merge -q side -m m &&
@@ -177,6 +215,7 @@ COMMANDS = {
     "git": (c_project(4), ["sh", "-c", GIT], {".git/index"}),
     "files": (c_project(9), ["sh", "-c", FILES], ()),
     "python": ({}, [sys.executable, "-c", PYTHON], ()),
+    "odd": ({}, [sys.executable, "-c", ODD], ()),
 }
 
 
@@ -194,11 +233,12 @@ def compare(place, here, there, but):
 
 
 def change_versions(folder, stop, seed):
-    """Gives files new versions that change nothing, as where somebody writes the same once more."""
+    """Gives files new versions that change nothing, as where somebody writes the same once more. By a link its file would get the link's
+    mode."""
     dice = random.Random(seed)
     while not stop.wait(dice.uniform(0.001, 0.05)):
         files = [pathlib.Path(at, it) for at, folders, names in os.walk(folder)
-                 for it in names if ".hidewillow" not in at and ".git" not in at]
+                 for it in names if ".hidewillow" not in at and ".git" not in at and not os.path.islink(os.path.join(at, it))]
         for it in files and [dice.choice(files)]:
             try:
                 os.chmod(it, stat.S_IMODE(it.lstat().st_mode), follow_symlinks=True)
@@ -241,25 +281,29 @@ class Counted:
             self.passed += 1
 
 
+def seeds(given):
+    return range(given.seed, given.seed + given.rounds)
+
+
 def part_same(given, counted):
     back = 0
-    for seed in range(given.rounds):
+    for seed in seeds(given):
         for percent in (0, 1, 10, 30):
             for name in COMMANDS:
                 bad, count = same(given, name, percent, seed * 31 + percent)
                 back += count
                 counted.said(f"same: {name}, {percent} % refused, seed {seed}", bad)
-    print(f"runs: same: went back {back} times", flush=True)
+        print(f"runs: same: went back {back} times", flush=True)
 
 
 def part_foreign(given, counted):
     back = 0
-    for seed in range(given.rounds):
+    for seed in seeds(given):
         for name in COMMANDS:
             bad, count = same(given, name, 0, seed, foreign=True)
             back += count
             counted.said(f"foreign: {name}, seed {seed}", bad)
-    print(f"runs: foreign: went back {back} times", flush=True)
+        print(f"runs: foreign: went back {back} times", flush=True)
 
 
 COUNT = """
@@ -387,11 +431,74 @@ def has_word(process, word):
         return False
 
 
+def leaves_nothing(given):
+    """What a killed run kept in a scratch folder goes with the next one."""
+    place = Place({"n": "1\n"})
+    scratch = place.room / "scratch"
+    scratch.mkdir()
+    try:
+        with Served(given.build, place.there, "--delay-ms", "50") as served:
+            loop = f"while :; do cat n; echo x > {scratch}/a; rm {scratch}/a; done"
+            process = subprocess.Popen(place.command(given.build, served.at, ["sh", "-c", loop], "--scratch", scratch),
+                                       stdin=subprocess.DEVNULL, stdout=subprocess.DEVNULL, stderr=subprocess.DEVNULL)
+            begin = time.time()
+            while not list(scratch.glob(".hidewillow*")) and time.time() - begin < LONG:
+                time.sleep(0.02)
+            process.kill()
+            process.wait()
+            left_behind(place.mount)
+            there = bool(list(scratch.glob(".hidewillow*")))
+            ran(place.command(given.build, served.at, ["true"], "--scratch", scratch))
+        left = list(scratch.glob(".hidewillow*"))
+        return [] if there and not left else [f"there before: {there}; left: {left}"]
+    finally:
+        place.away()
+
+
 def part_deaths(given, counted):
+    counted.said("deaths: scratch", leaves_nothing(given))
     dice = random.Random(17)
     for at in range(given.rounds * 4):
         whom = ("server", "client")[at % 2]
         counted.said(f"deaths: {whom}, {at}", dies(given, dice, whom))
+
+
+RESUMED = "i=0; while [ $i -lt 150 ]; do i=$((i+1)); echo $i >> log; mkdir d$i; mv d$i e$i; echo $i > f; cat f; done"
+
+
+def goes_on(given, dice):
+    """The server is killed again and again, and comes back: nothing is lost, and nothing done twice."""
+    place, stop = Place(), threading.Event()
+    here = locally(place, ["sh", "-c", RESUMED])
+    try:
+        with Served(given.build, place.there, "--delay-ms", "5") as served:
+            def kills():
+                while not stop.wait(dice.uniform(0.1, 0.8)):
+                    served.process.kill()
+                    served.process.wait()
+                    stop.wait(dice.uniform(0, 0.5))
+                    served.__enter__()
+            killing = threading.Thread(target=kills)
+            command = place.command(given.build, served.at, ["sh", "-c", RESUMED], "--resume")
+            killing.start()
+            try:
+                there = ran(command)
+            finally:
+                stop.set()
+                killing.join()
+        lost = there.stderr.count(b"is lost")
+        there.stderr = b""
+        return compare(place, here, there, ()) or ([] if lost else ["the server was never lost"])
+    except subprocess.TimeoutExpired:
+        return ["it did not end"]
+    finally:
+        place.away()
+
+
+def part_resume(given, counted):
+    dice = random.Random(given.seed)
+    for at in range(given.rounds * 3):
+        counted.said(f"resume, {at}", goes_on(given, dice))
 
 
 def part_ways(given, counted):
@@ -451,9 +558,11 @@ def main():
     words.add_argument("--build", type=pathlib.Path, default=TOP / "build")
     words.add_argument("--wrong", type=pathlib.Path)
     words.add_argument("--rounds", type=int, default=1)
+    words.add_argument("--seed", type=int, default=0)
     words.add_argument("parts", nargs="*")
     given = words.parse_args()
-    parts = {"ways": part_ways, "same": part_same, "foreign": part_foreign, "copy": part_copy, "held": part_held, "deaths": part_deaths, "wrong": part_wrong}
+    parts = {"ways": part_ways, "same": part_same, "foreign": part_foreign, "copy": part_copy, "held": part_held, "deaths": part_deaths,
+             "resume": part_resume, "wrong": part_wrong}
     counted = Counted()
     for it in given.parts or [name for name in parts if name != "wrong" or given.wrong]:
         begin = time.time()

@@ -275,7 +275,8 @@ fn bytes_that_are_no_message_end_it() {
     for _ in 0..50 {
         let mut process =
             server(&served, &[]).stdin(Stdio::piped()).stdout(Stdio::piped()).stderr(Stdio::null()).spawn().unwrap();
-        let mut bytes = frame(&Request::Hello { protocol: PROTOCOL, secret: Bytes::default() });
+        let mut bytes =
+            frame(&Request::Hello { protocol: PROTOCOL, secret: Bytes::default(), session: Bytes::default() });
         let len = 1 + random.below(200) as usize;
         bytes.extend((0..len).map(|_| random.below(256) as u8));
         let mut input = process.stdin.take().unwrap();

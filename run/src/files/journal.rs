@@ -22,6 +22,7 @@ use std::collections::HashMap;
 use std::fs::{self, File};
 use std::io::{self, Read, Write};
 use std::os::unix::fs::FileExt;
+use std::time::{Duration, SystemTime, UNIX_EPOCH};
 
 const DECIDED: &[u8] = b"decided";
 const APPLIED: &[u8] = b"applied";
@@ -49,6 +50,8 @@ struct List {
     room: Bytes,
     deeds: Vec<Deed>,
     last: Vec<Last>,
+    /// A session, and its epoch that this is.
+    notes: Vec<(Bytes, u64)>,
 }
 
 coded!(enum Deed {
@@ -61,7 +64,7 @@ coded!(enum Last {
     b'f' Fill { made, inode, name, mode, modified }
     b's' Set { inode, name, mode, modified }
 });
-coded!(struct List { boot, room, deeds, last });
+coded!(struct List { boot, room, deeds, last, notes });
 
 /// Servers that are wrong on purpose, which tests must find.
 #[derive(Clone, Copy, PartialEq, Eq, Debug)]
@@ -82,6 +85,17 @@ pub struct Journal {
     rooms: u64,
     wrong: Option<Wrong>,
     has_applied: bool,
+    /// What the epoch that is performed next is noted as.
+    pub note: Option<(Bytes, u64)>,
+}
+
+/// How long a session that nobody goes on with is remembered.
+const LONGEST_SESSION: Duration = Duration::from_secs(7 * 24 * 3600);
+
+/// The name of a session's file; `None` where it can't be one.
+fn session_file(session: &[u8]) -> Option<Vec<u8>> {
+    let is_plain = (1..=64).contains(&session.len()) && session.iter().all(u8::is_ascii_hexdigit);
+    is_plain.then(|| [b"session-", session].concat())
 }
 
 /// An epoch whose needs are made.
@@ -105,7 +119,7 @@ impl Journal {
     ) -> io::Result<Journal> {
         let boot = boot.map_or_else(|| fs::read("/proc/sys/kernel/random/boot_id"), Ok)?;
         let is_ordered = hidden.is_ordered()?;
-        let mut journal = Journal { hidden, boot, is_ordered, rooms: 0, wrong, has_applied: false };
+        let mut journal = Journal { hidden, boot, is_ordered, rooms: 0, wrong, has_applied: false, note: None };
         journal.make_good(root)?;
         if is_alone {
             journal.make_good_after_power(root)?;
@@ -178,13 +192,14 @@ impl Journal {
     ) -> io::Result<()> {
         let room = self.new_room()?;
         let part = room.0;
-        let staged = match Stager::new(plan, uploads, room.1, &part, self.writes_out()).stage(&self.boot) {
+        let mut staged = match Stager::new(plan, uploads, room.1, &part, self.writes_out()).stage(&self.boot) {
             Ok(staged) => staged,
             Err(error) => {
                 self.empty(&part)?;
                 return Err(error);
             }
         };
+        staged.list.notes.extend(self.note.take());
         let list = codec::frame(&staged.list);
         let mut file = staged.room.make(LIST)?;
         file.write_all(&list[4..])?;
@@ -259,6 +274,9 @@ impl Journal {
             done(last, last.perform(root, &room))?;
             pass();
         }
+        // [8]
+        list.notes.iter().try_for_each(|(session, number)| self.noted(&session.0, *number))?;
+
         // Their own numbers and times are as they stay before versions are told.
         for held in list.last.iter().map(Last::name).filter(|name| name.parts().next() == Some(disk::HIDDEN)) {
             match room.remove(held.last()) {
@@ -273,6 +291,32 @@ impl Journal {
         self.has_applied = true;
         pass();
         Ok(())
+    }
+
+    fn noted(&self, session: &[u8], number: u64) -> io::Result<()> {
+        let Some(part) = session_file(session) else { return Ok(()) };
+        let file = match self.hidden.open_below(&part, OFlag::O_WRONLY | OFlag::O_NOFOLLOW) {
+            Err(error) if is_nothing(&error) => self.hidden.make(&part)?,
+            file => File::from(file?),
+        };
+        file.write_all_at(&number.to_le_bytes(), 0)?;
+        if self.writes_out() {
+            disk::write_out(&file)?;
+        }
+        Ok(())
+    }
+
+    /// The last epoch of a session that was done.
+    pub fn done_of(&self, session: &[u8]) -> io::Result<u64> {
+        let Some(part) = session_file(session) else { return Ok(0) };
+        match self.hidden.open_below(&part, OFlag::O_RDONLY | OFlag::O_NOFOLLOW) {
+            Err(error) if is_nothing(&error) => Ok(0),
+            file => {
+                let mut number = [0; 8];
+                File::from(file?).read_exact_at(&mut number, 0)?;
+                Ok(u64::from_le_bytes(number))
+            }
+        }
     }
 
     /// With the lock held alone, and all synced: what was applied needs no list any more.
@@ -312,12 +356,18 @@ impl Journal {
         self.hidden.remove_folder(part)
     }
 
+    fn is_old(&self, part: &[u8]) -> io::Result<bool> {
+        let now = SystemTime::now().duration_since(UNIX_EPOCH).unwrap_or_default();
+        let modified = self.hidden.look(part)?.map_or(0, |found| found.modified);
+        Ok(now.saturating_sub(Duration::from_nanos(modified.max(0) as u64)) > LONGEST_SESSION)
+    }
+
     /// Where nobody else serves the folder: rooms and pieces of those that ended.
     fn sweep(&self) -> io::Result<()> {
         for (part, kind) in self.hidden.parts()? {
             if kind == Kind::Folder {
                 self.empty(&part)?;
-            } else if part.starts_with(b"pieces-") {
+            } else if part.starts_with(b"pieces-") || (part.starts_with(b"session-") && self.is_old(&part)?) {
                 self.hidden.remove(&part)?;
             }
         }
@@ -444,7 +494,8 @@ impl<'p, 't> Stager<'p, 't> {
         for id in 0..self.plan.tree.nodes.len() {
             last.extend(self.last(id)?);
         }
-        let list = List { boot: Bytes(boot.to_vec()), room: Bytes(self.part.to_vec()), deeds, last };
+        let room = Bytes(self.part.to_vec());
+        let list = List { boot: Bytes(boot.to_vec()), room, deeds, last, notes: Vec::new() };
         Ok(Staged { room: self.room, list })
     }
 

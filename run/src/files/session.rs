@@ -28,7 +28,7 @@ pub fn serve(
     let pace = Pace { delay: Duration::from_millis(options.delay_ms), bandwidth: options.bandwidth };
     let requests = pace::incoming(input, pace);
     let out = Outgoing::new(output, pace);
-    let served = greet(&requests, secret).and_then(|()| Session::open(options, &out)?.serve(&requests));
+    let served = greet(&requests, secret).and_then(|name| Session::open(options, &out, name)?.serve(&requests));
     if let Err(error) = &served {
         let why = Bytes(error.to_string().into_bytes());
         // Who can't be told any more has gone.
@@ -37,13 +37,13 @@ pub fn serve(
     served
 }
 
-/// Takes the greeting.
-fn greet(requests: &Incoming, secret: &[u8]) -> io::Result<()> {
+/// Takes the greeting; the session that it names, if it does.
+fn greet(requests: &Incoming, secret: &[u8]) -> io::Result<Vec<u8>> {
     let refused = |why: &str| Err(io::Error::new(io::ErrorKind::PermissionDenied, why));
     match message(&requests.next_frame()?)? {
         Request::Hello { protocol, .. } if protocol != PROTOCOL => refused("another version of the protocol"),
         Request::Hello { secret: said, .. } if !is_same(&said.0, secret) => refused("another secret"),
-        Request::Hello { .. } => Ok(()),
+        Request::Hello { session, .. } => Ok(session.0),
         _ => refused("no greeting"),
     }
 }
@@ -78,12 +78,14 @@ struct Session<'a> {
     refused: Option<u64>,
     refuses: Random,
     wrong: Option<Wrong>,
+    /// What it is called, so that a later connection can go on with it; else empty.
+    name: Vec<u8>,
 }
 
 static SESSIONS: AtomicU64 = AtomicU64::new(0);
 
 impl<'a> Session<'a> {
-    fn open(options: &Options, out: &'a Outgoing) -> io::Result<Session<'a>> {
+    fn open(options: &Options, out: &'a Outgoing, name: Vec<u8>) -> io::Result<Session<'a>> {
         let root = Folder::open(&options.folder)?;
         let (shared, _locked) = Shared::open(&root)?;
         let boot = options.boot.clone().map(String::into_bytes);
@@ -92,12 +94,13 @@ impl<'a> Session<'a> {
         let uploads = Uploads::new(shared.hidden.folder(b"")?, mark);
         let refuses = Random { percent: options.refuse_percent, state: options.seed };
         let (known, wrong) = (Known::default(), options.wrong);
-        Ok(Session { root, shared, journal, known, uploads, out, refused: None, refuses, wrong })
+        Ok(Session { root, shared, journal, known, uploads, out, refused: None, refuses, wrong, name })
     }
 
     fn serve(&mut self, requests: &Incoming) -> io::Result<()> {
         let root = fetch::entry(&self.root, Default::default(), &self.shared)?;
-        self.say(&Reply::Welcome { protocol: PROTOCOL, root })?;
+        let done = self.journal.done_of(&self.name)?;
+        self.say(&Reply::Welcome { protocol: PROTOCOL, root, done })?;
         let served = self.take_all(requests);
         self.uploads.forget_all();
         self.settle().and(served)
@@ -200,6 +203,7 @@ impl<'a> Session<'a> {
             Ok(_) if !changes => Ok(Reply::Accepted { number, versions: Vec::new() }),
             Ok(mut plan) => {
                 let shared = &self.shared;
+                self.journal.note = (!self.name.is_empty()).then(|| (Bytes(self.name.clone()), number));
                 self.journal.perform(&mut plan, &mut self.uploads, |inodes| shared.count(inodes))?;
                 let versions = versions_after(&plan, shared, &mut self.known)?;
                 Ok(Reply::Accepted { number, versions }) // [5]

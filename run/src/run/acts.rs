@@ -38,7 +38,9 @@ impl Supervisor {
     pub fn file_call(&mut self, pid: Pid, number: i64, regs: &Regs) -> Done {
         let uses = calls::uses(&Caller { pid, regs, paths: &self.paths, names: &self.names }, number);
         if uses.is_empty() {
-            self.go(pid);
+            if !self.goes_inside(pid, number) {
+                self.go(pid);
+            }
             return Ok(());
         }
         if !self.store_closed(Some(pid))? {
@@ -186,7 +188,7 @@ impl Supervisor {
     }
     /// Has a process at a stop of the filter make its call, and stops it behind. `is_done`: we have done already what
     /// it wants, and it succeeds.
-    fn run_call(&mut self, pid: Pid, is_done: bool) -> Done<Option<i64>> {
+    pub fn run_call(&mut self, pid: Pid, is_done: bool) -> Done<Option<i64>> {
         let mut r = self.tree.at(pid).regs;
         let number = r.orig_rax;
         if is_done {
@@ -270,6 +272,7 @@ impl Supervisor {
                 Use::MakeFolder(Target::Remote(n)) => v.extend(self.folder_made(n)),
                 Use::MakeLink(Target::Remote(n)) => v.extend(self.link_made(n)),
                 Use::Rename(Target::Remote(a), Target::Remote(b)) => v.extend(self.renamed(a, b)),
+                Use::Exchange(Target::Remote(a), Target::Remote(b)) => v.extend(self.exchanged(a, b)),
                 Use::Link(Target::Remote(a), Target::Remote(b)) => v.extend(self.linked(a, b)),
                 Use::Attributes(Target::Remote(n)) => v.extend(self.attributes_set(n)),
                 Use::Truncate(Target::Remote(n)) => {
@@ -322,6 +325,21 @@ impl Supervisor {
         }
         vec![Step::Rename { from: from.clone(), base: a.version, to: to.clone(), over: b.version }]
     }
+    /// Two that take each other's names, by a third one that nobody sees here.
+    fn exchanged(&mut self, one: &Name, other: &Name) -> Vec<Step> {
+        let (a, b) = (self.names.get(one), self.names.get(other));
+        let between = other.parent().child(format!(".hidewillow-{}", self.epochs.new_number()).as_bytes());
+        let Some(between) = between.filter(|_| one != other && a.kind != Kind::Absent && b.kind != Kind::Absent) else {
+            return vec![self.look(one), self.look(other)];
+        };
+        let moved = |from: &Name, base: Version, to: &Name| Step::Rename {
+            from: from.clone(),
+            base,
+            to: to.clone(),
+            over: Version::ABSENT,
+        };
+        vec![moved(other, b.version, &between), moved(one, a.version, other), moved(&between, b.version, one)]
+    }
     fn linked(&mut self, from: &Name, to: &Name) -> Option<Step> {
         let k = self.names.get(from);
         if k.kind != Kind::Absent {
@@ -330,7 +348,7 @@ impl Supervisor {
         // a file without a name gets one
         let path = self.names.local(to);
         let m = present(&path).filter(Metadata::is_file)?;
-        let contents = fs::read(&path).unwrap_or_default();
+        let contents = sys::read_quietly(&path).unwrap_or_default();
         self.stored.named(m.ino(), to);
         Some(put(to, Version::ABSENT, self.epochs.new_version(), &m, contents))
     }
@@ -356,6 +374,7 @@ impl Supervisor {
     fn before(&mut self, uses: &[Use]) -> Vec<Undo> {
         let mut v = Vec::new();
         for u in uses {
+            self.before_folders(u, &mut v);
             match u {
                 Use::Open { at, truncates, .. } => v.extend(self.before_open(at.path(&self.names), *truncates)),
                 Use::Remove(at) => self.before_removal(&at.path(&self.names), &mut v),
@@ -378,12 +397,30 @@ impl Supervisor {
                         v.push(Undo::Renamed { from, to });
                     }
                 }
+                Use::Exchange(a, b) => v.push(Undo::Exchanged(a.path(&self.names), b.path(&self.names))),
                 Use::Attributes(at) => before_attributes(&at.path(&self.names), &mut v),
                 Use::Truncate(at) => v.extend(self.undo.keep_content(&at.path(&self.names))),
                 _ => {}
             }
         }
         v
+    }
+    /// The times of the folders in which names come or go.
+    fn before_folders(&self, u: &Use, v: &mut Vec<Undo>) {
+        let (one, other) = match u {
+            Use::Open { at, creates: true, .. } if present(&at.path(&self.names)).is_none() => (at, None),
+            Use::Remove(at) | Use::RemoveFolder(at) | Use::MakeFolder(at) | Use::MakeLink(at) | Use::MakeNode(at) => {
+                (at, None)
+            }
+            Use::Rename(a, b) | Use::Exchange(a, b) => (a, Some(b)),
+            Use::Link(_, at) => (at, None),
+            _ => return,
+        };
+        for at in std::iter::once(one).chain(other) {
+            let path = at.path(&self.names);
+            let Some((folder, m)) = path.parent().and_then(|f| Some((f, present(f)?))) else { continue };
+            v.push(Undo::Time { path: folder.to_owned(), at: (m.mtime(), m.mtime_nsec()) });
+        }
     }
     fn before_removal(&mut self, path: &Path, v: &mut Vec<Undo>) {
         if present(path).is_some_and(|m| !m.is_dir()) {
@@ -395,5 +432,6 @@ impl Supervisor {
 fn before_attributes(path: &Path, v: &mut Vec<Undo>) {
     let Some(m) = present(path) else { return };
     let (mode, at) = (m.mode() & 0o7777, (m.mtime(), m.mtime_nsec()));
-    v.push(Undo::Attributes { path: path.to_owned(), mode, at, of_link: m.is_symlink() });
+    let (accessed, owner) = ((m.atime(), m.atime_nsec()), (m.uid(), m.gid()));
+    v.push(Undo::Attributes { path: path.to_owned(), mode, at, accessed, owner, of_link: m.is_symlink() });
 }

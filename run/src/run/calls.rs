@@ -4,6 +4,7 @@ use crate::run::filter::SYS_FCHMODAT2;
 use crate::run::names::Names;
 use crate::run::paths::{Paths, Where};
 use crate::run::sys::{self, Pid, Regs};
+use std::os::unix::fs::MetadataExt;
 use std::path::PathBuf;
 
 /// A file that is undone with its epoch: remote, or of a scratch folder.
@@ -49,6 +50,8 @@ pub enum Use {
     /// A pipe with a name, or such: it stays on this machine.
     MakeNode(Target),
     Rename(Target, Target),
+    /// Each takes the other's name.
+    Exchange(Target, Target),
     Link(Target, Target),
     /// Mode or times.
     Attributes(Target),
@@ -76,7 +79,9 @@ impl Use {
             | Use::MakeNode(at)
             | Use::Attributes(at)
             | Use::Truncate(at) => at.remote().into_iter().collect(),
-            Use::Rename(a, b) | Use::Link(a, b) => a.remote().into_iter().chain(b.remote()).collect(),
+            Use::Rename(a, b) | Use::Exchange(a, b) | Use::Link(a, b) => {
+                a.remote().into_iter().chain(b.remote()).collect()
+            }
             Use::Outside | Use::Unsupported(_) => Vec::new(),
         }
     }
@@ -104,6 +109,8 @@ pub fn uses(c: &Caller, number: i64) -> Vec<Use> {
         _ => {
             c.looks(number, &mut v);
             c.changes_one(number, &mut v);
+            c.changes_owner(number, &mut v);
+            c.changes_attributes(number, &mut v);
             c.changes_two(number, &mut v);
         }
     }
@@ -220,11 +227,11 @@ impl Caller<'_> {
         v.push(make(target));
     }
     /// The same of what a descriptor is open at.
-    fn change_open(&self, fd: u64, v: &mut Vec<Use>) {
+    fn change_open(&self, fd: u64, v: &mut Vec<Use>, make: &dyn Fn(Target) -> Use) {
         let Ok(path) = std::fs::read_link(format!("/proc/{}/fd/{}", self.pid, fd as i32)) else { return };
         match self.paths.place(crate::run::paths::bytes(&path)) {
-            Where::Remote(n) => v.push(Use::Attributes(Target::Remote(n))),
-            Where::Scratch(p) => v.push(Use::Attributes(Target::Scratch(p))),
+            Where::Remote(n) => v.push(make(Target::Remote(n))),
+            Where::Scratch(p) => v.push(make(Target::Scratch(p))),
             Where::Local(p) if !p.starts_with("/dev") && p.starts_with("/") => v.push(Use::Outside),
             Where::Local(_) => {}
         }
@@ -254,13 +261,52 @@ impl Caller<'_> {
             SYS_FCHMODAT2 => self.change(a[0], a[1], follow(a[3]), v, &Use::Attributes),
             libc::SYS_futimesat if a[1] != 0 => self.change(a[0], a[1], true, v, &Use::Attributes),
             libc::SYS_utimensat if a[1] != 0 => self.change(a[0], a[1], follow(a[3]), v, &Use::Attributes),
-            libc::SYS_fchmod | libc::SYS_utimensat | libc::SYS_futimesat => self.change_open(a[0], v),
-            libc::SYS_setxattr | libc::SYS_lsetxattr => {
-                self.change(cwd, a[0], number == libc::SYS_setxattr, v, &|t| match t {
-                    Target::Remote(_) => Use::Unsupported(libc::EOPNOTSUPP),
-                    Target::Scratch(_) => Use::Attributes(t),
-                })
+            libc::SYS_fchmod | libc::SYS_utimensat | libc::SYS_futimesat => {
+                self.change_open(a[0], v, &Use::Attributes);
             }
+            _ => {}
+        }
+    }
+    fn changes_owner(&self, number: i64, v: &mut Vec<Use>) {
+        let a = self.args();
+        let owned = |user: u64, group: u64| move |t: Target| self.owner(t, user as u32, group as u32);
+        match number {
+            libc::SYS_chown => self.change(CWD as u64, a[0], true, v, &owned(a[1], a[2])),
+            libc::SYS_lchown => self.change(CWD as u64, a[0], false, v, &owned(a[1], a[2])),
+            libc::SYS_fchown => self.change_open(a[0], v, &owned(a[1], a[2])),
+            libc::SYS_fchownat if a[4] & libc::AT_EMPTY_PATH as u64 != 0 && self.is_empty(a[1]) => {
+                self.change_open(a[0], v, &owned(a[2], a[3]));
+            }
+            libc::SYS_fchownat => {
+                let follow = a[4] & libc::AT_SYMLINK_NOFOLLOW as u64 == 0;
+                self.change(a[0], a[1], follow, v, &owned(a[2], a[3]));
+            }
+            _ => {}
+        }
+    }
+    fn is_empty(&self, at: u64) -> bool {
+        sys::read_string(self.pid, at).is_some_and(|p| p.is_empty())
+    }
+    /// Owners of the mount's files are the server's: a call that leaves them as they are seen changes attributes only.
+    fn owner(&self, at: Target, user: u32, group: u32) -> Use {
+        let stays = |asked: u32, is: u32| asked == u32::MAX || asked == is;
+        let m = std::fs::symlink_metadata(at.path(self.names)).ok();
+        let changed = m.is_some_and(|m| !stays(user, m.uid()) || !stays(group, m.gid()));
+        match at {
+            Target::Remote(_) if changed => Use::Unsupported(libc::EPERM),
+            at => Use::Attributes(at),
+        }
+    }
+    fn changes_attributes(&self, number: i64, v: &mut Vec<Use>) {
+        let a = self.args();
+        let make = |t: Target| match t {
+            Target::Remote(_) => Use::Unsupported(libc::EOPNOTSUPP),
+            Target::Scratch(_) => Use::Attributes(t),
+        };
+        match number {
+            libc::SYS_setxattr | libc::SYS_removexattr => self.change(CWD as u64, a[0], true, v, &make),
+            libc::SYS_lsetxattr | libc::SYS_lremovexattr => self.change(CWD as u64, a[0], false, v, &make),
+            libc::SYS_fsetxattr | libc::SYS_fremovexattr => self.change_open(a[0], v, &make),
             _ => {}
         }
     }
@@ -278,6 +324,7 @@ impl Caller<'_> {
     }
     fn two(&self, from: (u64, u64), to: (u64, u64), links: bool, flags: u64, v: &mut Vec<Use>) {
         const NOREPLACE: u64 = 1;
+        const EXCHANGE: u64 = 2;
         let follow = links && flags & libc::AT_SYMLINK_FOLLOW as u64 != 0;
         let a = self.lead(from.0 as i32, from.1, follow, v);
         let b = self.lead(to.0 as i32, to.1, false, v);
@@ -289,8 +336,11 @@ impl Caller<'_> {
         let (Some(a), Some(b)) = (a, b) else { return };
         let outside = matches!(a, Where::Local(_)) && matches!(b, Where::Local(_));
         match (target(a), target(b)) {
-            _ if !links && flags & !NOREPLACE != 0 && !outside => v.push(Use::Unsupported(libc::EINVAL)),
+            _ if !links && flags & !(NOREPLACE | EXCHANGE) != 0 && !outside => {
+                v.push(Use::Unsupported(libc::EINVAL));
+            }
             (Some(a), Some(b)) if links => v.push(Use::Link(a, b)),
+            (Some(a), Some(b)) if flags & EXCHANGE != 0 => v.push(Use::Exchange(a, b)),
             (Some(a), Some(b)) => v.push(Use::Rename(a, b)),
             _ => v.push(Use::Outside),
         }
@@ -299,7 +349,8 @@ impl Caller<'_> {
 
 /// Devices and the kernel's own files: what is written there shows nowhere, or is no file of this machine's.
 fn stays_inside(path: &std::path::Path) -> bool {
-    path.starts_with("/proc")
+    let of_the_machine = ["/proc/sys", "/proc/sysrq-trigger"].iter().any(|p| path.starts_with(p));
+    path.starts_with("/proc") && !of_the_machine
         || ["/dev/null", "/dev/zero", "/dev/full", "/dev/random", "/dev/urandom"]
             .iter()
             .any(|d| path == std::path::Path::new(d))

@@ -98,6 +98,7 @@ impl Supervisor {
             () if has(|p| p.vforked.is_some()) => Some("a child has its parent's memory until it runs a program"),
             () if has(|p| p.listens) => Some("a process is stopped by a signal"),
             () if has(|p| p.reads_terminal) => Some("a terminal being read"),
+            () if all.values().any(|p| self.tree.has_lost_leader(&p.facts)) => Some("a group has lost its leader"),
             () if has(|p| p.facts.site == 0 && p.state != State::Running) => Some("a program has just begun"),
             () if all.values().any(|p| p.thread && !all.contains_key(&p.facts.process)) => {
                 Some("a process has lost its first thread")
@@ -141,7 +142,11 @@ impl Supervisor {
                     p.regs = r;
                     p.state = State::Stopped;
                     p.reads_terminal = false;
-                    p.listens = signal != libc::SIGTRAP;
+                    if signal == libc::SIGTRAP {
+                        p.listens = false;
+                    } else {
+                        self.on_group_stop(pid, signal);
+                    }
                 }
                 Told::Stopped(Stop::Filter) => {
                     if self.at_filter(pid) {
@@ -264,6 +269,10 @@ impl Supervisor {
                 continue;
             }
             let threads = self.copy_threads(c.pid);
+            if self.tree.at(c.pid).facts.group != self.tree.group {
+                // the group's number is the leader's, which is to be had again
+                sys::set_group(f.child, f.child);
+            }
             let descriptors = tables.remove(&c.pid).unwrap_or_default();
             let (pid, robust) = (f.child, sys::robust_list(c.pid));
             let copy = Rc::new(Copy { pid, regs: c.its, descriptors, threads, pending: c.pending, robust });
@@ -349,17 +358,12 @@ fn shared_descriptions(processes: &[(Pid, Facts, Rc<Copy>)]) -> HashMap<(Pid, Ra
     }
     let mut shared = HashMap::new();
     let mut groups = 0;
-    for all in same_file.values().filter(|v| v.len() > 1) {
-        let mut first: Vec<((Pid, RawFd), usize)> = Vec::new();
-        for one in all {
-            let known = first.iter().find(|(f, _)| sys::same_description(*f, *one)).map(|(_, g)| *g);
-            let group = known.unwrap_or_else(|| {
-                groups += 1;
-                first.push((*one, groups));
-                groups
-            });
-            let offset = descriptors::position(one.0, one.1).map_or(0, |(o, _)| o);
-            shared.insert(*one, (group, offset));
+    for mut all in same_file.into_values().filter(|v| v.len() > 1) {
+        all.sort_by(|a, b| sys::compare_descriptions(*a, *b));
+        for same in all.chunk_by(|a, b| sys::compare_descriptions(*a, *b).is_eq()) {
+            groups += 1;
+            let offset = descriptors::position(same[0].0, same[0].1).map_or(0, |(o, _)| o);
+            shared.extend(same.iter().map(|one| (*one, (groups, offset))));
         }
     }
     shared

@@ -3,6 +3,7 @@ use crate::name::Name;
 use crate::run::checkpoint::Snapshot;
 use crate::run::decides::Decides;
 use crate::run::names::Known;
+use crate::run::proved::Proved;
 use crate::run::supervisor::{Done, Supervisor};
 use crate::run::sys::Pid;
 use crate::run::tree::{Hold, State};
@@ -32,7 +33,11 @@ pub struct Alone {
     pub falls: bool,
 }
 
+/// So many epochs may wait for their replies at once.
+const MOST_UNDECIDED: u16 = 4096;
+
 pub struct Epochs {
+    /// The proved core: nothing is decided beside it.
     pub decides: Box<dyn Decides>,
     pub current: Option<Epoch>,
     pub sent: VecDeque<Epoch>,
@@ -44,6 +49,8 @@ pub struct Epochs {
     pub caution: u32,
     /// For tests: when attributes were last asked for.
     pub believed: HashMap<Name, Instant>,
+    /// For a run that is to be gone on with: what the server calls the states that we have made.
+    pub theirs: HashMap<Version, Version>,
     /// What a checkpoint has cost lately: an epoch is at least ten times as long.
     pub cost: Duration,
     next: u64,
@@ -64,9 +71,9 @@ pub enum Need {
 }
 
 impl Epochs {
-    pub fn new(decides: Box<dyn Decides>) -> Epochs {
+    pub fn new() -> Epochs {
         Epochs {
-            decides,
+            decides: Box::new(Proved::open(MOST_UNDECIDED)),
             current: None,
             sent: VecDeque::new(),
             alone: HashMap::new(),
@@ -74,6 +81,7 @@ impl Epochs {
             fails: 0,
             caution: 0,
             believed: HashMap::new(),
+            theirs: HashMap::new(),
             cost: Duration::ZERO,
             next: 0,
             next_version: 0,
@@ -95,6 +103,10 @@ impl Epochs {
     pub fn newest(&self) -> Option<u64> {
         self.current.as_ref().or(self.sent.back()).map(|e| e.number)
     }
+    /// As many epochs wait for their replies as may.
+    fn is_full(&mut self) -> bool {
+        self.decides.undecided() >= usize::from(MOST_UNDECIDED)
+    }
     /// A store waits for its reply.
     pub fn is_storing(&self) -> bool {
         self.alone.values().any(|a| a.store.is_some())
@@ -113,14 +125,18 @@ impl Supervisor {
         if !self.epochs.alone.is_empty() || (self.epochs.settling && self.epochs.current.is_none()) {
             return Ok(Need::Hold);
         }
+        let full = self.epochs.is_full();
         if let Some(e) = &self.epochs.current {
-            if e.born.elapsed() < self.epoch_length() || !self.checkpoint(pid)? {
+            if full || e.born.elapsed() < self.epoch_length() || !self.checkpoint(pid)? {
                 return Ok(Need::Go);
             }
             return Ok(self.after_checkpoint(pid));
         }
         if self.epochs.caution > 0 {
             return Ok(Need::Wait);
+        }
+        if full {
+            return Ok(Need::Hold);
         }
         // [17]
         Ok(if self.checkpoint(pid)? { self.after_checkpoint(pid) } else { Need::Wait })
@@ -227,10 +243,17 @@ impl Supervisor {
         let (number, value) = self.names.set(name, known);
         self.epochs.decides.changed(number, value);
     }
-    /// The server told it.
+    /// The server told it. Where we have changed it, that was an answer of before.
     pub fn set_told(&mut self, name: &Name, known: Known) {
-        let (number, value) = self.names.set(name, known);
-        self.epochs.decides.told(number, value);
+        if !self.is_changed(name) {
+            let (number, value) = self.names.set(name, known);
+            self.epochs.decides.told(number, value);
+        }
+    }
+    /// Whether an epoch without its reply has changed it.
+    pub fn is_changed(&mut self, name: &Name) -> bool {
+        let number = self.names.number(name);
+        self.epochs.decides.has_changed(number)
     }
     fn set_file(&mut self, name: &Name, version: Version, looked: u64) {
         let file = self.names.get(name).file;

@@ -1,7 +1,9 @@
 //! What happens to processes: births, execs, ends, signals, and calls of which the filter tells.
+use crate::run::inject::to_be_restarted;
+use crate::run::inside::{self, Inside};
 use crate::run::supervisor::{Done, Supervisor};
 use crate::run::sys::{self, Pid, Regs, Stop, Told, Waited};
-use crate::run::tree::{Bound, Ended, Facts, Hold, Process, State};
+use crate::run::tree::{Bound, Ended, Facts, Hold, News, Process, State};
 use std::time::Instant;
 
 impl Supervisor {
@@ -23,16 +25,37 @@ impl Supervisor {
             Stop::Exec => self.on_exec(w.pid),
             Stop::Trap(libc::SIGTRAP) => {
                 self.fix_registers(w.pid);
+                if std::mem::take(&mut self.tree.at(w.pid).listens) {
+                    self.tells_parent(w.pid, News::GoesOn);
+                }
                 self.go(w.pid);
             }
-            Stop::Trap(_) => {
+            Stop::Trap(signal) => {
                 let _ = sys::listen(w.pid);
-                self.tree.at(w.pid).listens = true;
+                self.on_group_stop(w.pid, signal);
             }
             Stop::Signal(s) => self.on_signal(w.pid, s),
             Stop::Call | Stop::Other => self.go(w.pid),
         }
         Ok(())
+    }
+    /// A signal has stopped it, until another.
+    pub fn on_group_stop(&mut self, pid: Pid, signal: i32) {
+        if !std::mem::replace(&mut self.tree.at(pid).listens, true) {
+            self.tells_parent(pid, News::Stopped(signal));
+        }
+    }
+    fn tells_parent(&mut self, pid: Pid, news: News) {
+        let p = self.tree.at(pid);
+        if p.thread {
+            return;
+        }
+        p.facts.news = Some(news);
+        let parent = p.facts.parent;
+        if self.tree.get(parent).is_some_and(|q| q.facts.hears_ends && q.facts.hears_stops) {
+            sys::kill(parent, libc::SIGCHLD);
+        }
+        self.retry_waits();
     }
     /// It is at a call: notes that, without looking at it.
     pub fn at_filter(&mut self, pid: Pid) -> bool {
@@ -52,10 +75,14 @@ impl Supervisor {
     }
     /// The arguments of a fork that was made into a clone are what they were.
     pub fn fix_registers(&mut self, pid: Pid) {
-        let Some((a, b)) = self.tree.get_mut(pid).and_then(|p| p.fix.take()) else { return };
+        let Some((number, a, b)) = self.tree.get_mut(pid).and_then(|p| p.fix.take()) else { return };
         if let Ok(mut r) = sys::registers(pid) {
             r.rdi = a;
             r.rsi = b;
+            if to_be_restarted(r.rax as i64) {
+                // a stop came before it: it is made anew, as what it was
+                r.orig_rax = number;
+            }
             let _ = sys::set_registers(pid, &r);
         }
     }
@@ -64,6 +91,10 @@ impl Supervisor {
         let Ok(r) = sys::registers(pid) else { return };
         let thread = stop == Stop::Clone && r.rdi & libc::CLONE_THREAD as u64 != 0;
         let fix = self.tree.at(pid).fix;
+        if stop != Stop::Vfork && !thread && r.rdi & libc::CLONE_VM as u64 != 0 {
+            // two processes with one memory
+            self.tree.at(pid).facts.inside = Inside::Never;
+        }
         let mut p = Process::new(self.facts_of_child(pid, child, &r, thread), State::Running, r, thread);
         p.vforked = (stop == Stop::Vfork).then_some(pid);
         p.fix = fix;
@@ -86,6 +117,8 @@ impl Supervisor {
             hears_ends: parent.is_some_and(|p| p.facts.hears_ends),
             ignores_ends: parent.is_some_and(|p| p.facts.ignores_ends),
             ended: Vec::new(),
+            hears_stops: parent.is_some_and(|p| p.facts.hears_stops),
+            news: None,
             process: if thread { of.process } else { child },
             clear_at: if r.rdi & libc::CLONE_CHILD_CLEARTID as u64 != 0 { r.r10 } else { 0 },
             signal_stack: if thread { None } else { of.signal_stack },
@@ -99,17 +132,27 @@ impl Supervisor {
         if was != pid {
             self.tree.all.remove(&was);
         }
+        if self.trace.is_on() {
+            let name = std::fs::read_to_string(format!("/proc/{pid}/comm")).unwrap_or_default();
+            self.trace.note_named("program", &[("process", pid as u64)], Some(&name));
+        }
         let p = self.tree.at(pid);
         p.vforked = None;
         p.thread = false;
         p.facts.hears_ends = false;
         p.facts.site = 0;
         p.facts.signal_stack = None;
-        p.facts.bound.retain(|b| matches!(b, Bound::OwnFilter | Bound::Timer | Bound::Timers | Bound::Lock));
+        p.facts.inside = Inside::Not;
+        p.facts.bound.retain(|b| !matches!(b, Bound::SharedMemory | Bound::Terminal));
         self.go(pid);
     }
     fn on_signal(&mut self, pid: Pid, signal: i32) {
         self.tree.forget_copy(pid);
+        if let Some(r) = (signal == libc::SIGSEGV).then(|| inside::out_of_code(pid)).flatten() {
+            let _ = sys::set_registers(pid, &r);
+            let _ = sys::go_on(pid, 0);
+            return;
+        }
         let p = self.tree.at(pid);
         p.listens = false;
         if let Some(r) = p.woken.take() {
@@ -148,7 +191,7 @@ impl Supervisor {
         let parent = p.facts.parent;
         self.tree.forget_copy(parent);
         if let Some(q) = self.tree.get_mut(parent).filter(|q| !q.facts.ignores_ends) {
-            q.facts.ended.push(Ended { pid, status, usage: w.usage });
+            q.facts.ended.push(Ended { pid, group: p.facts.group, status, usage: w.usage });
         }
         // what it wrote is stored before its end is known
         self.store_if_possible()?;
@@ -200,7 +243,7 @@ impl Supervisor {
                 }
             }
             libc::SYS_sigaltstack | libc::SYS_rt_sigaction => self.signal_call(pid, number, &r),
-            libc::SYS_setpgid | libc::SYS_setsid => self.group_call(pid, number, &r),
+            libc::SYS_setpgid | libc::SYS_setsid => self.group_call(pid, number, &r)?,
             libc::SYS_read => self.terminal_read(pid)?,
             _ if self.binding_call(pid, number, &r) => self.go(pid),
             _ => return self.file_call(pid, number, &r),
@@ -219,7 +262,7 @@ impl Supervisor {
         if n.rdi & libc::CLONE_THREAD as u64 == 0 {
             n.rdi |= libc::CLONE_PARENT as u64;
         }
-        self.tree.at(pid).fix = Some((r.rdi, r.rsi));
+        self.tree.at(pid).fix = Some((number as u64, r.rdi, r.rsi));
         let _ = sys::set_registers(pid, &n);
         self.go(pid);
     }
@@ -233,22 +276,47 @@ impl Supervisor {
             let flags = sys::read_word(pid, r.rsi + 8).unwrap_or(0);
             if let Some(p) = self.tree.get_mut(process) {
                 p.facts.hears_ends = handler > 1;
+                p.facts.hears_stops = flags & libc::SA_NOCLDSTOP as u64 == 0;
                 p.facts.ignores_ends = handler == 1 || flags & libc::SA_NOCLDWAIT as u64 != 0;
             }
         }
         self.go(pid);
     }
     /// A process changes its group, or another's: who waits for a group has to know.
-    fn group_call(&mut self, pid: Pid, number: i64, r: &Regs) {
+    fn group_call(&mut self, pid: Pid, number: i64, r: &Regs) -> Done {
         let own = self.tree.at(pid).facts.process;
         let whose = if number == libc::SYS_setsid || r.rdi == 0 { own } else { r.rdi as Pid };
-        let group = if number == libc::SYS_setsid || r.rsi == 0 { whose } else { r.rsi as Pid };
-        // SAFETY: numbers only. Where the call fails, the group stays; it is asked for at the next wait.
-        let now = unsafe { libc::getpgid(whose) };
-        if let Some(p) = self.tree.get_mut(whose).filter(|_| now >= 0) {
-            p.facts.group = group;
+        if whose != own {
+            let result = self.group_of_child(own, whose, r.rsi as Pid);
+            self.finish(pid, result);
+        } else if self.run_call(pid, false)?.is_none() {
+            // [11]
+            return Ok(());
         }
-        self.go(pid);
+        // SAFETY: a number only.
+        let group = unsafe { libc::getpgid(whose) };
+        if let Some(p) = self.tree.get_mut(whose).filter(|_| group >= 0) {
+            p.facts.group = group;
+            let sets = number == libc::SYS_setsid && p.regs.rax as i64 > 0;
+            if sets {
+                p.facts.bind(Bound::Session, true);
+            }
+        }
+        self.tree.forget_copy(whose);
+        if whose == own {
+            self.go(pid);
+        }
+        Ok(())
+    }
+    /// The kernel has a parent alone do it, which is the supervisor.
+    fn group_of_child(&self, parent: Pid, child: Pid, group: Pid) -> i64 {
+        if self.tree.get(child).is_none_or(|c| c.thread || c.facts.parent != parent) {
+            return -i64::from(libc::ESRCH);
+        }
+        match sys::set_group(child, group) {
+            true => 0,
+            false => -i64::from(std::io::Error::last_os_error().raw_os_error().unwrap_or(libc::EPERM)),
+        }
     }
     /// What is read from a terminal can't be unread: all is decided before.
     fn terminal_read(&mut self, pid: Pid) -> Done {
@@ -313,5 +381,8 @@ fn is_written_through(pid: Pid, r: &Regs) -> bool {
 
 /// Bounds that a child has, too.
 fn inherited(of: &[Bound]) -> Vec<Bound> {
-    of.iter().copied().filter(|b| matches!(b, Bound::SharedMemory | Bound::OwnFilter | Bound::Lock)).collect()
+    of.iter()
+        .copied()
+        .filter(|b| matches!(b, Bound::SharedMemory | Bound::OwnFilter | Bound::Lock | Bound::Session))
+        .collect()
 }

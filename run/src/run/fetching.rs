@@ -6,12 +6,17 @@ use crate::run::calls::Use;
 use crate::run::epochs::{Alone, Need};
 use crate::run::names::Known;
 use crate::run::supervisor::{Done, Supervisor};
-use crate::run::sys::Pid;
+use crate::run::sys::{self, Pid};
 use crate::run::tree::Hold;
 use crate::wire::{Entry, Kind, Request, Version, LONGEST_PIECE};
 use std::collections::HashMap;
 use std::fs;
 use std::os::unix::fs::MetadataExt;
+
+/// How many names near one that is wanted are looked at, how long what comes along may be, and how much of it.
+const MOST_NEAR: usize = 200;
+const SMALL: u64 = 64 << 10;
+const MOST_BESIDE: u64 = 256 << 10;
 
 /// A file's contents as they come.
 struct Contents {
@@ -88,7 +93,6 @@ impl Supervisor {
         Ok(true)
     }
     fn fetch_contents(&mut self, pid: Pid, name: &Name) -> Done<bool> {
-        let size = fs::symlink_metadata(self.names.local(name)).map_or(0, |m| m.size());
         self.tree.hold(pid, Hold::Fetch);
         if self.fetching.contents.contains_key(name) {
             return Ok(true);
@@ -96,6 +100,31 @@ impl Supervisor {
         // what this epoch has done to the name has to be there before
         self.close_epoch()?;
         self.stats.fetches += 1;
+        self.ask_contents(name, self.size_here(name))?;
+        self.ask_beside(name)?;
+        Ok(true)
+    }
+    fn size_here(&self, name: &Name) -> u64 {
+        fs::symlink_metadata(self.names.local(name)).map_or(0, |m| m.size())
+    }
+    /// What is wanted next is mostly near: small files come along, without a further way there and back for each.
+    fn ask_beside(&mut self, name: &Name) -> Done {
+        let mut room = MOST_BESIDE;
+        for n in self.names.near(name, MOST_NEAR) {
+            let k = self.names.get(&n);
+            if k.kind != Kind::File || k.have || k.version.is_own() || self.fetching.contents.contains_key(&n) {
+                continue;
+            }
+            let size = self.size_here(&n);
+            if size > SMALL || size > room {
+                continue;
+            }
+            room -= size;
+            self.ask_contents(&n, size)?;
+        }
+        Ok(())
+    }
+    fn ask_contents(&mut self, name: &Name, size: u64) -> Done {
         let pieces = size.div_ceil(LONGEST_PIECE as u64).max(1);
         let version = self.names.get(name).version;
         let all = Contents { version, bytes: Vec::new(), left: pieces as usize, spoilt: false };
@@ -105,7 +134,7 @@ impl Supervisor {
             self.fetching.pieces.insert(id, (name.clone(), offset));
             self.link.send(Request::Read { id, name: name.clone(), offset, len: LONGEST_PIECE as u32 })?;
         }
-        Ok(true)
+        Ok(())
     }
     pub fn on_content(&mut self, id: u64, version: Version, size: u64, bytes: Bytes) -> Done {
         let Some((name, offset)) = self.fetching.pieces.remove(&id) else { return Ok(()) };
@@ -119,7 +148,10 @@ impl Supervisor {
         let Some(c) = self.fetching.contents.remove(&name) else { return Ok(()) };
         let k = self.names.get(&name);
         if !c.spoilt && k.version == c.version && size == c.bytes.len() as u64 {
-            let _ = self.names.fill(&name, &c.bytes);
+            self.fill(&name, &c.bytes);
+        }
+        if k.version != c.version || self.names.get(&name).have {
+            // it is here, or was changed here meanwhile
             self.tree.wake(Hold::Fetch);
             return Ok(());
         }
@@ -128,6 +160,15 @@ impl Supervisor {
         self.fetching.entries.insert(id, Asked::new(&name, false));
         self.link.send(Request::Entry { id, name })?;
         Ok(())
+    }
+    fn fill(&mut self, name: &Name, contents: &[u8]) {
+        if self.names.fill(name, contents).is_err() {
+            return;
+        }
+        for n in self.names.names_of_file(name) {
+            let k = self.names.get(&n);
+            self.set_told(&n, Known { have: true, ..k });
+        }
     }
     pub fn on_entries(&mut self, id: u64, entries: Vec<Entry>, more: bool) {
         let Some(asked) = self.fetching.entries.get_mut(&id) else { return };
@@ -145,11 +186,11 @@ impl Supervisor {
     }
     /// A name is what the server says now; but where we have changed it, that is on top of it.
     pub fn fresh_entry(&mut self, e: &Entry) {
-        let old = self.names.get(&e.name);
-        if self.epochs.newest().is_some() && old.version.is_own() {
-            // an answer of before we changed it
+        if self.is_changed(&e.name) {
+            // an answer of before
             return;
         }
+        let old = self.names.get(&e.name);
         if old.version == e.version && old.kind == e.kind && old.kind != Kind::Absent {
             return;
         }
@@ -234,7 +275,7 @@ impl Supervisor {
     }
     fn store(&mut self, name: &Name, alone: bool) -> Done {
         let Some((m, mark)) = self.stored.changed(&self.names, name) else { return Ok(()) };
-        let contents = fs::read(self.names.local(name)).unwrap_or_default();
+        let contents = sys::read_quietly(&self.names.local(name)).unwrap_or_default();
         self.stats.stores += 1;
         self.stats.stored_bytes += contents.len() as u64;
         let base = self.names.get(name).version;

@@ -2,6 +2,7 @@
 //!
 //! Seen are the calls that name a file, that make or wait for a process, and those after which a process could not be
 //! copied. `read`, `write`, `close` and `lseek` are the kernel's own.
+use crate::run::inside;
 use libc::{c_long, sock_filter, BPF_ABS, BPF_JEQ, BPF_JMP, BPF_JSET, BPF_K, BPF_LD, BPF_RET, BPF_W};
 
 /// Calls whose numbers libc does not name.
@@ -64,8 +65,16 @@ const FILES: &[(c_long, When)] = &[
     (libc::SYS_execve, When::Always),
     (libc::SYS_execveat, When::Always),
     (libc::SYS_chdir, When::Always),
+    (libc::SYS_chown, When::Always),
+    (libc::SYS_lchown, When::Always),
+    (libc::SYS_fchown, When::Always),
+    (libc::SYS_fchownat, When::Always),
     (libc::SYS_setxattr, When::Always),
     (libc::SYS_lsetxattr, When::Always),
+    (libc::SYS_fsetxattr, When::Always),
+    (libc::SYS_removexattr, When::Always),
+    (libc::SYS_lremovexattr, When::Always),
+    (libc::SYS_fremovexattr, When::Always),
     (libc::SYS_connect, When::Always),
     (libc::SYS_bind, When::Always),
     (libc::SYS_socket, When::Always),
@@ -125,6 +134,7 @@ const TRACE: u32 = 0x7ff0_0000;
 const ERRNO: u32 = 0x0005_0000;
 const NR_AT: u32 = 0;
 const ARCH_AT: u32 = 4;
+const PLACE_AT: u32 = 8;
 
 fn op(code: u32, jt: u8, jf: u8, k: u32) -> sock_filter {
     sock_filter { code: code as u16, jt, jf, k }
@@ -168,6 +178,8 @@ fn rule(f: &mut Vec<sock_filter>, nr: c_long, when: When) {
 pub fn program(terminal: bool) -> Vec<sock_filter> {
     let mut f = vec![load(ARCH_AT), op(BPF_JMP | BPF_JEQ | BPF_K, 1, 0, ARCH_X86_64)];
     f.push(give(ERRNO | libc::ENOSYS as u32));
+    // calls that were looked at within the process
+    f.extend([load(PLACE_AT), unless_is(inside::free_place(), 3), load(PLACE_AT + 4), unless_is(0, 1), give(ALLOW)]);
     f.push(load(NR_AT));
     f.push(op(BPF_JMP | libc::BPF_JGE | BPF_K, 0, 1, FIRST_X32));
     f.push(give(ERRNO | libc::ENOSYS as u32));

@@ -90,7 +90,10 @@ pub fn make(calls: &mut [Call]) -> Vec<Waited> {
     while !at.is_empty() {
         let Some(w) = sys::wait(-1) else { break };
         match at.get(&w.pid) {
-            Some(k) if calls[*k].on(w.told) => drop(at.remove(&w.pid)),
+            Some(k) if calls[*k].on(w.told) => {
+                at.remove(&w.pid);
+                ends.extend(matches!(w.told, Told::Ended(_)).then_some(w));
+            }
             Some(_) => {}
             None if matches!(w.told, Told::Ended(_)) => ends.push(w),
             None => drop(born.insert(w.pid)),
@@ -112,6 +115,9 @@ fn make_one(c: &mut Call) {
             return;
         };
         if c.on(w.told) {
+            if matches!(w.told, Told::Ended(_)) {
+                sys::put_back(w);
+            }
             break;
         }
     }
@@ -133,8 +139,15 @@ impl Puppet {
     pub fn call(&mut self, number: i64, args: [u64; 4]) -> Result<i64, Gone> {
         self.run(number, args).map(|c| c.result)
     }
+    /// The same at a stop of the filter, in the place of the call that it is at.
+    pub fn call_here(&mut self, number: i64, args: [u64; 4]) -> Result<i64, Gone> {
+        self.run_at(true, number, args).map(|c| c.result)
+    }
     fn run(&mut self, number: i64, args: [u64; 4]) -> Result<Call, Gone> {
-        let mut c = Call::new(self.pid, self.regs, false, self.site, number, args);
+        self.run_at(false, number, args)
+    }
+    fn run_at(&mut self, at_filter: bool, number: i64, args: [u64; 4]) -> Result<Call, Gone> {
+        let mut c = Call::new(self.pid, self.regs, at_filter, self.site, number, args);
         make_one(&mut c);
         self.signals.append(&mut c.signals);
         if c.gone {

@@ -7,6 +7,7 @@ use std::ffi::OsStr;
 use std::fs::{self, Permissions};
 use std::io::{self, Write};
 use std::ops::Bound;
+use std::os::fd::RawFd;
 use std::os::unix::ffi::OsStrExt;
 use std::os::unix::fs::{MetadataExt, PermissionsExt};
 use std::path::{Path, PathBuf};
@@ -140,7 +141,8 @@ impl Names {
         self.values.push(known);
         (self.number(name), (!absent).then_some(self.values.len() as u64))
     }
-    fn number(&mut self, name: &Name) -> u64 {
+    /// What it is called where it is decided.
+    pub fn number(&mut self, name: &Name) -> u64 {
         if let Some(n) = self.numbers.get(name) {
             return *n;
         }
@@ -190,6 +192,15 @@ impl Names {
             looked: 0,
         }
     }
+    /// The same at the start, when nobody looks: `folder` is that of the copies, which is empty.
+    pub fn install_first(&mut self, folder: RawFd, e: &Entry) -> Known {
+        let alone = e.kind == Kind::File && e.links <= 1;
+        if !alone || sys::make_file(folder, e.name.path(), e.size, e.mode, parts(e.modified)).is_err() {
+            return self.install(e);
+        }
+        let have = e.size == 0;
+        Known { version: e.version, kind: e.kind, have, listed: false, file: 0, looked: 0 }
+    }
     fn install_at(&mut self, e: &Entry, path: &Path) -> io::Result<()> {
         if let Ok(m) = fs::symlink_metadata(path) {
             let same = match e.kind {
@@ -229,6 +240,10 @@ impl Names {
         if old.version == e.version && old.kind == Kind::File && path.exists() {
             return Ok(());
         }
+        if fs::symlink_metadata(path).is_ok_and(|m| m.is_file() && m.nlink() == 1 && is_as_long_and_old(&m, e)) {
+            // touched only: who has it open has the same file still
+            return fs::set_permissions(path, Permissions::from_mode(e.mode));
+        }
         let shared = (e.links > 1).then(|| self.entries.iter().find(|(_, k)| k.file == e.file)).flatten();
         if let Some((other, _)) = shared.filter(|(n, k)| **n != e.name && k.version == e.version) {
             let other = self.local(other);
@@ -243,22 +258,25 @@ impl Names {
         sys::set_times(&new, parts(e.modified));
         fs::rename(&new, path)
     }
-    /// Puts a file's contents into its local copy, which nobody has opened yet.
-    pub fn fill(&mut self, name: &Name, contents: &[u8]) -> io::Result<()> {
+    /// Puts a file's contents into its local copy.
+    pub fn fill(&self, name: &Name, contents: &[u8]) -> io::Result<()> {
         let path = self.local(name);
         let m = fs::metadata(&path)?;
         fs::set_permissions(&path, Permissions::from_mode(m.mode() | 0o200))?;
-        let mut f = fs::OpenOptions::new().write(true).truncate(true).open(&path)?;
+        // it is never shorter in between: after a rollback someone may have it open
+        let mut f = fs::OpenOptions::new().write(true).open(&path)?;
         f.write_all(contents)?;
+        f.set_len(contents.len() as u64)?;
         f.set_permissions(Permissions::from_mode(m.mode() & 0o7777))?;
         drop(f);
         sys::set_times(&path, (m.mtime(), m.mtime_nsec()));
-        for n in self.names_of_file(name) {
-            if let Some(k) = self.entries.get_mut(&n) {
-                k.have = true;
-            }
-        }
         Ok(())
+    }
+    /// Names behind this one in their order, then those from its folder's first on.
+    pub fn near(&self, name: &Name, most: usize) -> Vec<Name> {
+        let behind = self.entries.range::<[u8], _>((Bound::Excluded(name.bytes()), Bound::Unbounded)).take(most);
+        let beside = self.entries.range::<[u8], _>(from_here(name.parent().bytes())).take(most);
+        behind.chain(beside).map(|(n, _)| n.clone()).collect()
     }
     /// Folders get the times that they had before things were put into them.
     pub fn set_folder_times(&self, entries: &[Entry]) {
@@ -268,6 +286,10 @@ impl Names {
             sys::set_times(&path, parts(e.modified));
         }
     }
+}
+
+fn is_as_long_and_old(m: &fs::Metadata, e: &Entry) -> bool {
+    e.links <= 1 && m.len() == e.size && (m.mtime(), m.mtime_nsec()) == parts(e.modified)
 }
 
 fn from_here(name: &[u8]) -> (Bound<&[u8]>, Bound<&[u8]>) {

@@ -5,7 +5,7 @@ use std::path::PathBuf;
 use std::time::Duration;
 
 pub const USAGE: &str = "usage: hidewillow-run --at ssh:HOST:FOLDER|tcp:PORT:SECRETFILE|local:FOLDER [--mount DIR] \
-[--scratch DIR].. [--strict] [--why] [--stats[=FILE]] [--trace FILE] -- COMMAND ..";
+[--scratch DIR].. [--strict] [--resume] [--why] [--stats[=FILE]] [--trace FILE] -- COMMAND ..";
 
 #[derive(Clone, Debug)]
 pub struct Options {
@@ -16,6 +16,7 @@ pub struct Options {
     pub scratch: Vec<PathBuf>,
     /// Each call waits for its reply.
     pub strict: bool,
+    /// Where the server is lost, what is decided waits for it to come back.
     pub resume: bool,
     /// What waits says once why.
     pub why: bool,
@@ -92,9 +93,6 @@ impl Options {
         o.at = at.ok_or("--at is missing")?;
         if o.scratch.is_empty() {
             o.scratch.push(SCRATCH.into());
-        }
-        if o.resume {
-            return Err("--resume is not there yet".into());
         }
         if o.command.is_empty() {
             return Err("the command is missing".into());

@@ -27,6 +27,7 @@ pub struct Streams {
     next: u64,
     held: usize,
     pub said: u64,
+    pub shown: u64,
 }
 
 /// A pipe: the end that is read, and the end that is written.
@@ -58,7 +59,7 @@ impl Streams {
     pub fn open() -> io::Result<Streams> {
         // SAFETY: numbers only.
         let me = unsafe { libc::getpid() };
-        let one = sys::same_description((me, 1), (me, 2)) || same_terminal();
+        let one = sys::compare_descriptions((me, 1), (me, 2)).is_eq() || same_terminal();
         let mut all = Vec::new();
         for out in if one { vec![1] } else { vec![1, 2] } {
             let (from, to) = pipe()?;
@@ -67,7 +68,7 @@ impl Streams {
             let from = unsafe { File::from_raw_fd(from.into_raw_fd()) };
             all.push(Stream { from: Some(from), to, inode, out });
         }
-        Ok(Streams { all, chunks: HashMap::new(), pending: Vec::new(), next: 0, held: 0, said: 0 })
+        Ok(Streams { all, chunks: HashMap::new(), pending: Vec::new(), next: 0, held: 0, said: 0, shown: 0 })
     }
     pub fn signal_when_ready(&self) {
         self.readers().for_each(signal_when_ready);
@@ -123,6 +124,7 @@ impl Streams {
             // SAFETY: the bytes are ours; the descriptor is standard output or error.
             let n = unsafe { libc::write(self.all[i].out, bytes.as_ptr().cast(), bytes.len()) };
             if n > 0 {
+                self.shown += n as u64;
                 bytes = &bytes[n as usize..];
                 continue;
             }

@@ -1,9 +1,10 @@
 //! Where a path of a process leads: into the mount, into a scratch folder, or elsewhere on this machine.
 use crate::name::Name;
+use crate::run::inside::Board;
 use crate::run::names::Names;
 use crate::run::sys::Pid;
 use crate::wire::Kind;
-use std::cell::RefCell;
+use std::cell::{RefCell, RefMut};
 use std::collections::{HashMap, HashSet, VecDeque};
 use std::ffi::OsStr;
 use std::fs;
@@ -40,6 +41,8 @@ pub struct Paths {
     local_links: RefCell<HashMap<Vec<u8>, Option<Vec<u8>>>>,
     /// Whole paths that stay on this machine, outside of scratch folders.
     local: RefCell<HashSet<Vec<u8>>>,
+    /// The same for the processes themselves.
+    board: RefCell<Board>,
 }
 
 /// No more paths are remembered than these.
@@ -55,13 +58,18 @@ fn under<'a>(path: &'a [u8], folder: &[u8]) -> Option<&'a [u8]> {
 }
 
 impl Paths {
-    pub fn new(mount: Vec<u8>, scratch: Vec<Vec<u8>>) -> Paths {
-        Paths { mount, scratch, local_links: RefCell::default(), local: RefCell::default() }
+    pub fn new(mount: Vec<u8>, scratch: Vec<Vec<u8>>, board: Board) -> Paths {
+        let (local_links, local) = (RefCell::default(), RefCell::default());
+        Paths { mount, scratch, local_links, local, board: RefCell::new(board) }
+    }
+    pub fn board(&self) -> RefMut<'_, Board> {
+        self.board.borrow_mut()
     }
     /// Something outside may have changed: what was seen of local links is forgotten.
     pub fn forget_local(&self) {
         self.local_links.borrow_mut().clear();
         self.local.borrow_mut().clear();
+        self.board().wipe(); // [19]
     }
     pub fn place(&self, path: &[u8]) -> Where {
         if let Some(name) = under(path, &self.mount).and_then(Name::new) {
@@ -80,13 +88,18 @@ impl Paths {
             return Led { to: Where::Local(os(path).into()), links: Vec::new() };
         }
         let led = self.follow(names, pid, folder, path, follow);
-        let stays = path.starts_with(b"/") && !path.starts_with(b"/proc") && !path.starts_with(b"/dev");
-        if stays && follow && led.links.is_empty() && matches!(led.to, Where::Local(_)) {
+        let stays = |l: &Led| l.links.is_empty() && matches!(l.to, Where::Local(_));
+        let is_kept = path.starts_with(b"/") && !path.starts_with(b"/proc") && !path.starts_with(b"/dev");
+        // also where its last part is a link that some other call follows
+        if is_kept && stays(&led) && (follow || stays(&self.follow(names, pid, folder, path, true))) {
             let mut local = self.local.borrow_mut();
             if local.len() >= MOST_PATHS {
                 local.clear();
+                self.board().wipe();
             }
-            local.insert(path.to_vec());
+            if local.insert(path.to_vec()) {
+                self.board().add(path); // [19]
+            }
         }
         led
     }

@@ -23,10 +23,15 @@ impl Supervisor {
                 Ok(())
             }
             Reply::Content { id, version, size, bytes } => self.on_content(id, version, size, bytes),
-            Reply::Accepted { number, .. } => match self.epochs.alone.remove(&number) {
-                Some(a) => self.on_alone_accepted(a),
-                None => self.on_accepted(number),
-            },
+            Reply::Accepted { number, versions } => {
+                if self.options.resume {
+                    self.epochs.theirs.extend(versions);
+                }
+                match self.epochs.alone.remove(&number) {
+                    Some(a) => self.on_alone_accepted(a),
+                    None => self.on_accepted(number),
+                }
+            }
             Reply::Refused { number, stale, folders } => match self.epochs.alone.remove(&number) {
                 Some(a) => self.on_alone_refused(number, a, &stale, &folders),
                 None => self.on_refused(number, &stale, &folders),
@@ -34,20 +39,21 @@ impl Supervisor {
             Reply::Fault { why } => Err(Failure::Lost(String::from_utf8_lossy(&why.0).into_owned())),
         }
     }
-    fn on_accepted(&mut self, number: u64) -> Done {
+    pub fn on_accepted(&mut self, number: u64) -> Done {
         let may_go = self.epochs.decides.accepted();
-        if may_go != number || self.epochs.sent.front().map(|e| e.number) != Some(number) {
-            return Err(Failure::Lost(format!("an answer to {number} where one to {may_go} is due")));
+        if may_go != Some(number) || self.epochs.sent.front().map(|e| e.number) != Some(number) {
+            return Err(Failure::Lost(format!("an answer to {number} where one to {may_go:?} is due")));
         }
         drop(self.epochs.sent.pop_front());
         self.epochs.fails = 0;
         self.trace.note("accepted", &[("number", number)]);
         self.streams.show(&mut *self.epochs.decides);
+        self.trace.output(self.streams.said, self.streams.shown);
         self.undo.settle(number);
         self.settled()
     }
     /// Those that wait until all is decided go on, where it is.
-    fn settled(&mut self) -> Done {
+    pub fn settled(&mut self) -> Done {
         if self.epochs.is_quiet() {
             self.epochs.settling = false;
         }
@@ -57,7 +63,7 @@ impl Supervisor {
         }
         Ok(())
     }
-    fn on_alone_accepted(&mut self, a: Alone) -> Done {
+    pub fn on_alone_accepted(&mut self, a: Alone) -> Done {
         self.epochs.caution = self.epochs.caution.saturating_sub(1);
         a.undo.into_iter().for_each(undo::forget);
         if !self.options.believe.is_zero() {
@@ -83,7 +89,7 @@ impl Supervisor {
         self.settled()
     }
     /// A call that waited was refused: what it did here is undone, and it is made once more on what is there now.
-    fn on_alone_refused(&mut self, number: u64, a: Alone, stale: &[Entry], folders: &[Vec<Entry>]) -> Done {
+    pub fn on_alone_refused(&mut self, number: u64, a: Alone, stale: &[Entry], folders: &[Vec<Entry>]) -> Done {
         self.stats.refused_waits += 1;
         self.trace.note("wait refused", &[("number", number)]);
         undo::take_back(a.undo);
@@ -127,7 +133,9 @@ impl Supervisor {
     }
     fn on_refused(&mut self, number: u64, stale: &[Entry], folders: &[Vec<Entry>]) -> Done {
         self.trace.note("refused", &[("number", number)]);
-        let back = self.epochs.decides.refused(); // [14]
+        let Some(back) = self.epochs.decides.refused() else {
+            return Err(Failure::Lost(format!("a refusal of {number} where none is due")));
+        }; // [14]
         let at = self.epochs.sent.iter().position(|e| e.number == back.checkpoint);
         let Some(epoch) = at.and_then(|at| self.epochs.sent.remove(at)).filter(|e| e.number == number) else {
             return Err(Failure::Lost(format!("a refusal of {number} where one of {} is due", back.checkpoint)));

@@ -40,6 +40,7 @@ impl Supervisor {
             self.make_anew(*pid, facts, copy, &snapshot, &mut opened)?;
         }
         drop((pipes, opened));
+        set_groups(&snapshot.processes, self.tree.group)?;
         fresh(self)?;
         self.stats.rollback_time += begin.elapsed();
         self.trace.note("rolled back", &[("processes", snapshot.processes.len() as u64)]);
@@ -107,6 +108,7 @@ impl Supervisor {
             p.signals.push(libc::SIGCHLD);
         }
         self.tree.all.insert(pid, p);
+        self.trace.note("restored", &[("process", pid as u64)]);
         Ok(())
     }
     fn give_descriptors(&mut self, p: &mut Puppet, copy: &Copy, of: &Snapshot, opened: &mut Opened) -> Done {
@@ -224,6 +226,18 @@ fn send_again(p: &mut Puppet, process: Pid, pending: &[Vec<SigInfo>; 2]) -> Done
         }
     }
     sys::set_signal_mask(p.pid, mask);
+    Ok(())
+}
+
+/// Groups are as they were, those of leaders first.
+fn set_groups(processes: &[(Pid, Facts, Rc<Copy>)], first: Pid) -> Done {
+    let all = processes.iter().map(|(pid, facts, _)| (*pid, facts.group)).filter(|(_, group)| *group != first);
+    let (leaders, others): (Vec<_>, Vec<_>) = all.partition(|(pid, group)| pid == group);
+    for (pid, group) in leaders.into_iter().chain(others) {
+        if !sys::set_group(pid, group) {
+            return Err(Failure::Broken(format!("process {pid} can't be in the group {group} again")));
+        }
+    }
     Ok(())
 }
 

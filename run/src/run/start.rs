@@ -1,11 +1,11 @@
 //! From the command line to the command, and from its end to ours.
 use crate::client::Link;
 use crate::name::Name;
-use crate::run::decides::Plain;
 use crate::run::epochs::Epochs;
 use crate::run::fetching::Fetching;
 use crate::run::filter;
 use crate::run::ground;
+use crate::run::inside::Board;
 use crate::run::names::Names;
 use crate::run::options::Options;
 use crate::run::output::{self, Streams};
@@ -15,12 +15,12 @@ use crate::run::stored::Stored;
 use crate::run::supervisor::{Failure, Supervisor, FORWARD, READY};
 use crate::run::sys::{self, Pid};
 use crate::run::tree::{Facts, Process, State, Tree};
-use crate::run::undo::UndoLog;
+use crate::run::undo::{self, UndoLog};
 use crate::wire::{Entry, Reply, Request};
 use std::ffi::CString;
 use std::fs::{self, File};
 use std::io::{self, Read, Write};
-use std::os::fd::OwnedFd;
+use std::os::fd::{AsRawFd, OwnedFd};
 use std::os::unix::fs::MetadataExt;
 use std::sync::atomic::Ordering;
 use std::time::{Duration, Instant};
@@ -38,7 +38,14 @@ fn say(what: impl std::fmt::Display) {
 
 /// Runs the command; returns the status to end with.
 pub fn run(options: Options) -> i32 {
-    let mut link = match Link::open(&options.at) {
+    let session = match new_session(&options) {
+        Ok(s) => s,
+        Err(e) => {
+            say(e);
+            return CANNOT;
+        }
+    };
+    let mut link = match Link::open_as(&options.at, &session) {
         Ok(l) => l,
         Err(e) => {
             say(format_args!("the server can't be had: {e}"));
@@ -46,13 +53,13 @@ pub fn run(options: Options) -> i32 {
         }
     };
     let entries = match all_names(&mut link) {
-        Ok(e) => e,
+        Ok((_, e)) => e,
         Err(e) => {
             say(format_args!("the server is lost: {e}"));
             return LOST;
         }
     };
-    match split(options, link, entries) {
+    match split(options, (link, session), entries) {
         Ok(status) => status,
         Err(e) => {
             say(e);
@@ -61,9 +68,19 @@ pub fn run(options: Options) -> i32 {
     }
 }
 
-/// The folder's own entry, and those of all names in it.
-fn all_names(link: &mut Link) -> io::Result<Vec<Entry>> {
-    let Reply::Welcome { root, .. } = reply(link)? else { return Err(io::ErrorKind::InvalidData.into()) };
+/// A name for what the server keeps of this run, where it may have to be gone on with.
+fn new_session(options: &Options) -> io::Result<Vec<u8>> {
+    if !options.resume {
+        return Ok(Vec::new());
+    }
+    let mut random = [0u8; 16];
+    File::open("/dev/urandom")?.read_exact(&mut random)?;
+    Ok(random.iter().map(|b| format!("{b:02x}")).collect::<String>().into_bytes())
+}
+
+/// The last epoch of the session that was done; the folder's own entry, and those of all names in it.
+pub fn all_names(link: &mut Link) -> io::Result<(u64, Vec<Entry>)> {
+    let Reply::Welcome { root, done, .. } = reply(link)? else { return Err(io::ErrorKind::InvalidData.into()) };
     link.send(Request::Tree { id: 0, name: Name::root() })?;
     let mut all = vec![root];
     loop {
@@ -72,7 +89,7 @@ fn all_names(link: &mut Link) -> io::Result<Vec<Entry>> {
         };
         all.extend(entries.into_iter().filter(|e| !e.name.is_root()));
         if !more {
-            return Ok(all);
+            return Ok((done, all));
         }
     }
 }
@@ -84,7 +101,7 @@ fn reply(link: &mut Link) -> io::Result<Reply> {
 }
 
 /// The supervisor is the first process of namespaces of its own; this one waits for it.
-fn split(options: Options, link: Link, entries: Vec<Entry>) -> io::Result<i32> {
+fn split(options: Options, (link, session): (Link, Vec<u8>), entries: Vec<Entry>) -> io::Result<i32> {
     let (read, write) = output::pipe()?;
     ground::enter_namespaces()?;
     // SAFETY: there is one thread; both go on as they are.
@@ -92,7 +109,7 @@ fn split(options: Options, link: Link, entries: Vec<Entry>) -> io::Result<i32> {
         -1 => Err(io::Error::last_os_error()),
         0 => {
             drop(read);
-            let status = supervise(options.clone(), link, &entries);
+            let status = supervise(options.clone(), (link, session), &entries);
             let _ = File::from(write).write_all(&status.to_le_bytes());
             std::process::exit(0);
         }
@@ -129,6 +146,8 @@ fn wait_for(inner: Pid, status: OwnedFd, link: Link) -> i32 {
         }
     }
     drop(link);
+    // SAFETY: a number, and no status; the processor time of all is this process's children's then.
+    unsafe { libc::waitpid(inner, std::ptr::null_mut(), 0) };
     if got < 4 {
         say("the supervisor has ended; what was not decided is undone");
         return LOST;
@@ -176,7 +195,7 @@ fn exited(code: i32) -> i32 {
     code << 8
 }
 
-fn supervise(options: Options, link: Link, entries: &[Entry]) -> i32 {
+fn supervise(options: Options, link: (Link, Vec<u8>), entries: &[Entry]) -> i32 {
     // SAFETY: numbers only.
     unsafe {
         libc::prctl(libc::PR_SET_PDEATHSIG, libc::SIGKILL);
@@ -210,7 +229,7 @@ fn supervise(options: Options, link: Link, entries: &[Entry]) -> i32 {
     status
 }
 
-fn prepare(mut options: Options, link: Link, entries: &[Entry]) -> io::Result<Supervisor> {
+fn prepare(mut options: Options, (link, session): (Link, Vec<u8>), entries: &[Entry]) -> io::Result<Supervisor> {
     let trace = Trace::open(options.trace.as_deref())?;
     let folder = options.mount.clone().map_or_else(std::env::current_dir, Ok)?;
     let ground = ground::prepare(&folder)?;
@@ -219,39 +238,42 @@ fn prepare(mut options: Options, link: Link, entries: &[Entry]) -> io::Result<Su
     let tag = options.tag;
     for s in &mut options.scratch {
         *s = fs::canonicalize(&*s)?;
+        undo::clear_left(s);
         undo.add_folder(fs::metadata(&*s)?.dev(), s.join(saved_names(tag)));
     }
     let scratch = options.scratch.iter().map(|s| bytes(s).to_vec()).collect();
     let mut s = Supervisor {
-        paths: Paths::new(bytes(&ground.mount).to_vec(), scratch),
+        paths: Paths::new(bytes(&ground.mount).to_vec(), scratch, Board::make()?),
         stored: Stored::watch_mount(&ground.mount)?,
         names: Names::new(ground.data.clone(), ground.undo.clone()),
         streams: Streams::open()?,
         keeper: ground::keeper()?,
-        epochs: Epochs::new(Box::new(Plain::default())),
+        epochs: Epochs::new(),
         why: Why::new(options.why),
         fetching: Fetching::default(),
         tree: Tree::default(),
         stats: Stats::default(),
         stopping: false,
+        session,
         trace,
         undo,
         options,
         ground,
         link,
     };
-    install_all(&mut s, entries);
+    install_all(&mut s, entries)?;
     Ok(s)
 }
 
 /// The folder for names that went, in each scratch folder.
 fn saved_names(tag: u32) -> String {
-    format!(".hidewillow-run-{tag}")
+    format!("{}{tag}", undo::SAVED)
 }
 
-fn install_all(s: &mut Supervisor, entries: &[Entry]) {
+fn install_all(s: &mut Supervisor, entries: &[Entry]) -> io::Result<()> {
+    let folder = sys::open(&s.names.local(&Name::root()), libc::O_RDONLY | libc::O_DIRECTORY)?;
     for e in entries {
-        let mut k = s.names.install(e);
+        let mut k = s.names.install_first(folder.as_raw_fd(), e);
         k.listed = e.kind == crate::wire::Kind::Folder;
         s.set_told(&e.name, k);
         if k.listed {
@@ -261,6 +283,7 @@ fn install_all(s: &mut Supervisor, entries: &[Entry]) {
     s.names.set_folder_times(entries);
     let due = Vec::new();
     s.stored.discard(&s.paths, due);
+    Ok(())
 }
 
 /// Signals tell of what can be read while a process is waited for; a tick makes up for those that come too soon.
@@ -293,6 +316,7 @@ fn begin_command(s: &mut Supervisor) -> io::Result<()> {
     s.tree.root = root;
     // SAFETY: numbers only.
     let group = unsafe { libc::getpgid(root) };
+    s.tree.group = group;
     // SAFETY: registers are plain numbers.
     let none: sys::Regs = unsafe { std::mem::zeroed() };
     s.tree.all.insert(root, Process::new(Facts::of_first(root, group), State::Running, none, false));

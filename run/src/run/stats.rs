@@ -9,6 +9,8 @@ use std::time::{Duration, Instant};
 #[derive(Default)]
 pub struct Stats {
     pub stops: u64,
+    /// Places in programs from which calls on this machine's paths aren't stopped any more.
+    pub inside: u64,
     pub calls: u64,
     pub guesses: u64,
     pub waits: u64,
@@ -55,18 +57,41 @@ impl Why {
 pub struct Trace {
     to: Option<File>,
     start: Instant,
+    /// How much was said, and how much shown, as told last.
+    output: (u64, u64),
 }
 
 impl Trace {
     pub fn open(to: Option<&Path>) -> std::io::Result<Trace> {
-        Ok(Trace { to: to.map(File::create).transpose()?, start: Instant::now() })
+        Ok(Trace { to: to.map(File::create).transpose()?, start: Instant::now(), output: (0, 0) })
+    }
+    /// What the command has said so far, and what of it was shown.
+    pub fn output(&mut self, said: u64, shown: u64) {
+        if said != self.output.0 {
+            self.note("said", &[("bytes", said)]);
+        }
+        if shown != self.output.1 {
+            self.note("shown", &[("bytes", shown)]);
+        }
+        self.output = (said, shown);
+    }
+    pub fn is_on(&self) -> bool {
+        self.to.is_some()
     }
     pub fn note(&mut self, what: &str, fields: &[(&str, u64)]) {
+        self.note_named(what, fields, None);
+    }
+    /// With a word that tells of what it is.
+    pub fn note_named(&mut self, what: &str, fields: &[(&str, u64)], name: Option<&str>) {
         let Some(f) = &mut self.to else { return };
         let ms = self.start.elapsed().as_secs_f64() * 1e3;
         let mut line = format!("{{\"at\":{ms:.3},\"what\":\"{what}\"");
         for (name, value) in fields {
             let _ = write!(line, ",\"{name}\":{value}");
+        }
+        if let Some(name) = name {
+            let plain: String = name.chars().filter(|c| c.is_ascii_graphic() && !['"', '\\'].contains(c)).collect();
+            let _ = write!(line, ",\"name\":\"{plain}\"");
         }
         let _ = writeln!(f, "{line}}}");
     }
@@ -81,6 +106,7 @@ impl Stats {
         };
         line("wall_ms", format!("{:.1}", wall.as_secs_f64() * 1e3));
         line("stops", self.stops.to_string());
+        line("inside", self.inside.to_string());
         line("calls", self.calls.to_string());
         line("guesses", self.guesses.to_string());
         line("waits", self.waits.to_string());

@@ -10,7 +10,7 @@ use crate::run::paths::Paths;
 use crate::run::stats::{Stats, Trace, Why};
 use crate::run::stored::Stored;
 use crate::run::sys::{self, Pid};
-use crate::run::tree::{State, Tree};
+use crate::run::tree::{Process, State, Tree};
 use crate::run::undo::UndoLog;
 use std::fmt;
 use std::io;
@@ -59,6 +59,8 @@ pub struct Supervisor {
     pub options: Options,
     pub ground: Ground,
     pub link: Link,
+    /// What the server keeps of this run has this name; empty where nobody goes on with it.
+    pub session: Vec<u8>,
     pub fetching: Fetching,
     pub tree: Tree,
     pub names: Names,
@@ -88,11 +90,15 @@ impl Supervisor {
             if look {
                 if looked.elapsed() > LOOK_FOR_SIGNALS {
                     self.let_signals_in();
+                    self.misses_none()?;
                     looked = Instant::now();
                 }
                 self.forward_signal();
                 self.take_output()?;
-                self.receive()?;
+                match self.receive() {
+                    Err(Failure::Lost(why)) if self.options.resume => self.resume(&why)?,
+                    received => received?,
+                }
                 self.close_old_epoch()?;
             }
             while let Some(pid) = self.tree.queue.pop_front() {
@@ -101,6 +107,14 @@ impl Supervisor {
             if self.tree.all.is_empty() && self.is_all_decided()? {
                 return Ok(self.tree.root_status.unwrap_or(0));
             }
+        }
+    }
+    /// Each process that is taken to run is there.
+    fn misses_none(&self) -> Done {
+        let gone = |(pid, p): &(&Pid, &Process)| p.state == State::Running && !sys::is_there(**pid);
+        match self.tree.all.iter().find(gone) {
+            Some((pid, _)) => Err(Failure::Broken(format!("process {pid} is gone without a word"))),
+            None => Ok(()),
         }
     }
     /// Waits until a process stops, or something can be read; true where it should be looked for the latter. A signal
@@ -166,6 +180,7 @@ impl Supervisor {
         if self.stored.due.is_empty() && !self.epochs.is_changing() {
             self.streams.say(&mut *self.epochs.decides);
         }
+        self.trace.output(self.streams.said, self.streams.shown);
     }
     /// Kills all processes, and takes back what isn't decided.
     pub fn abandon(&mut self) {

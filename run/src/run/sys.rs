@@ -1,6 +1,9 @@
 //! The few system calls that the standard library doesn't have: ptrace, and the memory of a traced process.
+use std::cell::RefCell;
+use std::cmp::Ordering;
 use std::ffi::{CString, OsStr};
-use std::io;
+use std::fs::File;
+use std::io::{self, Read};
 use std::os::fd::{AsRawFd, FromRawFd, OwnedFd, RawFd};
 use std::os::unix::ffi::OsStrExt;
 use std::path::Path;
@@ -170,7 +173,22 @@ fn told(status: i32) -> Told {
         _ => Stop::Other,
     })
 }
+thread_local! {
+    /// Ends that came where another event was waited for: the next wait tells of them.
+    static PUT_BACK: RefCell<Vec<Waited>> = const { RefCell::new(Vec::new()) };
+}
+/// Whoever waits for this process, or for any, is told of this once more.
+pub fn put_back(w: Waited) {
+    PUT_BACK.with_borrow_mut(|all| all.push(w));
+}
 fn wait4(pid: Pid, flags: i32) -> Option<Waited> {
+    let kept = PUT_BACK.with_borrow_mut(|all| {
+        let at = all.iter().position(|w| pid == -1 || w.pid == pid)?;
+        Some(all.remove(at))
+    });
+    if kept.is_some() {
+        return kept;
+    }
     let mut status = 0;
     // SAFETY: plain numbers.
     let mut usage: libc::rusage = unsafe { std::mem::zeroed() };
@@ -203,6 +221,10 @@ pub fn read_memory(pid: Pid, addr: u64, buf: &mut [u8]) -> bool {
 pub fn read_word(pid: Pid, addr: u64) -> Option<u64> {
     let mut b = [0u8; 8];
     read_memory(pid, addr, &mut b).then(|| u64::from_le_bytes(b))
+}
+/// Writes where the process itself may not.
+pub fn write_word(pid: Pid, addr: u64, word: u64) -> bool {
+    ptrace(libc::PTRACE_POKEDATA, pid, addr as usize, word as usize).is_ok()
 }
 pub fn write_memory(pid: Pid, addr: u64, buf: &[u8]) -> bool {
     let here = libc::iovec { iov_base: buf.as_ptr().cast_mut().cast(), iov_len: buf.len() };
@@ -249,6 +271,40 @@ pub fn open(p: &Path, flags: i32) -> io::Result<OwnedFd> {
         }
     }
 }
+/// Makes a file below a folder, with as few calls as can be.
+pub fn make_file(folder: RawFd, name: &Path, size: u64, mode: u32, at: (i64, i64)) -> io::Result<()> {
+    let c = c_path(name);
+    let flags = libc::O_CREAT | libc::O_EXCL | libc::O_WRONLY | libc::O_CLOEXEC;
+    // SAFETY: `c` ends with a zero; the descriptor is new, so it is ours alone.
+    let file = unsafe {
+        let fd = libc::openat(folder, c.as_ptr(), flags, 0o600);
+        if fd < 0 {
+            return Err(io::Error::last_os_error());
+        }
+        OwnedFd::from_raw_fd(fd)
+    };
+    let t = [libc::timespec { tv_sec: at.0, tv_nsec: at.1 }; 2];
+    let fd = file.as_raw_fd();
+    // SAFETY: `t` has two times; else numbers.
+    let bad = unsafe {
+        libc::fchmod(fd, mode) != 0
+            || (size > 0 && libc::ftruncate(fd, size as i64) != 0)
+            || libc::futimens(fd, t.as_ptr()) != 0
+    };
+    if bad {
+        return Err(io::Error::last_os_error());
+    }
+    Ok(())
+}
+/// Opens a file to read it so that its time of access stays, where that is allowed.
+pub fn open_quietly(p: &Path) -> io::Result<File> {
+    open(p, libc::O_RDONLY | libc::O_NOATIME).or_else(|_| open(p, libc::O_RDONLY)).map(File::from)
+}
+pub fn read_quietly(p: &Path) -> io::Result<Vec<u8>> {
+    let mut contents = Vec::new();
+    open_quietly(p)?.read_to_end(&mut contents)?;
+    Ok(contents)
+}
 /// A handle of a file that neither reads nor writes, by which it can be opened again.
 pub fn handle(p: &Path) -> io::Result<OwnedFd> {
     open(p, libc::O_PATH)
@@ -267,10 +323,25 @@ pub fn stat(fd: RawFd) -> io::Result<libc::stat> {
 }
 /// Sets both times of a name itself (not of what a symbolic link names).
 pub fn set_times(p: &Path, at: (i64, i64)) {
+    set_both_times(p, at, at);
+}
+/// The same: when it was accessed, and when it was changed.
+pub fn set_both_times(p: &Path, accessed: (i64, i64), changed: (i64, i64)) {
     let c = c_path(p);
-    let t = [libc::timespec { tv_sec: at.0, tv_nsec: at.1 }; 2];
+    let t = [accessed, changed].map(|at| libc::timespec { tv_sec: at.0, tv_nsec: at.1 });
     // SAFETY: `c` ends with a zero, `t` has two times.
     unsafe { libc::utimensat(libc::AT_FDCWD, c.as_ptr(), t.as_ptr(), libc::AT_SYMLINK_NOFOLLOW) };
+}
+/// Two take each other's names.
+pub fn exchange(one: &Path, other: &Path) -> io::Result<()> {
+    let (a, b) = (c_path(one), c_path(other));
+    // SAFETY: both end with a zero.
+    let r = unsafe { libc::renameat2(libc::AT_FDCWD, a.as_ptr(), libc::AT_FDCWD, b.as_ptr(), libc::RENAME_EXCHANGE) };
+    if r == 0 {
+        Ok(())
+    } else {
+        Err(io::Error::last_os_error())
+    }
 }
 pub fn link(from: &Path, to: &Path) -> bool {
     let (a, b) = (c_path(from), c_path(to));
@@ -293,15 +364,31 @@ pub fn kill(pid: Pid, signal: i32) {
     // SAFETY: a number and a signal; `pid` is a process of the tree or a copy of one.
     unsafe { libc::kill(pid, signal) };
 }
+/// Puts a child of ours, which has not run another program, into a group.
+pub fn set_group(child: Pid, group: Pid) -> bool {
+    // SAFETY: numbers only.
+    unsafe { libc::setpgid(child, group) == 0 }
+}
+/// Whether a process is there, or its end is still to be told.
+pub fn is_there(pid: Pid) -> bool {
+    // SAFETY: numbers only; no signal is sent.
+    unsafe { libc::kill(pid, 0) == 0 || PUT_BACK.with_borrow(|all| all.iter().any(|w| w.pid == pid)) }
+}
 pub fn kill_thread(process: Pid, thread: Pid, signal: i32) {
     // SAFETY: numbers only.
     unsafe { libc::syscall(libc::SYS_tgkill, process, thread, signal) };
 }
-/// Whether two descriptors of two processes are one description.
-pub fn same_description(a: (Pid, RawFd), b: (Pid, RawFd)) -> bool {
+/// Two descriptors of two processes in an order that the kernel keeps: equal where they are one description.
+pub fn compare_descriptions(a: (Pid, RawFd), b: (Pid, RawFd)) -> Ordering {
     const KCMP_FILE: i32 = 0;
     // SAFETY: numbers only.
-    unsafe { libc::syscall(libc::SYS_kcmp, a.0, b.0, KCMP_FILE, a.1, b.1) == 0 }
+    match unsafe { libc::syscall(libc::SYS_kcmp, a.0, b.0, KCMP_FILE, a.1, b.1) } {
+        0 => Ordering::Equal,
+        1 => Ordering::Less,
+        2 => Ordering::Greater,
+        // where it doesn't tell, all are different
+        _ => a.cmp(&b),
+    }
 }
 /// What happened to any process, without waiting.
 pub fn wait_if_any() -> Option<Waited> {

@@ -1,5 +1,6 @@
 //! The processes of the command, and what of each is the supervisor's.
 use crate::run::descriptors::Descriptor;
+use crate::run::inside::Inside;
 use crate::run::sys::{self, Pid, Regs, SigInfo};
 use std::collections::{HashMap, HashSet, VecDeque};
 use std::rc::Rc;
@@ -34,8 +35,28 @@ pub enum Hold {
 #[derive(Clone)]
 pub struct Ended {
     pub pid: Pid,
+    pub group: Pid,
     pub status: i32,
     pub usage: libc::rusage,
+}
+
+/// What has happened to a process, and no wait for that has told of yet.
+#[derive(Clone, Copy, PartialEq, Eq, Debug)]
+pub enum News {
+    /// A signal has stopped it.
+    Stopped(i32),
+    /// It goes on again.
+    GoesOn,
+}
+
+impl News {
+    /// As a status of `wait`.
+    pub fn status(self) -> i32 {
+        match self {
+            News::Stopped(signal) => signal << 8 | 0x7f,
+            News::GoesOn => 0xffff,
+        }
+    }
 }
 
 /// Why a process can't be copied, as long as that lasts.
@@ -50,6 +71,8 @@ pub enum Bound {
     SharedMemory,
     OwnFilter,
     Terminal,
+    /// Its number is a session's, too, as long as any process is in that.
+    Session,
 }
 
 impl Bound {
@@ -60,6 +83,7 @@ impl Bound {
             Bound::SharedMemory => "shared memory, or a queue of the system's",
             Bound::OwnFilter => "a filter of its own",
             Bound::Terminal => "a terminal being read",
+            Bound::Session => "a session of its own",
         }
     }
 }
@@ -74,6 +98,9 @@ pub struct Facts {
     /// It doesn't want to know of the ends of children.
     pub ignores_ends: bool,
     pub ended: Vec<Ended>,
+    /// Its handler for the end of children wants to know as well where they stop.
+    pub hears_stops: bool,
+    pub news: Option<News>,
     /// Where it has a `syscall` instruction; 0: not known yet.
     pub site: u64,
     /// The process that it is a thread of; itself.
@@ -82,6 +109,7 @@ pub struct Facts {
     pub clear_at: u64,
     pub signal_stack: Option<[u64; 3]>,
     pub bound: Vec<Bound>,
+    pub inside: Inside,
 }
 
 impl Facts {
@@ -92,11 +120,14 @@ impl Facts {
             hears_ends: false,
             ignores_ends: false,
             ended: Vec::new(),
+            hears_stops: false,
+            news: None,
             site: 0,
             process: pid,
             clear_at: 0,
             signal_stack: None,
             bound: Vec::new(),
+            inside: Inside::Not,
         }
     }
     pub fn bind(&mut self, b: Bound, on: bool) {
@@ -149,9 +180,9 @@ pub struct Process {
     pub copy: Option<Rc<Copy>>,
     /// Signals that are due when it goes on.
     pub signals: Vec<i32>,
-    /// Its first two arguments as they were before fork or vfork was made into clone (the C library's vfork keeps its
+    /// The number of its call, and its first two arguments, as they were before fork or vfork was made into clone (the C library's vfork keeps its
     /// return address in one).
-    pub fix: Option<(u64, u64)>,
+    pub fix: Option<(u64, u64, u64)>,
     /// It waited for a child, and lets a signal in.
     pub woken: Option<Regs>,
     /// Its looks were granted: it may make its call.
@@ -198,6 +229,8 @@ pub struct Tree {
     /// Those whose calls are to be looked at.
     pub queue: VecDeque<Pid>,
     pub root: Pid,
+    /// The group in which the command began.
+    pub group: Pid,
     pub root_status: Option<i32>,
 }
 
@@ -260,6 +293,10 @@ impl Tree {
         if let Some(p) = self.all.get_mut(&process) {
             p.copy = None;
         }
+    }
+    /// The leader of its group has ended, so that the group could not be made anew.
+    pub fn has_lost_leader(&self, facts: &Facts) -> bool {
+        facts.group != self.group && !self.all.contains_key(&facts.group)
     }
     /// What a process is bound by, of all.
     pub fn bounds(&self) -> Vec<Bound> {

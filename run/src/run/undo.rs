@@ -2,7 +2,7 @@
 use crate::run::{sys, wrong};
 use std::collections::HashMap;
 use std::fs::{self, Metadata, Permissions};
-use std::io::Write;
+use std::io::{Read, Write};
 use std::os::fd::{AsRawFd, OwnedFd};
 use std::os::unix::fs::{MetadataExt, PermissionsExt};
 use std::path::{Path, PathBuf};
@@ -31,18 +31,27 @@ pub enum Undo {
         from: PathBuf,
         to: PathBuf,
     },
+    /// Each took the other's name.
+    Exchanged(PathBuf, PathBuf),
+    /// The time of a folder in which names came or went.
+    Time {
+        path: PathBuf,
+        at: (i64, i64),
+    },
     /// Its contents, mode and times may have changed.
     Content {
         handle: Rc<OwnedFd>,
-        data: Rc<Vec<u8>>,
+        data: Pieces,
         mode: u32,
         at: (i64, i64),
     },
-    /// Its mode or times may have changed.
+    /// Its mode, times or owner may have changed.
     Attributes {
         path: PathBuf,
         mode: u32,
         at: (i64, i64),
+        accessed: (i64, i64),
+        owner: (u32, u32),
         of_link: bool,
     },
 }
@@ -50,10 +59,30 @@ pub enum Undo {
 /// What a file was when it was read: change of contents shows in it.
 type Mark = (i64, i64, u64);
 
+/// A file's contents. Those of two moments share the pieces that are the same.
+type Pieces = Vec<Rc<[u8]>>;
+const PIECE: usize = 256 << 10;
+
 /// A file's contents when it was this.
 struct Image {
     mark: Mark,
-    data: Rc<Vec<u8>>,
+    data: Pieces,
+}
+
+/// Reads a file; pieces that are as in `old` are those.
+fn pieces(mut from: impl Read, old: &[Rc<[u8]>]) -> Pieces {
+    let mut all = Pieces::new();
+    let mut piece = Vec::with_capacity(PIECE);
+    loop {
+        piece.clear();
+        if !matches!(from.by_ref().take(PIECE as u64).read_to_end(&mut piece), Ok(1..)) {
+            return all;
+        }
+        match old.get(all.len()).filter(|o| o[..] == piece[..]) {
+            Some(same) => all.push(same.clone()),
+            None => all.push(piece.as_slice().into()),
+        }
+    }
 }
 
 #[derive(Default)]
@@ -63,7 +92,38 @@ pub struct UndoLog {
     /// Folders for saved names, by the device that they are on.
     folders: Vec<(u64, PathBuf)>,
     next: u64,
-    pub image_bytes: u64,
+    /// Each folder for saved names is locked as long as this lives.
+    locks: Vec<OwnedFd>,
+}
+
+/// What a folder for saved names is called, before who made it.
+pub const SAVED: &str = ".hidewillow-run-";
+
+/// A folder with a lock on it; `None` where somebody else has it.
+fn locked(folder: &Path) -> Option<OwnedFd> {
+    let f = sys::open(folder, libc::O_RDONLY | libc::O_DIRECTORY).ok()?;
+    // SAFETY: numbers only.
+    (unsafe { libc::flock(f.as_raw_fd(), libc::LOCK_EX | libc::LOCK_NB) } == 0).then_some(f)
+}
+
+/// Makes a folder for saved names, which nobody sees before it is locked.
+fn made_locked(folder: &Path) -> Option<OwnedFd> {
+    let name = folder.file_name()?.to_str()?;
+    let new = folder.with_file_name(format!(".new{name}"));
+    fs::create_dir(&new).ok()?;
+    let lock = locked(&new);
+    fs::rename(new, folder).ok()?;
+    lock
+}
+
+/// Removes the folders for saved names whose owners were killed.
+pub fn clear_left(scratch: &Path) {
+    for e in fs::read_dir(scratch).into_iter().flatten().flatten() {
+        let ours = e.file_name().to_str().is_some_and(|n| n.starts_with(SAVED));
+        if ours && locked(&e.path()).is_some() {
+            let _ = fs::remove_dir_all(e.path());
+        }
+    }
 }
 
 fn mark(m: &Metadata) -> Mark {
@@ -103,7 +163,9 @@ impl UndoLog {
     fn new_place(&mut self, device: u64) -> Option<PathBuf> {
         let (_, folder) = self.folders.iter().find(|(d, _)| *d == device)?;
         self.next += 1;
-        let _ = fs::create_dir(folder);
+        if !folder.exists() {
+            self.locks.extend(made_locked(folder));
+        }
         Some(folder.join(format!("s{}", self.next)))
     }
     /// Keeps a file's contents before they change.
@@ -122,13 +184,14 @@ impl UndoLog {
         Undo::Content { handle, data, mode: m.mode() & 0o7777, at: (m.mtime(), m.mtime_nsec()) }
     }
     /// What is in a file; read once as long as it stays the same.
-    fn image(&mut self, handle: &OwnedFd, m: &Metadata) -> Rc<Vec<u8>> {
+    fn image(&mut self, handle: &OwnedFd, m: &Metadata) -> Pieces {
         let file = (m.dev(), m.ino());
-        if let Some(image) = self.images.get(&file).filter(|i| i.mark == mark(m)) {
+        let old = self.images.get(&file);
+        if let Some(image) = old.filter(|i| i.mark == mark(m)) {
             return image.data.clone();
         }
-        let data = Rc::new(fs::read(sys::fd_path(handle.as_raw_fd())).unwrap_or_default());
-        self.image_bytes += data.len() as u64;
+        let old = old.map_or(&[][..], |i| &i.data);
+        let data = sys::open_quietly(&sys::fd_path(handle.as_raw_fd())).map_or(Pieces::new(), |f| pieces(f, old));
         self.images.insert(file, Image { mark: mark(m), data: data.clone() });
         data
     }
@@ -204,25 +267,35 @@ fn take_back_one(u: Undo) -> std::io::Result<()> {
         }
         Undo::FolderGone { saved, path } => fs::rename(saved, path),
         Undo::Renamed { from, to } => fs::rename(to, from),
-        Undo::Content { handle, data, mode, at } => {
-            let path = sys::fd_path(handle.as_raw_fd());
-            fs::set_permissions(&path, Permissions::from_mode(mode | 0o200))?;
-            let mut f = fs::OpenOptions::new().write(true).truncate(true).open(&path)?;
-            f.write_all(&data)?;
-            f.set_permissions(Permissions::from_mode(mode))?;
-            let t = [libc::timespec { tv_sec: at.0, tv_nsec: at.1 }; 2];
-            // SAFETY: `f` is open, `t` has two times.
-            unsafe { libc::futimens(f.as_raw_fd(), t.as_ptr()) };
-            Ok(())
-        }
-        Undo::Attributes { path, mode, at, of_link } => {
-            if !of_link {
-                fs::set_permissions(&path, Permissions::from_mode(mode))?;
-            }
+        Undo::Exchanged(one, other) => sys::exchange(&one, &other),
+        Undo::Time { path, at } => {
             sys::set_times(&path, at);
             Ok(())
         }
+        Undo::Content { handle, data, mode, at } => fill_again(&handle, &data, mode, at),
+        Undo::Attributes { path, mode, at, accessed, owner, of_link } => {
+            // where it stayed, who has no privileges may say so
+            let _ = std::os::unix::fs::lchown(&path, Some(owner.0), Some(owner.1));
+            if !of_link {
+                fs::set_permissions(&path, Permissions::from_mode(mode))?;
+            }
+            sys::set_both_times(&path, accessed, at);
+            Ok(())
+        }
     }
+}
+
+/// A file has its contents, mode and time again.
+fn fill_again(handle: &OwnedFd, data: &[Rc<[u8]>], mode: u32, at: (i64, i64)) -> std::io::Result<()> {
+    let path = sys::fd_path(handle.as_raw_fd());
+    fs::set_permissions(&path, Permissions::from_mode(mode | 0o200))?;
+    let mut f = fs::OpenOptions::new().write(true).truncate(true).open(&path)?;
+    data.iter().try_for_each(|piece| f.write_all(piece))?;
+    f.set_permissions(Permissions::from_mode(mode))?;
+    let t = [libc::timespec { tv_sec: at.0, tv_nsec: at.1 }; 2];
+    // SAFETY: `f` is open, `t` has two times.
+    unsafe { libc::futimens(f.as_raw_fd(), t.as_ptr()) };
+    Ok(())
 }
 
 #[cfg(test)]

@@ -2,7 +2,7 @@
 use crate::run::inject::to_be_restarted;
 use crate::run::supervisor::Supervisor;
 use crate::run::sys::{self, Pid, Regs, SigInfo};
-use crate::run::tree::{Ended, Hold, State};
+use crate::run::tree::{Ended, Hold, News, State};
 
 /// Which children a call waits for.
 #[derive(Clone, Copy)]
@@ -27,6 +27,13 @@ struct Waits {
     which: Which,
     options: i32,
     is_waitid: bool,
+}
+
+impl Waits {
+    /// It tells only, and may tell again.
+    fn keeps(&self) -> bool {
+        self.is_waitid && self.options & libc::WNOWAIT != 0
+    }
 }
 
 const NO_CHILD: i64 = -(libc::ECHILD as i64);
@@ -61,11 +68,18 @@ pub fn end_info(e: &Ended) -> SigInfo {
     i[0] = libc::SIGCHLD;
     i[2] = match () {
         () if exited => libc::CLD_EXITED,
+        () if libc::WIFSTOPPED(e.status) => libc::CLD_STOPPED,
+        () if libc::WIFCONTINUED(e.status) => libc::CLD_CONTINUED,
         () if libc::WCOREDUMP(e.status) => libc::CLD_DUMPED,
         () => libc::CLD_KILLED,
     };
     i[4] = e.pid;
-    i[6] = if exited { libc::WEXITSTATUS(e.status) } else { libc::WTERMSIG(e.status) };
+    i[6] = match () {
+        () if exited => libc::WEXITSTATUS(e.status),
+        () if libc::WIFSTOPPED(e.status) => libc::WSTOPSIG(e.status),
+        () if libc::WIFCONTINUED(e.status) => libc::SIGCONT,
+        () => libc::WTERMSIG(e.status),
+    };
     i
 }
 
@@ -101,17 +115,11 @@ impl Supervisor {
         let p = self.tree.get(pid)?;
         let (r, number) = (p.regs, p.call_number());
         let Some(parent) = self.tree.get(p.facts.process) else { return Some(NO_CHILD) };
-        let own = parent.facts.group;
-        let Some(w) = waits(&r, number, own) else { return Some(-i64::from(libc::EINVAL)) };
+        let Some(w) = waits(&r, number, parent.facts.group) else { return Some(-i64::from(libc::EINVAL)) };
         let process = p.facts.process;
-        let Some(at) = parent.facts.ended.iter().position(|e| w.which.fits(e.pid, own)) else {
+        let Some(e) = self.take_ended(process, &w).or_else(|| self.take_news(process, &w)) else {
             return self.none_has_ended(pid, process, &r, &w);
         };
-        let e = parent.facts.ended[at].clone();
-        let keeps = w.is_waitid && w.options & libc::WNOWAIT != 0;
-        if !keeps {
-            self.tree.at(process).facts.ended.remove(at);
-        }
         let (info, usage) = if w.is_waitid { (r.rdx, r.r8) } else { (0, r.r10) };
         if info != 0 {
             sys::write_memory(pid, info, &info_bytes(&end_info(&e)));
@@ -123,6 +131,31 @@ impl Supervisor {
             sys::write_memory(pid, usage, usage_bytes(&e.usage));
         }
         Some(if w.is_waitid { 0 } else { i64::from(e.pid) })
+    }
+    fn take_ended(&mut self, process: Pid, w: &Waits) -> Option<Ended> {
+        if w.is_waitid && w.options & libc::WEXITED == 0 {
+            return None;
+        }
+        let ended = &mut self.tree.get_mut(process)?.facts.ended;
+        let at = ended.iter().position(|e| w.which.fits(e.pid, e.group))?;
+        Some(if w.keeps() { ended[at].clone() } else { ended.remove(at) })
+    }
+    /// A child that was stopped, or goes on again, where the call asks for that.
+    fn take_news(&mut self, process: Pid, w: &Waits) -> Option<Ended> {
+        let wanted = |n: News| match n {
+            News::Stopped(_) => w.options & libc::WUNTRACED != 0,
+            News::GoesOn => w.options & libc::WCONTINUED != 0,
+        };
+        let children = self.tree.all.iter_mut().filter(|(_, c)| c.facts.parent == process && !c.thread);
+        let mut told = children.filter(|(i, c)| w.which.fits(**i, c.facts.group) && c.facts.news.is_some_and(wanted));
+        let (pid, c) = told.next()?;
+        let status = c.facts.news?.status();
+        if !w.keeps() {
+            c.facts.news = None;
+        }
+        // SAFETY: plain numbers.
+        let usage = unsafe { std::mem::zeroed() };
+        Some(Ended { pid: *pid, group: c.facts.group, status, usage })
     }
     fn none_has_ended(&self, pid: Pid, process: Pid, r: &Regs, w: &Waits) -> Option<i64> {
         let mut others = self.tree.all.iter();

@@ -151,7 +151,7 @@ impl Client {
 
     pub fn of(mut link: Link) -> Client {
         match link.receive_within(LONG).unwrap() {
-            Reply::Welcome { protocol, root } => assert_eq!((protocol, root.kind), (PROTOCOL, Kind::Folder)),
+            Reply::Welcome { protocol, root, .. } => assert_eq!((protocol, root.kind), (PROTOCOL, Kind::Folder)),
             other => panic!("{other:?}"),
         }
         Client { link, epochs: 0, numbers: 0, why: String::new() }

@@ -178,7 +178,11 @@ void hidewillow_close(hidewillow_handle *handle);
  * The handle is used as the other one. Of these calls REFUSED tells the number of a refusal, and
  * nothing has changed: of a part of a step 1 the key is too long, 2 the value is too long; of a guess
  * 3 as many guesses are undecided as may be, 4 the last number is drawn; of hidewillow_own_open 5 the
- * limit is 0. Want of memory is MEMORY. Each call tells CLOSED where the handle holds nothing. */
+ * limit is 0. Want of memory is MEMORY. Each call tells CLOSED where the handle holds nothing.
+ *
+ * What is promised rests on one thing that no call can see: a step is made of what its keys have when it is
+ * taken. Read them (hidewillow_own_value), look at each of them, write, and take the step, with no decision
+ * and no other step between: what was made of a value that is gone meanwhile would stand without its guess. */
 
 typedef struct { void *at; } hidewillow_own;
 
@@ -248,6 +252,30 @@ hidewillow_told hidewillow_own_released(hidewillow_own *own, uint16_t channel, u
 
 /* Counts keys and guesses, in constant time. Told: SHOWN. */
 hidewillow_told hidewillow_own_counts(hidewillow_own *own, hidewillow_own_counted *counts);
+
+/* Keys have places: each that is there, rests on a guess, or was taken back by the last failure has one,
+ * which it keeps as long, and no other has any. Told: SHOWN with a `number` behind all places. */
+hidewillow_told hidewillow_own_places(hidewillow_own *own);
+
+/* Shows the key that has a place. Told: SHOWN, or ABSENT where none has it. */
+hidewillow_told hidewillow_own_key(hidewillow_own *own, size_t place, uint8_t *room, size_t room_bytes);
+
+/* Shows the key at a place among those that rest on a guess, from 0 on, each once: its failure would take
+ * just these back. Told: SHOWN, or ABSENT past the last. */
+hidewillow_told hidewillow_own_dependent(hidewillow_own *own, uint64_t guess, size_t place, uint8_t *room,
+                                         size_t room_bytes);
+
+/* Tells what is known of a guess. Told: SHOWN with 1 where it is undecided, with 2 where another's failure
+ * struck it and nobody has decided it since; ABSENT where it was never drawn or is decided. */
+hidewillow_told hidewillow_own_status(hidewillow_own *own, uint64_t guess);
+
+/* Tells how many outputs of a channel wait: the first that rests on a guess, and all behind it. Told: SHOWN
+ * with that `number`. */
+hidewillow_told hidewillow_own_waiting(hidewillow_own *own, uint16_t channel);
+
+/* Tells a channel of which hidewillow_own_released shows an output that it did not show before, without
+ * going through the others. Told: SHOWN with the channel as `number`, or ABSENT where there is none. */
+hidewillow_told hidewillow_own_channel(hidewillow_own *own);
 
 /* Ends what the handle holds, if anything, and frees its memory. Guesses that are left undecided
  * fail: closing commits nothing, and no text or output that rests on one comes out. The handle

@@ -26,8 +26,9 @@ ghost use Rattle.sk_handles.specs.RoundCalls.{SaysStill, TakesRound};
 ghost use Rattle.sk_handles.specs.StoreCalls as durable;
 ghost use Rattle.sk_handles.specs.StoreCalls.{Connects, CountsStore, CutsOff, Decides, Feeds, FeedsAhead, HangsUp, NextReady, OutputsTo, SendsHead, ShowsAhead, ShowsAsked, Syncs, TakesFrame, TellsClosed, TellsCut, TellsReply, Turns, WindsUp};
 ghost use Rattle.sk_durable.specs.Store.{rests_on_at};
-ghost use Rattle.sk_handles.specs.OwnCalls.{tag_at, undone_at, value_of, Clears, Commits, CountsOwn, Fails, Guesses, Looks, OwnOpens, Puts, Releases, Removes, Says, ShowsKept, Steps, TellsTag};
+ghost use Rattle.sk_handles.specs.OwnCalls.{key_at, tag_at, undone_at, value_of, Clears, Commits, CountsOwn, Fails, Guesses, Looks, OwnOpens, Puts, Releases, Removes, Says, ShowsDependent, ShowsKept, Steps, TellsChannel, TellsPlaces, TellsStatus, TellsTag, TellsWaiting};
 
+use sk_cells::holds::{put_in, take_out};
 use sk_counts::Counts;
 use sk_engine::{Batch, Fence, Round, Rounds};
 use sk_handles::asked::{tell_counts, tell_report, tell_tags, tell_terminal, tell_value};
@@ -38,12 +39,12 @@ use sk_handles::durable::Durable;
 use sk_handles::engine::{tell_batch, tell_fence, tell_lead, tell_round};
 use sk_handles::faults::{FaultPlace, tell_fault};
 use sk_handles::handle::Handle;
-use sk_handles::holds::{put_in, take_out};
 use sk_handles::opening::{play_of, tell_epoch, tell_lease, tell_line};
 use sk_handles::own::Own;
 use sk_handles::own_calls::{
-    OwnCounts, commit, count, fail, guess, look, put_value, remove, say, take, tell_released,
-    tell_tag, tell_undone,
+    OwnCounts, commit, count, fail, guess, look, put_value, remove, say, take, tell_channel,
+    tell_dependent, tell_key, tell_places, tell_released, tell_status, tell_tag, tell_undone,
+    tell_waiting,
 };
 use sk_handles::reading::{ReadCounts, Reading};
 use sk_handles::recovering::Recovering;
@@ -389,6 +390,67 @@ pub extern "C" fn hidewillow_own_counts(
         own.new.held }
 {
     with!(own, alloc, held => count(&held, counts))
+}
+
+/// Tells a place behind all that keys have.
+#[unsafe(no_mangle)]
+pub extern "C" fn hidewillow_own_places(alloc: Global, own: &mut Own) -> Told
+    ensures { Tells TellsPlaces (Unit {0}) result own.old.held own.new.held }
+{
+    with!(own, alloc, held => tell_places(&held))
+}
+
+/// Shows the key that has a place.
+#[unsafe(no_mangle)]
+pub extern "C" fn hidewillow_own_key(
+    alloc: Global,
+    own: &mut Own,
+    place: usize,
+    room: &mut [u8],
+) -> Told
+    ensures { Tells (ShowsKept (key_at place) room.old room.new) (room.new ≡ room.old) result own.old.held
+        own.new.held }
+{
+    with!(own, alloc, held => tell_key(&held, place, room))
+}
+
+/// Shows one of the keys that rest on a guess, by its place among them.
+#[unsafe(no_mangle)]
+pub extern "C" fn hidewillow_own_dependent(
+    alloc: Global,
+    own: &mut Own,
+    number: u64,
+    place: usize,
+    room: &mut [u8],
+) -> Told
+    ensures { Tells (ShowsDependent number place room.old room.new) (room.new ≡ room.old) result own.old.held
+        own.new.held }
+{
+    with!(own, alloc, held => tell_dependent(&held, number, place, room))
+}
+
+/// Tells what is known of a guess.
+#[unsafe(no_mangle)]
+pub extern "C" fn hidewillow_own_status(alloc: Global, own: &mut Own, number: u64) -> Told
+    ensures { Tells (TellsStatus number) (Unit {0}) result own.old.held own.new.held }
+{
+    with!(own, alloc, held => tell_status(&held, number))
+}
+
+/// Tells how many outputs of a channel wait.
+#[unsafe(no_mangle)]
+pub extern "C" fn hidewillow_own_waiting(alloc: Global, own: &mut Own, channel: u16) -> Told
+    ensures { Tells (TellsWaiting channel) (Unit {0}) result own.old.held own.new.held }
+{
+    with!(own, alloc, held => tell_waiting(&held, channel))
+}
+
+/// Tells a channel of which an output can be taken.
+#[unsafe(no_mangle)]
+pub extern "C" fn hidewillow_own_channel(alloc: Global, own: &mut Own) -> Told
+    ensures { Tells TellsChannel (Unit {0}) result own.old.held own.new.held }
+{
+    with!(own, alloc, held => tell_channel(&held))
 }
 
 /// Ends what the handle holds: the guesses that are left fail, and nothing is committed. The handle holds nothing then.

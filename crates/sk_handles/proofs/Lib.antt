@@ -1,7 +1,4 @@
 pub mod Names
-mod Heap
-mod Pointer
-mod Passing
 mod Shown
 mod Read
 mod Given

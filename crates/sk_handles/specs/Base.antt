@@ -5,6 +5,7 @@ pub use Rattle.sk_batches.specs.Queue.{cut_due, in_flight, undecided}
 pub use Rattle.sk_batches.specs.declared.frames.Sealed.{Sealed}
 pub use Rattle.sk_batches.specs.declared.queue.Cut.{Cut}
 pub use Rattle.sk_batches.specs.declared.refusal.Refusal.{Refusal as Queued}
+pub use Rattle.sk_bytes.specs.Calls.{Counts as KeyCounts, HasPlaces, resting_on}
 pub use Rattle.sk_bytes.specs.declared.bytes.Unmade.{Unmade}
 pub use Rattle.sk_bytes.specs.declared.refusal.Refusal.TheVariants.{LongKey, LongValue, NoNumber, TooMany}
 pub use Rattle.sk_channels.specs.Table.{channel_at}
@@ -41,6 +42,7 @@ pub use Rattle.sk_faults.specs.Details.{IsTold}
 pub use Rattle.sk_faults.specs.Parts.{line_at}
 pub use Rattle.sk_faults.specs.declared.part.Part.{Part}
 pub use Rattle.sk_faults.specs.declared.part.Part.TheVariants.{Declarations}
+pub use Rattle.sk_guesses.specs.Kept.{known}
 pub use Rattle.sk_handles.specs.declared.client.Client.{Client}
 pub use Rattle.sk_handles.specs.declared.codes.TheConstants.{ABSENT, ASKED, CLOSED, COMMITTED, COPY, DONE, DROPPED, EDITED, FAILED, FAULT, FORGOTTEN, GONE, GUESSED, HELD, IDLE, MEMORY, NO, NOTHING, NO_TOKEN, OPENED, OTHER_VERSION, REFUSED, SHOWN, STEPPED, TAKEN, WRITTEN, YES}
 pub use Rattle.sk_handles.specs.declared.engine.TheConstants.{AGAIN, BREACH, CARRIED_OUT, CLAIMED, LOST, OVER, SEEN, SERVES, STILL, SYNCED, UNKNOWABLE, WAITS}
@@ -62,15 +64,16 @@ pub use Rattle.sk_handles.specs.declared.told.Told.{Told}
 pub use Rattle.sk_handles.specs.declared.told.Unopened.{Unopened}
 pub use Rattle.sk_held.specs.Held.{CommitsBy, FailsBy, GuessPost, HeldView, IsNew, LooksPost, PutsPost, SaysPost, StepPost, WritesPost, no_step}
 pub use Rattle.sk_held.specs.Outputs.{MayBring, but_first, first_of}
+pub use Rattle.sk_ids.specs.Guess.{IsGuessNumber}
 pub use Rattle.sk_ids.specs.declared.entity.Entity.{Entity}
-pub use Rattle.sk_index.specs.Index.{bytes_cmp}
+pub use Rattle.sk_index.specs.Index.{bytes_cmp, string_of}
 pub use Rattle.sk_kernel.specs.Kernel.{KernelView, state_at, tags_at}
 pub use Rattle.sk_kernel.specs.declared.kernel.EpochRefusal.{EpochRefusal}
 pub use Rattle.sk_led.specs.Winding.{WindUpPost}
 pub use Rattle.sk_log.specs.Frame.{frame}
 pub use Rattle.sk_messages.specs.Replies.{reply_of}
 pub use Rattle.sk_messages.specs.Requests.{request_bytes}
-pub use Rattle.sk_outputs.specs.Said.{said_at}
+pub use Rattle.sk_outputs.specs.Said.{said_at, waiting_of}
 pub use Rattle.sk_plain.specs.Refusal.{refusal_number}
 pub use Rattle.sk_plain.specs.declared.refusal.Refusal.{Refusal}
 pub use Rattle.sk_plain_store.specs.Plain.{Entries}
@@ -82,6 +85,7 @@ pub use Rattle.sk_play.specs.declared.leasing.LeaseTold.{LeaseTold}
 pub use Rattle.sk_play.specs.declared.told.WorldTold.{WorldTold}
 pub use Rattle.sk_record.specs.Machine.{released}
 pub use Rattle.sk_record.specs.UndoState.{numbers}
+pub use Rattle.sk_record.specs.declared.status.Status.{Status}
 pub use Rattle.sk_log.specs.Crash.{UsesFront}
 pub use Rattle.sk_recovered.specs.Frames.{capped}
 pub use Rattle.sk_recovered.specs.Recovered.{is_damaged, HasRecovered, IsFound, IsWithin}
@@ -123,17 +127,11 @@ pub use Rattle.sk_trace.specs.Trace.{TraceView}
 pub use Rattle.sk_words.specs.Operands.{pid}
 pub use Rattle.sk_words.specs.declared.fault.Fault.{Fault}
 pub use Rattle.sk_words.specs.declared.fault.FaultKind.{FaultKind}
-pub use Rattle.std.specs.Coded.{Coded, coded_option}
 pub use Rattle.std.specs.Int.NonZero.{non_zero_u16_get}
 pub use Rattle.std.specs.List.{slice_get}
 pub use Rattle.std.specs.Option.{option_map, option_map_or}
 pub use Rattle.std.specs.Str.Lines.{lines}
 pub use Rattle.std.specs.Vec.{vec_items}
-pub use Rattle.std.specs.contracts.impls.GlobalAllocator.TheImpl.{ghosts}
 pub use Rattle.std.specs.declared.alloc.AllocError.{AllocError}
 pub use Rattle.std.specs.declared.alloc.Global.{Global}
 pub use Rattle.std.specs.declared.vec.Vec.{Vec}
-pub use Rattle.std_alloc.specs.Box.Ownership.{box_owns}
-pub use base.Fml.{Fml, feq}
-pub use denote.RattleType.{RattleType}
-pub use denote.RawPtr.{Ptr, null_ptr}

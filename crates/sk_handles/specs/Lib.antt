@@ -1,5 +1,4 @@
 pub mod Base
-pub mod Kept
 pub mod Told
 pub mod Opening
 pub mod Asked

@@ -1,11 +1,11 @@
 -- What the calls of a kernel over its caller's own byte strings do, and what they are told.
-use Rattle.std.specs.Prelude.{◌≡◌, ◌⊎◌, ◌==◌, ℕ, false, List, [], length, nat_le, get_or, Option, Some, None, Result, if◌then◌else◌}
+use Rattle.std.specs.Prelude.{◌≡◌, ◌⊎◌, ◌==◌, ◌≤◌, ℕ, false, List, [], length, nat_le, get_or, Option, Some, None, Result, if◌then◌else◌}
 use Rattle.sk_handles.specs.Base.{slice_get, option_map, option_map_or, vec_items, released, numbers, look_at, said_at}
 use Rattle.sk_handles.specs.Base.{bytes_cmp, next_of, undo_state_of, Committed, Unmade, LongKey, LongValue, TooMany}
 use Rattle.sk_handles.specs.Base.{NoNumber, HeldView, no_step, CommitsBy, FailsBy, GuessPost, IsNew, LooksPost}
 use Rattle.sk_handles.specs.Base.{PutsPost, SaysPost, StepPost, WritesPost, but_first, first_of, MayBring, ABSENT}
 use Rattle.sk_handles.specs.Base.{DONE, GONE, GUESSED, HELD, MEMORY, NO_TOKEN, REFUSED, SHOWN, STEPPED, WRITTEN}
-use Rattle.sk_handles.specs.Base.{OwnCounts, Told}
+use Rattle.sk_handles.specs.Base.{OwnCounts, Told, HasPlaces, KeyCounts, IsGuessNumber, Status, known, resting_on, string_of, waiting_of}
 use Rattle.sk_record.specs.UndoState.{tags_at}
 use Rattle.sk_bytes.specs.declared.refusal.Refusal.{Refusal}
 use Rattle.sk_bytes.specs.declared.refusal.Refusal.TheVariants.{Memory}
@@ -99,11 +99,58 @@ Releases t room_old room_new told old new =
     ((h : HeldView) × MayBring old t h × Shown t told (first_of t h.out) h new room_old room_new)
     ⊎ ((told ≡ just MEMORY 0) × (new ≡ old) × (room_new ≡ room_old))
 
--- the undecided guesses, the struck ones whose tokens have not come back, and below which number each is decided; of keys nothing is said
+-- the keys that are there, rest on a guess, or were taken back by the last failure; the undecided guesses, the struck ones whose tokens
+-- have not come back, and below which number each is decided
 pub record AreOwnCounts (h : HeldView) (counts : OwnCounts) : Type 0 where
+  pub keys : KeyCounts h.kernel counts.keys
   pub undecided : counts.undecided ≡ length h.kernel.parts.opens
   pub struck : counts.struck ≡ length h.kernel.parts.guesses.struck
   pub settled : counts.settled ≡ get_or (numbers h.kernel.parts.opens) 0 (next_of h.kernel.parts.guesses)
+
+-- ---- what else is seen
+
+-- a place behind all that keys have: those that are there, rest on a guess, or were taken back by the last failure
+pub record TellsPlaces (told : Told) (h : HeldView) : Type 0 where
+  pub count : ℕ
+  pub is_told : told ≡ just SHOWN count
+  pub behind : (place : ℕ) → count ≤ place → string_of h.kernel.keys place ≡ None
+  pub keys : HasPlaces h.kernel
+
+-- the key at a place; a number that no key has, or had, is of none
+abbrev pub key_at : ℕ → HeldView → Option (List ℕ)
+key_at place h = string_of h.kernel.keys place
+
+-- one of the keys that rest on a guess, by its place among them; a number that no guess can have is told as absent
+abbrev pub dependent_at : ℕ → ℕ → HeldView → Option (List ℕ)
+dependent_at g place h = slice_get (resting_on h.kernel g) place
+
+-- that key is shown, or there is none
+abbrev pub ShowsDependent : ℕ → ℕ → List ℕ → List ℕ → Told → HeldView → Type 0
+ShowsDependent g place room_old room_new told h =
+    (IsGuessNumber g × ShowsBytes told (dependent_at g place h) room_old room_new)
+    ⊎ ((IsGuessNumber g → ⊥) × ShowsBytes told None room_old room_new)
+
+abbrev pub status_number : Status → ℕ
+status_number Status.Undecided = 1
+status_number Status.Struck = 2
+status_number Status.Committed = 3
+status_number Status.Failed = 4
+
+-- whether a guess is undecided, or struck and not decided; of any other there is none
+abbrev pub TellsStatus : ℕ → Told → HeldView → Type 0
+TellsStatus g told h =
+    (IsGuessNumber g × (told ≡ option_map_or (λ s. just SHOWN (status_number s)) (known h.kernel.parts.guesses h.kernel.parts.opens g) (just ABSENT 0)))
+    ⊎ ((IsGuessNumber g → ⊥) × (told ≡ just ABSENT 0))
+
+-- how many outputs of a channel wait: the first that rests on a guess, and all behind it
+abbrev pub TellsWaiting : ℕ → Told → HeldView → Type 0
+TellsWaiting t told h = told ≡ just SHOWN (waiting_of (said_at h.kernel.parts.said t))
+
+-- a channel of which an output can be taken, or there is none
+abbrev pub TellsChannel : Told → HeldView → Type 0
+TellsChannel told h =
+    ((t : ℕ) × (told ≡ just SHOWN t) × (released (said_at h.kernel.parts.said t) ≡ [] → ⊥))
+    ⊎ ((told ≡ just ABSENT 0) × ((t : ℕ) → released (said_at h.kernel.parts.said t) ≡ []))
 
 -- ---- of what a handle holds
 

@@ -1,12 +1,12 @@
 //! What C holds of a desk.
 ghost use Rattle.std.specs.Prelude.{◌≡◌, Option};
-ghost use Rattle.sk_handles.specs.Kept.{cell_at, cell_code};
+ghost use Rattle.sk_cells.specs.Kept.{cell_at, cell_code};
 ghost use Rattle.sk_handles.specs.contracts.client.Client.{the_row};
 ghost use Rattle.sk_handles.specs.declared.client.Client.{Client as ClientView};
 
-use crate::cell::Cell;
 use crate::client::Client;
-use crate::holds::Holds;
+use sk_cells::cell::Cell;
+use sk_cells::holds::Holds;
 use std::marker::Model;
 
 /// Where a desk lies, or nothing, as in a handle of zeros. It can't be dropped: what it holds has to be closed.

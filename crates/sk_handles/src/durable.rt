@@ -1,10 +1,10 @@
 //! What C holds of a store.
 ghost use Rattle.std.specs.Prelude.{◌≡◌, Option};
 ghost use Rattle.sk_handles.specs.Base.{the_row, StoreView};
-ghost use Rattle.sk_handles.specs.Kept.{cell_at, cell_code};
+ghost use Rattle.sk_cells.specs.Kept.{cell_at, cell_code};
 
-use crate::cell::Cell;
-use crate::holds::Holds;
+use sk_cells::cell::Cell;
+use sk_cells::holds::Holds;
 use sk_durable::Store;
 use std::marker::Model;
 

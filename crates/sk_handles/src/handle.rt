@@ -1,11 +1,11 @@
 //! What C holds.
 ghost use Rattle.std.specs.Prelude.{◌≡◌, Option};
 ghost use Rattle.sk_handles.specs.Base.{PlayView};
-ghost use Rattle.sk_handles.specs.Kept.{cell_at, cell_code};
+ghost use Rattle.sk_cells.specs.Kept.{cell_at, cell_code};
 ghost use Rattle.sk_talk.specs.contracts.play.Play.{the_row};
 
-use crate::cell::Cell;
-use crate::holds::Holds;
+use sk_cells::cell::Cell;
+use sk_cells::holds::Holds;
 use sk_talk::Play;
 use std::marker::Model;
 

@@ -2,7 +2,6 @@
 #![tactic(auto)]
 
 pub mod asked;
-pub mod cell;
 pub mod client;
 pub mod codes;
 pub mod desk;
@@ -10,8 +9,6 @@ pub mod durable;
 pub mod engine;
 pub mod faults;
 pub mod handle;
-pub mod holds;
-pub mod kept;
 pub mod opening;
 pub mod own;
 pub mod own_calls;

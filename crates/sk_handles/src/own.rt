@@ -1,11 +1,11 @@
 //! What C holds of a kernel over its caller's own byte strings.
 ghost use Rattle.std.specs.Prelude.{◌≡◌, Option};
 ghost use Rattle.sk_handles.specs.Base.{HeldView};
-ghost use Rattle.sk_handles.specs.Kept.{cell_at, cell_code};
+ghost use Rattle.sk_cells.specs.Kept.{cell_at, cell_code};
 ghost use Rattle.sk_held.specs.contracts.held.Held.{the_row};
 
-use crate::cell::Cell;
-use crate::holds::Holds;
+use sk_cells::cell::Cell;
+use sk_cells::holds::Holds;
 use sk_held::Held;
 use std::marker::Model;
 

@@ -1,6 +1,6 @@
 //! What the calls of a kernel over its caller's own byte strings do, and what they are told.
 ghost use Rattle.std.specs.Prelude.{◌≡◌, option_map};
-ghost use Rattle.sk_handles.specs.OwnCalls.{commit_told, fail_told, part_told, refused, AreOwnCounts, Commits, Fails, Guesses, Looks, Puts, Releases, Removes, Says, ShowsBytes, Steps, TellsTag};
+ghost use Rattle.sk_handles.specs.OwnCalls.{commit_told, fail_told, part_told, refused, status_number, AreOwnCounts, Commits, Fails, Guesses, Looks, Puts, Releases, Removes, Says, ShowsBytes, ShowsDependent, Steps, TellsChannel, TellsPlaces, TellsStatus, TellsTag, TellsWaiting};
 ghost use Rattle.sk_handles.specs.OwnCalls as own;
 ghost use Rattle.sk_handles.specs.Told.{just, told_by};
 
@@ -12,6 +12,7 @@ use crate::told::Told;
 use sk_bytes::{Refusal, Unmade};
 use sk_held::Held;
 use sk_ids::GuessId;
+use sk_record::Status;
 use sk_speculator::Committed;
 
 /// What a refused call is told.
@@ -201,4 +202,70 @@ pub fn count(held: &Held, counts: &mut OwnCounts) -> Told
     counts.struck = kernel.struck();
     counts.settled = kernel.settled();
     Told::of(SHOWN, 0)
+}
+
+/// A place behind all that keys have.
+pub fn tell_places(held: &Held) -> Told
+    ensures { TellsPlaces result held.now }
+{
+    Told::of(SHOWN, held.kernel().places() as u64)
+}
+
+/// Shows the key that has a place.
+pub fn tell_key(held: &Held, place: usize, room: &mut [u8]) -> Told
+    ensures { ShowsBytes result (own.key_at place held.now) room.old room.new }
+{
+    shown(held.kernel().key_at(place), room)
+}
+
+/// Shows one of the keys that rest on a guess.
+pub fn tell_dependent(held: &Held, guess: u64, place: usize, room: &mut [u8]) -> Told
+    ensures { ShowsDependent guess place room.old room.new result held.now }
+{
+    match GuessId::new(guess) {
+        Some(id) => shown(held.kernel().dependent(id, place), room),
+        None => Told::of(ABSENT, 0),
+    }
+}
+
+/// The number of a status.
+fn number_of(status: Status) -> u64
+    ensures { result ≡ status_number status }
+{
+    match status {
+        Status::Undecided => 1,
+        Status::Struck => 2,
+        Status::Committed => 3,
+        Status::Failed => 4,
+    }
+}
+
+/// What is known of a guess.
+pub fn tell_status(held: &Held, guess: u64) -> Told
+    ensures { TellsStatus guess result held.now }
+{
+    let Some(id) = GuessId::new(guess) else {
+        return Told::of(ABSENT, 0);
+    };
+    match held.kernel().status(id) {
+        Some(status) => Told::of(SHOWN, number_of(status)),
+        None => Told::of(ABSENT, 0),
+    }
+}
+
+/// How many outputs of a channel wait.
+pub fn tell_waiting(held: &Held, channel: u16) -> Told
+    ensures { TellsWaiting channel result held.now }
+{
+    Told::of(SHOWN, held.kernel().waiting(channel) as u64)
+}
+
+/// A channel that has an output to take.
+pub fn tell_channel(held: &Held) -> Told
+    ensures { TellsChannel result held.now }
+{
+    match held.kernel().next_channel() {
+        Some(channel) => Told::of(SHOWN, u64::from(channel)),
+        None => Told::of(ABSENT, 0),
+    }
 }

@@ -1,12 +1,12 @@
 //! What C holds of a log that is read.
 ghost use Rattle.std.specs.Prelude.{◌≡◌, Option};
-ghost use Rattle.sk_handles.specs.Kept.{cell_at, cell_code};
+ghost use Rattle.sk_cells.specs.Kept.{cell_at, cell_code};
 ghost use Rattle.sk_handles.specs.contracts.reading.Reading.{the_row};
 ghost use Rattle.sk_handles.specs.declared.reading.Reading.{Reading as ReadingView};
 
-use crate::cell::Cell;
-use crate::holds::Holds;
 use crate::reading::Reading;
+use sk_cells::cell::Cell;
+use sk_cells::holds::Holds;
 use std::marker::Model;
 
 /// Where what is read of a log lies, or nothing, as in a handle of zeros. It can't be dropped: what it holds has to be closed.

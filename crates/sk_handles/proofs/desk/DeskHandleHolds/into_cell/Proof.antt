@@ -1,9 +1,9 @@
 -- The handle's pointer is the cell's, with what is owned there.
 use Rattle.sk_handles.proofs.Names.{refl, plain, yes, Goes-dropped}
-use Rattle.sk_handles.proofs.Passing.{passes}
+use Rattle.sk_cells.proofs.Passing.{passes}
 use Rattle.sk_handles.proofs.desk.DeskHandle.TheLaws.{lowers}
 use Rattle.sk_handles.specs.contracts.client.Client.{the_row as R}
-use Rattle.sk_handles.specs.contracts.cell.Cell as cell
+use Rattle.sk_cells.specs.contracts.cell.Cell as cell
 use Rattle.sk_handles.specs.contracts.desk.DeskHandle.{the_row}
 use Rattle.sk_handles.specs.contracts.desk.DeskHandleHolds.into_cell as f
 use Rattle.sk_handles.proofs.desk.DeskHandleHolds.into_cell.Statement.{statement}

@@ -1,10 +1,10 @@
 -- The cell's pointer is the handle's, with what is owned there.
 use Rattle.sk_handles.proofs.Names.{refl, plain, yes, Goes-dropped}
-use Rattle.sk_handles.proofs.Passing.{passes}
+use Rattle.sk_cells.proofs.Passing.{passes}
 use Rattle.sk_held.proofs.held.Held.TheLaws.{the_row_laws}
-use Rattle.sk_handles.proofs.cell.Cell.TheLaws.{lowers}
+use Rattle.sk_cells.proofs.cell.Cell.TheLaws.{lowers}
 use Rattle.sk_held.specs.contracts.held.Held.{the_row as R}
-use Rattle.sk_handles.specs.contracts.cell.Cell as cell
+use Rattle.sk_cells.specs.contracts.cell.Cell as cell
 use Rattle.sk_handles.specs.contracts.own.Own.{the_row}
 use Rattle.sk_handles.specs.contracts.own.OwnHolds.of as f
 use Rattle.sk_handles.proofs.own.OwnHolds.of.Statement.{statement}

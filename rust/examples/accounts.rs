@@ -83,10 +83,7 @@ fn main() -> Result<(), Box<dyn std::error::Error + Send + Sync>> {
     }
     if let Decided::Failed { mut keys, struck } = spec.fail(wages)? {
         keys.sort();
-        println!(
-            "the first fails: back to what they had are {}; {struck} guess struck",
-            keys.join(", ")
-        );
+        println!("the first fails: back to what they had are {}; {struck} guess struck", keys.join(", "));
     }
     println!("the other is gone: {}", spec.commit(rent)? == Decided::Gone);
     show(&mut spec, "after it")?;

@@ -1,9 +1,7 @@
 //! A desk whose server is another process, at the other end of a socket pair: the C example again.
 //!
 //!     cargo run --release --example desk
-use hidewillow::desk::{
-    Answer, Ask, Content, Desk, Refusal, Reply, Request, REPLY_HEAD, REQUEST_HEAD,
-};
+use hidewillow::desk::{Answer, Ask, Content, Desk, Refusal, Reply, Request, REPLY_HEAD, REQUEST_HEAD};
 use std::collections::{HashMap, HashSet};
 use std::io::{self, Read, Write};
 use std::os::fd::{AsFd, OwnedFd};
@@ -17,11 +15,7 @@ const START: &str = "script seller\nfetch /stock\nsay\nfetch /price\nsay\nstore 
     copy /stock 3 \"three left\"\ncopy /price 7 \"9 coins\"\nprocess 1 seller 1\nprocess 2 reader 2\nworld\n";
 
 /// Reads a message whose first bytes tell how many stand behind them; `None` at the end of the stream.
-fn receive(
-    stream: &mut UnixStream,
-    head: usize,
-    left: impl Fn(&[u8]) -> Option<usize>,
-) -> io::Result<Option<Vec<u8>>> {
+fn receive(stream: &mut UnixStream, head: usize, left: impl Fn(&[u8]) -> Option<usize>) -> io::Result<Option<Vec<u8>>> {
     let mut bytes = vec![0; head];
     if let Err(why) = stream.read_exact(&mut bytes) {
         let is_end = why.kind() == io::ErrorKind::UnexpectedEof;
@@ -44,19 +38,10 @@ struct Server {
 
 impl Server {
     fn new() -> Server {
-        let files = [
-            ("/stock", 4, "two left"),
-            ("/price", 7, "9 coins"),
-            ("/news", 1, "open late"),
-        ];
-        let content = |version, bytes: &str| Content {
-            version,
-            bytes: bytes.into(),
-        };
+        let files = [("/stock", 4, "two left"), ("/price", 7, "9 coins"), ("/news", 1, "open late")];
+        let content = |version, bytes: &str| Content { version, bytes: bytes.into() };
         Server {
-            files: files
-                .map(|(name, version, bytes)| (name.into(), content(version, bytes)))
-                .into(),
+            files: files.map(|(name, version, bytes)| (name.into(), content(version, bytes))).into(),
             refused: HashSet::new(),
         }
     }
@@ -68,15 +53,10 @@ impl Server {
         let file = self.files.entry(request.name.to_vec()).or_default();
         match request.ask {
             Ask::Get => Answer::Copy(file.clone()),
-            Ask::Check(version) | Ask::Store(version, _) if version != file.version => {
-                Answer::No(file.clone())
-            }
+            Ask::Check(version) | Ask::Store(version, _) if version != file.version => Answer::No(file.clone()),
             Ask::Check(_) => Answer::Yes,
             Ask::Store(version, bytes) => {
-                *file = Content {
-                    version: version + 1,
-                    bytes: bytes.to_vec(),
-                };
+                *file = Content { version: version + 1, bytes: bytes.to_vec() };
                 Answer::Yes
             }
         }
@@ -88,10 +68,7 @@ impl Server {
         if answer != Answer::Yes {
             self.refused.extend(request.guess);
         }
-        Reply {
-            number: request.number,
-            answer,
-        }
+        Reply { number: request.number, answer }
     }
 }
 
@@ -108,10 +85,8 @@ fn serve() -> Result<(), Wrong> {
 
 fn start_server() -> Result<(UnixStream, Child), Wrong> {
     let (ours, theirs) = UnixStream::pair()?;
-    let server = Command::new(std::env::current_exe()?)
-        .arg("server")
-        .stdin(Stdio::from(OwnedFd::from(theirs)))
-        .spawn()?;
+    let server =
+        Command::new(std::env::current_exe()?).arg("server").stdin(Stdio::from(OwnedFd::from(theirs))).spawn()?;
     Ok((ours, server))
 }
 

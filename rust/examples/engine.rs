@@ -2,9 +2,7 @@
 //! and of tries to lead; and a host's rounds: the C example again.
 //!
 //!     cargo run --example engine
-use hidewillow::engine::{
-    self, Answer, BatchSeen, FenceSeen, Held, LeadAnswer, LeadSeen, RoundRefusal, Rounds,
-};
+use hidewillow::engine::{self, Answer, BatchSeen, FenceSeen, Held, LeadAnswer, LeadSeen, RoundRefusal, Rounds};
 
 /// The leaderships of leaders: none, the host's own, and a later one.
 const LEADERS: [Option<u64>; 3] = [None, Some(3), Some(4)];
@@ -81,7 +79,7 @@ fn tell(call: &str, told: Result<u64, RoundRefusal>) {
 /// Prints of which marks it may be told what has them.
 fn show(rounds: &Rounds) {
     let told = (0..3).filter(|mark| rounds.may_tell(*mark));
-    let told: String = told.map(|mark| format!(" {mark}")).collect();
+    let told = told.fold(String::new(), |all, mark| format!("{all} {mark}"));
     println!("may be told:{told}");
 }
 
@@ -129,10 +127,7 @@ fn main() {
     lead(LeadAnswer::Done(3));
     lead(LeadAnswer::Unknown);
     for held in [Held::Absent, Held::Mine, Held::Another] {
-        lead(LeadAnswer::Seen(LeadSeen {
-            leadership: 4,
-            held,
-        }));
+        lead(LeadAnswer::Seen(LeadSeen { leadership: 4, held }));
     }
     rounds_of_a_host();
 }

@@ -137,13 +137,6 @@ fn main() -> Result<(), Wrong> {
         }
     }
     let is_bounded = memory()? < MEMORY_LIMIT;
-    println!(
-        "{}",
-        if is_bounded {
-            "the memory stayed in its bound"
-        } else {
-            "more memory than there is to be"
-        }
-    );
+    println!("{}", if is_bounded { "the memory stayed in its bound" } else { "more memory than there is to be" });
     Ok(())
 }

@@ -30,21 +30,9 @@ fn play(kernel: &mut Play, lines: &str, out: &mut impl Write) -> Result<(), Fail
 
 /// Writes the counts.
 fn write_counts(counts: &Counts, out: &mut impl Write) -> io::Result<()> {
-    let Counts {
-        guesses,
-        committed,
-        failed,
-        struck,
-        steps,
-        taken_back,
-        most_open,
-        notes,
-    } = counts;
+    let Counts { guesses, committed, failed, struck, steps, taken_back, most_open, notes } = counts;
     writeln!(out, "counts")?;
-    writeln!(
-        out,
-        "guesses {guesses} committed {committed} failed {failed} struck {struck}"
-    )?;
+    writeln!(out, "guesses {guesses} committed {committed} failed {failed} struck {struck}")?;
     writeln!(out, "steps {steps} back {taken_back} open {most_open}")?;
     writeln!(out, "notes {notes}")
 }

@@ -88,7 +88,7 @@ fn decide(dice: &mut Dice, kernel: &mut Speculator, guess: Guess) -> Result<(), 
         Decided::Gone => println!("gone"),
         Decided::Failed { keys, struck } => {
             let places = (0..KEYS.len()).filter(|place| keys.contains(&key(*place)));
-            let told: String = places.map(|place| format!(" {place}")).collect();
+            let told = places.fold(String::new(), |all, place| format!("{all} {place}"));
             println!("failed{told}, {struck} struck");
         }
     }
@@ -116,17 +116,13 @@ fn look_at_all(kernel: &mut Speculator) -> Result<(), Refusal> {
         }
     }
     let it = kernel.counts();
-    println!(
-        " keys {} undecided {} struck {} settled {}",
-        it.keys, it.undecided, it.struck, it.settled
-    );
+    println!(" keys {} undecided {} struck {} settled {}", it.keys, it.undecided, it.struck, it.settled);
     Ok(())
 }
 
 fn run(seed: u64) -> Result<(), Wrong> {
     println!("run {seed}");
-    let (mut dice, mut kernel, mut guesses) =
-        (Dice(seed), Speculator::open(LIMIT, seed)?, Vec::new());
+    let (mut dice, mut kernel, mut guesses) = (Dice(seed), Speculator::open(LIMIT, seed)?, Vec::new());
     for event in 0..EVENTS {
         match dice.roll(10) {
             kind @ 0..=5 => {

@@ -5,6 +5,7 @@
 //!     cargo run --release --example remote_cache
 use hidewillow::speculator::{Decided, Guess, Refusal, Speculator};
 use std::collections::{HashMap, VecDeque};
+use std::fmt::Write;
 
 type Wrong = Box<dyn std::error::Error + Send + Sync>;
 
@@ -21,10 +22,7 @@ struct Dice(u64);
 
 impl Dice {
     fn next(&mut self) -> u64 {
-        self.0 = self
-            .0
-            .wrapping_mul(6_364_136_223_846_793_005)
-            .wrapping_add(1_442_695_040_888_963_407);
+        self.0 = self.0.wrapping_mul(6_364_136_223_846_793_005).wrapping_add(1_442_695_040_888_963_407);
         self.0 >> 33
     }
 }
@@ -102,13 +100,7 @@ impl Client {
         let dice = Dice(7);
         let values = HashMap::new();
         let server = Server { values, dice };
-        Ok(Client {
-            spec,
-            server,
-            now: 0,
-            requests: 0,
-            furthest: 0,
-        })
+        Ok(Client { spec, server, now: 0, requests: 0, furthest: 0 })
     }
 
     fn cursor(&self) -> Result<(u64, u64), Refusal> {
@@ -132,13 +124,7 @@ impl Client {
             Ok(copy)
         })?;
         let answer = self.server.value(key);
-        Ok(Asked {
-            guess,
-            key,
-            copy,
-            answer,
-            arrives: self.now + TRIP,
-        })
+        Ok(Asked { guess, key, copy, answer, arrives: self.now + TRIP })
     }
 
     /// Takes a reply: the guess holds, or it fails and the copy is made fresh.
@@ -202,7 +188,7 @@ fn main() -> Result<(), Wrong> {
             assert_eq!(client.outputs()?, OPERATIONS);
             let gain = (OPERATIONS * (TRIP + WORK)) as f64 / time as f64;
             let requests = client.requests as f64 / OPERATIONS as f64;
-            row += &format!("  {gain:5.1} ({requests:.2})");
+            let _ = write!(row, "  {gain:5.1} ({requests:.2})");
         }
         println!("{row}");
     }

@@ -1,8 +1,8 @@
 //! A desk: a kernel whose cached copies are of files of a server of your own. Its requests go out as bytes, and the server's
 //! replies come as bytes, whatever carries them.
 use crate::{
-    room, shown, unopened, Counts, Error, Lease, Told, DONE, FAULT, GUESSED, OPENED, REFUSED,
-    ROOM_BYTES, SHOWN, STEPPED,
+    room, shown, unopened, Counts, Error, Lease, Told, DONE, FAULT, GUESSED, OPENED, REFUSED, ROOM_BYTES, SHOWN,
+    STEPPED,
 };
 use std::ffi::c_void;
 use std::fmt;
@@ -18,23 +18,12 @@ type Asks = unsafe extern "C" fn(*mut DeskHandle, *const u8, usize, *mut u8, usi
 unsafe extern "C" {
     fn hidewillow_desk_open(desk: *mut DeskHandle, text: *const u8, bytes: usize) -> Told;
     fn hidewillow_desk_turn(desk: *mut DeskHandle, name: *const u8, bytes: usize) -> Told;
-    fn hidewillow_desk_lease(
-        desk: *mut DeskHandle,
-        name: *const u8,
-        bytes: usize,
-        count: u32,
-    ) -> Told;
+    fn hidewillow_desk_lease(desk: *mut DeskHandle, name: *const u8, bytes: usize, count: u32) -> Told;
     fn hidewillow_desk_request(desk: *mut DeskHandle, room: *mut u8, bytes: usize) -> Told;
     fn hidewillow_desk_reply(desk: *mut DeskHandle, reply: *const u8, bytes: usize) -> Told;
     fn hidewillow_desk_pending(desk: *mut DeskHandle) -> Told;
     fn hidewillow_desk_epoch(desk: *mut DeskHandle) -> Told;
-    fn hidewillow_desk_left(
-        desk: *mut DeskHandle,
-        number: u16,
-        place: usize,
-        room: *mut u8,
-        bytes: usize,
-    ) -> Told;
+    fn hidewillow_desk_left(desk: *mut DeskHandle, number: u16, place: usize, room: *mut u8, bytes: usize) -> Told;
     fn hidewillow_desk_report(desk: *mut DeskHandle, room: *mut u8, bytes: usize) -> Told;
     fn hidewillow_desk_value(
         desk: *mut DeskHandle,
@@ -50,12 +39,7 @@ unsafe extern "C" {
         room: *mut u8,
         room_bytes: usize,
     ) -> Told;
-    fn hidewillow_desk_terminal(
-        desk: *mut DeskHandle,
-        number: u16,
-        room: *mut u8,
-        bytes: usize,
-    ) -> Told;
+    fn hidewillow_desk_terminal(desk: *mut DeskHandle, number: u16, room: *mut u8, bytes: usize) -> Told;
     fn hidewillow_desk_counts(desk: *mut DeskHandle, counts: *mut Counts) -> Told;
     fn hidewillow_desk_close(desk: *mut DeskHandle);
 }
@@ -140,13 +124,14 @@ pub struct Desk {
 impl Desk {
     /// Opens a desk over the kernel that a scenario's declarations say. The text ends with the line `world`; the files that it
     /// declares are the server's.
+    ///
+    /// # Errors
+    /// [`Error::Fault`], [`Error::Section`] and [`Error::Memory`].
     pub fn open(text: &str) -> Result<Desk, Error> {
-        let mut handle = DeskHandle {
-            at: std::ptr::null_mut(),
-        };
+        let mut handle = DeskHandle { at: std::ptr::null_mut() };
         // SAFETY: the handle is of zeros. The pointers are those of references, one of them
         // exclusive: none is null, each is good for its length, and they don't overlap.
-        let told = unsafe { hidewillow_desk_open(&mut handle, text.as_ptr(), text.len()) };
+        let told = unsafe { hidewillow_desk_open(&raw mut handle, text.as_ptr(), text.len()) };
         match told.answer {
             OPENED => Ok(Desk { handle }),
             FAULT => Err(unopened(text, told.number)),
@@ -155,13 +140,15 @@ impl Desk {
     }
 
     /// Takes a turn of a process, as of `1` or `1.2`.
+    ///
+    /// # Errors
+    /// Why it is not taken: nothing has changed.
     pub fn turn(&mut self, process: &str) -> Result<Turn, Refusal> {
         // SAFETY: the handle is as the last call left it, since none but these methods pass it, and
         // it is on its thread, since a `Desk` is not `Send`. The pointers are those of references,
         // the handle's an exclusive one: none is null, each is good for its length, and they don't
         // overlap.
-        let told =
-            unsafe { hidewillow_desk_turn(&mut self.handle, process.as_ptr(), process.len()) };
+        let told = unsafe { hidewillow_desk_turn(&raw mut self.handle, process.as_ptr(), process.len()) };
         match told.answer {
             STEPPED => Ok(Turn::Stepped),
             GUESSED => Ok(Turn::Guessed(told.number)),
@@ -171,10 +158,13 @@ impl Desk {
     }
 
     /// Lends a process, has it do up to so many private instructions away from its kernel, and hands it in.
+    ///
+    /// # Errors
+    /// Why nothing was done.
     pub fn lease(&mut self, process: &str, count: u32) -> Result<Lease, Refusal> {
         let (name, bytes) = (process.as_ptr(), process.len());
         // SAFETY: as in `turn`.
-        let told = unsafe { hidewillow_desk_lease(&mut self.handle, name, bytes, count) };
+        let told = unsafe { hidewillow_desk_lease(&raw mut self.handle, name, bytes, count) };
         match told.answer {
             STEPPED => Ok(Lease::Ran(told.number)),
             REFUSED => Ok(Lease::Refused(told.number)),
@@ -183,12 +173,14 @@ impl Desk {
     }
 
     /// Takes the oldest request that waits to be sent, as bytes (`Request::of` reads them); `None` where none waits.
+    ///
+    /// # Errors
+    /// Want of memory: the request stays.
     pub fn request(&mut self) -> Result<Option<Vec<u8>>, Refusal> {
         let mut into = room(ROOM_BYTES)?;
         loop {
             // SAFETY: of the handle and the room as in `turn`; the room is set.
-            let told =
-                unsafe { hidewillow_desk_request(&mut self.handle, into.as_mut_ptr(), into.len()) };
+            let told = unsafe { hidewillow_desk_request(&raw mut self.handle, into.as_mut_ptr(), into.len()) };
             match told.answer {
                 SHOWN if told.bytes > into.len() => into = room(told.bytes)?,
                 SHOWN => {
@@ -202,9 +194,12 @@ impl Desk {
     }
 
     /// Gives a reply of the server, of which these are the bytes, and all.
+    ///
+    /// # Errors
+    /// Why it is not taken: nothing has changed.
     pub fn reply(&mut self, bytes: &[u8]) -> Result<Given, Refusal> {
         // SAFETY: as in `turn`.
-        let told = unsafe { hidewillow_desk_reply(&mut self.handle, bytes.as_ptr(), bytes.len()) };
+        let told = unsafe { hidewillow_desk_reply(&raw mut self.handle, bytes.as_ptr(), bytes.len()) };
         let number = told.number;
         match told.answer {
             COMMITTED => Ok(Given::Committed(number)),
@@ -219,20 +214,23 @@ impl Desk {
     /// The request whose reply is next.
     pub fn expected(&mut self) -> u64 {
         // SAFETY: of the handle as in `turn`.
-        unsafe { hidewillow_desk_pending(&mut self.handle) }.number
+        unsafe { hidewillow_desk_pending(&raw mut self.handle) }.number
     }
 
     /// How many requests have no reply.
     pub fn pending(&mut self) -> usize {
         // SAFETY: of the handle as in `turn`.
-        unsafe { hidewillow_desk_pending(&mut self.handle) }.bytes
+        unsafe { hidewillow_desk_pending(&raw mut self.handle) }.bytes
     }
 
     /// Begins a new epoch, where each request has its reply: what was done is let go of, but for two bits of each guess,
     /// so that a long run takes no more memory than an epoch.
+    ///
+    /// # Errors
+    /// Where a request has no reply, and for want of memory.
     pub fn new_epoch(&mut self) -> Result<(), Refusal> {
         // SAFETY: of the handle as in `turn`.
-        let told = unsafe { hidewillow_desk_epoch(&mut self.handle) };
+        let told = unsafe { hidewillow_desk_epoch(&raw mut self.handle) };
         match told.answer {
             DONE => Ok(()),
             _ => Err(refusal(told)),
@@ -240,34 +238,39 @@ impl Desk {
     }
 
     /// The text at a place among those that a terminal had released when the last epoch ended; `None` past the last.
+    ///
+    /// # Errors
+    /// [`Error::Memory`].
     pub fn left(&mut self, number: u16, place: usize) -> Result<Option<String>, Error> {
         // SAFETY: of the handle and the room as in `request`.
         shown(|room: &mut [u8]| unsafe {
-            hidewillow_desk_left(
-                &mut self.handle,
-                number,
-                place,
-                room.as_mut_ptr(),
-                room.len(),
-            )
+            hidewillow_desk_left(&raw mut self.handle, number, place, room.as_mut_ptr(), room.len())
         })
     }
 
     /// The report of the kernel.
+    ///
+    /// # Errors
+    /// [`Error::Memory`].
     pub fn report(&mut self) -> Result<String, Error> {
         // SAFETY: of the handle and the room as in `request`.
-        let ask = |room: &mut [u8]| unsafe {
-            hidewillow_desk_report(&mut self.handle, room.as_mut_ptr(), room.len())
-        };
+        let ask =
+            |room: &mut [u8]| unsafe { hidewillow_desk_report(&raw mut self.handle, room.as_mut_ptr(), room.len()) };
         Ok(shown(ask)?.unwrap_or_default())
     }
 
     /// What an entity has that the report names so, as `proc 1`; `None` where none is named so.
+    ///
+    /// # Errors
+    /// [`Error::Memory`].
     pub fn value(&mut self, name: &str) -> Result<Option<String>, Error> {
         self.named(hidewillow_desk_value, name)
     }
 
     /// The undecided guesses that such an entity rests on, as `1,3`, or `-`.
+    ///
+    /// # Errors
+    /// [`Error::Memory`].
     pub fn tags(&mut self, name: &str) -> Result<Option<String>, Error> {
         self.named(hidewillow_desk_tags, name)
     }
@@ -276,25 +279,31 @@ impl Desk {
         // SAFETY: of the handle, the name and the room as in `request`.
         let ask = |room: &mut [u8]| unsafe {
             let (to, of) = (room.as_mut_ptr(), room.len());
-            call(&mut self.handle, name.as_ptr(), name.len(), to, of)
+            call(&raw mut self.handle, name.as_ptr(), name.len(), to, of)
         };
         shown(ask)
     }
 
     /// The lines of a terminal in this epoch.
+    ///
+    /// # Errors
+    /// [`Error::Memory`].
     pub fn terminal(&mut self, number: u16) -> Result<String, Error> {
         // SAFETY: of the handle and the room as in `request`.
         let ask = |room: &mut [u8]| unsafe {
-            hidewillow_desk_terminal(&mut self.handle, number, room.as_mut_ptr(), room.len())
+            hidewillow_desk_terminal(&raw mut self.handle, number, room.as_mut_ptr(), room.len())
         };
         Ok(shown(ask)?.unwrap_or_default())
     }
 
     /// The guesses and the steps of this epoch.
+    ///
+    /// # Errors
+    /// [`Error::Memory`].
     pub fn counts(&mut self) -> Result<Counts, Error> {
         let mut counts = Counts::default();
         // SAFETY: of the handle as in `turn`; the counts are set, and apart from it.
-        let told = unsafe { hidewillow_desk_counts(&mut self.handle, &mut counts) };
+        let told = unsafe { hidewillow_desk_counts(&raw mut self.handle, &raw mut counts) };
         match told.answer {
             SHOWN => Ok(counts),
             _ => Err(Error::Memory),
@@ -305,7 +314,7 @@ impl Desk {
 impl Drop for Desk {
     fn drop(&mut self) {
         // SAFETY: of the handle as in `turn`, and nothing uses it behind this.
-        unsafe { hidewillow_desk_close(&mut self.handle) };
+        unsafe { hidewillow_desk_close(&raw mut self.handle) };
     }
 }
 
@@ -355,14 +364,14 @@ fn length_at(bytes: &[u8], place: usize) -> Option<usize> {
 
 impl<'a> Request<'a> {
     /// How many bytes stand behind the first `REQUEST_HEAD`; `None` of fewer bytes than these, and where it is too much.
+    #[must_use]
     pub fn left(head: &[u8]) -> Option<usize> {
         let guesses = length_at(head, 7)?.checked_mul(8)?;
-        length_at(head, 5)?
-            .checked_add(length_at(head, 6)?)?
-            .checked_add(guesses)
+        length_at(head, 5)?.checked_add(length_at(head, 6)?)?.checked_add(guesses)
     }
 
     /// The request that these bytes are, all of them; `None` where they are none.
+    #[must_use]
     pub fn of(bytes: &'a [u8]) -> Option<Request<'a>> {
         if Request::left(bytes)? != bytes.len() - REQUEST_HEAD {
             return None;
@@ -382,9 +391,7 @@ impl<'a> Request<'a> {
             settled: number_at(bytes, 2)?,
             name,
             ask,
-            rests: (0..rests.len() / 8)
-                .filter_map(|it| number_at(rests, it))
-                .collect(),
+            rests: (0..rests.len() / 8).filter_map(|it| number_at(rests, it)).collect(),
         })
     }
 }
@@ -422,6 +429,7 @@ pub struct Reply {
 
 impl Reply {
     /// How many bytes stand behind the first `REPLY_HEAD`; `None` of fewer bytes than these.
+    #[must_use]
     pub fn left(head: &[u8]) -> Option<usize> {
         length_at(head, 3)
     }
@@ -435,12 +443,7 @@ impl Reply {
             Answer::Copy(content) => (3, content),
             Answer::Dropped => (4, &none),
         };
-        let head = [
-            self.number,
-            kind,
-            content.version,
-            content.bytes.len() as u64,
-        ];
+        let head = [self.number, kind, content.version, content.bytes.len() as u64];
         let mut bytes: Vec<u8> = head.into_iter().flat_map(u64::to_le_bytes).collect();
         bytes.extend_from_slice(&content.bytes);
         bytes

@@ -13,15 +13,8 @@ unsafe extern "C" {
         held: u32,
         snap: u64,
     ) -> Told;
-    safe fn hidewillow_engine_fence(
-        leadership: u64,
-        gap: u64,
-        answer: u32,
-        leader: u64,
-        fenced: u64,
-    ) -> Told;
-    safe fn hidewillow_engine_round(leadership: u64, number: u64, answer: u32, leader: u64)
-        -> Told;
+    safe fn hidewillow_engine_fence(leadership: u64, gap: u64, answer: u32, leader: u64, fenced: u64) -> Told;
+    safe fn hidewillow_engine_round(leadership: u64, number: u64, answer: u32, leader: u64) -> Told;
     safe fn hidewillow_engine_lead(answer: u32, leadership: u64, held: u32) -> Told;
     safe fn hidewillow_rounds_carried_out(rounds: &mut Rounds) -> u64;
     safe fn hidewillow_rounds_take(rounds: &mut Rounds) -> Told;
@@ -129,24 +122,22 @@ impl<S> Answer<S> {
 }
 
 /// What an answer to a try of a batch tells, which was to be put under its number.
+#[must_use]
 pub fn batch(leadership: u64, number: u64, answer: Answer<BatchSeen>) -> Word {
-    let (answer, leader, held, snap) =
-        answer.parts(|seen| (seen.leader, seen.held as u32, seen.snap));
-    Word::of(hidewillow_engine_batch(
-        leadership, number, answer, leader, held, snap,
-    ))
+    let (answer, leader, held, snap) = answer.parts(|seen| (seen.leader, seen.held as u32, seen.snap));
+    Word::of(hidewillow_engine_batch(leadership, number, answer, leader, held, snap))
 }
 
 /// What an answer to a try of a fence tells, by which a new leadership deletes all from the gap on.
+#[must_use]
 pub fn fence(leadership: u64, gap: u64, answer: Answer<FenceSeen>) -> Word {
     let (answer, leader, _, fenced) = answer.parts(|seen| (seen.leader, 0, seen.fenced));
-    Word::of(hidewillow_engine_fence(
-        leadership, gap, answer, leader, fenced,
-    ))
+    Word::of(hidewillow_engine_fence(leadership, gap, answer, leader, fenced))
 }
 
 /// What the answer to a round tells, which asked whether a leadership still holds: it has seen the leadership of the leader, if
 /// there was one.
+#[must_use]
 pub fn round(leadership: u64, number: u64, answer: Answer<Option<u64>>) -> Word {
     let (answer, leader, ..) = answer.parts(|leader| (leader, 0, 0));
     Word::of(hidewillow_engine_round(leadership, number, answer, leader))
@@ -173,6 +164,7 @@ pub enum LeadAnswer {
 }
 
 /// What an answer to one of a host's tries to lead tells, by a word that nobody else puts.
+#[must_use]
 pub fn lead(answer: LeadAnswer) -> Word {
     Word::of(match answer {
         LeadAnswer::Done(leadership) => hidewillow_engine_lead(0, leadership, 0),
@@ -231,6 +223,7 @@ impl std::error::Error for RoundRefusal {}
 
 impl Rounds {
     /// No round was taken, and nothing waits.
+    #[must_use]
     pub fn new() -> Rounds {
         Rounds::default()
     }
@@ -241,11 +234,17 @@ impl Rounds {
     }
 
     /// The next round, where something waits for one. It is begun later, or a batch is sent then for the first time.
+    ///
+    /// # Errors
+    /// [`RoundRefusal`]: nothing has changed.
     pub fn take(&mut self) -> Result<u64, RoundRefusal> {
         done(hidewillow_rounds_take(self))
     }
 
     /// The host led at some moment after this round was taken, and so after each one before it.
+    ///
+    /// # Errors
+    /// [`RoundRefusal`]: nothing has changed.
     pub fn still(&mut self, round: u64) -> Result<(), RoundRefusal> {
         done(hidewillow_rounds_still(self, round)).map(drop)
     }
@@ -257,6 +256,7 @@ impl Rounds {
     }
 
     /// Whether what has this mark may be told.
+    #[must_use]
     pub fn may_tell(&self, mark: u64) -> bool {
         hidewillow_rounds_may_tell(self, mark)
     }

@@ -2,7 +2,9 @@
 //! whose every call is proved against its contract.
 //!
 //! - [`speculator::Speculator`]: a kernel over keys and values of your own. A step is a closure that gets, puts and says.
-//! - [`store`]: a store whose replies wait for exactly what they depend on, for a host with sockets and a disk.
+//! - [`shared::Shared`]: the same for several threads, or for `async` code on any runtime ([`watch`]).
+//! - [`store::File`]: a store in a folder of your program, each answer durable, or ahead of the disk; [`store`]: the same for a host with
+//!   sockets and a disk of its own.
 //! - [`Play`]: the kernel of scripts, called line by line, with files, pipes and signals.
 //! - [`desk::Desk`]: a client of remote files whose server is yours; [`engine`]: what a consensus engine's answers mean.
 //!
@@ -31,6 +33,7 @@ pub mod engine;
 pub mod shared;
 pub mod speculator;
 pub mod store;
+pub mod watch;
 
 use std::collections::HashMap;
 use std::ffi::c_void;
@@ -118,35 +121,11 @@ unsafe extern "C" {
         room: *mut u8,
         room_bytes: usize,
     ) -> Told;
-    fn hidewillow_line(
-        handle: *mut Handle,
-        line: *const u8,
-        bytes: usize,
-        room: *mut u8,
-        room_bytes: usize,
-    ) -> Told;
-    fn hidewillow_value(
-        handle: *mut Handle,
-        name: *const u8,
-        bytes: usize,
-        room: *mut u8,
-        room_bytes: usize,
-    ) -> Told;
-    fn hidewillow_tags(
-        handle: *mut Handle,
-        name: *const u8,
-        bytes: usize,
-        room: *mut u8,
-        room_bytes: usize,
-    ) -> Told;
+    fn hidewillow_line(handle: *mut Handle, line: *const u8, bytes: usize, room: *mut u8, room_bytes: usize) -> Told;
+    fn hidewillow_value(handle: *mut Handle, name: *const u8, bytes: usize, room: *mut u8, room_bytes: usize) -> Told;
+    fn hidewillow_tags(handle: *mut Handle, name: *const u8, bytes: usize, room: *mut u8, room_bytes: usize) -> Told;
     fn hidewillow_terminal(handle: *mut Handle, number: u16, room: *mut u8, bytes: usize) -> Told;
-    fn hidewillow_released(
-        handle: *mut Handle,
-        number: u16,
-        place: usize,
-        room: *mut u8,
-        bytes: usize,
-    ) -> Told;
+    fn hidewillow_released(handle: *mut Handle, number: u16, place: usize, room: *mut u8, bytes: usize) -> Told;
     fn hidewillow_epoch(handle: *mut Handle) -> Told;
     fn hidewillow_lease(handle: *mut Handle, name: *const u8, bytes: usize, count: u32) -> Told;
     fn hidewillow_report(handle: *mut Handle, room: *mut u8, bytes: usize) -> Told;
@@ -155,13 +134,7 @@ unsafe extern "C" {
     fn hidewillow_own_open(own: *mut Own, number: u64, limit: u16, seed: u64) -> Told;
     fn hidewillow_own_clear(own: *mut Own) -> Told;
     fn hidewillow_own_look(own: *mut Own, key: *const u8, bytes: usize) -> Told;
-    fn hidewillow_own_put(
-        own: *mut Own,
-        key: *const u8,
-        bytes: usize,
-        value: *const u8,
-        value_bytes: usize,
-    ) -> Told;
+    fn hidewillow_own_put(own: *mut Own, key: *const u8, bytes: usize, value: *const u8, value_bytes: usize) -> Told;
     fn hidewillow_own_remove(own: *mut Own, key: *const u8, bytes: usize) -> Told;
     fn hidewillow_own_say(own: *mut Own, channel: u16, output: *const u8, bytes: usize) -> Told;
     fn hidewillow_own_take(own: *mut Own) -> Told;
@@ -169,16 +142,16 @@ unsafe extern "C" {
     fn hidewillow_own_commit(own: *mut Own, guess: u64) -> Told;
     fn hidewillow_own_fail(own: *mut Own, guess: u64) -> Told;
     fn hidewillow_own_undone(own: *mut Own, place: usize, room: *mut u8, bytes: usize) -> Told;
-    fn hidewillow_own_value(
-        own: *mut Own,
-        key: *const u8,
-        bytes: usize,
-        room: *mut u8,
-        room_bytes: usize,
-    ) -> Told;
+    fn hidewillow_own_value(own: *mut Own, key: *const u8, bytes: usize, room: *mut u8, room_bytes: usize) -> Told;
     fn hidewillow_own_tag(own: *mut Own, key: *const u8, bytes: usize, place: usize) -> Told;
     fn hidewillow_own_released(own: *mut Own, channel: u16, room: *mut u8, bytes: usize) -> Told;
     fn hidewillow_own_counts(own: *mut Own, counts: *mut OwnCounts) -> Told;
+    fn hidewillow_own_places(own: *mut Own) -> Told;
+    fn hidewillow_own_key(own: *mut Own, place: usize, room: *mut u8, bytes: usize) -> Told;
+    fn hidewillow_own_dependent(own: *mut Own, guess: u64, place: usize, room: *mut u8, bytes: usize) -> Told;
+    fn hidewillow_own_status(own: *mut Own, guess: u64) -> Told;
+    fn hidewillow_own_waiting(own: *mut Own, channel: u16) -> Told;
+    fn hidewillow_own_channel(own: *mut Own) -> Told;
     fn hidewillow_own_close(own: *mut Own);
 }
 
@@ -323,7 +296,7 @@ fn fault_of(text: &str) -> Option<Fault> {
     // is null, each is good for its length, they don't overlap, and both are set.
     let told = unsafe {
         let (to, of) = (into.as_mut_ptr(), into.len());
-        hidewillow_fault(text.as_ptr(), text.len(), &mut place, to, of)
+        hidewillow_fault(text.as_ptr(), text.len(), &raw mut place, to, of)
     };
     let reason = match told.bytes {
         0 => None,
@@ -349,13 +322,7 @@ pub(crate) fn unopened(text: &str, line: u64) -> Error {
 
 /// A fault of a line, or of a name, of which no word is known.
 fn whole_fault(line: &str, kind: FaultKind) -> Fault {
-    Fault {
-        line: 1,
-        column: 1,
-        len: line.len(),
-        kind,
-        reason: None,
-    }
+    Fault { line: 1, column: 1, len: line.len(), kind, reason: None }
 }
 
 /// The fault of a line that was passed alone, of which this kind was told.
@@ -428,19 +395,16 @@ fn answer_text(room: &[u8], bytes: usize) -> Option<String> {
 impl Play {
     /// Opens what a scenario's declarations say: a world where they end with the line `world`, else
     /// a kernel.
+    ///
+    /// # Errors
+    /// [`Error::Fault`], [`Error::Section`] and [`Error::Memory`].
     pub fn open(text: &str) -> Result<Play, Error> {
-        let mut handle = Handle {
-            at: std::ptr::null_mut(),
-        };
+        let mut handle = Handle { at: std::ptr::null_mut() };
         // SAFETY: the handle is of zeros. The pointers are those of references, one of them
         // exclusive: none is null, each is good for its length, and they don't overlap.
-        let told = unsafe { hidewillow_open(&mut handle, text.as_ptr(), text.len()) };
+        let told = unsafe { hidewillow_open(&raw mut handle, text.as_ptr(), text.len()) };
         match told.answer {
-            OPENED => Ok(Play {
-                handle,
-                section: section_of(text),
-                drained: HashMap::new(),
-            }),
+            OPENED => Ok(Play { handle, section: section_of(text), drained: HashMap::new() }),
             FAULT => Err(unopened(text, told.number)),
             _ => Err(Error::Memory),
         }
@@ -448,6 +412,9 @@ impl Play {
 
     /// Makes the call that a line says, as `guess 1 good`; `None` where the line says nothing. A
     /// line comes without its line feed.
+    ///
+    /// # Errors
+    /// [`Error::Fault`] and [`Error::Memory`].
     pub fn line(&mut self, line: &str) -> Result<Option<Answer>, Error> {
         let mut room = [0; ANSWER_BYTES];
         let (to, of) = (room.as_mut_ptr(), room.len());
@@ -455,34 +422,37 @@ impl Play {
         // it is on its thread, since a `Play` is not `Send`. The pointers are those of references,
         // the handle's and the room's exclusive ones: none is null, each is good for its length,
         // and they don't overlap. The room is set.
-        let told = unsafe { hidewillow_line(&mut self.handle, line.as_ptr(), line.len(), to, of) };
+        let told = unsafe { hidewillow_line(&raw mut self.handle, line.as_ptr(), line.len(), to, of) };
         match told.answer {
             NOTHING => Ok(None),
             FAULT => Err(line_fault(self.section, line, told.number)),
             MEMORY => Err(Error::Memory),
-            code => Ok(Some(Answer {
-                code,
-                number: told.number,
-                text: answer_text(&room, told.bytes),
-            })),
+            code => Ok(Some(Answer { code, number: told.number, text: answer_text(&room, told.bytes) })),
         }
     }
 
     /// The report.
+    ///
+    /// # Errors
+    /// [`Error::Memory`].
     pub fn report(&mut self) -> Result<String, Error> {
         // SAFETY: of the handle and the room as in `line`.
-        let ask = |room: &mut [u8]| unsafe {
-            hidewillow_report(&mut self.handle, room.as_mut_ptr(), room.len())
-        };
+        let ask = |room: &mut [u8]| unsafe { hidewillow_report(&raw mut self.handle, room.as_mut_ptr(), room.len()) };
         Ok(shown(ask)?.unwrap_or_default())
     }
 
     /// What an entity has that the report names so, as `proc 1`; `None` where none is named so.
+    ///
+    /// # Errors
+    /// [`Error::Memory`].
     pub fn value(&mut self, name: &str) -> Result<Option<String>, Error> {
         self.named(hidewillow_value, name)
     }
 
     /// The undecided guesses that such an entity rests on, as `1,3`, or `-`.
+    ///
+    /// # Errors
+    /// [`Error::Memory`].
     pub fn tags(&mut self, name: &str) -> Result<Option<String>, Error> {
         self.named(hidewillow_tags, name)
     }
@@ -492,22 +462,28 @@ impl Play {
         // or `hidewillow_tags`.
         let ask = |room: &mut [u8]| unsafe {
             let (to, of) = (room.as_mut_ptr(), room.len());
-            call(&mut self.handle, name.as_ptr(), name.len(), to, of)
+            call(&raw mut self.handle, name.as_ptr(), name.len(), to, of)
         };
         shown(ask)
     }
 
     /// The lines of a terminal: how many texts are released and how many wait, and those that are
     /// released.
+    ///
+    /// # Errors
+    /// [`Error::Memory`].
     pub fn terminal(&mut self, number: u16) -> Result<String, Error> {
         // SAFETY: of the handle and the room as in `line`.
         let ask = |room: &mut [u8]| unsafe {
-            hidewillow_terminal(&mut self.handle, number, room.as_mut_ptr(), room.len())
+            hidewillow_terminal(&raw mut self.handle, number, room.as_mut_ptr(), room.len())
         };
         Ok(shown(ask)?.unwrap_or_default())
     }
 
     /// The texts that a terminal has released and that were not drained before, the oldest first.
+    ///
+    /// # Errors
+    /// [`Error::Memory`]: what was not handed out is so at the next call.
     pub fn drain(&mut self, number: u16) -> Result<Vec<Vec<u8>>, Error> {
         let mut texts = Vec::new();
         let mut place = self.drained.get(&number).copied().unwrap_or(0);
@@ -520,20 +496,26 @@ impl Play {
     }
 
     /// The text at a place, from 0 on, among those that a terminal has released in this epoch.
+    ///
+    /// # Errors
+    /// [`Error::Memory`].
     pub fn released(&mut self, number: u16, place: usize) -> Result<Option<Vec<u8>>, Error> {
         // SAFETY: of the handle and the room as in `line`.
         let ask = |room: &mut [u8]| unsafe {
             let (to, of) = (room.as_mut_ptr(), room.len());
-            hidewillow_released(&mut self.handle, number, place, to, of)
+            hidewillow_released(&raw mut self.handle, number, place, to, of)
         };
         shown_bytes(ask)
     }
 
     /// Begins a new epoch: the trace and the texts of terminals are let go of, so `drain` those first, and what is kept of
     /// a guess is two bits. The state and the numbers of guesses and requests go on.
+    ///
+    /// # Errors
+    /// [`Error::Memory`].
     pub fn new_epoch(&mut self) -> Result<Epoch, Error> {
         // SAFETY: of the handle as in `line`.
-        let told = unsafe { hidewillow_epoch(&mut self.handle) };
+        let told = unsafe { hidewillow_epoch(&raw mut self.handle) };
         match told.answer {
             DONE => {
                 self.drained.clear();
@@ -545,10 +527,12 @@ impl Play {
     }
 
     /// Lends a process, as of `1` or `1.2`, has it do up to so many private instructions away from its kernel, and hands it in.
+    ///
+    /// # Errors
+    /// [`Error::Fault`] where no process can have this name, and [`Error::Memory`].
     pub fn lease(&mut self, process: &str, count: u32) -> Result<Lease, Error> {
         // SAFETY: of the handle and the name as in `line`.
-        let told =
-            unsafe { hidewillow_lease(&mut self.handle, process.as_ptr(), process.len(), count) };
+        let told = unsafe { hidewillow_lease(&raw mut self.handle, process.as_ptr(), process.len(), count) };
         match told.answer {
             STEPPED => Ok(Lease::Ran(told.number)),
             REFUSED => Ok(Lease::Refused(told.number)),
@@ -558,10 +542,13 @@ impl Play {
     }
 
     /// The guesses and the steps so far.
+    ///
+    /// # Errors
+    /// [`Error::Memory`].
     pub fn counts(&mut self) -> Result<Counts, Error> {
         let mut counts = Counts::default();
         // SAFETY: of the handle as in `line`; the counts are set, and apart from it.
-        let told = unsafe { hidewillow_counts(&mut self.handle, &mut counts) };
+        let told = unsafe { hidewillow_counts(&raw mut self.handle, &raw mut counts) };
         match told.answer {
             SHOWN => Ok(counts),
             _ => Err(Error::Memory),
@@ -572,6 +559,6 @@ impl Play {
 impl Drop for Play {
     fn drop(&mut self) {
         // SAFETY: of the handle as in `line`, and nothing uses it behind this.
-        unsafe { hidewillow_close(&mut self.handle) };
+        unsafe { hidewillow_close(&raw mut self.handle) };
     }
 }

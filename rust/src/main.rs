@@ -6,9 +6,7 @@ const START: &str = "script main\nfetch /x\nsay\nend\ncopy /x 3 \"old\"\nprocess
 /// Makes the call of a line, prints its answer, and gives what that names.
 fn line(kernel: &mut Play, text: &str) -> Result<u64, Error> {
     let answer = kernel.line(text)?;
-    let (number, told) = answer.map_or((0, String::new()), |it| {
-        (it.number, it.text.unwrap_or_default())
-    });
+    let (number, told) = answer.map_or((0, String::new()), |it| (it.number, it.text.unwrap_or_default()));
     println!("{text:<13} {told}");
     Ok(number)
 }
@@ -20,10 +18,7 @@ fn look(kernel: &mut Play) -> Result<(), Error> {
     assert_eq!(kernel.value("proc 9")?, None);
     print!("{}", kernel.terminal(1)?);
     let counts = kernel.counts()?;
-    println!(
-        "guesses {} steps {} most open {} notes {}",
-        counts.guesses, counts.steps, counts.most_open, counts.notes
-    );
+    println!("guesses {} steps {} most open {} notes {}", counts.guesses, counts.steps, counts.most_open, counts.notes);
     Ok(())
 }
 

@@ -1,8 +1,12 @@
-//! A kernel that several threads use.
+//! A kernel that several threads, or tasks, use.
 use crate::data::{Data, Like};
 use crate::speculator::{Decided, Guess, Refusal, Speculator, Step, Stranger};
+use crate::watch::Watch;
 use std::fmt;
+use std::future::Future;
+use std::pin::Pin;
 use std::sync::{Arc, Mutex, MutexGuard, PoisonError};
+use std::task::{Context, Poll};
 
 /// A [`Speculator`] under a lock, for several threads: each call takes the lock, and a clone is the same kernel.
 ///
@@ -61,10 +65,7 @@ impl<K: ?Sized + Data, V: ?Sized + Data> Shared<K, V> {
     ///
     /// # Errors
     /// As there.
-    pub fn step<R>(
-        &self,
-        step: impl FnOnce(&mut Step<'_, K, V>) -> Result<R, Refusal>,
-    ) -> Result<R, Refusal> {
+    pub fn step<R>(&self, step: impl FnOnce(&mut Step<'_, K, V>) -> Result<R, Refusal>) -> Result<R, Refusal> {
         self.lock().step(step)
     }
 
@@ -109,5 +110,43 @@ impl<K: ?Sized + Data, V: ?Sized + Data> Shared<K, V> {
     /// As there.
     pub fn released(&self, channel: u16) -> Result<Option<Vec<u8>>, Refusal> {
         self.lock().released(channel)
+    }
+
+    /// As [`Speculator::watch`]: what becomes of a guess, as a future.
+    pub fn watch(&self, guess: &Guess) -> Watch {
+        self.lock().watch(guess)
+    }
+
+    /// The next output of a channel, as a future: it is taken once it may go out. Of several that wait for one channel each has another.
+    pub fn output(&self, channel: u16) -> Output<K, V> {
+        Output { kernel: self.clone(), channel }
+    }
+}
+
+/// The next output of a channel, once it may go out: of [`Shared::output`].
+#[must_use = "a future does nothing unless it is awaited"]
+pub struct Output<K: ?Sized = [u8], V: ?Sized = [u8]> {
+    kernel: Shared<K, V>,
+    channel: u16,
+}
+
+impl<K: ?Sized, V: ?Sized> fmt::Debug for Output<K, V> {
+    fn fmt(&self, f: &mut fmt::Formatter<'_>) -> fmt::Result {
+        f.debug_struct("Output").field("channel", &self.channel).finish_non_exhaustive()
+    }
+}
+
+impl<K: ?Sized + Data, V: ?Sized + Data> Future for Output<K, V> {
+    type Output = Result<Vec<u8>, Refusal>;
+
+    fn poll(self: Pin<&mut Self>, context: &mut Context<'_>) -> Poll<Self::Output> {
+        let mut kernel = self.kernel.lock();
+        match kernel.released(self.channel).transpose() {
+            Some(output) => Poll::Ready(output),
+            None => {
+                kernel.wake_behind(context.waker());
+                Poll::Pending
+            }
+        }
     }
 }

@@ -1,16 +1,20 @@
 //! A kernel over keys and values of your own.
 use crate::data::{Data, Like};
+use crate::watch::{Fate, Watch, Watches};
 use crate::{
-    hidewillow_own_clear, hidewillow_own_close, hidewillow_own_commit, hidewillow_own_counts,
-    hidewillow_own_fail, hidewillow_own_guess, hidewillow_own_look, hidewillow_own_open,
-    hidewillow_own_put, hidewillow_own_released, hidewillow_own_remove, hidewillow_own_say,
-    hidewillow_own_tag, hidewillow_own_take, hidewillow_own_undone, hidewillow_own_value, Own,
-    OwnCounts, Told, DONE, GUESSED, MEMORY, OPENED, REFUSED, SHOWN, STEPPED, WRITTEN,
+    hidewillow_own_channel, hidewillow_own_clear, hidewillow_own_close, hidewillow_own_commit, hidewillow_own_counts,
+    hidewillow_own_dependent, hidewillow_own_fail, hidewillow_own_guess, hidewillow_own_key, hidewillow_own_look,
+    hidewillow_own_open, hidewillow_own_places, hidewillow_own_put, hidewillow_own_released, hidewillow_own_remove,
+    hidewillow_own_say, hidewillow_own_status, hidewillow_own_tag, hidewillow_own_take, hidewillow_own_undone,
+    hidewillow_own_value, hidewillow_own_waiting, Own, OwnCounts, Told, DONE, GUESSED, MEMORY, OPENED, REFUSED, SHOWN,
+    STEPPED, WRITTEN,
 };
 use std::cell::RefCell;
+use std::collections::BTreeSet;
 use std::fmt;
 use std::marker::PhantomData;
 use std::sync::{Arc, Mutex, MutexGuard, PoisonError};
+use std::task::Waker;
 
 /// Why a step was not taken, or nothing was read. Nothing has changed.
 #[derive(Debug, Clone, Copy, PartialEq, Eq)]
@@ -124,6 +128,15 @@ impl fmt::Display for Stranger {
 
 impl std::error::Error for Stranger {}
 
+/// What is known of a guess whose token is out.
+#[derive(Debug, Clone, Copy, PartialEq, Eq)]
+pub enum Status {
+    /// Nothing has decided it yet.
+    Undecided,
+    /// Another guess's failure took its step away: nothing is left to decide.
+    Struck,
+}
+
 /// What a decision came to.
 #[derive(Debug, Clone, PartialEq, Eq)]
 pub enum Decided<K = Vec<u8>> {
@@ -145,6 +158,10 @@ struct Inner {
     /// It is of zeros or as the last call left it, since none but these methods pass it.
     own: Own,
     room: Vec<u8>,
+    /// The guesses whose tokens are out, who watches which, and who waits for outputs.
+    out: BTreeSet<u64>,
+    watches: Watches,
+    waiting: Vec<Waker>,
 }
 
 // SAFETY: the handle is one pointer to a block of the C library's memory, which nothing else points to. The library has no
@@ -155,16 +172,69 @@ impl Inner {
     /// Fails the guesses whose tokens were dropped.
     fn settle(&mut self, dropped: &Dropped) {
         for id in std::mem::take(&mut *dropped.lock()) {
-            // SAFETY: as `Inner::own` says.
-            unsafe { hidewillow_own_fail(&mut self.own, id) };
+            self.fail(id);
         }
     }
 
+    /// Commits a guess: what is told.
+    fn commit(&mut self, id: u64) -> Told {
+        // SAFETY: as `Inner::own` says.
+        let told = unsafe { hidewillow_own_commit(&raw mut self.own, id) };
+        self.decided(id, Fate::Committed);
+        told
+    }
+
+    /// Fails a guess: what is told.
+    fn fail(&mut self, id: u64) -> Told {
+        // SAFETY: as `Inner::own` says.
+        let told = unsafe { hidewillow_own_fail(&raw mut self.own, id) };
+        self.decided(id, Fate::Failed);
+        if told.answer == DONE && told.bytes > 0 {
+            for other in self.watches.all() {
+                if self.status(other) == Some(Status::Struck) {
+                    self.watches.tell(other, Fate::Struck);
+                }
+            }
+        }
+        told
+    }
+
+    /// A guess is decided, and those who watch it are told, but where it was struck before, which they were told then.
+    fn decided(&mut self, id: u64, fate: Fate) {
+        self.out.remove(&id);
+        self.watches.tell(id, fate);
+        self.changed();
+    }
+
+    /// Wakes who waits for outputs: there may be some now.
+    fn changed(&mut self) {
+        self.waiting.drain(..).for_each(Waker::wake);
+    }
+
+    /// What is known of a guess.
+    fn status(&mut self, id: u64) -> Option<Status> {
+        // SAFETY: as `Inner::own` says.
+        match unsafe { hidewillow_own_status(&raw mut self.own, id) } {
+            Told { answer: SHOWN, number: 1, .. } => Some(Status::Undecided),
+            Told { answer: SHOWN, .. } => Some(Status::Struck),
+            _ => None,
+        }
+    }
+
+    /// The key that has a place.
+    fn key(&mut self, place: usize) -> Result<Option<&[u8]>, Refusal> {
+        // SAFETY: as `Inner::own` says; the room is set, and apart from the handle.
+        self.shown(|own, room| unsafe { hidewillow_own_key(own, place, room.as_mut_ptr(), room.len()) })
+    }
+
+    /// One of the keys that rest on a guess.
+    fn dependent(&mut self, id: u64, place: usize) -> Result<Option<&[u8]>, Refusal> {
+        // SAFETY: as `Inner::own` says; the room is set, and apart from the handle.
+        self.shown(|own, room| unsafe { hidewillow_own_dependent(own, id, place, room.as_mut_ptr(), room.len()) })
+    }
+
     /// What a call shows in the room, which is made again where the room is too short.
-    fn shown(
-        &mut self,
-        ask: impl Fn(&mut Own, &mut [u8]) -> Told,
-    ) -> Result<Option<&[u8]>, Refusal> {
+    fn shown(&mut self, ask: impl Fn(&mut Own, &mut [u8]) -> Told) -> Result<Option<&[u8]>, Refusal> {
         loop {
             let told = ask(&mut self.own, &mut self.room);
             match told.answer {
@@ -191,21 +261,22 @@ impl Inner {
     /// One of the keys that the last failure took back.
     fn undone(&mut self, place: usize) -> Result<Option<&[u8]>, Refusal> {
         // SAFETY: as `Inner::own` says; the room is set, and apart from the handle.
-        self.shown(|own, room| unsafe {
-            hidewillow_own_undone(own, place, room.as_mut_ptr(), room.len())
-        })
+        self.shown(|own, room| unsafe { hidewillow_own_undone(own, place, room.as_mut_ptr(), room.len()) })
     }
 }
 
 impl Drop for Inner {
     fn drop(&mut self) {
         // SAFETY: as `Inner::own` says, and nothing uses the handle behind this.
-        unsafe { hidewillow_own_close(&mut self.own) };
+        unsafe { hidewillow_own_close(&raw mut self.own) };
     }
 }
 
 /// What a type is of, which has none of it.
 type Of<K, V> = PhantomData<(fn(&K), fn(&V))>;
+
+/// A key, and what it has, as they are read.
+type Entry<K, V> = (<K as Data>::Owned, <V as Data>::Owned);
 
 /// A step that is being taken: what it looked at and what it writes. It reads its own writes.
 pub struct Step<'a, K: ?Sized = [u8], V: ?Sized = [u8]> {
@@ -251,8 +322,7 @@ impl<K: ?Sized + Data, V: ?Sized + Data> Step<'_, K, V> {
     /// Sets what a key has.
     pub fn put(&mut self, key: impl Like<K>, value: impl Like<V>) {
         let (key, value) = (key.like().bytes(), value.like().bytes());
-        self.written
-            .push((key.into_owned(), Some(value.into_owned())));
+        self.written.push((key.into_owned(), Some(value.into_owned())));
     }
 
     /// Makes a key absent.
@@ -332,9 +402,7 @@ pub struct Speculator<K: ?Sized = [u8], V: ?Sized = [u8]> {
 impl<K: ?Sized, V: ?Sized> fmt::Debug for Speculator<K, V> {
     fn fmt(&self, f: &mut fmt::Formatter<'_>) -> fmt::Result {
         let counts = self.counts();
-        f.debug_struct("Speculator")
-            .field("counts", &counts)
-            .finish_non_exhaustive()
+        f.debug_struct("Speculator").field("counts", &counts).finish_non_exhaustive()
     }
 }
 
@@ -344,7 +412,7 @@ impl<K: ?Sized, V: ?Sized> Speculator<K, V> {
     pub fn counts(&self) -> OwnCounts {
         let mut counts = OwnCounts::default();
         // SAFETY: as `Inner::own` says; the counts are set, and apart from the handle.
-        unsafe { hidewillow_own_counts(&mut self.settled().own, &mut counts) };
+        unsafe { hidewillow_own_counts(&raw mut self.settled().own, &raw mut counts) };
         counts
     }
 
@@ -369,35 +437,23 @@ impl<K: ?Sized + Data, V: ?Sized + Data> Speculator<K, V> {
     /// [`Refusal::NoGuesses`] where so many are 0, and [`Refusal::Memory`].
     pub fn open(guesses: u16, seed: u64) -> Result<Self, Refusal> {
         let mut inner = Inner {
-            own: Own {
-                at: std::ptr::null_mut(),
-            },
+            own: Own { at: std::ptr::null_mut() },
             room: Vec::new(),
+            out: BTreeSet::new(),
+            watches: Watches::default(),
+            waiting: Vec::new(),
         };
         // SAFETY: the handle is of zeros, and its pointer that of an exclusive reference.
-        let told = unsafe { hidewillow_own_open(&mut inner.own, 1, guesses, seed) };
+        let told = unsafe { hidewillow_own_open(&raw mut inner.own, 1, guesses, seed) };
         done(told, OPENED)?;
-        Ok(Speculator {
-            inner: RefCell::new(inner),
-            dropped: Arc::default(),
-            of: PhantomData,
-        })
+        Ok(Speculator { inner: RefCell::new(inner), dropped: Arc::default(), of: PhantomData })
     }
 
-    fn write<R, E: From<Refusal>>(
-        &mut self,
-        step: impl FnOnce(&mut Step<'_, K, V>) -> Result<R, E>,
-    ) -> Result<R, E> {
+    fn write<R, E: From<Refusal>>(&mut self, step: impl FnOnce(&mut Step<'_, K, V>) -> Result<R, E>) -> Result<R, E> {
         let inner = self.inner.get_mut();
         inner.settle(&self.dropped);
         let (looked, written) = (Vec::new(), Vec::new());
-        let mut draft = Step {
-            inner,
-            looked,
-            written,
-            said: None,
-            of: PhantomData,
-        };
+        let mut draft = Step { inner, looked, written, said: None, of: PhantomData };
         let result = step(&mut draft)?;
         draft.hand_over()?;
         Ok(result)
@@ -407,10 +463,7 @@ impl<K: ?Sized + Data, V: ?Sized + Data> Speculator<K, V> {
     ///
     /// # Errors
     /// What the closure says, [`Refusal::LongKey`], [`Refusal::LongValue`] and [`Refusal::Memory`].
-    pub fn step<R>(
-        &mut self,
-        step: impl FnOnce(&mut Step<'_, K, V>) -> Result<R, Refusal>,
-    ) -> Result<R, Refusal> {
+    pub fn step<R>(&mut self, step: impl FnOnce(&mut Step<'_, K, V>) -> Result<R, Refusal>) -> Result<R, Refusal> {
         self.try_step(step)
     }
 
@@ -424,10 +477,8 @@ impl<K: ?Sized + Data, V: ?Sized + Data> Speculator<K, V> {
     ) -> Result<R, E> {
         let result = self.write(step)?;
         // SAFETY: as `Inner::own` says.
-        done(
-            unsafe { hidewillow_own_take(&mut self.inner.get_mut().own) },
-            STEPPED,
-        )?;
+        done(unsafe { hidewillow_own_take(&raw mut self.inner.get_mut().own) }, STEPPED)?;
+        self.inner.get_mut().changed();
         Ok(result)
     }
 
@@ -452,19 +503,10 @@ impl<K: ?Sized + Data, V: ?Sized + Data> Speculator<K, V> {
     ) -> Result<(R, Guess), E> {
         let result = self.write(step)?;
         // SAFETY: as `Inner::own` says.
-        let told = done(
-            unsafe { hidewillow_own_guess(&mut self.inner.get_mut().own) },
-            GUESSED,
-        )?;
+        let told = done(unsafe { hidewillow_own_guess(&raw mut self.inner.get_mut().own) }, GUESSED)?;
         let dropped = Arc::clone(&self.dropped);
-        Ok((
-            result,
-            Guess {
-                id: told.number,
-                dropped,
-                spent: false,
-            },
-        ))
+        self.inner.get_mut().out.insert(told.number);
+        Ok((result, Guess { id: told.number, dropped, spent: false }))
     }
 
     /// Commits a guess of this kernel: nothing rests on it any more.
@@ -475,8 +517,7 @@ impl<K: ?Sized + Data, V: ?Sized + Data> Speculator<K, V> {
         if !self.owns(&guess) {
             return Err(Stranger(guess));
         }
-        // SAFETY: as `Inner::own` says.
-        let told = unsafe { hidewillow_own_commit(&mut self.settled().own, guess.spend()) };
+        let told = self.settled().commit(guess.spend());
         Ok(match told.answer {
             DONE => Decided::Committed,
             _ => Decided::Gone,
@@ -493,17 +534,13 @@ impl<K: ?Sized + Data, V: ?Sized + Data> Speculator<K, V> {
             return Err(Stranger(guess));
         }
         let mut inner = self.settled();
-        // SAFETY: as `Inner::own` says.
-        let told = unsafe { hidewillow_own_fail(&mut inner.own, guess.spend()) };
+        let told = inner.fail(guess.spend());
         if told.answer != DONE {
             return Ok(Decided::Gone);
         }
         let places = 0..usize::try_from(told.number).unwrap_or(usize::MAX);
         let keys = places.filter_map(|place| inner.undone(place).ok().flatten().and_then(K::read));
-        Ok(Decided::Failed {
-            keys: keys.collect(),
-            struck: told.bytes,
-        })
+        Ok(Decided::Failed { keys: keys.collect(), struck: told.bytes })
     }
 
     /// What a key has; `None` where it is absent. A step that is to rest on it gets it itself ([`Step::get`]).
@@ -513,9 +550,7 @@ impl<K: ?Sized + Data, V: ?Sized + Data> Speculator<K, V> {
     pub fn value(&self, key: impl Like<K>) -> Result<Option<V::Owned>, Refusal> {
         let mut inner = self.settled();
         let there = inner.read(&key.like().bytes())?;
-        there
-            .map(|bytes| V::read(bytes).ok_or(Refusal::Form))
-            .transpose()
+        there.map(|bytes| V::read(bytes).ok_or(Refusal::Form)).transpose()
     }
 
     /// The undecided guesses that a key rests on, by rising number.
@@ -524,12 +559,96 @@ impl<K: ?Sized + Data, V: ?Sized + Data> Speculator<K, V> {
         let mut tags = Vec::new();
         loop {
             // SAFETY: as `Inner::own` says; the key is apart from the handle.
-            let told =
-                unsafe { hidewillow_own_tag(&mut inner.own, key.as_ptr(), key.len(), tags.len()) };
+            let told = unsafe { hidewillow_own_tag(&raw mut inner.own, key.as_ptr(), key.len(), tags.len()) };
             if told.answer != SHOWN {
                 return tags;
             }
             tags.push(told.number);
+        }
+    }
+
+    /// The keys that are there, each once, in no order of their own.
+    pub fn keys(&self) -> impl Iterator<Item = Result<K::Owned, Refusal>> + '_ {
+        self.iter().map(|entry| entry.map(|(key, _)| key))
+    }
+
+    /// The keys that are there, with what they have, each once, in no order of their own. A key whose bytes are no `K`, or what it has no
+    /// `V`, is told as [`Refusal::Form`].
+    pub fn iter(&self) -> Iter<'_, K, V> {
+        // SAFETY: as `Inner::own` says.
+        let told = unsafe { hidewillow_own_places(&raw mut self.settled().own) };
+        let places = usize::try_from(told.number).unwrap_or(usize::MAX);
+        Iter { kernel: self, places: 0..places }
+    }
+
+    /// What the key has that has a place, if one has it and is there.
+    fn entry(&self, place: usize) -> Result<Option<Entry<K, V>>, Refusal> {
+        let mut inner = self.settled();
+        let Some(key) = inner.key(place)?.map(<[u8]>::to_vec) else { return Ok(None) };
+        let Some(value) = inner.read(&key)? else { return Ok(None) };
+        K::read(&key).zip(V::read(value)).map(Some).ok_or(Refusal::Form)
+    }
+
+    /// The keys that rest on a guess, each once: its failure would take just these back. Those whose bytes are no `K` are left out.
+    ///
+    /// # Errors
+    /// [`Refusal::Memory`].
+    pub fn dependents(&self, guess: &Guess) -> Result<Vec<K::Owned>, Refusal> {
+        let (mut inner, mut keys) = (self.settled(), Vec::new());
+        if !self.owns(guess) {
+            return Ok(keys);
+        }
+        for place in 0.. {
+            match inner.dependent(guess.id, place)? {
+                Some(key) => keys.extend(K::read(key)),
+                None => break,
+            }
+        }
+        Ok(keys)
+    }
+
+    /// What is known of a guess: nothing of one that is another kernel's.
+    pub fn status(&self, guess: &Guess) -> Option<Status> {
+        self.settled().status(guess.id).filter(|_| self.owns(guess))
+    }
+
+    /// The numbers of the struck guesses whose tokens are still out, by rising number.
+    pub fn struck(&self) -> Vec<u64> {
+        let mut inner = self.settled();
+        let out: Vec<u64> = inner.out.iter().copied().collect();
+        out.into_iter().filter(|id| inner.status(*id) == Some(Status::Struck)).collect()
+    }
+
+    /// What becomes of a guess, as a future that its decision wakes, whoever decides it. One whose token is dropped fails at the next call
+    /// of the kernel; with the kernel all fail that are undecided.
+    pub fn watch(&self, guess: &Guess) -> Watch {
+        let mut inner = self.settled();
+        let known = match inner.status(guess.id).filter(|_| self.owns(guess)) {
+            Some(Status::Undecided) => None,
+            Some(Status::Struck) => Some(Fate::Struck),
+            None => Some(Fate::Failed),
+        };
+        inner.watches.watch(guess.id, known)
+    }
+
+    /// How many outputs of a channel wait: the first that rests on a guess, and all behind it.
+    pub fn waiting(&self, channel: u16) -> u64 {
+        // SAFETY: as `Inner::own` says.
+        unsafe { hidewillow_own_waiting(&raw mut self.settled().own, channel) }.number
+    }
+
+    /// A channel of which [`released`](Self::released) gives an output, found without going through the others.
+    pub fn next_channel(&self) -> Option<u16> {
+        // SAFETY: as `Inner::own` says.
+        let told = unsafe { hidewillow_own_channel(&raw mut self.settled().own) };
+        u16::try_from(told.number).ok().filter(|_| told.answer == SHOWN)
+    }
+
+    /// Wakes this once there may be outputs that were not there before.
+    pub(crate) fn wake_behind(&self, waker: &Waker) {
+        let mut inner = self.inner.borrow_mut();
+        if !inner.waiting.iter().any(|it| it.will_wake(waker)) {
+            inner.waiting.push(waker.clone());
         }
     }
 
@@ -540,10 +659,39 @@ impl<K: ?Sized + Data, V: ?Sized + Data> Speculator<K, V> {
     pub fn released(&mut self, channel: u16) -> Result<Option<Vec<u8>>, Refusal> {
         let mut inner = self.settled();
         // SAFETY: as `Inner::own` says; the room is set, and apart from the handle.
-        let shown = inner.shown(|own, room| unsafe {
-            hidewillow_own_released(own, channel, room.as_mut_ptr(), room.len())
-        })?;
+        let shown =
+            inner.shown(|own, room| unsafe { hidewillow_own_released(own, channel, room.as_mut_ptr(), room.len()) })?;
         Ok(shown.map(<[u8]>::to_vec))
+    }
+}
+
+/// The keys that are there, with what they have: of [`Speculator::iter`].
+pub struct Iter<'a, K: ?Sized, V: ?Sized> {
+    kernel: &'a Speculator<K, V>,
+    places: std::ops::Range<usize>,
+}
+
+impl<K: ?Sized, V: ?Sized> fmt::Debug for Iter<'_, K, V> {
+    fn fmt(&self, f: &mut fmt::Formatter<'_>) -> fmt::Result {
+        f.debug_struct("Iter").field("places", &self.places).finish_non_exhaustive()
+    }
+}
+
+impl<K: ?Sized + Data, V: ?Sized + Data> Iterator for Iter<'_, K, V> {
+    type Item = Result<(K::Owned, V::Owned), Refusal>;
+
+    fn next(&mut self) -> Option<Self::Item> {
+        let kernel = self.kernel;
+        self.places.find_map(|place| kernel.entry(place).transpose())
+    }
+}
+
+impl<'a, K: ?Sized + Data, V: ?Sized + Data> IntoIterator for &'a Speculator<K, V> {
+    type Item = Result<(K::Owned, V::Owned), Refusal>;
+    type IntoIter = Iter<'a, K, V>;
+
+    fn into_iter(self) -> Iter<'a, K, V> {
+        self.iter()
     }
 }
 
@@ -552,22 +700,13 @@ mod tests {
     use super::*;
 
     fn inner() -> Inner {
-        let own = Own {
-            at: std::ptr::null_mut(),
-        };
-        Inner {
-            own,
-            room: Vec::new(),
-        }
+        let own = Own { at: std::ptr::null_mut() };
+        Inner { own, room: Vec::new(), out: BTreeSet::new(), watches: Watches::default(), waiting: Vec::new() }
     }
 
     #[test]
     fn want_of_memory_is_no_absent_key() {
-        let told = |answer| Told {
-            answer,
-            number: 0,
-            bytes: 0,
-        };
+        let told = |answer| Told { answer, number: 0, bytes: 0 };
         assert_eq!(inner().shown(|_, _| told(MEMORY)), Err(Refusal::Memory));
         assert_eq!(inner().shown(|_, _| told(crate::ABSENT)), Ok(None));
     }

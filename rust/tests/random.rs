@@ -1,6 +1,7 @@
 //! Random runs of a kernel over byte strings, each held against a plain list of the steps that stand: what every key has and rests
 //! on, what goes out, and what a failure tells. `RUNS` says how many runs there are, `SEED` with which one they begin.
-use hidewillow::speculator::{Decided, Guess, Refusal, Speculator, Stranger};
+use hidewillow::speculator::{Decided, Guess, Refusal, Speculator, Status, Stranger};
+use hidewillow::watch::{Fate, Watch};
 use std::collections::{BTreeMap, BTreeSet, HashMap, VecDeque};
 
 /// Numbers that look random (splitmix64).
@@ -42,21 +43,13 @@ struct Plain {
 
 impl Plain {
     fn value(&self, key: &[u8]) -> Option<Bytes> {
-        let last = self
-            .steps
-            .iter()
-            .rev()
-            .find_map(|it| it.written.iter().rev().find(|(k, _)| k == key));
+        let last = self.steps.iter().rev().find_map(|it| it.written.iter().rev().find(|(k, _)| k == key));
         last.and_then(|(_, value)| value.clone())
     }
 
     /// What a key rests on: what its last writer does.
     fn rests(&self, key: &[u8]) -> BTreeSet<u64> {
-        let last = self
-            .steps
-            .iter()
-            .rev()
-            .find(|it| it.written.iter().any(|(k, _)| k == key));
+        let last = self.steps.iter().rev().find(|it| it.written.iter().any(|(k, _)| k == key));
         last.map(|it| it.rests.clone()).unwrap_or_default()
     }
 
@@ -76,36 +69,28 @@ impl Plain {
 
     /// Takes out what rests on a guess: the keys that it wrote, and the other guesses that go with it.
     fn fail(&mut self, guess: u64) -> (BTreeSet<Bytes>, BTreeSet<u64>) {
-        let (gone, stay): (Vec<_>, Vec<_>) = self
-            .steps
-            .drain(..)
-            .partition(|it| it.rests.contains(&guess));
+        let (gone, stay): (Vec<_>, Vec<_>) = self.steps.drain(..).partition(|it| it.rests.contains(&guess));
         self.steps = stay;
-        let keys = gone
-            .iter()
-            .flat_map(|it| it.written.iter().map(|(key, _)| key.clone()))
-            .collect();
+        let keys = gone.iter().flat_map(|it| it.written.iter().map(|(key, _)| key.clone())).collect();
         // A committed guess is no longer among what its own step rests on.
-        let struck = gone
-            .iter()
-            .filter_map(|it| it.own.filter(|own| it.rests.contains(own) && *own != guess));
+        let struck = gone.iter().filter_map(|it| it.own.filter(|own| it.rests.contains(own) && *own != guess));
         (keys, struck.collect())
+    }
+
+    /// Whether an output of a channel may go out.
+    fn has_output(&self, channel: u16) -> bool {
+        let mut said = self.steps.iter().filter(|it| it.said.as_ref().is_some_and(|(c, _)| *c == channel));
+        said.nth(self.out.get(&channel).copied().unwrap_or(0)).is_some_and(|it| it.rests.is_empty())
     }
 
     /// The next output of a channel that may go out.
     fn released(&mut self, channel: u16) -> Option<Bytes> {
         let out = self.out.entry(channel).or_default();
-        let said = self
-            .steps
-            .iter()
-            .filter(|it| it.said.as_ref().is_some_and(|(c, _)| *c == channel));
+        let said = self.steps.iter().filter(|it| it.said.as_ref().is_some_and(|(c, _)| *c == channel));
         let next = said.clone().nth(*out)?;
         next.rests.is_empty().then(|| {
             *out += 1;
-            next.said
-                .as_ref()
-                .map(|(_, bytes)| bytes.clone())
-                .unwrap_or_default()
+            next.said.as_ref().map(|(_, bytes)| bytes.clone()).unwrap_or_default()
         })
     }
 }
@@ -135,6 +120,8 @@ struct Run {
     /// Tokens of undecided and struck guesses, and which of these are struck.
     tokens: VecDeque<Guess>,
     struck: BTreeSet<u64>,
+    /// Who waits for a decision, and what it is to be where it is known.
+    watches: Vec<(u64, Watch, Option<Fate>)>,
     count: usize,
 }
 
@@ -150,38 +137,21 @@ impl Run {
             plain: Plain::default(),
             tokens: VecDeque::new(),
             struck: BTreeSet::new(),
+            watches: Vec::new(),
             count: 0,
         })
     }
 
     /// A step, or the step of a guess: looks, writes that are read again, removals, an output.
     fn step(&mut self, as_guess: bool) {
-        let Run {
-            dice,
-            kernel,
-            plain,
-            count,
-            ..
-        } = self;
-        let (mut looked, mut taken) = (
-            Vec::new(),
-            Taken {
-                own: None,
-                written: Vec::new(),
-                said: None,
-                rests: BTreeSet::new(),
-            },
-        );
+        let Run { dice, kernel, plain, count, .. } = self;
+        let (mut looked, mut taken) =
+            (Vec::new(), Taken { own: None, written: Vec::new(), said: None, rests: BTreeSet::new() });
         *count += 1;
         let write = |s: &mut hidewillow::speculator::Step<'_>| {
             for _ in 0..dice.roll(4) {
                 let key = key(dice);
-                let had = taken
-                    .written
-                    .iter()
-                    .rev()
-                    .find(|(k, _)| *k == key)
-                    .map(|(_, value)| value.clone());
+                let had = taken.written.iter().rev().find(|(k, _)| *k == key).map(|(_, value)| value.clone());
                 match dice.roll(5) {
                     0 | 1 => {
                         let seen = if dice.roll(2) == 0 {
@@ -219,15 +189,12 @@ impl Run {
             Ok(())
         };
         if as_guess {
-            let undecided = self
-                .tokens
-                .iter()
-                .filter(|it| !self.struck.contains(&it.id()))
-                .count();
+            let undecided = self.tokens.iter().filter(|it| !self.struck.contains(&it.id())).count();
             match kernel.guess(write) {
                 Ok(((), guess)) => {
                     assert!(undecided < LIMIT.into());
                     taken.own = Some(guess.id());
+                    self.watches.push((guess.id(), kernel.watch(&guess), None));
                     self.tokens.push_back(guess);
                 }
                 Err(refusal) => {
@@ -248,12 +215,8 @@ impl Run {
         let mut guess = self.tokens.remove(place)?;
         let id = guess.id();
         if self.dice.roll(4) == 0 {
-            let Err(Stranger(back)) = self.other.commit(guess) else {
-                panic!("a stranger's token was taken")
-            };
-            let Err(Stranger(back)) = self.other.fail(back) else {
-                panic!("a stranger's token was taken")
-            };
+            let Err(Stranger(back)) = self.other.commit(guess) else { panic!("a stranger's token was taken") };
+            let Err(Stranger(back)) = self.other.fail(back) else { panic!("a stranger's token was taken") };
             guess = back;
         }
         let is_gone = self.struck.remove(&id);
@@ -263,6 +226,7 @@ impl Run {
                 assert_eq!(decided == Decided::Gone, is_gone);
                 if !is_gone {
                     self.plain.commit(id);
+                    self.comes_to(id, Fate::Committed);
                 }
             }
             2 => {
@@ -292,64 +256,82 @@ impl Run {
         }
         let (keys, struck) = self.plain.fail(id);
         let others = struck.len();
+        self.comes_to(id, Fate::Failed);
+        for other in &struck {
+            self.comes_to(*other, Fate::Struck);
+        }
         self.struck.extend(struck);
         Some((keys, others))
     }
 
+    /// So it is with a guess from now on.
+    fn comes_to(&mut self, id: u64, fate: Fate) {
+        let known = self.watches.iter_mut().filter(|(it, ..)| *it == id);
+        known.for_each(|(_, _, known)| *known = Some(fate));
+    }
+
+    /// What keys, guesses and channels are listed is as in the plain list.
+    fn compare_lists(&self) {
+        let Run { kernel, plain, .. } = self;
+        let written = plain.steps.iter().flat_map(|it| it.written.iter());
+        let written: BTreeSet<Bytes> = written.map(|(key, _)| key.clone()).collect();
+        let entries: Vec<_> = kernel.iter().map(|it| it.expect("bytes are of any form")).collect();
+        let wanted = written.iter().filter_map(|key| Some((key.clone(), plain.value(key)?)));
+        assert_eq!(kernel.keys().count(), entries.len());
+        assert_eq!(entries.len(), wanted.clone().count(), "each key once");
+        assert_eq!(entries.into_iter().collect::<BTreeMap<_, _>>(), wanted.collect());
+        for token in &self.tokens {
+            let is_struck = self.struck.contains(&token.id());
+            let status = if is_struck { Status::Struck } else { Status::Undecided };
+            assert_eq!(kernel.status(token), Some(status));
+            let keys = kernel.dependents(token).expect("memory");
+            let wanted = written.iter().filter(|key| plain.rests(key).contains(&token.id()));
+            assert_eq!(keys.len(), wanted.clone().count(), "each key once");
+            assert_eq!(keys.iter().collect::<BTreeSet<_>>(), wanted.collect());
+            assert_eq!(self.other.status(token), None);
+            assert_eq!(self.other.dependents(token), Ok(Vec::new()));
+        }
+        assert_eq!(kernel.struck(), self.struck.iter().copied().collect::<Vec<_>>());
+        for (id, watch, fate) in &self.watches {
+            assert_eq!(watch.fate(), *fate, "what guess {id} came to");
+        }
+    }
+
     /// Everything that is seen is as in the plain list.
     fn compare(&mut self) {
-        let written = self
-            .plain
-            .steps
-            .iter()
-            .flat_map(|it| it.written.iter().map(|(key, _)| key.clone()));
+        let written = self.plain.steps.iter().flat_map(|it| it.written.iter().map(|(key, _)| key.clone()));
         let mut keys: BTreeSet<Bytes> = written.collect();
         keys.extend([vec![b'd'], Bytes::new(), vec![b'k'; 700]]);
-        let seen: BTreeMap<_, _> = keys
-            .iter()
-            .map(|it| (it, (self.kernel.value(it), self.kernel.tags(it))))
-            .collect();
+        let seen: BTreeMap<_, _> = keys.iter().map(|it| (it, (self.kernel.value(it), self.kernel.tags(it)))).collect();
         for (key, (value, tags)) in seen {
             assert_eq!(value, Ok(self.plain.value(key)), "the value of {key:?}");
-            assert_eq!(
-                tags.into_iter().collect::<BTreeSet<_>>(),
-                self.plain.rests(key),
-                "what {key:?} rests on"
-            );
+            assert_eq!(tags.into_iter().collect::<BTreeSet<_>>(), self.plain.rests(key), "what {key:?} rests on");
         }
+        self.compare_lists();
         for channel in 0..CHANNELS {
+            let said = self.plain.steps.iter().filter(|it| it.said.as_ref().is_some_and(|(c, _)| *c == channel));
+            let behind = said.skip(self.plain.out.get(&channel).copied().unwrap_or(0));
+            let waits = behind.skip_while(|it| it.rests.is_empty()).count();
+            assert_eq!(self.kernel.waiting(channel), waits as u64);
             while let Some(wanted) = self.plain.released(channel) {
+                let named = self.kernel.next_channel().expect("one may go out");
+                assert!(named == channel || self.plain.has_output(named));
                 assert_eq!(self.kernel.released(channel), Ok(Some(wanted)));
             }
             assert_eq!(self.kernel.released(channel), Ok(None));
+            assert_ne!(self.kernel.next_channel(), Some(channel), "nothing of it may go out");
         }
-        let undecided = self
-            .tokens
-            .iter()
-            .filter(|it| !self.struck.contains(&it.id()))
-            .count();
+        assert_eq!(self.kernel.next_channel(), None);
+        let undecided = self.tokens.iter().filter(|it| !self.struck.contains(&it.id())).count();
         let counts = self.kernel.counts();
-        assert_eq!(
-            (counts.undecided, counts.struck),
-            (undecided, self.struck.len())
-        );
-        let present = keys
-            .iter()
-            .filter(|it| self.plain.value(it).is_some())
-            .count();
-        assert!(
-            counts.keys >= present,
-            "{} of at least {present} keys are counted",
-            counts.keys
-        );
+        assert_eq!((counts.undecided, counts.struck), (undecided, self.struck.len()));
+        let present = keys.iter().filter(|it| self.plain.value(it).is_some()).count();
+        assert!(counts.keys >= present, "{} of at least {present} keys are counted", counts.keys);
     }
 }
 
 fn number(name: &str, default: u64) -> u64 {
-    std::env::var(name)
-        .ok()
-        .and_then(|it| it.parse().ok())
-        .unwrap_or(default)
+    std::env::var(name).ok().and_then(|it| it.parse().ok()).unwrap_or(default)
 }
 
 #[test]
@@ -399,9 +381,7 @@ fn a_key_and_a_value_have_limits() -> Result<(), Refusal> {
         s.remove(&longest);
         Ok(())
     })?;
-    let Ok(Decided::Failed { keys, .. }) = kernel.fail(guess) else {
-        panic!("it failed")
-    };
+    let Ok(Decided::Failed { keys, .. }) = kernel.fail(guess) else { panic!("it failed") };
     assert_eq!(keys, [longest]);
     Ok(())
 }
@@ -418,9 +398,7 @@ fn typed_keys_and_values() -> Result<(), Refusal> {
         s.put(7, String::from("other"));
         Ok(())
     })?;
-    let Ok(Decided::Failed { keys, .. }) = kernel.fail(guess) else {
-        panic!("it failed")
-    };
+    let Ok(Decided::Failed { keys, .. }) = kernel.fail(guess) else { panic!("it failed") };
     assert_eq!(keys, [7]);
     let mut other: Speculator<str, u32> = Speculator::open(2, 1)?;
     other.step(|s| {
@@ -433,28 +411,19 @@ fn typed_keys_and_values() -> Result<(), Refusal> {
 
 #[test]
 fn no_guess_may_be_drawn_where_none_may_be_open() {
-    assert_eq!(
-        Speculator::<[u8], [u8]>::open(0, 1).err(),
-        Some(Refusal::NoGuesses)
-    );
+    assert_eq!(Speculator::<[u8], [u8]>::open(0, 1).err(), Some(Refusal::NoGuesses));
 }
 
 #[test]
-fn a_kernel_and_a_token_may_go_to_another_thread(
-) -> Result<(), Box<dyn std::error::Error + Send + Sync>> {
+fn a_kernel_and_a_token_may_go_to_another_thread() -> Result<(), Box<dyn std::error::Error + Send + Sync>> {
     let shop = hidewillow::shared::Shared::new(Speculator::<str, u64>::open(64, 1)?);
-    let (_, guess) = shop.guess(|s| {
+    let ((), guess) = shop.guess(|s| {
         s.put("stock", 1);
         Ok(())
     })?;
     let there = shop.clone();
-    let decided = std::thread::spawn(move || there.commit(guess))
-        .join()
-        .expect("no panic")?;
-    assert_eq!(
-        (decided, shop.value("stock")?),
-        (Decided::Committed, Some(1))
-    );
+    let decided = std::thread::spawn(move || there.commit(guess)).join().expect("no panic")?;
+    assert_eq!((decided, shop.value("stock")?), (Decided::Committed, Some(1)));
     Ok(())
 }
 

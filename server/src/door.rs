@@ -3,7 +3,7 @@ use crate::ahead::Ahead;
 use crate::options::Options;
 use crate::request::Does;
 use crate::server::State;
-use crate::trusted::log::Room;
+use hidewillow::store::log::Room;
 use std::hint::black_box;
 use std::time::Instant;
 

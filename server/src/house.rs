@@ -57,9 +57,11 @@ pub struct House {
     /// When each of these was last said, where it is.
     pub said: [Seldom; 4],
     pub begun: Instant,
-    /// When memory was last looked at, and how much it was without what waits for clients; and when it was looked who says nothing.
+    /// When memory was last looked at, and how much it was without what waits for clients; when it was looked who says nothing, and
+    /// who did since much was shown.
     weighed: (Instant, u64),
     swept: Instant,
+    relieved: Instant,
     /// The most that waited for clients since memory was given back.
     peak: usize,
     /// Until when a stop waits.
@@ -73,7 +75,7 @@ impl House {
         House {
             options, keys: (keys, begun, 0), keeper, waiting: Vec::new(), connected: 0, commands: 0, logged: 0, refused: 0,
             kept: 0, taken_back: 0, wrong: 0, of_web: 0, turned_away: 0, owed: 0, silent: 0, said: Default::default(), begun,
-            weighed: (begun, 0), swept: begun, peak: 0, stopping: None,
+            weighed: (begun, 0), swept: begun, relieved: begun, peak: 0, stopping: None,
         }
     }
 
@@ -148,6 +150,23 @@ impl Server {
         self.house.silent += silent.len() as u64;
         for channel in silent {
             self.lose(channel);
+        }
+    }
+
+    /// Has the store let go of the room that it keeps for those who got much, and said nothing since, and took nothing. All that may go out was
+    /// taken out.
+    pub fn relieve(&mut self) {
+        if !self.is_roomy || self.house.relieved.elapsed() < SWEPT {
+            return;
+        }
+        self.house.relieved = Instant::now();
+        let (decided, roomy) = (self.settled(), self.channels.clients().filter(|(_, client)| client.keeps_room()));
+        let roomy: Vec<_> = roomy.map(|(channel, client)| (channel, client.guest.heard.elapsed() >= SWEPT)).collect();
+        self.is_roomy = !roomy.is_empty();
+        for (channel, _) in roomy.into_iter().filter(|(_, is_silent)| *is_silent) {
+            if !self.channels.renew(channel, decided) {
+                self.lose(channel);
+            }
         }
     }
 

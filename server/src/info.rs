@@ -1,27 +1,16 @@
 //! What is counted, and told.
 use crate::house::House;
 use crate::server::Server;
-use crate::trusted::envelope::Ending;
-use crate::trusted::log::Segments;
-use crate::trusted::reading::Walked;
-use crate::trusted::recovery::Found;
 use crate::trusted::system;
-use hidewillow::store::{FramePlace, ReadCounts, StoreCounts};
-use std::io;
-use std::path::Path;
+use hidewillow::store::envelope::Ending;
+use hidewillow::store::log::Segments;
+use hidewillow::store::reading::Walked;
+use hidewillow::store::recovery::{found, Found};
+use hidewillow::store::StoreCounts;
 use std::time::Instant;
 
 /// So many keys are counted in a few milliseconds. Of more it is told how many they were when they were counted last.
 const FEW: u64 = 1000;
-
-/// In words what was found of a log.
-pub fn found(counts: &ReadCounts) -> String {
-    let ReadCounts { frames, commands, keys, next, segment, place, dropped, .. } = counts;
-    format!(
-        "{keys} keys, {commands} commands in {frames} frames of the log; it ends at byte {place} of segment {segment}, before \
-         frame {next}, and {dropped} bytes behind count for nothing"
-    )
-}
 
 /// In words what was read of a folder, a line for each file.
 pub fn read(read: &Found) -> String {
@@ -43,62 +32,6 @@ pub fn read(read: &Found) -> String {
         lines.push("no crash explains that".into());
     }
     lines.join("\n")
-}
-
-/// What came of a file, an error with its name.
-pub fn named<T>(path: &Path, did: io::Result<T>) -> io::Result<T> {
-    did.map_err(|error| io::Error::new(error.kind(), format!("{}: {error}", path.display())))
-}
-
-/// What a log counts: frames on the disk, their bytes, the microseconds of all and of the longest, frames that failed, and rounds.
-#[derive(Clone, Copy, Default)]
-pub struct LogCounts {
-    pub syncs: u64,
-    pub bytes: u64,
-    pub micros: u64,
-    pub longest: u64,
-    pub failures: u64,
-    pub rounds: u64,
-}
-
-impl LogCounts {
-    fn lines(&self) -> [(&'static str, u64); 6] {
-        [
-            ("syncs", self.syncs),
-            ("written_bytes", self.bytes),
-            ("sync_microseconds", self.micros),
-            ("sync_longest_microseconds", self.longest),
-            ("sync_failures", self.failures),
-            ("rounds", self.rounds),
-        ]
-    }
-
-    /// A frame is on the disk.
-    pub fn synced(&mut self, bytes: u64, micros: u64) {
-        (self.syncs, self.bytes, self.micros) = (self.syncs + 1, self.bytes + bytes, self.micros + micros);
-        self.longest = self.longest.max(micros);
-    }
-
-    /// What came of a frame that was given to the disk then.
-    pub fn written(&mut self, at: &FramePlace, begun: Instant, did: &io::Result<()>) {
-        let FramePlace { frame, segment, len, .. } = at;
-        match did {
-            Ok(()) => self.synced(*len as u64, begun.elapsed().as_micros() as u64),
-            Err(error) => {
-                self.failures += 1;
-                say!("frame {frame} of {len} bytes is not on the disk, in segment {segment}: {error}");
-            }
-        }
-    }
-}
-
-/// Says what came of a segment that was to be made, where that is new.
-pub fn say_segment(segment: u64, lacked: bool, did: &io::Result<()>) {
-    match did {
-        Err(error) if !lacked => say!("segment {segment} can't be made, and is tried again: {error}"),
-        Ok(()) if lacked => say!("segment {segment} is made, so writing goes on"),
-        _ => (),
-    }
 }
 
 impl Server {
@@ -125,6 +58,19 @@ impl Server {
             ("wrong_passwords", wrong),
             ("web_requests", of_web),
             ("bytes_for_clients", self.channels.waiting() as u64),
+        ]
+    }
+
+    /// How long the log is, and its snapshot, where it has segments.
+    fn of_segments(&self) -> Vec<(&'static str, u64)> {
+        let Some(Segments { written, last_bytes, .. }) = self.channels.log().segments() else { return Vec::new() };
+        let keeper = &self.house.keeper;
+        let full = (written - 1).saturating_sub(keeper.kept) * self.house.options.limits.segment;
+        vec![
+            ("log_bytes", full + last_bytes),
+            ("log_segment", written),
+            ("snapshot_bytes", keeper.bytes),
+            ("snapshot_segment", keeper.kept),
         ]
     }
 
@@ -155,16 +101,7 @@ impl Server {
             ("keys_taken_back", taken_back as u64),
             ("lacks_room", lacks_room.into()),
         ];
-        if let Some(Segments { written, last_bytes, .. }) = self.channels.log().segments() {
-            let keeper = &self.house.keeper;
-            let full = (written - 1).saturating_sub(keeper.kept) * self.house.options.limits.segment;
-            lines.extend([
-                ("log_bytes", full + last_bytes),
-                ("log_segment", written),
-                ("snapshot_bytes", keeper.bytes),
-                ("snapshot_segment", keeper.kept),
-            ]);
-        }
+        lines.extend(self.of_segments());
         lines.extend(self.of_clients());
         lines.extend(of_log.lines());
         lines.iter().map(|(name, value)| format!("{name}:{value}\r\n")).collect()

@@ -1,14 +1,12 @@
 //! When snapshots are made, and backups.
-use crate::info::named;
 use crate::server::Server;
-use crate::tell::Tell;
-use crate::trusted::folder::Folder;
-use crate::trusted::log::{Closed, Segments};
-use crate::trusted::recovery::Made;
+use hidewillow::store::folder::{named, Folder};
+use hidewillow::store::log::{Closed, Segments};
+use hidewillow::store::recovery::Made;
+use hidewillow::store::tell::{Host, Tell};
 use std::collections::VecDeque;
 use std::fs::{self, File};
 use std::io::{self, ErrorKind};
-use std::os::unix::net::UnixStream;
 use std::path::{Path, PathBuf};
 use std::sync::mpsc::Receiver;
 use std::thread;
@@ -37,8 +35,8 @@ pub struct Keeper {
 }
 
 impl Keeper {
-    pub fn new(kept: u64, wake: UnixStream) -> Keeper {
-        let ((tell, words), wishes) = (Tell::new(wake), VecDeque::new());
+    pub fn new(kept: u64, host: Host) -> Keeper {
+        let ((tell, words), wishes) = (Tell::new(host), VecDeque::new());
         Keeper { wishes, tell, words, tried: kept, kept, bytes: 0, is_keeping: false }
     }
 

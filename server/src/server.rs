@@ -4,10 +4,9 @@ use crate::gather::Gathering;
 use crate::guard::Doorway;
 use crate::house::{House, SWEPT};
 use crate::trusted::channels::{Channels, Fed};
-use crate::trusted::library::{Store, COMMITTED, FAILED};
-use crate::trusted::log::Log;
+use crate::trusted::frames::Log;
 use crate::trusted::system::Poll;
-use hidewillow::Told;
+use hidewillow::store::{Decision, Store};
 use std::io::{self, ErrorKind, Read};
 use std::mem;
 use std::net::TcpListener;
@@ -53,6 +52,8 @@ pub struct Server {
     full: Vec<u16>,
     pub touched: Vec<u16>,
     ending: Vec<u16>,
+    /// Whether there is one for which the store keeps much room.
+    pub is_roomy: bool,
     /// Whether the store was told an answer since its output was taken.
     has_told: bool,
     /// Until when what came waits for more to go with it.
@@ -77,7 +78,7 @@ impl Server {
         let (came, later, full, touched, ending) = (Vec::new(), Vec::new(), Vec::new(), Vec::new(), Vec::new());
         let gathering = Gathering::new(channels.log().gathers());
         let (doorway, gathers) = (Doorway::new(listener), None);
-        let has_told = false;
+        let (has_told, is_roomy) = (false, false);
         Ok(Server {
             house,
             channels,
@@ -89,6 +90,7 @@ impl Server {
             full,
             touched,
             ending,
+            is_roomy,
             has_told,
             gathering,
             gathers,
@@ -114,6 +116,7 @@ impl Server {
             if mem::take(&mut self.has_told) {
                 self.take_output();
             }
+            self.relieve();
             self.touched.extend(self.channels.prove(self.gathers.is_none())?);
             self.touched.extend(&self.ending);
             self.touched.sort_unstable();
@@ -134,8 +137,9 @@ impl Server {
         let is_watched = !self.full.is_empty() || self.doorway.is_closed();
         let watched = is_watched.then_some(PATIENCE).filter(|_| self.gathers.is_none());
         let swept = self.house.options.timeout.map(|timeout| timeout.min(SWEPT));
+        let roomy = self.is_roomy.then_some(SWEPT);
         let now = (!self.later.is_empty()).then_some(Duration::ZERO);
-        waits.chain(watched).chain(swept).chain(now).min()
+        waits.chain(watched).chain(swept).chain(roomy).chain(now).min()
     }
 
     /// Waits until something is to be done, and reads what came.
@@ -287,14 +291,13 @@ impl Server {
     /// Decides what can be.
     fn decide(&mut self) {
         let refused = self.house.refused;
-        loop {
-            match self.channels.decide() {
-                Told { answer: COMMITTED, .. } => self.house.logged += 1,
-                Told { answer: FAILED, bytes, .. } => {
+        while let Some(decision) = self.channels.decide() {
+            match decision {
+                Decision::Logged(_) => self.house.logged += 1,
+                Decision::CutOff { keys, .. } => {
                     self.house.refused += 1;
-                    self.house.taken_back += bytes;
+                    self.house.taken_back += keys;
                 }
-                _ => break,
             }
         }
         if self.house.refused > refused {
@@ -304,26 +307,15 @@ impl Server {
 
     /// Writes what waits for a client, and ends the connection where nothing more will.
     fn write(&mut self, channel: u16) {
-        let (decided, most) = (self.settled(), self.house.most_owed(self.channels.waiting()));
+        let most = self.house.most_owed(self.channels.waiting());
+        self.send(channel);
         let Some(client) = self.channels.client(channel) else { return };
-        let free = client.waits().1;
-        if !matches!(client.guest.state, State::Gone | State::Late) && client.write().is_err() {
-            client.guest.state = State::Gone;
-        }
-        client.tidy();
-        client.settle(decided);
         let ((waits, left), is_behind) = (client.waits(), client.is_behind());
-        if left < free {
-            client.guest.heard = Instant::now();
-        }
         if client.guest.has_ended && is_behind && matches!(client.guest.state, State::Free | State::Lacks) {
             self.end(channel);
         }
         let Some(client) = self.channels.client(channel) else { return };
         let (state, owes, has_ended) = (client.guest.state, client.owes(), client.guest.has_ended);
-        if left < free {
-            self.gathering.is_answered(channel);
-        }
         let is_heard = matches!(state, State::Free | State::Lacks) && !self.doorway.is_closed();
         if is_heard && !is_behind {
             match owes <= most {
@@ -342,6 +334,23 @@ impl Server {
             self.channels.hang_up(channel);
             self.doorway.may_open();
         }
+    }
+
+    /// Sends what may be sent to a client, and lets go of what is of no use any more.
+    fn send(&mut self, channel: u16) {
+        let decided = self.settled();
+        let Some(client) = self.channels.client(channel) else { return };
+        let free = client.waits().1;
+        if !matches!(client.guest.state, State::Gone | State::Late) && client.write().is_err() {
+            client.guest.state = State::Gone;
+        }
+        client.tidy();
+        client.settle(decided);
+        if client.waits().1 < free {
+            client.guest.heard = Instant::now();
+            self.gathering.is_answered(channel);
+        }
+        self.is_roomy |= client.keeps_room();
     }
 
     /// Waits for a client's socket to be read and to be written, or not.
@@ -378,7 +387,7 @@ impl Server {
     }
 
     /// The batch up to which all is decided.
-    fn settled(&mut self) -> u64 {
+    pub fn settled(&mut self) -> u64 {
         match self.channels.counts().undecided {
             0 => u64::MAX,
             _ => self.house.decided(),

@@ -6,14 +6,13 @@ use super::requests::{
     delete, did, found, has_value, is_changed, is_made, is_older, put, range, read, transaction, Entry, Members,
     Request,
 };
-use crate::tell::Tell;
-use crate::trusted::envelope::Identity;
 use hidewillow::engine::{self, Answer, BatchSeen, FenceSeen, Held, Word};
+use hidewillow::store::envelope::Identity;
+use hidewillow::store::tell::{Host, Tell};
 use std::collections::hash_map::RandomState;
 use std::hash::BuildHasher;
 use std::io::{self, ErrorKind};
 use std::mem;
-use std::os::unix::net::UnixStream;
 use std::sync::atomic::{AtomicBool, AtomicU64, Ordering};
 use std::sync::mpsc::Receiver;
 use std::sync::{Arc, Mutex};
@@ -400,9 +399,9 @@ pub struct Engine {
 
 impl Engine {
     /// Leads, if nobody does.
-    pub fn lead(members: Arc<Members>, keys: &Keys, seconds: u64, wake: UnixStream) -> io::Result<Option<Engine>> {
+    pub fn lead(members: Arc<Members>, keys: &Keys, seconds: u64, host: Host) -> io::Result<Option<Engine>> {
         let Some(leadership) = Leadership::begin(members, keys, seconds)?.map(Arc::new) else { return Ok(None) };
-        let (tell, words) = Tell::new(wake);
+        let (tell, words) = Tell::new(host);
         let engine = Engine { leadership, tell, words };
         let (keeps, tells) = (engine.leadership.clone(), engine.tell.clone());
         thread::spawn(move || keeps.keep(&tells));

@@ -4,12 +4,11 @@ use super::engine::{have, read_log, tell_have, Batch, Have, Keys, Leadership, Re
 use super::leader::recovered;
 use super::requests::Members;
 use crate::door::is_password;
-use crate::info::named;
 use crate::options::Options;
-use crate::trusted::folder::Folder;
-use crate::trusted::library::Recovery;
-use crate::trusted::mark::Said;
-use crate::trusted::recovery::Begun;
+use hidewillow::store::folder::{named, Folder};
+use hidewillow::store::mark::Said;
+use hidewillow::store::recovery::Begun;
+use hidewillow::store::Recovery;
 use std::fs::{self, File};
 use std::io::{self, BufRead, BufReader, Read, Write};
 use std::net::{SocketAddr, TcpListener, TcpStream, ToSocketAddrs};

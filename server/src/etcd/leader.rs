@@ -1,20 +1,20 @@
 //! The log in an engine, as the loop has it: frames to batches, what came of them, rounds, and the end of a leadership.
-use super::engine::{self, Batch, Engine, Heard, Keys};
+use super::engine::{self, Batch, Engine, Heard, Keys, Leadership, ReadLog};
 use super::follower::{warmed, Follower};
 use super::requests::Members;
+use crate::host_of;
 use crate::house::House;
-use crate::info::LogCounts;
 use crate::keeper::Keeper;
 use crate::options::Options;
 use crate::server::Server;
 use crate::trusted::bound::Bound;
-use crate::trusted::folder::Folder;
-use crate::trusted::library::{done, well, Next, Recovery, Store, ABSENT, DONE, HEAD, MEMORY};
-use crate::trusted::log::Log;
-use crate::trusted::mark::{self, Mark, Owner, Said};
+use crate::trusted::frames::Log;
 use crate::trusted::system::SIGUSR1;
 use hidewillow::engine::{Rounds, Word};
-use hidewillow::store::{FramePlace, ReadCounts, StoreLimits};
+use hidewillow::store::folder::Folder;
+use hidewillow::store::log::LogCounts;
+use hidewillow::store::mark::{self, Mark, Owner, Said};
+use hidewillow::store::{FramePlace, Next, ReadCounts, Recovery, Refusal, Store, StoreLimits, HEAD};
 use std::io::{self, ErrorKind, Read};
 use std::os::unix::net::UnixStream;
 use std::sync::Arc;
@@ -49,20 +49,59 @@ pub struct EtcdLog {
 
 /// Feeds batches to the library that has what was before, segment by segment; this is the number behind them.
 pub fn recovered(recovery: &mut Recovery, batches: &[Batch], next: u64) -> io::Result<ReadCounts> {
-    let mut counts = ReadCounts::default();
     for batch in batches.iter().filter(|batch| batch.offset == 0) {
         let head = &batch.frame[..HEAD.min(batch.frame.len())];
-        well(recovery.head(batch.segment, head), &[DONE, ABSENT], "head")?;
+        recovery.head(batch.segment, head)?;
     }
     for batch in batches {
-        done(recovery.feed(batch.segment, &batch.frame), "frame")?;
+        recovery.feed(batch.segment, &batch.frame)?;
     }
-    done(recovery.end(0, 0, &mut counts), "log")?;
+    let (counts, did) = recovery.end(0, 0);
+    did?;
     if counts.next != next || counts.dropped > 0 {
         let words = format!("the log has {} frames, and {} count", next - 1, counts.next - 1);
         return Err(io::Error::new(ErrorKind::InvalidData, words));
     }
     Ok(counts)
+}
+
+/// Whether the log goes on behind a snapshot whose next batch is this: what that ends with is in the log, or was cut off; and without a
+/// snapshot the log begins at 1, as the first batch of a leadership is decided before any other is sent.
+fn goes_on(leadership: &Leadership, log: &ReadLog, first: u64) -> io::Result<()> {
+    let words = match first {
+        1 if log.cut == 0 && log.gap == 1 && log.behind > 0 => {
+            "the log in the engine doesn't begin at batch 1, and no snapshot in the folder stands for what is missing"
+                .into()
+        }
+        2.. if log.cut < first - 1 && !leadership.has(first - 1)? => {
+            let last = first - 1;
+            format!("the folder has a snapshot up to batch {last}, which the log in the engine doesn't have")
+        }
+        _ => return Ok(()),
+    };
+    Err(io::Error::new(ErrorKind::InvalidData, words))
+}
+
+/// The log behind a snapshot whose next batch is this, of what was read along and what came since, and how much that is; all behind its gap
+/// is deleted. Nothing where this host leads no more, or has too old a snapshot.
+fn read_behind(leadership: &Leadership, follower: &Follower, first: u64) -> io::Result<Option<(ReadLog, usize)>> {
+    let mut batches = {
+        let along = follower.along();
+        if along.first == first {
+            along.batches.clone()
+        } else {
+            Vec::new()
+        }
+    };
+    let ahead = first + batches.len() as u64;
+    let log = leadership.read_log(ahead)?;
+    goes_on(leadership, &log, first)?;
+    if log.cut >= ahead || !leadership.fence(log.gap)? {
+        return Ok(None);
+    }
+    let new = log.batches.len();
+    batches.extend(log.batches);
+    Ok(Some((ReadLog { batches, ..log }, new)))
 }
 
 impl EtcdLog {
@@ -74,30 +113,10 @@ impl EtcdLog {
         mut recovery: Recovery,
         first: u64,
     ) -> io::Result<Option<(Store, EtcdLog)>> {
-        let mut batches = {
-            let along = follower.along();
-            if along.first == first {
-                along.batches.clone()
-            } else {
-                Vec::new()
-            }
-        };
-        let ahead = first + batches.len() as u64;
-        let log = engine.leadership.read_log(ahead)?;
-        if first > 1 && log.cut < first - 1 && !engine.leadership.has(first - 1)? {
-            let words = format!(
-                "the folder has a snapshot up to batch {}, which the log in the engine doesn't have",
-                first - 1
-            );
-            return Err(io::Error::new(ErrorKind::InvalidData, words));
-        }
-        if log.cut >= ahead || !engine.leadership.fence(log.gap)? {
-            return Ok(None);
-        }
-        batches.extend(log.batches);
-        let ReadCounts { keys, commands, next, .. } = recovered(&mut recovery, &batches, log.gap)
+        let Some((log, new)) = read_behind(&engine.leadership, follower, first)? else { return Ok(None) };
+        let ReadCounts { keys, commands, next, .. } = recovered(&mut recovery, &log.batches, log.gap)
             .map_err(|error| io::Error::new(ErrorKind::InvalidData, format!("the log is damaged: {error}")))?;
-        let (all, behind, new) = (next - 1, log.behind, log.gap - ahead);
+        let (all, behind) = (next - 1, log.behind);
         say!("{keys} keys, {commands} commands in {all} batches, {new} of them read now, and {behind} behind a gap are deleted");
         let (store, at, head) = Store::open(&mut recovery, &options.limits)?;
         // The first batch is decided before any other is sent.
@@ -123,7 +142,7 @@ impl EtcdLog {
                 self.is_silent = false;
                 self.under_way.retain(|it| *it != number);
                 self.counts.synced(0, micros);
-                done(store.synced(number), "synced")?; // [11]
+                store.synced(number)?; // [11]
             }
             Word::Again => self.is_silent = true,
             Word::Still(round) => {
@@ -172,10 +191,16 @@ impl EtcdLog {
     /// has anything of them. Without memory for that it is tried again.
     fn wind_up(&mut self, store: &mut Store) -> io::Result<()> {
         for number in std::mem::take(&mut self.lost) {
-            done(store.failed(number), "failed")?; // [12]
+            store.failed(number)?; // [12]
         }
         let mut room = vec![0; store.counts().undecided + HEAD];
-        self.is_over = well(store.lost(&mut room), &[DONE, MEMORY], "lost")?.answer == DONE;
+        match store.lost(&mut room) {
+            Err(Refusal::Memory) => (),
+            did => {
+                did?;
+                self.is_over = true;
+            }
+        }
         Ok(())
     }
 }
@@ -213,7 +238,7 @@ impl Log for EtcdLog {
                     let round = self.take(); // [13]
                     self.engine.send(batch(self.engine.leadership.revision, &at, &bytes), round);
                 }
-                Next::Full => done(store.turn(), "turn")?,
+                Next::Full => store.turn()?,
                 Next::None => break,
             }
         }
@@ -291,7 +316,7 @@ pub fn serve(options: &Options, mut wake: UnixStream, waker: &UnixStream) -> io:
         };
         let listener = bound.take().map_or_else(|| Bound::at(&options.address), Ok)?.listen()?;
         say!("listening on {}", listener.local_addr()?);
-        let house = House::new(options.clone(), log.found, Keeper::new(0, waker.try_clone()?));
+        let house = House::new(options.clone(), log.found, Keeper::new(0, host_of(waker.try_clone()?)));
         if !Server::new(house, listener, wake.try_clone()?, store, Box::new(log))?.run()? {
             return Ok(());
         }
@@ -348,7 +373,7 @@ fn lead(
         _ => warmed(options, said)?,
     };
     let keys = Keys(options.prefix.clone());
-    let Some(engine) = Engine::lead(members.clone(), &keys, options.lease, waker.try_clone()?)? else {
+    let Some(engine) = Engine::lead(members.clone(), &keys, options.lease, host_of(waker.try_clone()?))? else {
         *warm = Some((recovery, of));
         return Ok(None);
     };

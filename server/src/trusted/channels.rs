@@ -1,14 +1,13 @@
 //! Sockets to channels of the store, and channels to sockets.
-use super::library::{shown, well, Store, ASKED, DECISION_DUE, DONE, FULL, MEMORY};
-use super::log::{Closed, Log, Room};
+use super::frames::Log;
 use super::replies::{Replies, Waiting};
 use crate::ahead::REFUSAL;
 use crate::door::{Guest, LONGEST};
 use crate::house::House;
 use crate::request::{words, Does, Front, Lack};
 use crate::server::State;
-use hidewillow::store::StoreCounts;
-use hidewillow::Told;
+use hidewillow::store::log::{Closed, Room};
+use hidewillow::store::{Decision, Fed as Taken, Refusal, Request, Store, StoreCounts};
 use std::collections::{BTreeMap, VecDeque};
 use std::io::{self, Read};
 use std::mem;
@@ -20,6 +19,9 @@ const ROOM: usize = 1 << 12;
 /// What shows so many bytes or fewer is taken out with others; and what is told without showing anything has fewer.
 const SHORT: usize = 1 << 12;
 const TOLD: usize = 32;
+
+/// A channel that had so many bytes to show at once keeps room for them: it is given up for another once the store has nothing of it.
+const MUCH: usize = 1 << 16;
 
 /// What the store has had of a client: nothing, whole requests, or behind these the front of one.
 #[derive(PartialEq)]
@@ -68,6 +70,9 @@ pub struct Client {
     /// What the store may have for it until a batch is decided, in bytes, and all of these.
     owed: VecDeque<(u64, usize)>,
     owes: usize,
+    /// The batch that may have what was fed last, and how many bytes its channel showed at once, at the most.
+    last: u64,
+    shown: usize,
 }
 
 impl Client {
@@ -100,6 +105,19 @@ impl Client {
         while let Some((_, bytes)) = self.owed.pop_front_if(|(batch, _)| *batch <= decided) {
             self.owes -= bytes;
         }
+    }
+
+    /// Whether the store keeps much room for it.
+    pub fn keeps_room(&self) -> bool {
+        self.shown > MUCH
+    }
+
+    /// Whether the store has nothing of it, where all up to a batch is decided and was taken out: no part of a request, and no queue.
+    fn is_done(&self, decided: u64) -> bool {
+        let guest = &self.guest;
+        let is_told = guest.ahead.as_ref().is_none_or(|ahead| ahead.waiting.is_empty());
+        let waits = matches!(guest.state, State::Free | State::Lacks | State::Full);
+        waits && is_told && self.last <= decided && self.had != Had::Part && guest.queue.is_none()
     }
 
     /// So many bytes of it are taken out of the store.
@@ -204,12 +222,11 @@ impl Channels {
 
     /// Gives a connection a channel, or back, where there is none.
     pub fn connect(&mut self, socket: TcpStream, guest: Guest) -> Result<u16, TcpStream> {
-        let Ok(Told { number, .. }) = well(self.store.connect(), &[DONE], "connect") else { return Err(socket) };
-        let channel = number as u16;
+        let Ok(channel) = self.store.connect() else { return Err(socket) };
         #[rustfmt::skip]
         let client = Client {
             guest, socket, had: Had::Nothing, came: Vec::new(), taken: 0, front: Front::default(), mark: 0,
-            replies: Replies::new(self.waiting.clone()), owed: VecDeque::new(), owes: 0,
+            replies: Replies::new(self.waiting.clone()), owed: VecDeque::new(), owes: 0, last: 0, shown: 0,
         };
         self.clients.insert(channel, client);
         Ok(channel)
@@ -219,6 +236,20 @@ impl Channels {
     pub fn hang_up(&mut self, channel: u16) {
         self.clients.remove(&channel);
         self.store.hang_up(channel);
+    }
+
+    /// Gives a client a channel in the place of its own, where that keeps much room and the store has nothing of it: all up to a batch is decided,
+    /// and was taken out. Whether it has one: its number is the last that was given back.
+    pub fn renew(&mut self, channel: u16, decided: u64) -> bool {
+        let is_due = |client: &&mut Client| client.keeps_room() && client.is_done(decided);
+        let Some(client) = self.clients.get_mut(&channel).filter(is_due) else { return true };
+        client.shown = 0;
+        self.store.hang_up(channel);
+        let Ok(given) = self.store.connect() else { return false };
+        if given != channel {
+            self.store.hang_up(given);
+        }
+        given == channel // [6]
     }
 
     pub fn client(&mut self, channel: u16) -> Option<&mut Client> {
@@ -262,6 +293,7 @@ impl Channels {
         let instead = self.admitted(channel, &next, &counts, house)?;
         // It may be the first of the next batch.
         let batch = house.decided() + counts.open_batches as u64 + 1;
+        let _ = self.clients.get_mut(&channel).map(|client| client.last = batch);
         if is_settled && next.does == Does::Shows && next.words == 2 {
             return self.show(channel, &next, batch);
         }
@@ -285,7 +317,7 @@ impl Channels {
         let shown = self.waiting.get() - waited;
         if let Some(client) = self.clients.get_mut(&channel).filter(|_| shown == 0) {
             let words = words(&client.came[begin..][..next.len]);
-            let bytes = words.last().map_or(0, |key| self.store.value(key, &mut []).bytes);
+            let bytes = words.last().map_or(0, |key| self.store.value_bytes(key));
             client.is_owed(batch, bytes + TOLD);
         }
         Ok(if shown > SHORT || !has_memory { Fed::Shows } else { fed })
@@ -336,7 +368,7 @@ impl Channels {
             (_, (name, keys)) if name.eq_ignore_ascii_case(b"SET") && keys.len() > 2 => &keys[..1],
             _ => &[],
         };
-        Some(keys.iter().map(|key| self.store.value(key, &mut []).bytes + TOLD).sum())
+        Some(keys.iter().map(|key| self.store.value_bytes(key) + TOLD).sum())
     }
 
     /// Feeds a request, or another in its place.
@@ -347,20 +379,20 @@ impl Channels {
             true => self.store.feed_ahead(channel, bytes),
             false => self.store.feed(channel, bytes),
         };
-        let Told { answer: DONE, bytes, number } = told else {
-            let is_full = told.answer == MEMORY || matches!(told.number, FULL | DECISION_DUE);
-            return Err(if is_full { Fed::Full } else { Fed::Over });
-        };
+        let Taken { bytes, request } = told.map_err(|refusal| match refusal {
+            Refusal::Memory | Refusal::Full | Refusal::DecisionDue => Fed::Full,
+            _ => Fed::Over,
+        })?;
         client.mark = self.log.carried_out(); // [13]
         client.has_fed(if instead.is_some() { next.len } else { bytes });
-        client.had = if number == 0 && next.words > 0 { Had::Part } else { Had::Whole };
-        if number == 1 {
+        client.had = if request == Request::Part && next.words > 0 { Had::Part } else { Had::Whole };
+        if request == Request::Done {
             client.guest.has_queued(next.does, next.len, next.shows);
         }
-        match number {
-            0 => return Ok(Fed::Part),
-            ASKED => return Ok(Fed::Asked),
-            _ if is_ahead => client.send_ahead(shown(&mut self.room, |room| self.store.ahead(room)).unwrap_or(REFUSAL)),
+        match request {
+            Request::Part => return Ok(Fed::Part),
+            Request::Asked => return Ok(Fed::Asked),
+            _ if is_ahead => client.send_ahead(self.store.ahead(&mut self.room).unwrap_or(REFUSAL)),
             _ => (),
         }
         let is_long = next.shows > SHORT || next.does == Does::Lists;
@@ -369,22 +401,20 @@ impl Channels {
 
     /// A channel for which something may go out.
     pub fn next_ready(&mut self) -> Option<u16> {
-        let told = self.store.next_ready();
-        (told.answer == DONE).then_some(told.number as u16)
+        self.store.next_ready()
     }
 
     /// Takes what may go out of a channel: whether there was memory for it.
     pub fn take(&mut self, channel: u16) -> bool {
         let Some(client) = self.clients.get_mut(&channel) else { return false };
         let (may_tell, most) = (self.log.may_tell(client.mark), self.room.len());
-        let mut count = most;
+        let (mut count, mut all) = (most, 0);
         // Where the room has more than there was, nothing is left.
         while count == most {
-            let mut bytes = match self.store.output(channel, &mut self.room) {
-                Told { answer: DONE, bytes, .. } => &self.room[..bytes],
-                _ => return false,
-            };
-            count = bytes.len();
+            let Ok(moved) = self.store.output(channel, &mut self.room) else { return false };
+            let mut bytes = &self.room[..moved];
+            (count, all) = (bytes.len(), all + bytes.len());
+            client.shown = client.shown.max(all);
             client.was_told(bytes.len());
             let waited_for;
             if let Some(ahead) = &mut client.guest.ahead {
@@ -426,19 +456,19 @@ impl Channels {
     }
 
     /// What became of the oldest batch, if it is decided.
-    pub fn decide(&mut self) -> Told {
+    pub fn decide(&mut self) -> Option<Decision> {
         self.store.decide()
     }
 
     /// Whether a fault was told on a channel, of which nothing more is taken.
     pub fn is_closed(&mut self, channel: u16) -> bool {
-        self.store.is_closed(channel).number == 1
+        self.store.is_closed(channel)
     }
 
     /// The words of what a channel asks.
     pub fn asked(&mut self, channel: u16) -> Vec<Vec<u8>> {
         let mut words: Vec<Vec<u8>> = Vec::new();
-        while let Some(word) = shown(&mut self.room, |room| self.store.asked(channel, words.len(), room)) {
+        while let Some(word) = self.store.asked(channel, words.len(), &mut self.room) {
             words.push(word.into());
         }
         words
@@ -446,7 +476,7 @@ impl Channels {
 
     /// Tells the answer of what a channel asks, which goes out in its turn; whether there was memory for it.
     pub fn tell(&mut self, channel: u16, text: &[u8]) -> bool {
-        let did = self.store.tell(channel, text).answer == DONE;
+        let did = self.store.tell(channel, text).is_ok();
         if let Some(client) = self.clients.get_mut(&channel).filter(|_| did) {
             client.send_ahead(text);
         }
@@ -475,9 +505,9 @@ impl Channels {
 
     /// How many keys there are, counted by the store on a channel of its own.
     pub fn count_keys(&mut self) -> Option<u64> {
-        let channel = well(self.store.connect(), &[DONE], "connect").ok()?.number as u16;
+        let channel = self.store.connect().ok()?;
         let did = self.store.feed_ahead(channel, b"DBSIZE\r\n");
-        let told = shown(&mut self.room, |room| self.store.ahead(room)).filter(|_| did.answer == DONE);
+        let told = self.store.ahead(&mut self.room).filter(|_| did.is_ok());
         let keys = told.and_then(|told| std::str::from_utf8(told.strip_prefix(b":")?).ok()?.trim().parse().ok());
         self.store.hang_up(channel);
         keys

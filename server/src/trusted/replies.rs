@@ -1,5 +1,5 @@
 //! What a socket is to have: pieces, of which each is let go of once it is sent.
-use super::log::Log;
+use super::frames::Log;
 use std::cell::Cell;
 use std::collections::VecDeque;
 use std::io::{self, Write};

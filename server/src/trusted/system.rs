@@ -1,6 +1,5 @@
 //! What the system has ready, by `epoll`, the signals that it sends, the memory that is in use, and how many handles may be.
 use std::ffi::{c_int, c_long, c_short, c_ulong, c_void};
-use std::fs::File;
 use std::io::{self, ErrorKind, Write};
 use std::net::TcpStream;
 use std::os::fd::{AsRawFd, FromRawFd, OwnedFd};
@@ -55,7 +54,6 @@ extern "C" {
     fn mallinfo2() -> Allocated;
     fn malloc_trim(kept: usize) -> c_int;
     fn sigwait(set: *const [u64; 16], signal: *mut c_int) -> c_int;
-    fn posix_fadvise64(fd: c_int, from: i64, len: i64, advice: c_int) -> c_int;
 }
 
 const CLOEXEC: c_int = 0o2000000;
@@ -65,9 +63,8 @@ const SIGINT: u32 = 2;
 pub const SIGUSR1: u32 = 10;
 const SIGTERM: u32 = 15;
 
-/// Open handles, as a limit of the system; and those errors that tell of too many, in the process and in the system.
+/// Open handles, as a limit of the system.
 const HANDLES: c_int = 7;
-const TOO_MANY: [i32; 2] = [24, 23];
 /// So many seconds a connection is silent until it is looked whether its other side is there, so many between tries, and so many tries.
 const KEPT_ALIVE: [(c_int, c_int, c_int); 4] = [(1, 9, 1), (6, 4, 300), (6, 5, 100), (6, 6, 3)];
 
@@ -94,13 +91,6 @@ pub fn signals(mut tell: UnixStream) {
     });
 }
 
-/// What is read of a file from now on comes from the disk, where that is all the same to the system.
-pub fn forget(file: &File) {
-    const DONTNEED: c_int = 4;
-    // Safety: no pointer is given.
-    unsafe { posix_fadvise64(file.as_raw_fd(), 0, 0, DONTNEED) };
-}
-
 /// How many bytes of memory are in use.
 pub fn memory() -> u64 {
     // Safety: it takes nothing, and is told by value.
@@ -119,11 +109,6 @@ pub fn raise_handles() -> u64 {
         }
     }
     limit.soft
-}
-
-/// Whether there were too many handles for what failed.
-pub fn is_of_handles(error: &io::Error) -> bool {
-    error.raw_os_error().is_some_and(|number| TOO_MANY.contains(&number))
 }
 
 /// Gives memory that nothing uses back to the system.

@@ -25,6 +25,7 @@ class Client:
 
     @classmethod
     async def connect(cls, host: str = "127.0.0.1", port: int = 7379, password: str | None = None) -> Client:
+        """A connection to a server, which has said the password where there is one."""
         client = cls(*await asyncio.open_connection(host, port, limit=1 << 20))
         if password is not None:
             raised(await client._exchange(("AUTH", password)))

@@ -73,6 +73,7 @@ def undone(told: Any, sent: list[tuple[Word, ...]]) -> Undone | None:
 
 
 def raised(answer: Any) -> Any:
+    """An answer; an error is raised."""
     if isinstance(answer, Refused):
         raise answer
     return answer

@@ -11,8 +11,8 @@ rests on it; output waits until what it rests on is decided.
         s.say(1, "a bill is out")           # held
     shop.fail(price.guess)                  # the bill is gone, and nothing was said
 
-It stands on the library for C as a shared library: `libhidewillow.so` of the repository's build/, or what HIDEWILLOW_SO names. One thread
-uses a kernel at a time.
+It stands on the library for C as a shared library: what HIDEWILLOW_SO names, or `libhidewillow.so` of the repository's build/, or one
+that is installed where libraries are found. One thread uses a kernel at a time.
 """
 from __future__ import annotations
 
@@ -39,7 +39,8 @@ _OWN, _BYTES, _SIZE, _U16, _U64 = ctypes.POINTER(_Own), ctypes.c_char_p, ctypes.
 _CALLS = {
     "open": (_U64, _U16, _U64), "clear": (), "look": (_BYTES, _SIZE), "put": (_BYTES, _SIZE, _BYTES, _SIZE), "remove": (_BYTES, _SIZE),
     "say": (_U16, _BYTES, _SIZE), "take": (), "guess": (), "commit": (_U64,), "fail": (_U64,), "undone": (_SIZE, _BYTES, _SIZE),
-    "value": (_BYTES, _SIZE, _BYTES, _SIZE), "tag": (_BYTES, _SIZE, _SIZE), "released": (_U16, _BYTES, _SIZE),
+    "value": (_BYTES, _SIZE, _BYTES, _SIZE), "tag": (_BYTES, _SIZE, _SIZE), "released": (_U16, _BYTES, _SIZE), "places": (),
+    "key": (_SIZE, _BYTES, _SIZE), "dependent": (_U64, _SIZE, _BYTES, _SIZE), "status": (_U64,), "waiting": (_U16,), "channel": (),
 }
 _REFUSED = {1: "a key is longer than 65,536 bytes", 2: "a value is longer than 16,777,216 bytes",
             3: "as many guesses are undecided as may be", 4: "the last number of a guess is drawn", 5: "no guess may ever be undecided"}
@@ -52,10 +53,12 @@ class Refusal(Exception):
 def _library() -> ctypes.CDLL:
     named = os.environ.get("HIDEWILLOW_SO")
     beside = [it / "build/libhidewillow.so" for it in pathlib.Path(__file__).resolve().parents]
-    found = [named] if named else [str(it) for it in beside if it.exists()]
-    if not found:
-        raise ImportError("libhidewillow.so is not there: run `tools/build.py library` at the top of the repository, or set HIDEWILLOW_SO")
-    library = ctypes.CDLL(found[0])
+    found = [named] if named else [str(it) for it in beside if it.exists()] + ["libhidewillow.so"]
+    try:
+        library = ctypes.CDLL(found[0])
+    except OSError as fault:
+        ways = "run `tools/build.py library` at the top of the repository, install it where libraries are found, or set HIDEWILLOW_SO"
+        raise ImportError(f"{fault}: {ways}") from fault
     for name, types in _CALLS.items():
         call = getattr(library, f"hidewillow_own_{name}")
         call.argtypes, call.restype = (_OWN, *types), _Told
@@ -206,6 +209,40 @@ class Speculator:
             if told.answer != SHOWN:
                 return tags
             tags.append(told.number)
+
+    def items(self) -> Iterator[tuple[bytes, bytes]]:
+        """The keys that are there, with what they have, each once, in no order of their own."""
+        for place in range(self._told("places").number):
+            key = self._shown("key", place)
+            value = None if key is None else self.value(key)
+            if key is not None and value is not None:
+                yield key, value
+
+    def __iter__(self) -> Iterator[bytes]:
+        """The keys that are there, each once, in no order of their own."""
+        return (key for key, _ in self.items())
+
+    def dependents(self, guess: Guess) -> list[bytes]:
+        """The keys that rest on a guess, each once: its failure would take just these back."""
+        keys: list[bytes] = []
+        while (key := self._shown("dependent", guess.number, len(keys))) is not None:
+            keys.append(key)
+        return keys
+
+    def status(self, guess: Guess) -> str | None:
+        """'undecided', or 'struck' where another guess's failure took its step away; None where it is decided."""
+        told = self._told("status", guess.number)
+        return {1: "undecided", 2: "struck"}.get(told.number) if told.answer == SHOWN else None
+
+    def waiting(self, channel: int) -> int:
+        """How many outputs of a channel wait: the first that rests on a guess, and all behind it."""
+        return self._told("waiting", channel).number
+
+    def outputs(self) -> Iterator[tuple[int, bytes]]:
+        """All outputs that may go out now, with their channels, in order for each; each is gone from the kernel as it is handed out."""
+        while (told := self._told("channel")).answer == SHOWN:
+            for output in self.released(told.number):
+                yield told.number, output
 
     def released(self, channel: int) -> Iterator[bytes]:
         """The outputs of a channel that may go out now, one after another; each is gone from the kernel as it is handed out."""

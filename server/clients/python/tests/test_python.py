@@ -2,13 +2,20 @@
 HIDEWILLOW_AT, as 127.0.0.1:7379; those of the kernel want libhidewillow.so. What is not there is skipped, and said so.
 """
 import asyncio
+import contextlib
+import dataclasses
+import inspect
+import io
 import os
 import pathlib
 import random
+import re
 import sys
+import textwrap
 import unittest
 
 sys.path.insert(0, str(pathlib.Path(__file__).resolve().parent.parent))
+import hidewillow  # noqa: E402
 from hidewillow import Client, Refusal, Refused, Speculator, Undone, aio  # noqa: E402
 from hidewillow.client import carried, undone  # noqa: E402
 
@@ -65,6 +72,12 @@ class OwnState(unittest.TestCase):
             for key in keys:
                 self.assertEqual(kernel.value(key), plain.value(key))
                 self.assertEqual(set(kernel.tags(key)), plain.rests(key))
+            there = sorted((key, plain.value(key)) for key in keys if plain.value(key) is not None)
+            self.assertEqual((sorted(kernel.items()), sorted(kernel)), (there, [key for key, _ in there]))
+            for guess in open_guesses:
+                is_struck = guess.number in struck
+                self.assertEqual(kernel.status(guess), "struck" if is_struck else "undecided")
+                self.assertEqual(sorted(kernel.dependents(guess)), sorted(key for key in keys if guess.number in plain.rests(key)))
 
     def step_of(self, dice, kernel, plain, open_guesses, struck, keys):
         looked, written = [], {}
@@ -108,9 +121,25 @@ class OwnState(unittest.TestCase):
                 price.say(3, "held")
                 with self.assertRaises(Refusal):
                     price.say(3, "again")
-            self.assertEqual(list(kernel.released(3)), [])
+            with kernel.step() as step:
+                step.say(5, "not held")
+            self.assertEqual((list(kernel.released(3)), kernel.waiting(3), kernel.waiting(5)), ([], 1, 0))
+            self.assertEqual(list(kernel.outputs()), [(5, b"not held")])
             kernel.commit(price.guess)
-            self.assertEqual(list(kernel.released(3)), [b"held"])
+            self.assertIsNone(kernel.status(price.guess))
+            self.assertEqual(list(kernel.outputs()), [(3, b"held")])
+
+    def test_the_page_runs_as_it_stands(self):
+        page = pathlib.Path(__file__).resolve().parents[4] / "docs/FOREIGN.md"
+        if not page.exists():
+            self.skipTest("the page is not beside it")
+        part = page.read_text().split("## Python")[1].split("\n## ")[0]
+        blocks = re.findall(r"(?:^    .*\n|^\n(?=    ))+", part, re.M)
+        program, printed = (textwrap.dedent(it).strip("\n") for it in blocks[1:3])
+        said = io.StringIO()
+        with contextlib.redirect_stdout(said):
+            exec(program, {})  # noqa: S102
+        self.assertEqual(said.getvalue().strip(), printed)
 
     def test_a_block_that_raises_leaves_nothing(self):
         with Speculator() as kernel:
@@ -122,6 +151,31 @@ class OwnState(unittest.TestCase):
                 step.put("k" * 65537, "")
             with self.assertRaises(TypeError), kernel.step() as step:
                 step.put("a", 7)
+
+
+class Pages(unittest.TestCase):
+    """What `help(hidewillow)` shows is whole: each public name has its words, and each parameter and result its type."""
+
+    def test_each_name_has_its_words_and_types(self):
+        for module in (hidewillow, hidewillow.aio, hidewillow.client, hidewillow.own):
+            self.assertTrue(module.__doc__)
+            for name, it in vars(module).items():
+                if inspect.isclass(it) and not name.startswith("_") and it.__module__.startswith("hidewillow"):
+                    self.assertTrue(it.__doc__, name)
+                    for method, does in inspect.getmembers(it, inspect.isfunction):
+                        if dataclasses.is_dataclass(it):
+                            continue
+                        self.is_told(f"{name}.{method}", does, own=not method.startswith("_"))
+                elif inspect.isfunction(it) and it.__module__.startswith("hidewillow"):
+                    self.is_told(name, it, own=not name.startswith("_"))
+
+    def is_told(self, name, does, own):
+        if does.__module__.startswith("hidewillow"):
+            self.assertTrue(does.__doc__ or not own, name)
+            sign = inspect.signature(does)
+            self.assertIsNot(sign.return_annotation, inspect.Signature.empty, name)
+            for parameter in list(sign.parameters.values()):
+                self.assertTrue(parameter.name == "self" or parameter.annotation is not inspect.Parameter.empty, f"{name} {parameter.name}")
 
 
 class Words(unittest.TestCase):

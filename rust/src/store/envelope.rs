@@ -142,6 +142,7 @@ pub struct Ending {
 
 impl Ending {
     /// A piece more.
+    #[must_use]
     pub fn with(self, piece: &[u8]) -> Ending {
         let (pieces, bytes, sum) = (self.pieces + 1, self.bytes + piece.len() as u64, checksum(self.sum, piece));
         Ending { pieces, bytes, sum, ..self }

@@ -1,14 +1,12 @@
 //! What a start finds in a folder, whether that is all it should be, and snapshots of it.
+use super::damage::{self, Loss};
 use super::envelope::{wrap, Ending, Envelope, FileHead, Identity, ENVELOPE, ROOM_BEFORE};
-use super::folder::Folder;
-use super::library::{done, well, Recovery, ABSENT, DAMAGED, DONE, HEAD, REFUSED, SHOWN};
+use super::folder::{named, Folder};
 use super::log::Closed;
 use super::mark::{self, GaveUp, Mark, Owner, Said};
 use super::reading::{self, Reader, Walk, Walked};
 use super::system;
-use crate::damage::{self, Loss};
-use crate::info::named;
-use hidewillow::store::ReadCounts;
+use super::{ReadCounts, Recovery, Refusal, HEAD};
 use std::fs::File;
 use std::io::{self, Write};
 use std::path::{Path, PathBuf};
@@ -48,6 +46,16 @@ pub struct Made {
     pub bytes: u64,
 }
 
+/// In words what was found of a log.
+#[must_use]
+pub fn found(counts: &ReadCounts) -> String {
+    let ReadCounts { frames, commands, keys, next, segment, place, dropped, .. } = counts;
+    format!(
+        "{keys} keys, {commands} commands in {frames} frames of the log; it ends at byte {place} of segment {segment}, before \
+         frame {next}, and {dropped} bytes behind count for nothing"
+    )
+}
+
 /// The front of a log: what the newest snapshot has.
 pub struct Begun {
     pub log: Recovery,
@@ -68,15 +76,17 @@ impl Found {
         let (old, known) = (u64::from(how.undecided) + 64 * HEAD as u64, known(&self.walked, marked));
         // Where the log is given up from a frame on, which one is told first.
         let told_known = if how.accept.is_some() { 0 } else { how.next.map_or(known, |next| next - 1) };
-        let told = self.log.end(if marked.is_some() { u64::MAX } else { old }, told_known, &mut self.counts);
+        let did;
+        (self.counts, did) = self.log.end(if marked.is_some() { u64::MAX } else { old }, told_known);
+        let is_damaged = did == Err(Refusal::Damaged);
         let Found { counts, walked, kept, .. } = self;
         if let Some(last) = walked.iter().find(|it| it.segment == counts.segment && it.first.is_some()) {
             counts.place = last.place;
         }
         counts.dropped += dropped(walked);
         let wanted = how.next.unwrap_or(counts.next.max(known + 1));
-        if told.answer != REFUSED || told.number != DAMAGED {
-            done(told, "log")?;
+        if !is_damaged {
+            did?;
         } else if walked.iter().any(|it| it.has(counts.next)) {
             return Err(damage::says_nothing(counts));
         }
@@ -91,7 +101,7 @@ impl Found {
         }
         let is_crash = counts.dropped <= if is_all { 0 } else { most };
         self.is_explained = is_crash && !self.gives_up;
-        if told.answer == REFUSED {
+        if is_damaged {
             Err(damage::says_nothing(&self.counts))
         } else {
             Ok(())
@@ -122,7 +132,7 @@ impl Folder {
         let ((kept, first, snapshot), mut ending) = (self.newest()?, None);
         let mut log = Recovery::new(first)?;
         if let Some(path) = &snapshot {
-            let feed = |piece: &[u8]| done(log.feed(0, piece), "piece");
+            let feed = |piece: &[u8]| Ok(log.feed(0, piece)?);
             let owner = said.map(|said| said.owner).filter(|owner| owner.old_snapshot != kept);
             let did = match owner {
                 None => whole_of_old(path, feed),
@@ -131,7 +141,7 @@ impl Folder {
                 }
             };
             damage::of_file(path, did)?;
-            damage::of_file(path, well(log.head(kept, &[]), &[ABSENT], "snapshot").map(drop))?;
+            damage::of_file(path, log.head(kept, &[]).map(drop).map_err(io::Error::from))?;
         }
         Ok(Begun { log, kept, first, ending })
     }
@@ -146,7 +156,7 @@ impl Folder {
         while segments.pop_if(|(_, path)| reading::is_unused(path)).is_some() {}
         for (number, path) in &segments {
             let head = named(path, front(path, *number, said.as_ref()))?;
-            well(log.head(*number, &head), &[DONE, ABSENT], "head")?;
+            log.head(*number, &head)?;
         }
         let mut walked = Vec::new();
         for (number, path) in segments.iter().filter(|(number, _)| *number <= how.up_to) {
@@ -196,12 +206,11 @@ impl Folder {
             file.write_all(&head.bytes())?;
             let mut ending = Ending { entries: keys, ..Ending::default() };
             loop {
-                let told = well(log.snapshot(&mut room[ROOM_BEFORE..]), &[SHOWN, ABSENT], "snapshot")?;
-                if told.answer == ABSENT {
+                let Some(bytes) = log.snapshot(&mut room[ROOM_BEFORE..])? else {
                     file.write_all(&ending.bytes(&identity))?;
                     return Ok(ending.bytes);
-                }
-                let end = ROOM_BEFORE + told.bytes;
+                };
+                let end = ROOM_BEFORE + bytes;
                 ending = ending.with(&room[ROOM_BEFORE..end]);
                 let envelope = Envelope::around(0, ending.pieces, 0, &room[ROOM_BEFORE..end]);
                 let from = wrap(&mut room, None, &envelope, &identity);
@@ -240,7 +249,7 @@ fn front(path: &Path, segment: u64, said: Option<&Said>) -> io::Result<Vec<u8>> 
 
 /// Gives the library the frames of a segment that are whole, up to the first that isn't.
 fn feed(log: &mut Recovery, path: &Path, segment: u64, again: bool, said: Option<&Said>) -> io::Result<Walked> {
-    let mut feed = |bytes: &[u8]| done(log.feed(segment, bytes), "piece");
+    let mut feed = |bytes: &[u8]| Ok(log.feed(segment, bytes)?);
     let Some(Said { owner, mark, .. }) = said.filter(|said| segment >= said.owner.first) else {
         reading::whole(path, again, feed)?;
         return Ok(Walked { segment, ..Walked::default() });

@@ -48,7 +48,7 @@ mod tests {
 
     #[test]
     fn both_ways_tell_the_same() {
-        let bytes: Vec<u8> = (0..1000u32).map(|place| (place * place >> 3) as u8).collect();
+        let bytes: Vec<u8> = (0..1000u32).map(|place| ((place * place) >> 3) as u8).collect();
         for end in 0..bytes.len() {
             assert_eq!(by_table(7, &bytes[..end]), checksum(7, &bytes[..end]));
         }

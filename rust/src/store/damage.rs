@@ -1,8 +1,8 @@
 //! What is said of damage: where it is, what was expected there, what was found, and what can be done.
-use crate::info::found;
-use crate::trusted::folder::Folder;
-use crate::trusted::reading::Walked;
-use hidewillow::store::ReadCounts;
+use super::folder::Folder;
+use super::reading::Walked;
+use super::recovery::found;
+use super::ReadCounts;
 use std::io;
 use std::path::Path;
 

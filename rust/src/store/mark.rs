@@ -4,9 +4,8 @@
 //! clean stop. The other two are written behind each frame that is synced, before anyone is told, and are synced by chance alone: they
 //! are there after `kill -9`, and after a loss of power they are older, or torn. So the greatest number of all that hold is known.
 use super::envelope::{is_sealed, number, numbers, sealed, Identity};
-use super::folder::Folder;
-use crate::info::named;
-use hidewillow::store::StoreLimits;
+use super::folder::{named, Folder};
+use super::StoreLimits;
 use std::fs::{self, File, OpenOptions};
 use std::io::{self, ErrorKind, Write};
 use std::os::unix::fs::FileExt;
@@ -145,7 +144,7 @@ pub fn read(folder: &Folder) -> io::Result<Option<Said>> {
     };
     // The newest that was synced stays: the other one is written next.
     let next = usize::from(synced[0].is_some_and(|mark| mark.turn == newest.turn));
-    let marks = RUNNING.iter().flat_map(mark).chain([newest]);
+    let marks = RUNNING.iter().filter_map(mark).chain([newest]);
     let mark = marks.max_by_key(|mark| mark.turn).unwrap_or(newest);
     Ok(Some(Said { owner, mark, next }))
 }

@@ -1,16 +1,14 @@
 //! Threads that write frames and sync them, and make segments.
 use super::envelope::ROOM_BEFORE;
 use super::folder::Folder;
-use super::library::HEAD;
 use super::mark::Marker;
-use super::room::Growth;
+use super::room::{Growth, Zeros};
 use super::system::is_of_handles;
-use crate::tell::Tell;
-use hidewillow::store::FramePlace;
+use super::tell::{Host, Tell};
+use super::{FramePlace, HEAD};
 use std::fs::{File, OpenOptions};
 use std::io;
 use std::os::unix::fs::FileExt;
-use std::os::unix::net::UnixStream;
 use std::sync::mpsc::{channel, Receiver, Sender};
 use std::sync::Arc;
 use std::time::{Duration, Instant};
@@ -43,13 +41,19 @@ impl Job {
 /// What came of something that went on beside the loop.
 pub enum Word {
     Written(Job, io::Result<()>),
-    Segment(io::Result<()>),
+    /// A segment of so many zeros is made.
+    Segment(io::Result<u64>),
     /// A segment has more zeros.
     Grown(Growth, io::Result<()>),
 }
 
 /// The head of a start, with what stands before it, which is written as soon as its segment is made.
 pub type Head = (FramePlace, [u8; ROOM_BEFORE + HEAD]);
+
+/// Whether there is no room for something.
+pub fn is_full(error: &io::Error) -> bool {
+    matches!(error.kind(), io::ErrorKind::StorageFull | io::ErrorKind::QuotaExceeded)
+}
 
 /// Opens something; where there are no handles left, once there are. Nothing waits for that but who called.
 pub fn opened(mut open: impl FnMut() -> io::Result<File>) -> io::Result<File> {
@@ -82,11 +86,12 @@ pub struct Disk {
     idle: Vec<(usize, Vec<u8>)>,
     words: Receiver<Word>,
     tell: Tell<Word>,
+    host: Host,
 }
 
 impl Disk {
-    pub fn start(folder: Folder, marker: Arc<Marker>, threads: u16, wake: UnixStream) -> Disk {
-        let ((tell, words), folder) = (Tell::new(wake), Arc::new(folder));
+    pub fn start(folder: Folder, marker: Arc<Marker>, threads: u16, host: Host) -> Disk {
+        let ((tell, words), folder) = (Tell::new(host.clone()), Arc::new(folder));
         let start = |_| {
             let ((jobs, taken), folder, tell) = (channel::<Job>(), folder.clone(), tell.clone());
             thread::spawn(move || {
@@ -101,7 +106,7 @@ impl Disk {
         };
         let threads: Vec<_> = (0..threads.into()).map(start).collect();
         let idle = (0..threads.len()).map(|place| (place, Vec::new())).collect();
-        Disk { folder, marker, threads, idle, words, tell }
+        Disk { folder, marker, threads, idle, words, tell, host }
     }
 
     /// Does something with the folder on a thread of its own, after a while, and tells what came of it.
@@ -115,9 +120,11 @@ impl Disk {
         thread::Builder::new().spawn(work).expect("a thread for the folder");
     }
 
-    /// Has a segment made, with the head of a start in it where there is one; then what is known of the log is on the disk too.
-    pub fn make_segment(&self, segment: u64, bytes: u64, head: Option<Head>, wait: Duration) {
-        let marker = self.marker.clone();
+    /// Has a segment made, with the head of a start in it where there is one, which on a full disk is written over zeros that were kept for
+    /// it; then what is known of the log is on the disk too.
+    pub fn make_segment(&self, segment: u64, zeros: &Zeros, head: Option<Head>, wait: Duration) {
+        let (marker, host) = (self.marker.clone(), self.host.clone());
+        let (bytes, spare) = (zeros.first(), zeros.kept_back());
         self.beside(wait, move |folder| {
             let begin = |(at, bytes): Head| {
                 write(folder, &mut None, at.segment, 0, &bytes)?;
@@ -125,12 +132,18 @@ impl Disk {
             };
             let mark = || {
                 if let Err(error) = marker.sync(|_| ()) {
-                    say!("what is known of the log is not on the disk: {error}");
+                    host.say(format_args!("what is known of the log is not on the disk: {error}"));
                 }
                 Ok(())
             };
-            let made = folder.make_segment(segment, bytes);
-            Word::Segment(made.and_then(|()| head.map_or_else(mark, begin)))
+            let made = match folder.make_segment(segment, bytes) {
+                // Where there is none either, that there is no room is told.
+                Err(error) if head.is_some() && is_full(&error) => folder.use_spare(segment).map_err(|_| error),
+                did => did.map(|()| bytes),
+            };
+            // It is made again with the next, where there is no room now.
+            let _ = folder.keep_spare(spare);
+            Word::Segment(made.and_then(|made| head.map_or_else(mark, begin).map(|()| made)))
         });
     }
 

@@ -1,6 +1,6 @@
 //! How far zeros reach in the last segments, which grow by steps: a frame is written only where there are zeros on the disk.
 use super::envelope::ROOM_BEFORE;
-use super::library::HEAD;
+use super::HEAD;
 
 /// A segment is made so long, and grows by as much at the least.
 pub const STEP: u64 = 1 << 19;
@@ -14,8 +14,11 @@ const RECORD: u64 = 64;
 /// Whether there is room in the log for something more: there is, or will be in a while, or can't be made now.
 #[derive(Clone, Copy, PartialEq)]
 pub enum Room {
+    /// There is.
     Is,
+    /// There will be in a while.
     Comes,
+    /// It can't be made now.
     Lacks,
 }
 

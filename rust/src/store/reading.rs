@@ -157,6 +157,7 @@ impl<'a> Walk<'a> {
     }
 
     /// The next frame, if it is whole.
+    #[allow(clippy::should_implement_trait)] // what it lends is of its room
     pub fn next(&mut self) -> io::Result<Option<&[u8]>> {
         let Walk { reader, identity, gave_up, at } = self;
         if !at.found.is_empty() {
@@ -221,30 +222,32 @@ impl<'a> Walk<'a> {
     }
 }
 
+/// Whether a file begins as a snapshot of this store does that stands for all up to a segment, with the next frame; an error says what it is.
+fn begins(front: &[u8], identity: &Identity, (segment, frame): (u64, u64)) -> io::Result<()> {
+    match FileHead::of(front) {
+        None => refused(format!("at byte 0 the head of a snapshot was expected, and found is {}", words(front))),
+        Some(head) if !head.of_snapshot => refused("it is a segment of the log, and no snapshot"),
+        Some(head) if head.identity != *identity => refused("it is a snapshot of another store"),
+        Some(head) if (head.segment, head.frame) != (segment, frame) => {
+            let (segment, frame) = (head.segment, head.frame);
+            refused(format!(
+                "it stands for all up to segment {segment}, before frame {frame}, and not for what its name says"
+            ))
+        }
+        Some(_) => Ok(()),
+    }
+}
+
 /// Gives the pieces of a snapshot that stands for all up to a segment, with the next frame, or of what stands there in their place; what it
 /// ends with.
 pub fn snapshot(
     path: &Path,
     identity: &Identity,
-    (segment, frame): (u64, u64),
+    of: (u64, u64),
     mut take: impl FnMut(&[u8]) -> io::Result<()>,
 ) -> io::Result<Ending> {
     let mut reader = Reader::open(path, false)?;
-    let front = reader.at(0, FILE_HEAD)?;
-    match FileHead::of(front) {
-        None => {
-            return refused(format!("at byte 0 the head of a snapshot was expected, and found is {}", words(front)))
-        }
-        Some(head) if !head.of_snapshot => return refused("it is a segment of the log, and no snapshot"),
-        Some(head) if head.identity != *identity => return refused("it is a snapshot of another store"),
-        Some(head) if (head.segment, head.frame) != (segment, frame) => {
-            let (segment, frame) = (head.segment, head.frame);
-            return refused(format!(
-                "it stands for all up to segment {segment}, before frame {frame}, and not for what its name says"
-            ));
-        }
-        Some(_) => (),
-    }
+    begins(reader.at(0, FILE_HEAD)?, identity, of)?;
     let (mut so_far, mut place) = (Ending::default(), FILE_HEAD as u64);
     loop {
         let front = reader.at(place, ENVELOPE)?;

@@ -1,16 +1,14 @@
 //! The log on a disk: frames to threads, what came of them, cuts, and the segments that they need.
-use super::disk::{Disk, Head, Job, Word};
+use super::disk::{is_full, Disk, Head, Job, Word};
 use super::envelope::{wrap, Envelope, FileHead, Identity, ROOM_BEFORE};
 use super::folder::{Folder, Lock};
-use super::library::{done, Next, Store, HEAD};
 use super::mark::{self, GaveUp, Mark, Marker, Owner};
 use super::recovery::{Found, How};
 pub use super::room::Room;
 use super::room::{Growth, Zeros};
-use crate::info::{self, LogCounts};
-use hidewillow::store::{FramePlace, StoreLimits};
+use super::tell::Host;
+use super::{FramePlace, Next, Store, StoreLimits, HEAD};
 use std::collections::BTreeMap;
-use std::os::unix::net::UnixStream;
 use std::sync::Arc;
 use std::time::Duration;
 use std::{io, mem};
@@ -20,62 +18,41 @@ const STOPS: Duration = Duration::from_secs(5);
 /// How often a cut fails, each time in another segment, until the store stops. A full disk counts for nothing.
 const TRIES: u32 = 3;
 
-/// Whether something failed for want of room.
-fn is_full(error: &io::Error) -> bool {
-    matches!(error.kind(), io::ErrorKind::StorageFull | io::ErrorKind::QuotaExceeded)
+/// What a log counts: frames on the disk, their bytes, the microseconds of all and of the longest, frames that failed, and rounds.
+#[derive(Debug, Clone, Copy, Default)]
+pub struct LogCounts {
+    /// Frames on the disk.
+    pub syncs: u64,
+    /// Their bytes.
+    pub bytes: u64,
+    /// The microseconds of all of them.
+    pub micros: u64,
+    /// Those of the longest.
+    pub longest: u64,
+    /// Frames that failed.
+    pub failures: u64,
+    /// Rounds of an engine.
+    pub rounds: u64,
 }
 
-/// Where the frames of a store go.
-pub trait Log {
-    /// Tells the store what came of frames since. An error ends the program, and nothing more is answered.
-    fn hear(&mut self, store: &mut Store) -> io::Result<()>;
-    /// Gives on the frames that the store has.
-    fn send(&mut self, store: &mut Store) -> io::Result<()>;
-    /// How long at most what came may wait while more comes, which goes with it.
-    fn gathers(&self) -> Duration {
-        Duration::ZERO
+impl LogCounts {
+    /// The counts by their names.
+    #[must_use]
+    pub fn lines(&self) -> [(&'static str, u64); 6] {
+        [
+            ("syncs", self.syncs),
+            ("written_bytes", self.bytes),
+            ("sync_microseconds", self.micros),
+            ("sync_longest_microseconds", self.longest),
+            ("sync_failures", self.failures),
+            ("rounds", self.rounds),
+        ]
     }
-    /// Whether it takes more; and whether it never will, so that nothing more is to be done but to send what may go out.
-    fn takes(&self) -> bool {
-        true
-    }
-    fn is_over(&self) -> bool {
-        false
-    }
-    /// Something was carried out on a channel: the mark that the channel has now.
-    fn carried_out(&mut self) -> u64 {
-        0
-    }
-    /// Whether what the store puts out on a channel with this mark may go, as it is proved to be the newest. Of no mark is it so where it
-    /// isn't of the highest.
-    fn may_tell(&self, _mark: u64) -> bool {
-        true
-    }
-    /// Has what has a mark proved: by what is known here, or by asking if it may.
-    fn prove(&mut self, _store: &mut Store, _mark: u64, _may_ask: bool) -> io::Result<()> {
-        Ok(())
-    }
-    /// Whether there is room for a request of so many bytes that writes, or that only takes away; where that lacks, it is refused by name.
-    fn room(&mut self, _: &mut Store, _bytes: usize, _takes_away: bool) -> Room {
-        Room::Is
-    }
-    /// Whether there is room for writes.
-    fn has_room(&self) -> bool {
-        true
-    }
-    /// The store is to stop, and nothing is under way: what was begun and not used is let go of.
-    fn let_go(&mut self) -> io::Result<()> {
-        Ok(())
-    }
-    /// What it counted, as `INFO` tells it.
-    fn counts(&self) -> &LogCounts;
-    /// Its segments, where it has some.
-    fn segments(&self) -> Option<Segments> {
-        None
-    }
-    /// Lets a snapshot stand for all segments up to one, unless that can't be yet.
-    fn close(&mut self, _: &mut Store, _up_to: u64) -> io::Result<Option<Closed>> {
-        Ok(None)
+
+    /// A frame is on the disk.
+    pub fn synced(&mut self, bytes: u64, micros: u64) {
+        (self.syncs, self.bytes, self.micros) = (self.syncs + 1, self.bytes + bytes, self.micros + micros);
+        self.longest = self.longest.max(micros);
     }
 }
 
@@ -129,6 +106,7 @@ pub struct DiskLog {
     /// Where a frame failed and is not cut off yet: how often a head failed that was to do it.
     cutting: Option<u32>,
     only: Arc<()>,
+    host: Host,
     counts: LogCounts,
 }
 
@@ -137,6 +115,7 @@ struct Synced {
     known: u64,
     ahead: BTreeMap<u64, (u64, u64)>,
     marker: Arc<Marker>,
+    host: Host,
     /// Whether the mark couldn't be written, which is said once.
     is_mute: bool,
 }
@@ -157,7 +136,7 @@ impl Synced {
         let known = self.known;
         let did = self.marker.is(|mark| (mark.known, mark.segment, mark.place) = (known, segment, place));
         if let Some(error) = did.err().filter(|_| !self.is_mute) {
-            say!("what is known of the log is not written down: {error}");
+            self.host.say(format_args!("what is known of the log is not written down: {error}"));
             self.is_mute = true;
         }
     }
@@ -191,12 +170,15 @@ fn marked(folder: &Folder, found: &Found, limits: &StoreLimits, segment: u64) ->
 impl DiskLog {
     /// Recovers the log of a folder, and goes on behind it, with what was found. On a full disk it begins without a segment, and has
     /// no room for writes until that is made.
+    ///
+    /// # Errors
+    /// Where the log is damaged more than a crash explains, and those of the disk.
     pub fn open(
         folder: Folder,
         lock: Lock,
         limits: StoreLimits,
         accept: Option<u64>,
-        wake: UnixStream,
+        host: Host,
     ) -> io::Result<(Store, DiskLog, Found)> {
         let how = How { up_to: u64::MAX, again: true, undecided: limits.undecided, accept, next: None };
         let mut found = folder.recover(how)?;
@@ -210,13 +192,13 @@ impl DiskLog {
         room[ROOM_BEFORE..].copy_from_slice(&head);
         wrapped(&mut room, &place, &identity, known, 0);
         let at = Segments { written: first, made: first - 1, ..Segments::default() };
-        let disk = Disk::start(folder, marker.clone(), limits.in_flight, wake);
-        let synced = Synced { known, ahead: BTreeMap::new(), marker, is_mute: false };
+        let disk = Disk::start(folder, marker.clone(), limits.in_flight, host.clone());
+        let synced = Synced { known, ahead: BTreeMap::new(), marker, host: host.clone(), is_mute: false };
         #[rustfmt::skip]
         let mut log = DiskLog {
             disk, _lock: lock, at, zeros: Zeros::new(limits.segment), is_growing: false, under_way: Vec::new(), identity,
             firsts: BTreeMap::from([(first, place.frame)]), synced, opening: Some((place, room)), first, cutting: None,
-            only: Arc::new(()), counts: LogCounts::default(),
+            only: Arc::new(()), host, counts: LogCounts::default(),
         };
         log.begin()?;
         Ok((store, log, found))
@@ -235,44 +217,69 @@ impl DiskLog {
         Ok(())
     }
 
+    /// Counts what came of a frame.
+    fn count(&mut self, job: &Job, did: &io::Result<()>) {
+        let FramePlace { frame, segment, len, .. } = job.at;
+        match did {
+            Ok(()) => self.counts.synced(len as u64, job.begun.elapsed().as_micros() as u64),
+            Err(error) => {
+                self.counts.failures += 1;
+                let words =
+                    format_args!("frame {frame} of {len} bytes is not on the disk, in segment {segment}: {error}");
+                self.host.say(words);
+            }
+        }
+    }
+
+    /// Says what came of a segment that was to be made, where that is new.
+    fn say_segment<T>(&self, segment: u64, did: &io::Result<T>) {
+        match did {
+            Err(error) if !self.at.lacks_room => {
+                self.host.say(format_args!("segment {segment} can't be made, and is tried again: {error}"));
+            }
+            Ok(_) if self.at.lacks_room => {
+                self.host.say(format_args!("segment {segment} is made, so writing goes on"));
+            }
+            _ => (),
+        }
+    }
+
     /// What came of a frame, or of the head of a cut.
     fn written(&mut self, store: &mut Store, job: Job, did: io::Result<()>) -> io::Result<()> {
         let at = job.at;
         self.under_way.retain(|it| it.frame != at.frame);
-        self.counts.written(&at, job.begun, &did);
+        self.count(&job, &did);
         if did.is_ok() {
             self.synced.is(job.is_head, &at, job.end());
         }
         match did {
             Ok(()) if job.is_head => {
                 self.cutting = None;
-                done(store.cut(1), "cut") // [5]
+                Ok(store.cut(true)?) // [5]
             }
-            Ok(()) => done(store.synced(at.frame), "synced"), // [2]
+            Ok(()) => Ok(store.synced(at.frame)?), // [2]
             Err(error) => {
                 let failed = self.cutting.get_or_insert(0);
                 if !job.is_head {
-                    return done(store.failed(at.frame), "failed"); // [2]
+                    return Ok(store.failed(at.frame)?); // [2]
                 }
                 *failed += u32::from(!is_full(&error));
                 if *failed < TRIES {
-                    return done(store.turn(), "turn");
+                    return Ok(store.turn()?);
                 }
-                store.cut(0);
+                let _ = store.cut(false);
                 Err(io::Error::other("the log can't be cut, so nothing more is answered"))
             }
         }
     }
 
     /// What came of the next segment, or of the first with the head of this start.
-    fn segment_made(&mut self, did: io::Result<()>) {
-        info::say_segment(self.at.made + 1, self.at.lacks_room, &did);
+    fn segment_made(&mut self, did: io::Result<u64>) {
+        self.say_segment(self.at.made + 1, &did);
         (self.at.is_making, self.at.lacks_room) = (false, did.is_err());
-        if did.is_err() {
-            return;
-        }
+        let Ok(zeros) = did else { return };
         self.at.made += 1;
-        self.zeros.next = Some(self.zeros.first());
+        self.zeros.next = Some(zeros);
         if let Some((at, head)) = self.opening.take() {
             self.zeros.turn();
             self.zeros.end = head.len() as u64; // [5]
@@ -282,7 +289,7 @@ impl DiskLog {
 
     /// What came of zeros that were to be made.
     fn grown(&mut self, growth: Growth, did: io::Result<()>) {
-        info::say_segment(growth.segment, self.at.lacks_room, &did);
+        self.say_segment(growth.segment, &did);
         (self.is_growing, self.at.lacks_room) = (false, did.is_err());
         if did.is_ok() {
             self.zeros.has_grown(self.at.written, growth);
@@ -293,7 +300,7 @@ impl DiskLog {
     fn turn(&mut self, store: &mut Store) -> io::Result<()> {
         self.at.written += 1;
         self.zeros.turn();
-        done(store.turn(), "turn")
+        Ok(store.turn()?)
     }
 
     /// Has the next segment made, and zeros where frames are to be. Where that failed before it waits a second first.
@@ -304,7 +311,7 @@ impl DiskLog {
         }
         if self.at.made <= self.at.written && self.zeros.next.is_none() {
             self.at.is_making = true;
-            return self.disk.make_segment(self.at.made + 1, self.zeros.first(), self.opening, wait);
+            return self.disk.make_segment(self.at.made + 1, &self.zeros, self.opening, wait);
         }
         if let Some(growth) = self.zeros.growth(self.at.written) {
             self.is_growing = true;
@@ -318,8 +325,12 @@ impl DiskLog {
     }
 }
 
-impl Log for DiskLog {
-    fn hear(&mut self, store: &mut Store) -> io::Result<()> {
+impl DiskLog {
+    /// Tells the store what came of frames since. An error ends the log, and nothing more is to be answered.
+    ///
+    /// # Errors
+    /// Where what failed can't be cut off.
+    pub fn hear(&mut self, store: &mut Store) -> io::Result<()> {
         while let Some(word) = self.disk.next_word() {
             match word {
                 Word::Written(job, did) => self.written(store, job, did)?,
@@ -331,7 +342,10 @@ impl Log for DiskLog {
     }
 
     /// Gives idle threads the next frames, or the head of the cut that is due.
-    fn send(&mut self, store: &mut Store) -> io::Result<()> {
+    ///
+    /// # Errors
+    /// Where the store refuses what it may not.
+    pub fn send(&mut self, store: &mut Store) -> io::Result<()> {
         while self.opening.is_none() && (self.cutting.is_none() || self.under_way.is_empty()) {
             let may_turn = self.at.written < self.at.made;
             let may_write = self.cutting.is_some() || self.zeros.takes(store.counts().next_frame as u64); // [3]
@@ -358,7 +372,8 @@ impl Log for DiskLog {
         Ok(())
     }
 
-    fn room(&mut self, store: &mut Store, bytes: usize, takes_away: bool) -> Room {
+    /// Whether there is room for a request of so many bytes that writes, or that only takes away; where that lacks, it is refused by name.
+    pub fn room(&mut self, store: &mut Store, bytes: usize, takes_away: bool) -> Room {
         let kept_back = if takes_away { 0 } else { self.zeros.kept_back() };
         let has = self.cutting.is_none() && self.zeros.takes_too(store.counts().next_frame, bytes, kept_back);
         match (has && self.opening.is_none(), self.at.lacks_room) {
@@ -368,12 +383,18 @@ impl Log for DiskLog {
         }
     }
 
-    fn has_room(&self) -> bool {
+    /// Whether there is room for writes.
+    #[must_use]
+    pub fn has_room(&self) -> bool {
         !self.at.lacks_room
     }
 
-    /// Where nothing was written but the head of this start, its segment goes, and the one that was made ahead.
-    fn let_go(&mut self) -> io::Result<()> {
+    /// The store is to stop, and nothing is under way: where nothing was written but the head of this start, its segment goes, and the one
+    /// that was made ahead.
+    ///
+    /// # Errors
+    /// Those of the disk.
+    pub fn let_go(&mut self) -> io::Result<()> {
         while self.at.is_making || self.is_growing {
             match self.disk.last_word(STOPS) {
                 Some(Word::Segment(did)) => self.segment_made(did),
@@ -390,19 +411,30 @@ impl Log for DiskLog {
             false => (self.first, self.firsts.first_key_value().map_or(self.synced.known, |(_, first)| first - 1)),
         };
         self.synced.marker.sync(|mark| (mark.is_stopped, mark.known) = (true, known))?;
+        if !is_used && self.zeros.here == self.zeros.kept_back() {
+            self.disk.folder().spare_again(self.first, ROOM_BEFORE + HEAD)?;
+        }
         self.disk.folder().remove_unused(unused..=self.at.made) // [9]
     }
 
-    fn counts(&self) -> &LogCounts {
+    /// What it counted.
+    #[must_use]
+    pub fn counts(&self) -> &LogCounts {
         &self.counts
     }
 
-    fn segments(&self) -> Option<Segments> {
+    /// Its segments.
+    #[must_use]
+    pub fn segments(&self) -> Segments {
         let last_bytes = self.zeros.here + self.zeros.next.unwrap_or(0);
-        Some(Segments { closed: self.closed(), last_bytes, ..self.at })
+        Segments { closed: self.closed(), last_bytes, ..self.at }
     }
 
-    fn close(&mut self, store: &mut Store, up_to: u64) -> io::Result<Option<Closed>> {
+    /// Lets a snapshot stand for all segments up to one, unless that can't be yet.
+    ///
+    /// # Errors
+    /// [`Refusal::NoNumber`](super::Refusal::NoNumber).
+    pub fn close(&mut self, store: &mut Store, up_to: u64) -> io::Result<Option<Closed>> {
         if self.cutting.is_some() || Arc::strong_count(&self.only) > 1 {
             return Ok(None);
         }

@@ -1,17 +1,30 @@
 //! What a store has in its folder: `store`, which says whose it is; `log-N`, segments of zeros with frames over them, each behind its
 //! envelope; and `snapshot-N-F`, which stands for all segments up to N, so that the log goes on behind it with frame F.
 use super::disk;
+use super::reading::is_zeros;
 use super::room::Growth;
-use crate::info::named;
 use std::fs::{self, File, OpenOptions};
 use std::io::{self, Read, Seek, SeekFrom, Write};
 use std::ops::RangeInclusive;
+use std::os::unix::fs::FileExt;
 use std::path::{Path, PathBuf};
 use std::time::{Duration, Instant};
 use std::{process, thread};
 
 const PIECE: usize = 1 << 20;
+/// Zeros that a start on a full disk writes over.
+const SPARE: &str = "spare";
 
+/// What came of a file, an error with its name.
+///
+/// # Errors
+/// The error.
+pub fn named<T>(path: &Path, did: io::Result<T>) -> io::Result<T> {
+    did.map_err(|error| io::Error::new(error.kind(), format!("{}: {error}", path.display())))
+}
+
+/// A folder, by its path.
+#[derive(Debug)]
 pub struct Folder(pub PathBuf);
 
 /// Keeps others out of a folder while it is open: by the folder itself, and by a file that says who this is.
@@ -104,11 +117,11 @@ impl Folder {
     }
 
     /// Makes a file, under its name once it is on the disk, in the place of one of this name; and has that on the disk too.
-    pub fn place<T>(&self, path: &Path, fill: impl FnOnce(&mut File) -> io::Result<T>) -> io::Result<T> {
+    pub fn place<T>(&self, path: &Path, writes: impl FnOnce(&mut File) -> io::Result<T>) -> io::Result<T> {
         let new = self.0.join(format!("new-0-{}", path.file_name().unwrap_or_default().display()));
         let make = || {
             let mut file = disk::opened(|| File::create(&new))?;
-            let did = fill(&mut file)?;
+            let did = writes(&mut file)?;
             file.sync_all()?;
             fs::rename(&new, path)?;
             disk::opened(|| File::open(&self.0))?.sync_all()?;
@@ -119,6 +132,38 @@ impl Folder {
 
     /// Makes a segment of zeros, in the place of one that is unused.
     pub(super) fn make_segment(&self, segment: u64, bytes: u64) -> io::Result<()> {
+        self.place_zeros(&self.segment(segment), bytes)
+    }
+
+    /// Makes the file of zeros that is the segment of a start on a full disk, unless it is there.
+    pub(super) fn keep_spare(&self, bytes: u64) -> io::Result<()> {
+        let path = self.0.join(SPARE);
+        if fs::metadata(&path).is_ok_and(|it| it.len() == bytes) {
+            return Ok(());
+        }
+        self.place_zeros(&path, bytes)
+    }
+
+    /// Has that file be a segment, where there is no room for another: how long it is.
+    pub(super) fn use_spare(&self, segment: u64) -> io::Result<u64> {
+        let path = self.0.join(SPARE);
+        let bytes = named(&path, fs::read(&path))?;
+        if !is_zeros(&bytes) {
+            return named(&path, Err(io::ErrorKind::InvalidData.into()));
+        }
+        named(&path, fs::rename(&path, self.segment(segment)).and_then(|()| File::open(&self.0)?.sync_all()))?; // [3]
+        Ok(bytes.len() as u64)
+    }
+
+    /// Has a segment in which nothing but so many bytes of the head of a start stand be that file again.
+    pub(super) fn spare_again(&self, segment: u64, head: usize) -> io::Result<()> {
+        let path = self.segment(segment);
+        let file = named(&path, OpenOptions::new().write(true).open(&path))?;
+        named(&path, file.write_all_at(&vec![0; head], 0).and_then(|()| file.sync_all()))?;
+        named(&path, fs::rename(&path, self.0.join(SPARE)))
+    }
+
+    fn place_zeros(&self, path: &Path, bytes: u64) -> io::Result<()> {
         let room = vec![0; PIECE];
         // Each piece is synced, so that a frame that is written meanwhile waits for one of them at most.
         let zeros = |file: &mut File| {
@@ -128,7 +173,7 @@ impl Folder {
             }
             Ok(())
         };
-        self.place(&self.segment(segment), zeros) // [3]
+        self.place(path, zeros) // [3]
     }
 
     /// The segments that the newest snapshot stands for, the next frame, and its file, where there is one.

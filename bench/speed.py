@@ -443,7 +443,8 @@ def aims(meter):
     """What a step and a guess with its decision cost, and the most instructions that each should take."""
     kind = {name: (before, body) for name, before, body in kinds()}
     step = lambda name, own=0: lambda: meter.each(lambda n: steps(*kind[name], n, own > 0, 1, own or OPEN), 600, 1200, 1)
-    guess = lambda decision, held, amount=0: lambda: meter.each(lambda n: held_rounds(n, decision, held, amount), 100, 200, 2 + (decision == "commit"))
+    # Of 120 and 240 rounds, since at 200 the text of a play has just outgrown a room that a plain run's still fits in.
+    guess = lambda decision, held, amount=0: lambda: meter.each(lambda n: held_rounds(n, decision, held, amount), 120, 240, 2 + (decision == "commit"))
     return [
         ("a private step", step("private"), 260),
         ("a `say`", step("say"), 1_250),

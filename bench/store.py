@@ -1,12 +1,12 @@
 #!/usr/bin/env python3
-"""What a command of the store costs, in instructions of a proved program, by valgrind.
+"""What a command of the store costs, in instructions, by valgrind.
 
-    bench/store.py PROGRAM [functions]
+    bench/store.py LIBRARY [functions]
 
-PROGRAM is `crates/store_runs/out/store_runs`, of which is counted a store with one client and a disk that is always well, with 100,000 keys of 16
-bytes that have values of 100. A SET is counted from its bytes to its reply, with its share of the frame, the decision and the output of
+LIBRARY is `build/libhidewillow_c.a`, with which `bench/store_commands.c` is linked: one client and a disk that is always well, with 100,000 keys of
+16 bytes that have values of 100. A SET is counted from its bytes to its reply, with its share of the frame, the decision and the output of
 a batch of 100; a GET is of a key that is on the disk. What a row says is the difference of two runs; beside it stands its limit, and
-OVER where it is passed. The commit of a batch is what `Client::decide` takes, and recovery what `client::recover` takes. The status is 1
+OVER where it is passed. The commit of a batch is what `decide_all` takes, and recovery what `recover` takes. The status is 1
 where a limit is passed.
 
 With `functions` it tells instead in which functions the instructions of a SET and of a GET are, those that they call left out.
@@ -20,10 +20,19 @@ import tempfile
 sys.dont_write_bytecode = True
 from own import Rows, counted, peak
 
+TOP = pathlib.Path(__file__).resolve().parent.parent
 KEYS, BATCH = 100_000, 100
 FEW, MANY = 1_000, 3_000
 SHOWN = 25
 SELF = re.compile(r"^\s*([\d,]+) \([^)]*\)\s+\S*?:(.+?)(?: \[[^]]*\])?$", re.M)
+
+
+def linked(library, folder):
+    """The program, with the library."""
+    program = os.path.join(folder, "store_commands")
+    words = ["-std=c11", "-O2", "-I", TOP / "c", TOP / "bench" / "store_commands.c", library, "-o", program]
+    subprocess.run([os.environ.get("CC", "cc"), *map(str, words)], check=True)
+    return program
 
 
 def difference(words, inside=None):
@@ -34,7 +43,7 @@ def difference(words, inside=None):
 
 def commit(program, others):
     """What the commit of a batch of 3,000 takes beside so many other keys, the commits of those that were set first left out."""
-    none, one = (counted([program, "set", count, MANY, MANY + others, MANY], inside="*Client::decide*") for count in (0, MANY))
+    none, one = (counted([program, "set", count, MANY, MANY + others, MANY], inside="decide_all") for count in (0, MANY))
     return one - none
 
 
@@ -74,7 +83,7 @@ def main(program):
     rows.row(difference(lambda count: [program, "set", count, KEYS, KEYS, BATCH]), 5_000, "a SET to its reply, in batches of 100")
     rows.row(difference(lambda count: [program, "get", count, KEYS, KEYS, BATCH]), 2_000, "a GET of a key that is on the disk")
     rows.row(growth(program), 1.02, "memory after 1,000,000 SETs of the same keys / before")
-    recovered = difference(lambda count: [program, "recover", count, MANY, 0, BATCH], inside="*client::recover*")
+    recovered = difference(lambda count: [program, "recover", count, MANY, 0, BATCH], inside="recover")
     rows.row(recovered, 1_500, "recovery, a logged command")
     rows.row(commit(program, KEYS) / commit(program, MANY), 1.1, "a commit of a batch of 3,000 beside 100,000 other keys / beside 3,000")
     return 1 if rows.over else 0
@@ -83,5 +92,6 @@ def main(program):
 if __name__ == "__main__":
     if not 2 <= len(sys.argv) <= 3 or sys.argv[2:] not in ([], ["functions"]):
         sys.exit(__doc__)
-    PROGRAM = pathlib.Path(sys.argv[1]).resolve()
-    sys.exit(functions(PROGRAM) if sys.argv[2:] else main(PROGRAM))
+    with tempfile.TemporaryDirectory() as FOLDER:
+        PROGRAM = linked(pathlib.Path(sys.argv[1]).resolve(), FOLDER)
+        sys.exit(functions(PROGRAM) if sys.argv[2:] else main(PROGRAM))

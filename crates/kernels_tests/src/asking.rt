@@ -30,17 +30,6 @@ pub fn ask_of(wish: ServerWish<'_>) -> Result<Ask, Wrong> {
     }
 }
 
-/// What was asked, as plain data.
-pub fn wish_of(ask: &Ask) -> ServerWish<'_> {
-    match ask {
-        Ask::Get(name) => ServerWish::Get(name.as_slice()),
-        Ask::Check(name, version) => ServerWish::Check(name.as_slice(), *version),
-        Ask::Store(name, version, text) => {
-            ServerWish::Store(name.as_slice(), *version, text.as_slice())
-        }
-    }
-}
-
 /// The answer itself.
 pub fn answer_of(told: ToldAnswer<'_>) -> Result<Answer, Wrong> {
     match told {

@@ -1,9 +1,7 @@
-//! The tests of records, kernels, servers and a client's desks over their public calls; and whatever can grow in them is grown past
-//! 70,000.
+//! The tests of records, kernels, servers and a client's desks over those public calls that no door shows; and whatever can grow in
+//! them is grown past 70,000.
 #![tactic(auto)]
 
-#[cfg(test)]
-mod ample_desk;
 #[cfg(test)]
 mod ample_server;
 #[cfg(test)]
@@ -11,13 +9,9 @@ mod asking;
 #[cfg(test)]
 mod dependents;
 #[cfg(test)]
-mod desk;
-#[cfg(test)]
-mod desk_epochs;
-#[cfg(test)]
 mod desk_leases;
 #[cfg(test)]
-mod desk_plays;
+mod desk_shuts;
 #[cfg(test)]
 mod epochs;
 #[cfg(test)]

@@ -29,8 +29,6 @@ pub struct Start<'a> {
     pub scripts: &'a [Lines<'a>],
     pub copies: &'a [Version<'a>],
     pub objects: &'a [Made<'a>],
-    /// The server's file.
-    pub file: Option<Version<'a>>,
     /// The most events that there may be.
     pub limit: u32,
 }
@@ -41,7 +39,6 @@ pub const BARE: Start<'static> = Start {
     scripts: &[],
     copies: &[],
     objects: &[],
-    file: None,
     limit: 100,
 };
 
@@ -147,7 +144,7 @@ pub fn kernel_of(alloc: Global, start: &Start<'_>) -> Result<Kernel, Wrong>
 }
 
 /// Sets a file before the first request.
-pub fn seed(server: &mut Server, file: Version<'_>) -> Result<(), Wrong>
+fn seed(server: &mut Server, file: Version<'_>) -> Result<(), Wrong>
     requires { server.old.next ≡ 1 }
     ensures { OnOk result (server.new.next ≡ 1) }
 {
@@ -166,15 +163,5 @@ pub fn server_with(alloc: Global, file: Version<'_>) -> Result<Server, Wrong>
             drop(server);
             Err(wrong)
         }
-    }
-}
-
-/// The server.
-pub fn server_of(alloc: Global, start: &Start<'_>) -> Result<Server, Wrong>
-    ensures { IfOk result (λ server. server.next ≡ 1) }
-{
-    match start.file {
-        Some(file) => server_with(alloc, file),
-        None => Ok(Server::new(alloc)),
     }
 }

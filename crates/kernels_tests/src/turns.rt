@@ -2,9 +2,9 @@
 //! A table has plain numbers and bytes, so that a test is short to prove.
 use crate::asking::{Ground, LOOSE, ServerWish, ToldAnswer, answer_of, ask_of, asked, request};
 use crate::start::{comes, server_with};
-use sk_server::{Ask, EditRefusal, Request, Server, ServerRefusal};
+use sk_server::{Ask, Request, Server, ServerRefusal};
 use std::alloc::Global;
-use tests_support::plain::{content, name, text};
+use tests_support::plain::{content, name};
 use tests_support::wrong::Wrong;
 
 /// A turn with a server, and what comes of it.
@@ -14,12 +14,8 @@ pub enum ServerTurn<'a> {
     Asks(ServerWish<'a>, Ground<'a>, ToldAnswer<'a>),
     /// A request of this number, which is handed back since the other number is next.
     Early(u64, u64),
-    /// Another client's edit of a file, as for a store: the version that comes, or the refusal.
-    Edits(&'a [u8], u64, &'a [u8], Result<u64, EditRefusal>),
     /// The version and bytes of a file.
     Holds(&'a [u8], u64, &'a [u8]),
-    /// A file that was never stored.
-    Lacks(&'a [u8]),
     /// The number of the next request.
     Next(u64),
 }
@@ -52,27 +48,10 @@ fn is_early(alloc: Global, server: &mut Server, number: u64, expected: u64) -> R
     Ok(is_back(server, early, number, expected))
 }
 
-/// Whether an edit comes to this.
-pub fn edits(
-    server: &mut Server,
-    at: &[u8],
-    expected: u64,
-    bytes: &[u8],
-    want: Result<u64, EditRefusal>,
-) -> Result<bool, Wrong> {
-    let edited = server.edit(name(at)?, expected, text(bytes)?);
-    Ok(edited == want)
-}
-
 /// Whether a file has this version and these bytes.
-pub fn has_file(server: &Server, at: &[u8], version: u64, bytes: &[u8]) -> Result<bool, Wrong> {
+fn has_file(server: &Server, at: &[u8], version: u64, bytes: &[u8]) -> Result<bool, Wrong> {
     let want = content(version, bytes)?;
     Ok(server.file(&name(at)?) == Some(&want))
-}
-
-/// Whether a file was never stored.
-fn lacks(server: &Server, at: &[u8]) -> Result<bool, Wrong> {
-    Ok(server.file(&name(at)?).is_none())
 }
 
 /// Takes a turn: whether it comes to what is wanted.
@@ -80,9 +59,7 @@ fn takes(alloc: Global, server: &mut Server, turn: ServerTurn<'_>) -> Result<boo
     match turn {
         ServerTurn::Asks(wish, ground, told) => asks(alloc, server, wish, ground, told),
         ServerTurn::Early(number, expected) => is_early(alloc, server, number, expected),
-        ServerTurn::Edits(at, expected, bytes, want) => edits(server, at, expected, bytes, want),
         ServerTurn::Holds(at, version, bytes) => has_file(server, at, version, bytes),
-        ServerTurn::Lacks(at) => lacks(server, at),
         ServerTurn::Next(number) => Ok(server.next() == number),
     }
 }

@@ -6,6 +6,7 @@ use Rattle.sk_command.specs.declared.end.End.TheVariants as ends
 -- nothing is left of what was written out
 pub written_is_flushed : (end : End) (buffer : List ℕ) → IsWritten end buffer → IsFlushed end buffer
 written_is_flushed ends.Done buffer h = h
+written_is_flushed ends.Refused buffer h = absurd h
 written_is_flushed s buffer h = tt
 
 -- help that is written out

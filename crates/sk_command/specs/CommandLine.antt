@@ -39,7 +39,9 @@ abbrev pub file_command : Text → App
 file_command name = with_rule (new_app name) file_rule
 
 abbrev pub play_command : App
-play_command = with_rule (with_rule (with_rule (file_command (codes "play")) (flag_rule (codes "trace"))) (flag_rule (codes "steps"))) (flag_rule (codes "counts"))
+play_command =
+    with_rule (with_rule (with_rule (with_rule (with_rule (file_command (codes "play")) (flag_rule (codes "trace"))) (flag_rule (codes "steps")))
+    (flag_rule (codes "counts"))) (flag_rule (codes "explain"))) (flag_rule (codes "strict"))
 
 abbrev pub work_command : App
 work_command = with_rule (with_rule (file_command (codes "work")) workers_rule) turns_rule
@@ -79,7 +81,13 @@ has_flag flag rows = option_map_or (λ value. bytes_eq value (codes "true")) (fi
 
 -- what a command was found to want beside the answers and the report
 abbrev pub shows_found : List Row → Shows
-shows_found rows = record { steps = has_flag (codes "steps") rows; counts = has_flag (codes "counts") rows; trace = has_flag (codes "trace") rows }
+shows_found rows = record {
+  steps = has_flag (codes "steps") rows;
+  explains = has_flag (codes "explain") rows;
+  counts = has_flag (codes "counts") rows;
+  trace = has_flag (codes "trace") rows;
+  is_strict = has_flag (codes "strict") rows;
+}
 
 -- the number that a text says, from 1 to a limit
 abbrev pub number_said : ℕ → Text → Option ℕ

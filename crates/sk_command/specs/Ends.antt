@@ -1,5 +1,5 @@
 -- How a run ends, and what its output holds then.
-use Rattle.std.specs.Prelude.{◌≡◌, ℕ, List, [], ⊤, Option, None, IfSome}
+use Rattle.std.specs.Prelude.{◌≡◌, ℕ, Bool, true, List, [], ⊤, Option, None, IfSome}
 use Rattle.std.specs.Io.KnownBytes.{Appends, Keeps}
 use Rattle.clap.specs.declared.error.kind.ErrorKind.{ErrorKind}
 use Rattle.sk_words.specs.declared.fault.FaultKind.{FaultKind}
@@ -12,11 +12,17 @@ status_of End.Fault = 1
 status_of End.Usage = 2
 status_of End.Trouble = 3
 status_of End.OutputRefused = 3
+status_of End.Refused = 4
 
 -- how a run ends that finds a fault in its file
 abbrev pub fault_end : FaultKind → End
 fault_end FaultKind.Memory = End.Trouble
 fault_end _ = End.Fault
+
+-- how a run ends well that is to tell whether an event was refused
+abbrev pub with_refusal : Bool → End → End
+with_refusal true End.Done = End.Refused
+with_refusal is_refused end = end
 
 -- all is written and nothing is left in the buffer, or the output refused a write
 abbrev pub IsWritten : End → List ℕ → Type 0
@@ -24,9 +30,10 @@ IsWritten End.Done buffer = buffer ≡ []
 IsWritten End.OutputRefused buffer = ⊤
 IsWritten _ buffer = ⊥
 
--- a run that ends well leaves nothing in the buffer
+-- a run that ends well, be it with an event refused, leaves nothing in the buffer
 abbrev pub IsFlushed : End → List ℕ → Type 0
 IsFlushed End.Done buffer = buffer ≡ []
+IsFlushed End.Refused buffer = buffer ≡ []
 IsFlushed _ buffer = ⊤
 
 -- ends so, and the output is as it was

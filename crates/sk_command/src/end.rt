@@ -2,7 +2,7 @@
 ghost use Rattle.std.specs.Prelude.{◌≡◌};
 ghost use Rattle.std.specs.Io.KnownBytes.{Keeps};
 ghost use Rattle.std.specs.Io.Buffered.{writer_buffer, writer_contents};
-ghost use Rattle.sk_command.specs.Ends.{status_of, fault_end, IsWritten};
+ghost use Rattle.sk_command.specs.Ends.{status_of, fault_end, with_refusal, IsWritten};
 
 use crate::message::{Message, write_message};
 use crate::read_all::ReadFault;
@@ -22,6 +22,8 @@ pub enum End {
     Trouble,
     /// The output refused a write; nothing more is written to it.
     OutputRefused,
+    /// All is done, but an event was refused, in a run that is to tell so.
+    Refused,
 }
 
 impl End {
@@ -34,6 +36,17 @@ impl End {
             End::Fault => 1,
             End::Usage => 2,
             End::Trouble | End::OutputRefused => 3,
+            End::Refused => 4,
+        }
+    }
+
+    /// The same end, but where all is done and this refusal is to be told.
+    pub fn with_refusal(self, is_refused: bool) -> End
+        ensures { result ≡ with_refusal is_refused self }
+    {
+        match self {
+            End::Done if is_refused => End::Refused,
+            end => end,
         }
     }
 }

@@ -13,8 +13,8 @@ ghost use Rattle.sk_command.specs.Ends.{EndsFor, EndsWithHelp, IsFlushed};
 
 use crate::end::{End, flushed};
 use crate::help::{
-    COMMAND_LINE, COUNTS_FLAG, FORMS, INSTRUCTIONS, PLAIN, PLAY, REPLAY, STEPS_FLAG, TALK,
-    TRACE_FLAG, WORK,
+    COMMAND_LINE, COUNTS_FLAG, EXPLAIN_FLAG, FORMS, INSTRUCTIONS, PLAIN, PLAY, PLAY_FORMS, REPLAY,
+    STEPS_FLAG, STRICT_FLAG, TALK, TALK_FORMS, TRACE_FLAG, TRACE_FORMS, WORK, WORK_FORMS,
 };
 use clap::builder::ValueParser;
 use clap::error::ErrorKind;
@@ -29,10 +29,14 @@ use std::io::{BufWriter, Write};
 pub struct Shows {
     /// What each step reads, writes and rests on, below its answer.
     pub steps: bool,
+    /// The line of each event, and the place of its process, below these.
+    pub explains: bool,
     /// The counts, behind the report.
     pub counts: bool,
     /// The trace, behind these.
     pub trace: bool,
+    /// Whether an event was refused, by the status.
+    pub is_strict: bool,
 }
 
 /// What is done with an input.
@@ -112,14 +116,19 @@ fn turns_arg<'a>(alloc: Global) -> Arg<'a>
         .help("The greatest number of turns of each worker, 1 to 1000000")
 }
 
-/// A command of this name that takes a file.
-fn of_file<'a>(alloc: Global, name: &'a str, about: &'a str) -> Result<Command<'a>, AllocError>
+/// A command of this name that takes a file, with the forms of what it reads.
+fn of_file<'a>(
+    alloc: Global,
+    name: &'a str,
+    about: &'a str,
+    forms: &'a str,
+) -> Result<Command<'a>, AllocError>
     ensures app { IfOk result (λ command. app_of command ≡ file_command name.entry.now) }
     ensures local { IfOk result (λ command. (fields_of command).has_globals ≡ false) }
 {
     Command::new(alloc, name)
         .about(about)
-        .after_help(FORMS)
+        .after_help(forms)
         .arg(file_arg(alloc))
 }
 
@@ -127,17 +136,19 @@ fn play<'a>(alloc: Global) -> Result<Command<'a>, AllocError>
     ensures app { IfOk result (λ command. app_of command ≡ play_command) }
     ensures local { IfOk result (λ command. (fields_of command).has_globals ≡ false) }
 {
-    of_file(alloc, "play", PLAY)?
+    of_file(alloc, "play", PLAY, PLAY_FORMS)?
         .arg(flag(alloc, "trace", TRACE_FLAG))?
         .arg(flag(alloc, "steps", STEPS_FLAG))?
-        .arg(flag(alloc, "counts", COUNTS_FLAG))
+        .arg(flag(alloc, "counts", COUNTS_FLAG))?
+        .arg(flag(alloc, "explain", EXPLAIN_FLAG))?
+        .arg(flag(alloc, "strict", STRICT_FLAG))
 }
 
 fn work<'a>(alloc: Global) -> Result<Command<'a>, AllocError>
     ensures app { IfOk result (λ command. app_of command ≡ work_command) }
     ensures local { IfOk result (λ command. (fields_of command).has_globals ≡ false) }
 {
-    of_file(alloc, "work", WORK)?
+    of_file(alloc, "work", WORK, WORK_FORMS)?
         .arg(workers_arg(alloc))?
         .arg(turns_arg(alloc))
 }
@@ -170,7 +181,7 @@ fn with_players<'a>(alloc: Global) -> Result<Command<'a>, AllocError>
 {
     without_commands(alloc)
         .subcommand(play(alloc)?)?
-        .subcommand(of_file(alloc, "talk", TALK)?)
+        .subcommand(of_file(alloc, "talk", TALK, TALK_FORMS)?)
 }
 
 /// The same with those that take a trace.
@@ -178,8 +189,8 @@ fn with_readers<'a>(alloc: Global) -> Result<Command<'a>, AllocError>
     ensures { IfOk result (λ command. app_of command ≡ with_readers) }
 {
     with_players(alloc)?
-        .subcommand(of_file(alloc, "plain", PLAIN)?)?
-        .subcommand(of_file(alloc, "replay", REPLAY)?)
+        .subcommand(of_file(alloc, "plain", PLAIN, TRACE_FORMS)?)?
+        .subcommand(of_file(alloc, "replay", REPLAY, TRACE_FORMS)?)
 }
 
 /// The command line with all its commands.
@@ -207,8 +218,10 @@ fn shows_of(words: &ArgMatches) -> Shows
 {
     Shows {
         steps: has_flag(words, "steps"),
+        explains: has_flag(words, "explain"),
         counts: has_flag(words, "counts"),
         trace: has_flag(words, "trace"),
+        is_strict: has_flag(words, "strict"),
     }
 }
 

@@ -1,26 +1,46 @@
 -- What was done, once the buffer is written out.
 use Rattle.sk_run.proofs.Names.{◌≡◌, inl, inr, ℕ, List, length, Option, Result, Ok, Err, refl, sym, subst, OnOk}
 use Rattle.sk_run.proofs.Names.{Appends, Appends-kept, Keeps-refl, KernelView, start_of, PlainView, FaultIn, TraceFault}
-use Rattle.sk_run.proofs.Names.{BootView, Event, plain_report_text, report_text, Stop, End, Shows, IsFlushed, Reported}
-use Rattle.sk_run.proofs.Names.{Replays, replayed, Lists, happened, left_by, trace_fault_end, HasRun, HasSoundTrace}
-use Rattle.sk_run.proofs.Names.{EndsReplayed, IsPlayed, EndsReport, EndsPlain, EndsPlay, HasAnswered}
+use Rattle.sk_run.proofs.Names.{BootView, Event, plain_report_text, report_text, Stop, End, Shows, IsFlushed}
+use Rattle.sk_run.proofs.Names.{Replays, replayed, happened, left_by, trace_fault_end, HasRun, HasSoundTrace}
+use Rattle.sk_run.proofs.Names.{EndsReplayed, IsPlayedWith, Plays, EndsReport, EndsPlain, EndsPlay, HasAnswered, Bool, true, false}
+use Rattle.sk_run.proofs.Names.{Keeps, Shown, beside_answers, with_refusal, IsWritten}
 use Rattle.sk_plain.specs.declared.replay.TraceFault.TheVariants as faults
 use Rattle.sk_report.specs.declared.stop.Stop.TheVariants as stops
 use Rattle.sk_command.specs.declared.end.End.TheVariants as ends
 use Rattle.sk_run.proofs.InTurn.{answered_kept, reported_kept}
 
--- items that were played
-pub play_out : {S I : Type 0} (kernel_of : S → KernelView) (Takes : ℕ → I → S → S → List ℕ → Type 0) (report : S → List ℕ) (shows : Shows) (items : List I) (s : S) (written : Result (Unit {0}) Stop) (end : End) (buffer : List ℕ)
-    (old mid new : Option (List ℕ)) → OnOk written (Reported (Lists kernel_of Takes shows.steps) (IsPlayed kernel_of report shows) items s old mid)
-    → (written ≡ Err stops.Memory → HasAnswered (Lists kernel_of Takes shows.steps) items s old mid) → EndsReport written end buffer mid new → EndsPlay kernel_of Takes report shows items s end old new
-play_out kernel_of Takes report shows items s (Ok u) ends.Done buffer old mid new played memory ended =
-    reported_kept (Lists kernel_of Takes shows.steps) (IsPlayed kernel_of report shows) items s old mid new played ended.1
-play_out kernel_of Takes report shows items s (Ok u) ends.Trouble buffer old mid new played memory ended = absurd ended.0
-play_out kernel_of Takes report shows items s (Ok u) ends.OutputRefused buffer old mid new played memory ended = tt
-play_out kernel_of Takes report shows items s (Ok u) other buffer old mid new played memory ended = ended.0
-play_out kernel_of Takes report shows items s (Err stops.Memory) end buffer old mid new played memory ended =
-    subst (λ x. EndsPlay kernel_of Takes report shows items s x old new) (sym ended.0) (answered_kept (Lists kernel_of Takes shows.steps) items s old mid new (memory refl) ended.1)
-play_out kernel_of Takes report shows items s (Err stops.Output) end buffer old mid new played memory ended = subst (λ x. EndsPlay kernel_of Takes report shows items s x old new) (sym ended) tt
+module _ {S I : Type 0} (kernel_of : S → KernelView) (process_of : I → Option ℕ) (Takes : ℕ → I → S → S → List ℕ → Type 0) (has_refusal : S → Bool) (report : S → List ℕ)
+    (shows : Shows) (file : List (List ℕ)) (items : List I) (s : S) where
+  -- items that were played
+  pub play_done : (is_refused : Bool) (end : End) (buffer : List ℕ) (old mid new : Option (List ℕ)) → Plays kernel_of process_of Takes has_refusal report shows file is_refused items s old mid
+      → IsWritten end buffer → Keeps mid new → EndsPlay kernel_of process_of Takes has_refusal report shows file items s (with_refusal is_refused end) old new
+  play_done true ends.Done buffer old mid new played written kept =
+      reported_kept (Shown kernel_of process_of Takes (beside_answers shows file)) (IsPlayedWith kernel_of has_refusal report shows true) items s old mid new played kept
+  play_done false ends.Done buffer old mid new played written kept =
+      reported_kept (Shown kernel_of process_of Takes (beside_answers shows file)) (IsPlayedWith kernel_of has_refusal report shows false) items s old mid new played kept
+  play_done true ends.OutputRefused buffer old mid new played written kept = tt
+  play_done false ends.OutputRefused buffer old mid new played written kept = tt
+  play_done true other buffer old mid new played written kept = absurd written
+  play_done false other buffer old mid new played written kept = absurd written
+
+  -- items of which the first were
+  pub play_stopped : (stop : Stop) (end : End) (buffer : List ℕ) (old mid new : Option (List ℕ))
+      → (stop ≡ stops.Memory → HasAnswered (Shown kernel_of process_of Takes (beside_answers shows file)) items s old mid)
+      → EndsReport (Err stop) end buffer mid new → EndsPlay kernel_of process_of Takes has_refusal report shows file items s end old new
+  play_stopped stops.Memory end buffer old mid new memory ended =
+      subst (λ x. EndsPlay kernel_of process_of Takes has_refusal report shows file items s x old new) (sym ended.0)
+      (answered_kept (Shown kernel_of process_of Takes (beside_answers shows file)) items s old mid new (memory refl) ended.1)
+  play_stopped stops.Output end buffer old mid new memory ended = subst (λ x. EndsPlay kernel_of process_of Takes has_refusal report shows file items s x old new) (sym ended) tt
+
+-- nothing is left of what was written out, be a refusal told or not
+pub done_flushed : (is_refused : Bool) (end : End) (buffer : List ℕ) → IsWritten end buffer → IsFlushed (with_refusal is_refused end) buffer
+done_flushed true ends.Done buffer h = h
+done_flushed true ends.Refused buffer h = absurd h
+done_flushed true other buffer h = tt
+done_flushed false ends.Done buffer h = h
+done_flushed false ends.Refused buffer h = absurd h
+done_flushed false other buffer h = tt
 
 -- a trace of which all that it leaves was run
 pub plain_out : (boot : BootView) (es : List Event) (k : PlainView) (steps : ℕ) (written : Result (Unit {0}) Stop) (end : End) (buffer : List ℕ) (old mid new : Option (List ℕ))
@@ -36,6 +56,7 @@ plain_out boot es k steps (Ok u) ends.Fault buffer old mid new sound run counted
 plain_out boot es k steps (Ok u) ends.Usage buffer old mid new sound run counted report ended = ended.0
 plain_out boot es k steps (Ok u) ends.Trouble buffer old mid new sound run counted report ended = inl sound
 plain_out boot es k steps (Ok u) ends.OutputRefused buffer old mid new sound run counted report ended = sound
+plain_out boot es k steps (Ok u) ends.Refused buffer old mid new sound run counted report ended = ended.0
 plain_out boot es k steps (Err stops.Memory) end buffer old mid new sound run counted report ended = subst (λ x. EndsPlain boot es x old new) (sym ended.0) (inl sound)
 plain_out boot es k steps (Err stops.Output) end buffer old mid new sound run counted report ended = subst (λ x. EndsPlain boot es x old new) (sym ended) sound
 
@@ -60,5 +81,6 @@ replayed_out held k es left last (Ok u) ends.Fault buffer old mid new again is r
 replayed_out held k es left last (Ok u) ends.Usage buffer old mid new again is report ended = ended.0
 replayed_out held k es left last (Ok u) ends.Trouble buffer old mid new again is report ended = inl (left, last, again)
 replayed_out held k es left last (Ok u) ends.OutputRefused buffer old mid new again is report ended = (left, last, again)
+replayed_out held k es left last (Ok u) ends.Refused buffer old mid new again is report ended = ended.0
 replayed_out held k es left last (Err stops.Memory) end buffer old mid new again is report ended = subst (λ x. EndsReplayed held k es x old new) (sym ended.0) (inl (left, last, again))
 replayed_out held k es left last (Err stops.Output) end buffer old mid new again is report ended = subst (λ x. EndsReplayed held k es x old new) (sym ended) (left, last, again)

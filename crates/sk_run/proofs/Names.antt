@@ -18,7 +18,7 @@ pub use Rattle.std.specs.Str.Lines.{lines}
 pub use Rattle.std.specs.declared.io.buffered.BufReader.{BufReader}
 pub use Rattle.sk_client.specs.Desk.{DeskView}
 pub use Rattle.sk_trace.specs.declared.world_event.WorldEvent.{WorldEvent}
-pub use Rattle.sk_command.specs.Ends.{IsWritten, IsFlushed}
+pub use Rattle.sk_command.specs.Ends.{IsWritten, IsFlushed, with_refusal}
 pub use Rattle.sk_command.specs.declared.end.End.{End}
 pub use Rattle.sk_command.specs.declared.job.Shows.{Shows}
 pub use Rattle.sk_ids.specs.declared.entity.Entity.{Entity}
@@ -51,20 +51,23 @@ pub use Rattle.sk_record.specs.Trace.{IsSound}
 pub use Rattle.sk_report.specs.Footprints.{event_lines, listed, touched_lines}
 pub use Rattle.sk_report.specs.Report.{report_text, plain_report_text}
 pub use Rattle.sk_report.specs.declared.stop.Stop.{Stop}
+pub use Rattle.sk_run.specs.Explained.{beside_answers, stand_of, Shown}
 pub use Rattle.sk_run.specs.InTurn.{Answered, HasAnswered, Lists, Prints, Reported, Tells}
 pub use Rattle.sk_run.specs.Listing.{foreseen, touched, lines_of, foreseen_lines}
 pub use Rattle.sk_run.specs.Plainly.{HasRun, happened, after_step, HasSoundTrace, left_by, all_run, AllTaken}
 pub use Rattle.sk_run.specs.Plainly.{trace_fault_end}
 pub use Rattle.sk_run.specs.Replayed.{EndsReplayed}
-pub use Rattle.sk_run.specs.Run.{EndsReport, IsCounted, WritesCounts, IsPlayed, EndsPlain}
+pub use Rattle.sk_run.specs.Run.{EndsReport, IsCounted, WritesCounts, IsPlayed, IsPlayedWith, Plays, EndsPlain}
 pub use Rattle.sk_run.specs.Run.{trace_section, IsBehind, where_wanted, EndsPlay}
-pub use Rattle.sk_run.specs.Talk.{Answers, is_end, number_behind, EndsTalk, EndsOpened, talked, begun, AnswersAs}
+pub use Rattle.sk_run.specs.Talk.{Answers, AnswersBy, is_end, is_help, number_behind, EndsTalk, EndsOpened, talked, begun, AnswersAs}
 pub use Rattle.sk_run.specs.Talk.{TakesLine}
 pub use Rattle.sk_run.specs.declared.talking.Talk.{Talk}
 pub use Rattle.sk_scenario.specs.Scenario.{section_view}
 pub use Rattle.sk_script.specs.Boot.{BootView}
 pub use Rattle.sk_script.specs.Scripts.{ScriptMap}
 pub use Rattle.sk_script.specs.declared.instruction.Input.{Input}
+pub use Rattle.sk_source.specs.Source.{explained}
+pub use Rattle.sk_source.specs.declared.source.Stand.{Stand}
 pub use Rattle.sk_store.specs.Start.{start_of}
 pub use Rattle.sk_store.specs.State.{State}
 pub use Rattle.sk_store.specs.declared.entity_state.EntityState.{EntityState}

@@ -4,7 +4,7 @@ use Rattle.sk_run.proofs.Names.{length-append, Option, Some, None, Result, Ok, E
 use Rattle.sk_run.proofs.Names.{IsSome, ⊤, take_through, drop_through, DropsThrough, reader_buffer, reader_capacity}
 use Rattle.sk_run.proofs.Names.{reader_inner, reader_remaining, Appends, Keeps, BufReader, Appends-kept, Appends-trans}
 use Rattle.sk_run.proofs.Names.{ne_eqb, append-nil, append_assoc, lines, parts, next_line, FaultKind, asked_by, Asked}
-use Rattle.sk_run.proofs.Names.{Play, LineTold, End, IsWritten, Talk, is_end, talked, number_behind, AnswersAs, Answers}
+use Rattle.sk_run.proofs.Names.{Play, LineTold, End, IsWritten, Talk, is_end, is_help, talked, number_behind, AnswersAs, AnswersBy, Answers, Bool}
 use Rattle.sk_run.proofs.Names.{Tells, begun, EndsTalk, EndsOpened, TakesLine}
 use Rattle.sk_run.proofs.InTurn.{tells_more}
 use Rattle.sk_questions.specs.declared.asked.Asked.TheVariants as asks
@@ -66,6 +66,10 @@ answered_number (Ok (Some (asks.Lease pid count))) n l old new text h =
 answered_number (Ok None) n l old new text h = rw h.3 (next_number h.0 old.number)
 answered_number (Err kind) n l old new text h = rw h.0 (omega arith)
 
+helped_number : (helps : Bool) (n : ℕ) (l : List ℕ) (old new : Talk) (text : List ℕ) → AnswersBy helps n l old new text → new.number ≤ old.number + 1
+helped_number true n l old new text h = rw h.0 (omega arith)
+helped_number false n l old new text h = answered_number (asked_by l) n l old new text h
+
 -- of the lines of a talk these are the first, and the others are those of what is left
 abbrev pub Leaves : Option (List ℕ) → List (List ℕ) → Option (List ℕ) → Type 0
 Leaves None ls new = ⊤
@@ -124,7 +128,7 @@ goes_on play input n talk next left then old mid new l answer tail g t e h w = r
   ls = g.ls ++ l ∷ [];
   text = g.text ++ answer;
   count = omega (arith, g.count, length-append g.ls (l ∷ []));
-  number = omega (arith, g.number, answered_number (asked_by l) n l talk next answer h);
+  number = omega (arith, g.number, helped_number (is_help l) n l talk next answer h);
   talks = tells_more Answers 1 g.ls l (begun play) talk next g.text answer g.talks (subst (λ m. Answers m l talk next answer) g.count h);
   written = Appends-trans _ _ _ _ _ g.written w;
   leaves = leaves_more input left then g.ls tail l g.leaves t e;
@@ -165,6 +169,7 @@ of_reader play None left ends.Fault old new e h = h
 of_reader play None left ends.Usage old new e h = h
 of_reader play None left ends.Trouble old new e h = (h.0, tt, h.2)
 of_reader play None left ends.OutputRefused old new e h = tt
+of_reader play None left ends.Refused old new e h = h
 of_reader play (Some bytes) left end old new e h = subst (λ known. EndsTalk play known end old new) e h
 
 -- what is declared opens something, and memory runs out

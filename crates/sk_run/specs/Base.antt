@@ -11,7 +11,7 @@ pub use Rattle.sk_ids.specs.declared.entity.Entity.{Entity}
 pub use Rattle.sk_ids.specs.declared.entity.Entity.TheVariants.{Proc}
 pub use Rattle.sk_kernel.specs.Footprint.{footprint_of}
 pub use Rattle.sk_kernel.specs.Holder.{holding}
-pub use Rattle.sk_kernel.specs.Kernel.{KernelView, effect_at, tags_at}
+pub use Rattle.sk_kernel.specs.Kernel.{KernelView, effect_at, state_at, tags_at}
 pub use Rattle.sk_kernel.specs.declared.footprint.Footprint.{Footprint}
 pub use Rattle.sk_plain.specs.Act.{Saying, plain}
 pub use Rattle.sk_plain.specs.Plain.{PlainView, step_of, stepped, texts_said}
@@ -42,13 +42,19 @@ pub use Rattle.sk_record.specs.Trace.{Event as Happens, IsSound, record_of}
 pub use Rattle.sk_report.specs.Footprints.{footprint_lines, listed}
 pub use Rattle.sk_report.specs.Report.{plain_report_text, report_text}
 pub use Rattle.sk_report.specs.declared.stop.Stop.{Stop}
+pub use Rattle.sk_run.specs.declared.explaining.Beside.{Beside}
 pub use Rattle.sk_run.specs.declared.listing.Foreseen.{Foreseen}
+pub use Rattle.sk_run.specs.declared.strict.StrictSession.{StrictSession}
+pub use Rattle.sk_run.specs.declared.strict.StrictWorld.{StrictWorld}
 pub use Rattle.sk_run.specs.declared.talking.Talk.{Talk}
 pub use Rattle.sk_scenario.specs.Declarations.{Declared}
 pub use Rattle.sk_scenario.specs.Scenario.{section_view}
 pub use Rattle.sk_scenario.specs.declared.call.Call.{Call}
 pub use Rattle.sk_script.specs.Boot.{BootView}
 pub use Rattle.sk_script.specs.declared.instruction.Input.{Input}
+pub use Rattle.sk_source.specs.Source.{explained, source_of}
+pub use Rattle.sk_source.specs.View.{SourceView}
+pub use Rattle.sk_source.specs.declared.source.Stand.{Stand}
 pub use Rattle.sk_store.specs.Start.{start_of}
 pub use Rattle.sk_store.specs.declared.entity_state.EntityState.{EntityState}
 pub use Rattle.sk_talk.specs.Asked.{IsAnswer, TellsCounts, counts_lines}
@@ -62,6 +68,7 @@ pub use Rattle.sk_talk.specs.declared.play.Play.{Play}
 pub use Rattle.sk_trace.specs.Entry.{EntryView}
 pub use Rattle.sk_trace.specs.Text.{trace_text}
 pub use Rattle.sk_trace.specs.declared.event.Event.{Event}
+pub use Rattle.sk_trace.specs.LentEvent.{event_in}
 pub use Rattle.sk_trace.specs.declared.world_event.WorldEvent.{WorldEvent}
 pub use Rattle.sk_words.specs.Words.{words}
 pub use Rattle.sk_words.specs.declared.fault.FaultKind.{FaultKind}

@@ -1,9 +1,10 @@
 -- What a talk comes to: the lines of an input, each answered before the next one is read.
-use Rattle.std.specs.Prelude.{◌≡◌, ◌⊎◌, ℕ, ◌+◌, Bool, false, List, [], ◌∷◌, ◌++◌, codes, bytes_eq, if◌then◌else◌, ⊤, Option, Some, None, Result, Ok, Err, IfSome}
+use Rattle.std.specs.Prelude.{◌≡◌, ◌⊎◌, ℕ, ◌+◌, Bool, true, false, ◌||◌, List, [], ◌∷◌, ◌++◌, codes, bytes_eq, if◌then◌else◌, ⊤, Option, Some, None, Result, Ok, Err, IfSome}
 use Rattle.sk_run.specs.Base.{lines, words, FaultKind, answer_line, told_line, asked_by, Asked, IsAnswer, epoch_line}
 use Rattle.sk_run.specs.Base.{lease_line, LeaseTold, EpochComes, LeaseComes, HandedMap, all_handed, handed_at}
 use Rattle.sk_run.specs.Base.{released_answer, LineTaken, kernel_of, EpochTold, Play, LineTold, End, EndsUnwritten}
 use Rattle.sk_run.specs.Base.{message_text, Talk, Message}
+use Rattle.sk_command.specs.declared.help.TheConstants.{TALK_FORMS}
 use Rattle.std.specs.FinMap as map
 use Rattle.sk_run.specs.InTurn.{Answered}
 
@@ -14,10 +15,14 @@ abbrev pub is_alone : List ℕ → List (List ℕ) → Bool
 is_alone word (w ∷ []) = bytes_eq w word
 is_alone word _ = false
 
+-- `end` and `quit` end a talk
 abbrev pub is_end : List ℕ → Bool
-is_end line = is_alone (codes "end") (words line)
+is_end line = is_alone (codes "end") (words line) || is_alone (codes "quit") (words line)
 
--- the lines of a talk are those before the first line `end`
+abbrev pub is_help : List ℕ → Bool
+is_help line = is_alone (codes "help") (words line)
+
+-- the lines of a talk are those before the first that ends it
 abbrev pub talked : List (List ℕ) → List (List ℕ)
 talked [] = []
 talked (l ∷ ls) = if is_end l then [] else l ∷ talked ls
@@ -78,8 +83,16 @@ AnswersAs (Ok None) number line old new text =
     × (new.handed ≡ old.handed)
 AnswersAs (Err kind) number line old new text = (new ≡ old) × (text ≡ message_text (Message.Fault number kind) ++ 10 ∷ [])
 
+-- `help` is answered by the lines that a talk takes, between the line `help` and the line `end`
+abbrev pub help_answer : List ℕ
+help_answer = codes "help\n" ++ TALK_FORMS.now ++ codes "\nend\n"
+
+abbrev pub AnswersBy : Bool → ℕ → List ℕ → Talk → Talk → List ℕ → Type 0
+AnswersBy true number line old new text = (new ≡ old) × (text ≡ help_answer)
+AnswersBy false number line old new text = AnswersAs (asked_by line) number line old new text
+
 abbrev pub Answers : ℕ → List ℕ → Talk → Talk → List ℕ → Type 0
-Answers number line old new text = AnswersAs (asked_by line) number line old new text
+Answers number line old new text = AnswersBy (is_help line) number line old new text
 
 -- a line can want memory: it asks, or what is at play takes it and it has no fault
 abbrev pub WantsMemory : List ℕ → Play → Play → Type 0
@@ -95,7 +108,7 @@ begun play = record { play = play; number = 1; handed = map.empty }
 abbrev pub Talked : Play → List (List ℕ) → Option (List ℕ) → Option (List ℕ) → Type 0
 Talked play ls old new = (last : Talk) × Answered Answers ls (begun play) last old new
 
--- where it ends well, the output has the answers to all lines of the input, where that is known, before its first `end`; where memory ran out or
+-- where it ends well, the output has the answers to all lines of the input, where that is known, before the first that ends the talk; where memory ran out or
 -- a read failed, to the first of them
 abbrev pub EndsTalk : Play → Option (List ℕ) → End → Option (List ℕ) → Option (List ℕ) → Type 0
 EndsTalk play input End.Done old new = (ls : List (List ℕ)) × IfSome input (λ bytes. ls ≡ talked (lines bytes)) × Talked play ls old new
@@ -121,6 +134,10 @@ abbrev pub IsFaultAs : Result (Option Asked) FaultKind → List ℕ → Play →
 IsFaultAs (Ok (Some asked)) line old new fault = fault ≡ None
 IsFaultAs (Ok None) line old new fault = (told : LineTold) × LineTaken told line old new × (fault ≡ fault_of told)
 IsFaultAs (Err kind) line old new fault = fault ≡ Some kind
+
+abbrev pub IsFaultBy : Bool → List ℕ → Play → Play → Option FaultKind → Type 0
+IsFaultBy true line old new fault = fault ≡ None
+IsFaultBy false line old new fault = IsFaultAs (asked_by line) line old new fault
 
 -- the next line was taken from a reader, or there is none
 abbrev pub TakesLine : Option (List ℕ) → Option (List ℕ) → List (List ℕ) → Type 0

@@ -2,9 +2,11 @@
 #![tactic(auto)]
 
 pub mod ending;
+pub mod explaining;
 pub mod listing;
 pub mod plain_run;
 pub mod player;
 pub mod playing;
 pub mod replaying;
+pub mod strict;
 pub mod talking;

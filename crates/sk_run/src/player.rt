@@ -1,9 +1,12 @@
 //! What is played: a kernel, by calls, or a world, by events.
 ghost use Rattle.sk_run.specs.Base.{declared_world, world_report_text};
-ghost use Rattle.sk_run.specs.Run.{declared_session, kernel_of_session, session_report, kernel_of_world, CallTakes, EventTakes};
+ghost use Rattle.sk_run.specs.Run.{declared_session, kernel_of_session, session_report, kernel_of_world, noted_nowhere, CallTakes, EventTakes};
+ghost use Rattle.sk_run.specs.Explained.{process_of_call, process_of_event};
 
+use crate::explaining::{process_of_call, process_of_event};
 use crate::listing::{foresee, write_foreseen};
 use sk_client::World;
+use sk_ids::Pid;
 use sk_kernel::Kernel;
 use sk_play::{
     Line, Session, happen, happen_line, put_answer, upcoming, world_of, write_answer, write_told,
@@ -16,7 +19,7 @@ use std::io::Write;
 
 /// What is declared, at play.
 pub trait Player: Sized {
-    ghost use Rattle.std.specs.Prelude.{◌≡◌, ℕ, List, IfOk, OnOk, Err, true, false};
+    ghost use Rattle.std.specs.Prelude.{◌≡◌, ℕ, Bool, List, Option, IfOk, OnOk, Err, true, false};
     ghost use Rattle.std.specs.Io.KnownBytes.{Appends};
     ghost use Rattle.sk_kernel.specs.Kernel.{KernelView};
     ghost use Rattle.sk_report.specs.declared.stop.Stop.TheVariants as stops;
@@ -32,6 +35,12 @@ pub trait Player: Sized {
     /// Its kernel.
     ghost kernel_of: { Self → KernelView };
 
+    /// Whether an item was refused, where that is noted.
+    ghost has_refusal: { Self → Bool };
+
+    /// The process of an item, where it is of one alone.
+    ghost process_of: { Self.Item → Option ℕ };
+
     /// An item of this number is taken, which leaves that, and this line is told of it.
     ghost takes: { ℕ → Self.Item → Self → Self → List ℕ → Type 0 };
 
@@ -45,6 +54,14 @@ pub trait Player: Sized {
     /// Its kernel.
     fn inner_kernel(&self) -> &Kernel
         ensures { result.now ≡ kernel_of self.now };
+
+    /// Whether an item was refused, where that is noted.
+    fn is_refused(&self) -> bool
+        ensures { result ≡ has_refusal self.now };
+
+    /// The process of an item, where it is of one alone.
+    fn process(item: &Self::Item) -> Option<Pid>
+        ensures { result ≡ process_of item.now };
 
     /// Takes an item, and writes the line that is told of it.
     fn take<W: Write>(&mut self, number: usize, item: &Self::Item, out: &mut W) -> Result<(), Stop>
@@ -76,6 +93,10 @@ impl Player for Session {
 
     ghost kernel_of = { kernel_of_session };
 
+    ghost has_refusal = { noted_nowhere };
+
+    ghost process_of = { process_of_call };
+
     ghost takes = { CallTakes };
 
     ghost report = { session_report };
@@ -86,6 +107,14 @@ impl Player for Session {
 
     fn inner_kernel(&self) -> &Kernel {
         self.kernel()
+    }
+
+    fn is_refused(&self) -> bool {
+        false
+    }
+
+    fn process(item: &Call) -> Option<Pid> {
+        process_of_call(item)
     }
 
     fn take<W: Write>(&mut self, number: usize, item: &Call, out: &mut W) -> Result<(), Stop> {
@@ -120,6 +149,10 @@ impl Player for World {
 
     ghost kernel_of = { kernel_of_world };
 
+    ghost has_refusal = { noted_nowhere };
+
+    ghost process_of = { process_of_event };
+
     ghost takes = { EventTakes };
 
     ghost report = { world_report_text };
@@ -130,6 +163,14 @@ impl Player for World {
 
     fn inner_kernel(&self) -> &Kernel {
         self.desk().kernel()
+    }
+
+    fn is_refused(&self) -> bool {
+        false
+    }
+
+    fn process(item: &KeptEvent) -> Option<Pid> {
+        process_of_event(item)
     }
 
     fn take<W: Write>(&mut self, number: usize, item: &KeptEvent, out: &mut W) -> Result<(), Stop> {

@@ -8,9 +8,10 @@ ghost use Rattle.sk_words.specs.declared.fault.FaultKind.TheVariants as kinds;
 ghost use Rattle.sk_talk.specs.declared.line.LineTold.TheVariants as tells;
 ghost use Rattle.sk_report.specs.declared.stop.Stop.TheVariants as stops;
 ghost use Rattle.sk_run.specs.InTurn.{Prints};
-ghost use Rattle.sk_run.specs.Talk.{begun, is_alone, fault_line, fault_of, IsFaultAs, told_as, number_behind, handed_behind, AnswersAs, Answers, BeginsEpoch, HandsOut, Serves, TellsLease, EndsTalk, EndsOpened, TakesLine, WantsMemory};
+ghost use Rattle.sk_run.specs.Talk.{begun, is_alone, is_end, is_help, help_answer, fault_line, fault_of, IsFaultAs, IsFaultBy, told_as, number_behind, handed_behind, AnswersAs, Answers, BeginsEpoch, HandsOut, Serves, TellsLease, EndsTalk, EndsOpened, TakesLine, WantsMemory};
 
 use sk_command::end::{End, flushed, tell_unread, tell_wrong_section};
+use sk_command::help::TALK_FORMS;
 use sk_command::message::{Message, write_message};
 use sk_command::open_input::OpenInput;
 use sk_command::read_all::ReadFault;
@@ -43,6 +44,13 @@ fn is_alone(word: &[u8], line: &[u8]) -> bool
         Some(first) => first == word && words.next().is_none(),
         None => false,
     }
+}
+
+/// Whether a line ends the talk.
+fn is_end(line: &[u8]) -> bool
+    ensures { result ≡ is_end line.now }
+{
+    is_alone(b"end", line) || is_alone(b"quit", line)
 }
 
 /// Reads the next line of a reader, with its end.
@@ -132,6 +140,18 @@ fn fault_of(told: &LineTold) -> Option<FaultKind>
         LineTold::Fault(kind) => Some(*kind),
         LineTold::Answered(_) | LineTold::Happened(_) | LineTold::Nothing => None,
     }
+}
+
+/// Tells which lines a talk takes; no fault is in that.
+fn write_help<W: Write>(out: &mut W) -> Result<Option<FaultKind>, Stop>
+    ensures written { OnOk result (Appends (W.contents out.old) (W.contents out.new) help_answer) }
+    ensures fault { IfOk result (λ fault. fault ≡ None) }
+    ensures stop { result ≡ Err stops.Memory → ⊥ }
+{
+    out.write_all(b"help\n")?;
+    out.write_all(TALK_FORMS.as_bytes())?;
+    out.write_all(b"\nend\n")?;
+    Ok(None)
 }
 
 /// Tells what came of a wish for a new epoch.
@@ -269,8 +289,8 @@ impl Talk {
         Ok(fault_of(&told))
     }
 
-    /// Writes the answer to the line of this number: its fault, if it has one.
-    fn tell<W: Write>(
+    /// Writes the answer to the line of this number, which wants no help: its fault, if it has one.
+    fn respond<W: Write>(
         &mut self,
         alloc: Global,
         number: u64,
@@ -279,7 +299,7 @@ impl Talk {
     ) -> Result<Option<FaultKind>, Stop>
         requires { self.old.number < 2 ^ 64 - 1 }
         ensures written { OnOk result
-            ((text : List ℕ) × Answers number line.now self.old self.new text
+            ((text : List ℕ) × AnswersAs (asked_by line.now) number line.now self.old self.new text
             × Appends (W.contents out.old) (W.contents out.new) text) }
         ensures fault { IfOk result
             (λ fault. IsFaultAs (asked_by line.now) line.now self.old.play self.new.play fault) }
@@ -297,6 +317,29 @@ impl Talk {
                 Ok(Some(kind))
             }
         }
+    }
+
+    /// Writes the answer to the line of this number: its fault, if it has one.
+    fn tell<W: Write>(
+        &mut self,
+        alloc: Global,
+        number: u64,
+        line: &[u8],
+        out: &mut W,
+    ) -> Result<Option<FaultKind>, Stop>
+        requires { self.old.number < 2 ^ 64 - 1 }
+        ensures written { OnOk result
+            ((text : List ℕ) × Answers number line.now self.old self.new text
+            × Appends (W.contents out.old) (W.contents out.new) text) }
+        ensures fault { IfOk result (λ fault.
+            IsFaultBy (is_help line.now) line.now self.old.play self.new.play fault) }
+        ensures memory { result ≡ Err stops.Memory
+            → WantsMemory line.now self.old.play self.new.play × (out.new ≡ out.old) }
+    {
+        if is_alone(b"help", line) {
+            return write_help(out);
+        }
+        self.respond(alloc, number, line, out)
     }
 
     /// Writes the answer to the line of this number, and writes out what the output buffers; and then where its fault stands, if it
@@ -327,7 +370,7 @@ impl Talk {
     }
 }
 
-/// Answers the lines of a reader one by one, each before the next is read, up to a line `end` or the reader's end.
+/// Answers the lines of a reader one by one, each before the next is read, up to one that ends the talk or the reader's end.
 pub fn answer_lines<R: BufRead, W: Write + Drop, E: Write>(
     alloc: Global,
     play: Play,
@@ -350,7 +393,7 @@ pub fn answer_lines<R: BufRead, W: Write + Drop, E: Write>(
         let Some(text) = Cursor::of(&line).next() else {
             return flushed(out);
         };
-        if is_alone(b"end", text) {
+        if is_end(text) {
             return flushed(out);
         }
         match talk.answer(alloc, number, text, out, err) {

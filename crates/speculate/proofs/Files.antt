@@ -2,7 +2,8 @@
 use Rattle.speculate.proofs.Names.{◌≡◌, ◌≢◌, ◌≤◌, inr, ℕ, List, length, Option, Some, None, Result, Ok, Err, sym, subst}
 use Rattle.speculate.proofs.Names.{IfSome, Fault, FaultKind, Word, Declared, section_view, SectionView, Steps, World}
 use Rattle.speculate.proofs.Names.{Trace, Scenario, End, Task, fault_end, INPUT_LIMIT, opened_in, Talking, EndsOpened}
-use Rattle.speculate.proofs.Names.{EndsFile, EndsInSection, EndsRead, EndsText}
+use Rattle.speculate.proofs.Names.{EndsFile, EndsInSection, EndsRead, EndsText, EndsPlayedBy, EndsWorldBy, lines}
+use Rattle.speculate.proofs.Names.{Bool, true, false, Shows, Call, WorldEvent}
 use Rattle.sk_command.specs.declared.end.End.TheVariants as ends
 use Rattle.sk_command.specs.declared.job.Task.TheVariants as tasks
 
@@ -15,26 +16,34 @@ opened_no_usage : (o : Option Talking) (input old new : Option (List ℕ)) → E
 opened_no_usage None input old new h = absurd cc
 opened_no_usage (Some play) input old new h = h
 
-section_no_usage : (t : Task) (input : Option (List ℕ)) (d : Declared) (section : SectionView) (old new : Option (List ℕ)) → EndsInSection t input d section ends.Usage old new → ⊥
-section_no_usage (tasks.Play shows) input d (Steps steps) old new h = h
-section_no_usage (tasks.Play shows) input d (World es) old new h = h
-section_no_usage (tasks.Play shows) input d (Trace es) old new h = absurd cc
-section_no_usage tasks.Talk input d section old new h = opened_no_usage (opened_in d section) input old new h
-section_no_usage tasks.Plain input d (Steps steps) old new h = absurd cc
-section_no_usage tasks.Plain input d (World es) old new h = absurd cc
-section_no_usage tasks.Plain input d (Trace es) old new h = h
-section_no_usage tasks.Replay input d (Steps steps) old new h = absurd cc
-section_no_usage tasks.Replay input d (World es) old new h = absurd cc
-section_no_usage tasks.Replay input d (Trace es) old new h = h
-section_no_usage (tasks.Work workers turns) input d section old new h = h
+played_no_usage : (is_strict : Bool) (shows : Shows) (file : List (List ℕ)) (d : Declared) (steps : List Call) (old new : Option (List ℕ)) → EndsPlayedBy is_strict shows file d steps ends.Usage old new → ⊥
+played_no_usage true shows file d steps old new h = h
+played_no_usage false shows file d steps old new h = h
 
-read_no_usage : (t : Task) (input : Option (List ℕ)) (read : Result Scenario Fault) (old new : Option (List ℕ)) → EndsRead t input read ends.Usage old new → ⊥
-read_no_usage t input (Ok s) old new h = section_no_usage t input s.declarations (section_view s.section) old new h
-read_no_usage t input (Err f) old new h = fault_no_usage f.kind (sym h.0)
+world_no_usage : (is_strict : Bool) (shows : Shows) (file : List (List ℕ)) (d : Declared) (es : List WorldEvent) (old new : Option (List ℕ)) → EndsWorldBy is_strict shows file d es ends.Usage old new → ⊥
+world_no_usage true shows file d es old new h = h
+world_no_usage false shows file d es old new h = h
+
+section_no_usage : (t : Task) (input : Option (List ℕ)) (file : List (List ℕ)) (d : Declared) (section : SectionView) (old new : Option (List ℕ)) → EndsInSection t input file d section ends.Usage old new → ⊥
+section_no_usage (tasks.Play shows) input file d (Steps steps) old new h = played_no_usage shows.is_strict shows file d steps old new h
+section_no_usage (tasks.Play shows) input file d (World es) old new h = world_no_usage shows.is_strict shows file d es old new h
+section_no_usage (tasks.Play shows) input file d (Trace es) old new h = absurd cc
+section_no_usage tasks.Talk input file d section old new h = opened_no_usage (opened_in d section) input old new h
+section_no_usage tasks.Plain input file d (Steps steps) old new h = absurd cc
+section_no_usage tasks.Plain input file d (World es) old new h = absurd cc
+section_no_usage tasks.Plain input file d (Trace es) old new h = h
+section_no_usage tasks.Replay input file d (Steps steps) old new h = absurd cc
+section_no_usage tasks.Replay input file d (World es) old new h = absurd cc
+section_no_usage tasks.Replay input file d (Trace es) old new h = h
+section_no_usage (tasks.Work workers turns) input file d section old new h = h
+
+read_no_usage : (t : Task) (input : Option (List ℕ)) (file : List (List ℕ)) (read : Result Scenario Fault) (old new : Option (List ℕ)) → EndsRead t input file read ends.Usage old new → ⊥
+read_no_usage t input file (Ok s) old new h = section_no_usage t input file s.declarations (section_view s.section) old new h
+read_no_usage t input file (Err f) old new h = fault_no_usage f.kind (sym h.0)
 
 -- no text is a fault of the words
 text_no_usage : (t : Task) (input : Option (List ℕ)) (text : List ℕ) (end : End) (old new : Option (List ℕ)) → EndsText t input text end old new → end ≢ ends.Usage
-text_no_usage t input text end old new h = λ e. read_no_usage t input h.0 old new (subst (λ x. EndsRead t input h.0 x old new) e h.2)
+text_no_usage t input text end old new h = λ e. read_no_usage t input (lines text) h.0 old new (subst (λ x. EndsRead t input (lines text) h.0 x old new) e h.2)
 
 -- an input that was read
 pub was_read : (t : Task) (input known : Option (List ℕ)) (text : List ℕ) (end : End) (old new : Option (List ℕ)) → IfSome known (λ bytes. text ≡ bytes) → length text ≤ INPUT_LIMIT

@@ -18,25 +18,25 @@ use Rattle.sk_run.specs.Replayed.{EndsReplayed}
 use Rattle.sk_run.specs.Talk.{EndsOpened}
 use Rattle.speculate.specs.Work.{EndsWork}
 
--- the task is done with the section below the declarations, and with the standard input, where its bytes are known; a section that it doesn't take is a fault of the file, and workers take any
-abbrev pub EndsInSection : Task → Option (List ℕ) → Declared → SectionView → End → Option (List ℕ) → Option (List ℕ) → Type 0
-EndsInSection (Task.Play shows) input d (Steps steps) end old new = EndsPlayed shows d steps end old new
-EndsInSection (Task.Play shows) input d (World es) end old new = EndsWorld shows d es end old new
-EndsInSection Task.Talk input d section end old new = EndsOpened (opened_in d section) input end old new
-EndsInSection Task.Plain input d (Trace es) end old new = EndsPlain d.boot es end old new
-EndsInSection Task.Replay input d (Trace es) end old new = EndsReplayed [] (declared_kernel d) es end old new
-EndsInSection (Task.Work workers turns) input d section end old new = EndsWork workers turns d end old new
-EndsInSection _ input d section end old new = EndsUnwritten End.Fault end old new
+-- the task is done with the section below the declarations of a file of these lines, and with the standard input, where its bytes are known; a section that it doesn't take is a fault of the file, and workers take any
+abbrev pub EndsInSection : Task → Option (List ℕ) → List (List ℕ) → Declared → SectionView → End → Option (List ℕ) → Option (List ℕ) → Type 0
+EndsInSection (Task.Play shows) input file d (Steps steps) end old new = EndsPlayed shows file d steps end old new
+EndsInSection (Task.Play shows) input file d (World es) end old new = EndsWorld shows file d es end old new
+EndsInSection Task.Talk input file d section end old new = EndsOpened (opened_in d section) input end old new
+EndsInSection Task.Plain input file d (Trace es) end old new = EndsPlain d.boot es end old new
+EndsInSection Task.Replay input file d (Trace es) end old new = EndsReplayed [] (declared_kernel d) es end old new
+EndsInSection (Task.Work workers turns) input file d section end old new = EndsWork workers turns d end old new
+EndsInSection _ input file d section end old new = EndsUnwritten End.Fault end old new
 
--- what reading a text gave is run, or is a fault of which nothing is on the output
-abbrev pub EndsRead : Task → Option (List ℕ) → Result Scenario Fault → End → Option (List ℕ) → Option (List ℕ) → Type 0
-EndsRead t input (Ok s) end old new = EndsInSection t input s.declarations (section_view s.section) end old new
-EndsRead t input (Err f) end old new = EndsUnwritten (fault_end f.kind) end old new
+-- what reading these lines gave is run, or is a fault of which nothing is on the output
+abbrev pub EndsRead : Task → Option (List ℕ) → List (List ℕ) → Result Scenario Fault → End → Option (List ℕ) → Option (List ℕ) → Type 0
+EndsRead t input file (Ok s) end old new = EndsInSection t input file s.declarations (section_view s.section) end old new
+EndsRead t input file (Err f) end old new = EndsUnwritten (fault_end f.kind) end old new
 
 -- a text is read, as it says or until memory runs out, and then run
 abbrev pub EndsText : Task → Option (List ℕ) → List ℕ → End → Option (List ℕ) → Option (List ℕ) → Type 0
 EndsText t input text end old new =
-    (read : Result Scenario Fault) × Says read (scenario_of text) (lines text) × EndsRead t input read end old new
+    (read : Result Scenario Fault) × Says read (scenario_of text) (lines text) × EndsRead t input (lines text) read end old new
 
 -- a file with these bytes, where they are known, is read and run, or it can't be read;
 -- one that is too long never is

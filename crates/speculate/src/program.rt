@@ -1,5 +1,6 @@
 //! The run of the program, from its words to its end.
 ghost use Rattle.std.specs.Prelude.{◌≡◌, map, codes, string_bytes};
+ghost use Rattle.std.specs.Str.Lines.{lines};
 ghost use Rattle.std.specs.Io.Buffered.{writer_buffer, writer_contents};
 ghost use Rattle.sk_command.specs.CommandLine.{wish_of, IsWithinBounds};
 ghost use Rattle.sk_command.specs.Ends.{IsFlushed};
@@ -8,15 +9,13 @@ ghost use Rattle.sk_scenario.specs.Scenario.{section_view};
 ghost use Rattle.speculate.specs.Program.{EndsRead, EndsText, EndsFile, EndsWords, section_told};
 
 use crate::working::run_work;
-use sk_client::World;
 use sk_command::end::{End, tell_fault, tell_wrong_section};
 use sk_command::job::{Job, Task, asked, explain};
 use sk_command::message::{Message, write_message};
 use sk_command::open_input::{OpenInput, input};
 use sk_faults::write_detail;
-use sk_play::Session;
 use sk_run::plain_run::run_trace;
-use sk_run::playing::run_play;
+use sk_run::playing::{run_steps, run_world};
 use sk_run::replaying::run_replay;
 use sk_run::talking::talk_declared;
 use sk_scenario::{Scenario, Section};
@@ -85,7 +84,7 @@ fn run_text<R: Threads + Wait + Sync, O: OpenInput, W: Write + Drop, E: Write>(
     ensures flushed { IsFlushed result (writer_buffer out.new) }
 {
     let read = Scenario::parse(alloc, text);
-    let end = run_read(rt, alloc, job, &read, inputs, out, err);
+    let end = run_read(rt, alloc, job, text, &read, inputs, out, err);
     if let Err(fault) = &read {
         let _ = write_detail(job.file, text, fault, err);
     }
@@ -107,18 +106,19 @@ fn other_section<'a>(job: Job<'a>, section: &Section) -> Message<'a>
     Message::Other { task, file, has }
 }
 
-/// Does a job with what was read, or tells its fault.
+/// Does a job with what was read of a text, or tells its fault.
 fn run_read<R: Threads + Wait + Sync, O: OpenInput, W: Write + Drop, E: Write>(
     rt: &R,
     alloc: Global,
     job: Job,
+    text: &[u8],
     read: &Result<Scenario, Fault>,
     inputs: &O,
     out: &mut BufWriter<W>,
     err: &mut E,
 ) -> End
     requires { IsWithinBounds job.task }
-    ensures end { EndsRead job.entry.task (O.bytes_of inputs.now (codes "-")) read.now result
+    ensures end { EndsRead job.entry.task (O.bytes_of inputs.now (codes "-")) (lines text.now) read.now result
         (writer_contents W.contents out.old) (writer_contents W.contents out.new) }
     ensures flushed { IsFlushed result (writer_buffer out.new) }
 {
@@ -132,10 +132,10 @@ fn run_read<R: Threads + Wait + Sync, O: OpenInput, W: Write + Drop, E: Write>(
     let other = other_section(job, section);
     match (job.task, section) {
         (Task::Play(shows), Section::Steps(steps)) => {
-            run_play::<Session, W>(alloc, declarations, steps.as_slice(), shows, out)
+            run_steps(alloc, text, declarations, steps.as_slice(), shows, out)
         }
         (Task::Play(shows), Section::World(events)) => {
-            run_play::<World, W>(alloc, declarations, events.as_slice(), shows, out)
+            run_world(alloc, text, declarations, events.as_slice(), shows, out)
         }
         (Task::Talk, section) => {
             let end = talk_declared(alloc, declarations, section, inputs, out, err);

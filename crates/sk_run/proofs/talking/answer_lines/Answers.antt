@@ -22,17 +22,17 @@ returns-in_default-next-clause-end g c =
     ends_behind c.args.play (g.R.Read.remaining c.args.reader.now) c.loop-number.number c.loop-number.talk left then (writer_contents g.W.Write.contents c.args.out.now)
     (writer_contents g.W.Write.contents c.loop-number.out) (writer_contents g.W.Write.contents c.flushed.new.out) c.flushed.result _ c.loop-number.invariant.going taken c.flushed.ensures.end c.flushed.ensures.kept
 
-pub returns-then-is_alone-clause-end : goal.returns-then-is_alone-clause-end
-returns-then-is_alone-clause-end g c =
+pub returns-then-is_end-clause-end : goal.returns-then-is_end-clause-end
+returns-then-is_end-clause-end g c =
     let left = g.R.Read.remaining c.loop-number.reader in
     let then = g.R.Read.remaining c.next_line.new.reader in
     let text = c.in-Some.text.now in
     let one : lines c.next_line.new.line.items ≡ text ∷ c.next.new.self.lines = search rules in
     let taken = subst (λ ls. TakesLine left then ls) one c.in_default.ensures in
-    let ends : is_end text ≡ true = sym {b = is_end text} c.if-is_alone.ensures in
+    let ends : is_end text ≡ true = sym {b = is_end text} c.if-is_end.ensures in
     ends_by_line c.args.play (g.R.Read.remaining c.args.reader.now) c.loop-number.number c.loop-number.talk left then (writer_contents g.W.Write.contents c.args.out.now)
-    (writer_contents g.W.Write.contents c.loop-number.out) (writer_contents g.W.Write.contents c.flushed-then-is_alone.new.out) text c.next.new.self.lines c.flushed-then-is_alone.result _
-    c.loop-number.invariant.going taken ends c.flushed-then-is_alone.ensures.end c.flushed-then-is_alone.ensures.kept
+    (writer_contents g.W.Write.contents c.loop-number.out) (writer_contents g.W.Write.contents c.flushed-then-is_end.new.out) text c.next.new.self.lines c.flushed-then-is_end.result _
+    c.loop-number.invariant.going taken ends c.flushed-then-is_end.ensures.end c.flushed-then-is_end.ensures.kept
 
 pub returns-in-Err-Memory-clause-end : goal.returns-in-Err-Memory-clause-end
 returns-in-Err-Memory-clause-end g c =
@@ -57,7 +57,7 @@ loop-number-preserved g c =
     let text = c.in-Some.text.now in
     let one : lines c.next_line.new.line.items ≡ text ∷ c.next.new.self.lines = search rules in
     let taken = subst (λ ls. TakesLine left then ls) one c.in_default.ensures in
-    let goes : is_end text ≡ false = sym {b = is_end text} c.if-is_alone.ensures in
+    let goes : is_end text ≡ false = sym {b = is_end text} c.if-is_end.ensures in
     let written = c.in-Ok.ensures.written in record {
       going = goes_on c.args.play (g.R.Read.remaining c.args.reader.now) c.loop-number.number c.loop-number.talk c.answer.new.self left then (writer_contents g.W.Write.contents c.args.out.now)
           (writer_contents g.W.Write.contents c.loop-number.out) (writer_contents g.W.Write.contents c.answer.new.out) text written.0 c.next.new.self.lines c.loop-number.invariant.going taken goes

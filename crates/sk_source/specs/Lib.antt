@@ -1,0 +1,4 @@
+pub mod Script
+pub mod Source
+pub mod Told
+pub mod View

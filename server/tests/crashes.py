@@ -2,9 +2,10 @@
 """Crashes of the server, and what must hold after each.
 
     tests/crashes.py [--server PROGRAM] [--modes kill,power,fault,cut,full,mixed] [--crashes 50] [--seconds 0.4] [--seed N] [--batches 4]
-    tests/crashes.py --wrong [NAME ..]   builds hosts that are wrong on purpose, and says whether they are found
+    tests/crashes.py --directed [NAME ..]  crashes at chosen moments alone, by their names, or all
+    tests/crashes.py --wrong [NAME ..]     builds hosts that are wrong on purpose, and says whether each is found by the crash that is to find it
 
-Modes, or wrong hosts, go side by side, each in a folder of its own: in memory (/dev/shm) where there is some, since what a disk keeps
+Modes, directed crashes, or wrong hosts go side by side, each in a folder of its own: in memory (/dev/shm) where there is some, since what a disk keeps
 is the shim's to say. The last line is 'N passed, M failed'.
 
 Eight connections write and read with 1 to 8 commands under way; one reads what it wrote once that is acknowledged, two are answered ahead and
@@ -23,10 +24,12 @@ each crash is kill or power, so that a start also reads what is not on the disk)
 import argparse
 import concurrent.futures
 import contextlib
+import fcntl
 import os
 import pathlib
 import random
 import re
+import select
 import shutil
 import signal
 import socket
@@ -46,17 +49,19 @@ CONNECTIONS, LISTS, COUNTERS, PAIRS = 8, 3, 3, 4
 REFUSALS = ("IOERR",)
 # How often as long as another process takes to answer anything a server that works for others may take, beside what it holds back.
 SERVER_BY_ECHO = 3
+# How long it is waited for an answer that is not to come, and for what is to happen.
+EARLY, LONG, PATIENCE = 0.2, 5, 60
 FAULTS = dict(fault="30,30,20", mixed="30,30,20", cut="0,0,30")
-# Hosts that are wrong on purpose: the file, what stands there, and what is put in its place.
+# Hosts that are wrong on purpose: the directed crash that is to find each, and the file, what stands there, and what is put in its place.
 WRONG = {
-    "reply at once": [("log.rs", "self.under_way.push(at);",
+    "reply at once": ("a write under way", [("log.rs", "self.under_way.push(at);",
                        "self.under_way.push(at);\n                    if self.cutting.is_none() {\n"
-                       "                        done(store.synced(at.frame), \"synced\")?;\n                    }"),
-                      ("log.rs", "Ok(()) => done(store.synced(at.frame), \"synced\"), // [2]", "Ok(()) => Ok(()),\n            Err(_) if !job.is_head => Ok(()),")],
-    "no sync": [("disk.rs", "    file.sync_data()?; // [2]\n", "")],
-    "no cut": [("disk.rs", "let did = write(&folder, &mut own, job.at.segment, job.from, bytes);",
-                "let did = if job.is_head { Ok(()) } else { write(&folder, &mut own, job.at.segment, job.from, bytes) };")],
-    "shared file handle": [("disk.rs", """    let file = match own.take_if(|(of, _)| *of == segment) {
+                       "                        store.synced(at.frame)?;\n                    }"),
+                      ("log.rs", "Ok(()) => Ok(store.synced(at.frame)?), // [2]", "Ok(()) => Ok(()),\n            Err(_) if !job.is_head => Ok(()),")]),
+    "no sync": ("a write", [("disk.rs", "    file.sync_data()?; // [2]\n", "")]),
+    "no cut": ("a write that fails", [("disk.rs", "let did = write(&folder, &mut own, job.at.segment, job.from, bytes);",
+                "let did = if job.is_head { Ok(()) } else { write(&folder, &mut own, job.at.segment, job.from, bytes) };")]),
+    "shared file handle": ("two writes of which one fails", [("disk.rs", """    let file = match own.take_if(|(of, _)| *of == segment) {
         Some((_, file)) => file,
         None => opened(|| OpenOptions::new().write(true).open(folder.segment(segment)))?,
     };
@@ -68,25 +73,26 @@ WRONG = {
     }
     let (_, file) = shared.unwrap();
     drop(shared);
-"""), ("disk.rs", "    *own = Some((segment, file)); // [4]\n", "    *own = None;\n")],
-    "short write taken for whole": [("disk.rs", "file.write_all_at(bytes, place)?; // [1]",
-                                     "let _ = file.write_at(bytes, place)?;")],
-    "start that writes nothing again": [("recovery.rs", "Walk::begin(path, again, &owner", "Walk::begin(path, false, &owner")],
-    "refusal before the cut": [("log.rs", "self.under_way.push(at);",
+"""), ("disk.rs", "    *own = Some((segment, file)); // [4]\n", "    *own = None;\n")]),
+    "short write taken for whole": ("a short write", [("disk.rs", "file.write_all_at(bytes, place)?; // [1]",
+                                     "let _ = file.write_at(bytes, place)?;")]),
+    "start that writes nothing again": ("a start on what isn't on the disk", [("recovery.rs", "Walk::begin(path, again, &owner", "Walk::begin(path, false, &owner")]),
+    "refusal before the cut": ("a cut under way", [("log.rs", "self.under_way.push(at);",
                                 "self.under_way.push(at);\n                    if self.cutting.is_some() {\n"
-                                "                        done(store.cut(1), \"cut\")?;\n                    }"),
-                               ("log.rs", "                done(store.cut(1), \"cut\") // [5]", "                Ok(())"),
-                               ("log.rs", "return done(store.turn(), \"turn\");", "return Ok(());")],
-    "snapshot that isn't on the disk": [("folder.rs", "            file.sync_all()?;\n", "")],
-    "segments removed before the snapshot has its name": [("folder.rs", "            disk::opened(|| File::open(&self.0))?.sync_all()?;\n            Ok(did)", "            Ok(did)"),
-                                                          ("folder.rs", "        File::open(&self.0)?.sync_all()?;\n        for", "        for")],
-    "snapshot of what is written": [("log.rs", "self.under_way.iter().map(|at| at.segment).min().unwrap_or(self.at.written) - 1", "self.at.written")],
-    "all stands before it is decided": [("asked.rs", "Some(ahead) => ahead.waiting.is_empty(),", "Some(_) => true,")],
-    "replies wait for all": [("server.rs", "            self.take_output();", "            if self.channels.counts().undecided == 0 {\n"
-                              "                self.take_output();\n            }")],
-    "mark too early": [("log.rs", "self.under_way.push(at);",
-                        "self.under_way.push(at);\n                    let _ = self.synced.marker.is(|mark| mark.known = at.frame);")],
-    "start that serves before its head": [("disk.rs", "                write(folder, &mut None, at.segment, 0, &bytes)?;\n", "")],
+                                "                        store.cut(true)?;\n                    }"),
+                               ("log.rs", "                Ok(store.cut(true)?) // [5]", "                Ok(())"),
+                               ("log.rs", "return Ok(store.turn()?);", "return Ok(());")]),
+    "snapshot that isn't on the disk": ("a snapshot", [("folder.rs", "            file.sync_all()?;\n", "")]),
+    "segments removed before the snapshot has its name": ("a snapshot", [("folder.rs", "            disk::opened(|| File::open(&self.0))?.sync_all()?;\n            Ok(did)", "            Ok(did)"),
+                                                          ("folder.rs", "        File::open(&self.0)?.sync_all()?;\n        for", "        for")]),
+    "snapshot of what is written": ("a snapshot beside a write", [("log.rs", "self.under_way.iter().map(|at| at.segment).min().unwrap_or(self.at.written) - 1", "self.at.written")]),
+    "all stands before it is decided": ("answers ahead", [("asked.rs", "Some(ahead) => ahead.waiting.is_empty(),", "Some(_) => true,")]),
+    "replies wait for all": ("a read beside a write", [("server.rs", "            self.take_output();\n            self.attend()?;",
+                                                      "            if self.channels.counts().undecided == 0 {\n                self.take_output();\n"
+                                                      "            }\n            self.attend()?;")]),
+    "mark too early": ("a mark", [("log.rs", "self.under_way.push(at);",
+                        "self.under_way.push(at);\n                    let _ = self.synced.marker.is(|mark| mark.known = at.frame);")]),
+    "start that serves before its head": ("a write", [("disk.rs", "                write(folder, &mut None, at.segment, 0, &bytes)?;\n", "")]),
 }
 
 
@@ -395,8 +401,22 @@ def trim(journal):
         os.truncate(journal, at)
 
 
-def take_back(journal, dice, keeps_failed):
-    """What a loss of power may do: takes back bytes that no sync covered, and names. Answers how many writes it took back of."""
+class Worst:
+    """In the place of dice: all that may be taken back is."""
+
+    def random(self):
+        return 0.4
+
+    def randrange(self, _):
+        return 0
+
+    def randint(self, *_):
+        return 0
+
+
+def take_back(journal, dice, keeps_failed, kept=()):
+    """What a loss of power may do: takes back bytes that no sync covered, but in files of these names, and names. Answers how many writes it
+    took back of."""
     text, at, step, run = journal.read_bytes(), 0, 0, 0
     writes, begun, names, home = {}, {}, [], journal.with_name("folder").stat().st_ino
     while at + RECORD.size <= len(text):
@@ -433,7 +453,7 @@ def take_back(journal, dice, keeps_failed):
     count = 0
     for write in reversed(list(writes.values())):
         path, old = paths.get(write["inode"]), write["old"]
-        if write["covered"] or path is None or dice.random() < 0.3 or write["lost"] and keeps_failed:
+        if write["covered"] or path is None or path.name in kept or dice.random() < 0.3 or write["lost"] and keeps_failed:
             continue
         count += 1
         with path.open("r+b") as file:
@@ -476,6 +496,7 @@ class Host:
 
     def __init__(self, options, room, mode, shim):
         self.options, self.room, self.mode, self.shim, self.process = options, room, mode, shim, None
+        self.acts, self.over = None, 500
         self.folder, self.journal, self.full = room / "folder", room / "journal", room / "full"
         self.folder.mkdir()
         self.port = free_port()
@@ -502,11 +523,13 @@ class Host:
 
     def start(self, faults):
         shim = dict(LD_PRELOAD=str(self.shim), SHIM_FOLDER=str(self.folder), SHIM_SLOW=str(int(self.options.slow * 1e6)),
-                    SHIM_FULL=str(self.full), SHIM_OVER="500")
+                    SHIM_FULL=str(self.full), SHIM_OVER=str(self.over))
         if self.mode != "kill":
             shim["SHIM_JOURNAL"] = str(self.journal)
         if self.options.lies:
             shim["SHIM_LIES"] = "1"
+        if self.acts:
+            shim["SHIM_ACTS"] = str(self.acts)
         if faults and self.mode in FAULTS:
             shim.update(SHIM_FAULTS=FAULTS[self.mode], SHIM_CUT="500" if self.mode == "cut" else "0")
         if self.journal.exists():
@@ -569,7 +592,7 @@ def try_mode(options, mode, shim, most=None):
         need(host.end(signal.SIGINT) == 0, "a clean stop exits 0")
     except Wrong as wrong:
         line = f"{mode}: WRONG at crash {crashes}: {wrong} (seed {options.seed}"
-        if options.wrong is None and not options.lies:
+        if not options.lies:
             return f"{line}, {room})", False
         shutil.rmtree(room, ignore_errors=True)
         return f"{line})", False
@@ -582,38 +605,290 @@ def try_mode(options, mode, shim, most=None):
     return f"{mode}: {crashes} crashes, {book.totals}, unsynced writes taken back {taken}: nothing wrong", True
 
 
-def built(folder, edits):
-    """A server with edits of its source."""
-    source = folder / "server"
-    for name in ("server", "rust"):
-        shutil.copytree(TOP.parent / name, folder / name, ignore=shutil.ignore_patterns("target"))
+class Moment:
+    """A server whose writes and syncs are held up, or fail, at a chosen moment, at which its power is lost."""
+
+    def __init__(self, options, room, shim):
+        self.host = Host(options, room, "power", shim)
+        self.acts = self.host.acts = room / "acts"
+        self.acts.mkdir()
+        self.starts()
+
+    def starts(self):
+        self.link = self.host.start(False)
+        need(self.link is not None, "the server doesn't start")
+
+    def ask(self, *words):
+        return self.link.ask(*words)
+
+    def act(self, name):
+        (self.acts / name).touch()
+
+    def lets(self, name):
+        (self.acts / name).unlink(missing_ok=True)
+
+    def held(self, count):
+        """So many were held up, or what failed once did."""
+        path, until = self.acts / "held", time.monotonic() + PATIENCE
+        while (path.stat().st_size if path.exists() else 0) < count or (self.acts / "fail").exists():
+            need(time.monotonic() < until, "nothing is written")
+            time.sleep(0.002)
+
+    def early(self, link, seconds=EARLY):
+        """What is answered in a while, in which others are answered too, if anything."""
+        with contextlib.closing(Link(self.host.port)) as other:
+            for _ in range(5):
+                other.ask("PING")
+        return self.within(link, seconds)
+
+    def within(self, link, seconds):
+        """What is answered in so many seconds, if anything."""
+        came, _, _ = select.select([link.socket], [], [], seconds)
+        return link.reply() if came else None
+
+    def loses_power(self, keeps_failed=False, kept=()):
+        """It is killed, and of what may be taken back all is but what is kept; then it starts again."""
+        self.kills()
+        take_back(self.host.journal, Worst(), keeps_failed, kept)
+        self.starts()
+
+    def kills(self):
+        self.link.close()
+        self.host.end(signal.SIGKILL)
+        for name in ("hold-writes", "hold-syncs", "fail", "short"):
+            self.lets(name)
+
+    def has(self, told, key, value):
+        """What was acknowledged is there, and what was refused isn't."""
+        found = self.ask("GET", key)
+        need(told != "OK" or found == value, "an acknowledged write is gone:", key, found)
+        need(not isinstance(told, RuntimeError) or found != value, "a refused write is there:", key)
+
+
+def of_a_write(it):
+    told = it.ask("SET", "a", "1")
+    it.loses_power()
+    it.has(told, "a", "1")
+
+
+def of_a_write_under_way(it):
+    it.act("hold-syncs")
+    it.link.send(("SET", "a", "1"))
+    told = it.early(it.link)
+    it.loses_power()
+    it.has(told, "a", "1")
+
+
+def of_a_short_write(it):
+    it.act("short")
+    told = it.ask("SET", "a", "x" * 5000)
+    it.kills()
+    it.starts()
+    it.has(told, "a", "x" * 5000)
+
+
+def of_a_write_that_fails(it):
+    """What failed is on the disk after all."""
+    it.act("fail")
+    told = it.ask("SET", "a", "1")
+    it.loses_power(keeps_failed=True)
+    it.has(told, "a", "1")
+
+
+def of_a_cut_under_way(it):
+    """A write fails, and is on the disk after all, but the head that cuts it off isn't."""
+    it.act("fail")
+    it.act("hold-syncs")
+    it.link.send(("SET", "a", "1"))
+    it.held(1)
+    told = it.early(it.link)
+    it.loses_power(keeps_failed=True)
+    it.has(told, "a", "1")
+
+
+def of_two_writes(it):
+    """The sync of one that came later is told that what both wrote is lost."""
+    it.act("hold-syncs")
+    other = Link(it.host.port)
+    it.link.send(("SET", "a", "1"))
+    it.held(1)
+    it.act("fail")
+    other.send(("SET", "b", "1"))
+    it.held(1)
+    it.lets("hold-syncs")
+    told, beside = it.link.reply(), other.reply()
+    it.loses_power()
+    it.has(told, "a", "1")
+    it.has(beside, "b", "1")
+
+
+def of_a_start(it):
+    """A start reads what is not on the disk, and a client sees it."""
+    it.act("hold-syncs")
+    it.link.send(("SET", "a", "1"))
+    it.held(1)
+    it.kills()
+    it.starts()
+    need(it.ask("GET", "a") == "1", "what was written is gone behind kill -9")
+    it.loses_power()
+    need(it.ask("GET", "a") == "1", "what a reader saw is gone")
+
+
+def of_a_snapshot(it):
+    told = it.ask("SET", "a", "1")
+    need(it.ask("SAVE") == "OK", "no snapshot is made")
+    it.loses_power()
+    it.has(told, "a", "1")
+
+
+def of_a_snapshot_beside_a_write(it):
+    it.act("hold-writes")
+    writer = Link(it.host.port)
+    writer.send(("SET", "a", "1"))
+    it.held(1)
+    it.link.send(("SAVE",))
+    it.early(it.link, LONG)
+    it.lets("hold-writes")
+    told = writer.reply()
+    it.loses_power()
+    it.has(told, "a", "1")
+
+
+def of_answers_ahead(it):
+    """What was answered ahead is lost by a sync that another is told of."""
+    need(it.ask("SPEC") == "OK", "SPEC")
+    it.act("hold-syncs")
+    other = Link(it.host.port)
+    it.link.send(("SET", "a", "1"), ("WAITALL",))
+    need(it.link.reply() == [1, "OK"], "nothing is answered ahead")
+    it.held(1)
+    early = it.early(it.link)
+    it.act("fail")
+    other.send(("SET", "b", "1"))
+    it.held(1)
+    it.lets("hold-syncs")
+    told = it.link.reply() if early is None else early
+    need(told == "OK" or str(told).startswith("UNDONE "), "WAITALL was answered", told)
+    it.loses_power()
+    it.has(told, "a", "1")
+
+
+def of_a_read_beside_a_write(it):
+    need(it.ask("SET", "a", "1") == "OK", "SET")
+    it.act("hold-syncs")
+    writer = Link(it.host.port)
+    writer.send(("SET", "b", "1"))
+    it.held(1)
+    it.link.send(("EXISTS", "a"))
+    need(it.within(it.link, LONG) == 1, "a read that rests on nothing waits")
+    it.lets("hold-syncs")
+    need(writer.reply() == "OK", "SET")
+
+
+def of_a_mark(it):
+    """Of what is under way the disk has what is said of it, and not what was written."""
+    it.act("hold-syncs")
+    it.link.send(("SET", "a", "1"))
+    it.held(1)
+    it.loses_power(kept=("store",))
+
+
+def of_a_full_disk(it):
+    """Of a start on a full disk what takes away is carried out in the room that was kept for it."""
+    it.host.over = 0
+    it.has(it.ask("SET", "a", "1"), "a", "1")
+    it.host.full.touch()
+    it.loses_power()
+    need(it.ask("DEL", "a") == 1, "DEL isn't carried out on a full disk")
+    it.loses_power()
+    need(it.ask("GET", "a") is None, "a key is there that was deleted")
+    it.host.full.unlink()
+    while isinstance(it.ask("SET", "a", "2"), RuntimeError):
+        time.sleep(0.05)
+
+
+# Crashes at chosen moments.
+DIRECTED = {
+    "a write": of_a_write,
+    "a write under way": of_a_write_under_way,
+    "a short write": of_a_short_write,
+    "a write that fails": of_a_write_that_fails,
+    "a cut under way": of_a_cut_under_way,
+    "two writes of which one fails": of_two_writes,
+    "a start on what isn't on the disk": of_a_start,
+    "a snapshot": of_a_snapshot,
+    "a snapshot beside a write": of_a_snapshot_beside_a_write,
+    "answers ahead": of_answers_ahead,
+    "a read beside a write": of_a_read_beside_a_write,
+    "a mark": of_a_mark,
+    "a start on a full disk": of_a_full_disk,
+}
+
+
+def direct(options, name, shim):
+    """A directed crash, and a start and a write behind it; answers a line."""
+    room = pathlib.Path(tempfile.mkdtemp(prefix="crashes-", dir=ROOMS))
+    it = None
+    try:
+        it = Moment(options, room, shim)
+        DIRECTED[name](it)
+        need(it.ask("SET", "last", "1") == "OK" and it.ask("GET", "last") == "1", "no write goes on")
+        need(it.host.end(signal.SIGTERM) == 0, "a clean stop exits 0")
+        return f"{name}: nothing wrong", True
+    except (Wrong, OSError) as wrong:
+        return f"{name}: WRONG: {wrong}", False
+    finally:
+        if it and it.host.process.poll() is None:
+            it.host.end(signal.SIGKILL)
+        shutil.rmtree(room, ignore_errors=True)
+
+
+def edited(edits):
+    """The files of the server and of the library's crate for Rust that is under it, with edits, by their paths."""
+    tops = [path for name in ("server", "rust") for path in (TOP.parent / name).iterdir() if path.name != "target"]
+    paths = [path for top in tops for path in (top.rglob("*") if top.is_dir() else [top]) if path.is_file()]
+    files = {path.relative_to(TOP.parent): path.read_bytes() for path in paths if "__pycache__" not in path.parts and "target" not in path.parts}
     for name, old, new in edits:
-        path = next((source / "src").rglob(name))
-        text = path.read_text()
+        path = next(path for top in ("server/src", "rust/src/store") for path in files if path.match(name) and path.is_relative_to(top))
+        text = files[path].decode()
         if text.count(old) != 1:
             sys.exit(f"{name} has this {text.count(old)} times: {old}")
-        path.write_text(text.replace(old, new))
-    words = ["cargo", "build", "--offline", "--quiet", "--target-dir", str(folder / "target")]
+        files[path] = text.replace(old, new).encode()
+    return files
+
+
+def built(folder, edits):
+    """A server with edits of its source. All are built in one place, one after the other, since most is the same and compiled once."""
+    place = pathlib.Path(os.environ.get("CARGO_TARGET_DIR", TOP / "target")) / "wrong"
+    place.mkdir(parents=True, exist_ok=True)
+    words = ["cargo", "build", "--offline", "--quiet", "--target-dir", str(place / "target")]
     where = {"HIDEWILLOW_LIB": str(TOP.parent / "build"), "CARGO_PROFILE_DEV_PANIC": "abort", **os.environ}
-    did = subprocess.run(words, cwd=source, env=where, capture_output=True, text=True)
-    if did.returncode:
-        sys.exit(f"a wrong host doesn't compile: {did.stderr}")
-    return folder / "target/debug/hidewillow-server"
+    with (place / "lock").open("w") as lock:
+        fcntl.flock(lock, fcntl.LOCK_EX)
+        for path, text in edited(edits).items():
+            copy = place / path
+            if not copy.exists() or copy.read_bytes() != text:
+                copy.parent.mkdir(parents=True, exist_ok=True)
+                copy.write_bytes(text)
+        did = subprocess.run(words, cwd=place / "server", env=where, capture_output=True, text=True)
+        if did.returncode:
+            sys.exit(f"a wrong host doesn't compile: {did.stderr}")
+        return pathlib.Path(shutil.copy(place / "target/debug/hidewillow-server", folder))
 
 
 def find(options, name, shim):
     """Whether a wrong host is found, in words too."""
     with tempfile.TemporaryDirectory() as room:
-        options.server = built(pathlib.Path(room), WRONG[name])
-        tries = [(mode, crashes) for crashes in (4, options.crashes) for mode in ("cut", "mixed", "fault", "power")]
-        lines = (try_mode(options, mode, shim, crashes) for mode, crashes in tries)
-        found = next((line for line, well in lines if not well), None)
-    return f"{name}: {found or 'NOT FOUND'}", found is not None
+        moment, edits = WRONG[name]
+        options.server = built(pathlib.Path(room), edits)
+        line, well = direct(options, moment, shim)
+    return f"{name}: {'NOT FOUND' if well else line}", not well
 
 
 def marks():
     """Each of the sentences has its line, and no line has another number."""
-    found = {int(number) for path in (TOP / "src").rglob("*.rs") for number in re.findall(r"// \[(\d+)\]", path.read_text())}
+    sources = [*(TOP / "src").rglob("*.rs"), *(TOP.parent / "rust/src/store").rglob("*.rs")]
+    found = {int(number) for path in sources for number in re.findall(r"// \[(\d+)\]", path.read_text())}
     return found == set(range(1, 14))
 
 
@@ -628,15 +903,15 @@ def main():
     words.add_argument("--batches", type=int, default=4)
     words.add_argument("--snapshot", default="1m", help="bytes of the log after which a snapshot is made")
     words.add_argument("--lies", action="store_true", help="a disk whose syncs do nothing, which is to be found in power and fault")
+    words.add_argument("--directed", nargs="*", metavar="NAME", help="those that have one of these names, or all")
     words.add_argument("--wrong", nargs="*", metavar="NAME", help="those that have one of these names, or all")
     options = words.parse_args()
     if not marks():
         sys.exit("the sentences and the marks of their lines don't agree")
     work, names = try_mode, options.modes.split(",")
-    if options.wrong is not None:
-        # Syncs that take a while, so that two are in flight at once.
-        options.slow = options.slow or 0.01
-        work, names = find, [name for name in WRONG if not options.wrong or any(part in name for part in options.wrong)]
+    for does, wished, all_names in ((direct, options.directed, DIRECTED), (find, options.wrong, WRONG)):
+        if wished is not None:
+            work, names = does, [name for name in all_names if not wished or any(part in name for part in wished)]
     with tempfile.TemporaryDirectory() as folder, concurrent.futures.ProcessPoolExecutor() as pool:
         shim = pathlib.Path(folder) / "shim.so"
         subprocess.run(["cc", "-O2", "-Wall", "-Wextra", "-shared", "-fPIC", "-o", shim, HERE / "shim.c", "-ldl", "-lpthread"], check=True)

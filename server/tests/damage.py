@@ -422,7 +422,8 @@ WRONG = {
     "no identity": [("envelope.rs", "        File::open(\"/dev/urandom\")?.read_exact(&mut bits)?;\n", "        File::open(\"/dev/zero\")?.read_exact(&mut bits)?;\n")],
     "no end of a snapshot": [("reading.rs", "        let found = words(front);\n",
                               "        let found = words(front);\n        if front.is_empty() {\n            return Ok(so_far);\n        }\n")],
-    "gap allowed": [("recovery.rs", "if is_lost && !gives_up {", "if is_lost && !gives_up && how.next.is_some() {")],
+    "gap allowed": [("recovery.rs", "how.next.map_or(known, |next| next - 1)", "0"),
+                    ("recovery.rs", "how.next.unwrap_or(counts.next.max(known + 1))", "counts.next")],
     "no checksum": [("envelope.rs", "frame.len() == self.len && checksum(0, frame) == self.sum", "frame.len() == self.len")],
 }
 
@@ -550,8 +551,50 @@ def with_logs_of_another(program, room):
     return len(made), wrongs
 
 
+def at_places(program, room):
+    """The last frame of a store is gone, one before it, or two bytes within one changed places, or all is as it was before; how many were
+    tried, and in words what was wrong."""
+    store = Store("places", room / "places", SMALL, True)
+    process, link = run(program, store.folder, SMALL)
+    if process is None:
+        return 0, ["places: no server starts"]
+    write(store, link, random.Random("places"), 40)
+    keep_old(store, room)
+    before = store.states[-1]
+    write(store, link, random.Random("behind"), 4)
+    link.close()
+    process.send_signal(signal.SIGTERM)
+    if process.wait(60):
+        return 0, ["places: no clean stop"]
+    store.whole = len(store.states) - 1
+    log = max(path for path in store.folder.glob("log-*") if used_end(path))
+    text, frames = frames_of(log)
+    at, end = max(frames, key=lambda frame: frame[1] - frame[0])
+    place = next(place for place in range((at + end) // 2, end) if text[place] != text[place + 1])
+    gone = {what: (at, bytes(end - at)) for what, (at, end) in {"the last frame": frames[-1], "the third last frame": frames[-3]}.items()}
+    wrongs = []
+    for what, (at, new) in {**gone, "two bytes": (place, text[place + 1:place + 2] + text[place:place + 1])}.items():
+        folder = room / "copy"
+        shutil.copytree(store.folder, folder, ignore=shutil.ignore_patterns("backups", "lock"))
+        change(folder / log.name, at, new)
+        try:
+            if judge(program, store, folder, what) != "refused":
+                raise Wrong("it is not refused")
+        except Wrong as wrong:
+            wrongs.append(f"{what} of {len(frames)} frames: {wrong}")
+        shutil.rmtree(folder)
+    process, link = run(program, store.olds[0], SMALL)
+    if process is None or contents(link) != before:
+        wrongs.append("all as it was before: it isn't served")
+    if process:
+        link.close()
+        process.kill()
+        process.wait()
+    return 4, wrongs
+
+
 # What is found by tries of its own alone.
-DIRECTED = {"no end of a snapshot": behind_pieces, "no identity": with_logs_of_another}
+DIRECTED = {"no end of a snapshot": behind_pieces, "no identity": with_logs_of_another, **dict.fromkeys(["no mark", "gap allowed", "no checksum"], at_places)}
 
 
 def stores(program, room, seed):
@@ -585,8 +628,8 @@ def stores(program, room, seed):
     return made
 
 
-def tried(options, program, tries, stops=False):
-    """What came of so many tries, of each store; and in words what was wrong, the first alone if that is enough."""
+def tried(options, program, tries):
+    """What came of so many tries, of each store; and in words what was wrong."""
     counts, wrongs = collections.Counter(), []
     with tempfile.TemporaryDirectory(prefix="damage-", dir=ROOMS) as room:
         STORES[:] = stores(program, pathlib.Path(room), options.seed)
@@ -598,8 +641,6 @@ def tried(options, program, tries, stops=False):
                 for name, came, wrong in pool.map(one, tasks[start:start + 100]):
                     counts[name, came] += 1
                     wrongs += [wrong] if wrong else []
-                if stops and wrongs:
-                    break
     return counts, wrongs
 
 
@@ -608,10 +649,7 @@ def find(options, name):
     with tempfile.TemporaryDirectory() as room:
         program = crashes.built(pathlib.Path(room), WRONG[name])
         try:
-            if name in DIRECTED:
-                wrongs = DIRECTED[name](program, pathlib.Path(room))[1]
-            else:
-                wrongs = tried(options, program, options.tries, True)[1]
+            wrongs = DIRECTED[name](program, pathlib.Path(room))[1]
         except Wrong as wrong:
             wrongs = [str(wrong)]
     found = next((wrong for wrong in wrongs if "not by name" not in wrong), None)
@@ -630,15 +668,16 @@ def main():
     if options.wrong is not None:
         names = [name for name in WRONG if not options.wrong or any(part in name for part in options.wrong)]
         found = 0
-        for line, well in (find(options, name) for name in names):
-            found += well
-            print(line, flush=True)
+        with concurrent.futures.ThreadPoolExecutor(os.cpu_count()) as pool:
+            for line, well in pool.map(lambda name: find(options, name), names):
+                found += well
+                print(line, flush=True)
         print(f"{found} passed, {len(names) - found} failed")
         sys.exit(found < len(names))
     begun = time.monotonic()
     counts, wrongs = tried(options, options.server, options.tries)
     if not options.only:
-        for directed in DIRECTED.values():
+        for directed in dict.fromkeys(DIRECTED.values()):
             with tempfile.TemporaryDirectory(prefix="damage-", dir=ROOMS) as room:
                 count, more = directed(options.server, pathlib.Path(room))
             counts["directed", "refused"] += count

@@ -31,6 +31,12 @@ import crashes
 MB = 1 << 20
 # Hosts that are wrong on purpose, and the part that is to find each.
 WRONG = {
+    "room of replies kept": ("output", [("channels.rs", "client.keeps_room() && client.is_done(decided)", "client.keeps_room() && decided == 0")]),
+    "segments are holes": ("disk", [("folder.rs", "                file.write_all(&room[..PIECE.min((bytes - place) as usize)])?;\n",
+                                     "                file.set_len(place + room[..PIECE.min((bytes - place) as usize)].len() as u64)?;\n")]),
+    "MSET is passed over": ("disk", [("request.rs", "\"GETSET\", \"MSET\", ", "\"GETSET\", \"GETSET\", ")]),
+    "all that may be undecided": ("held", [("house.rs", "self.options.limits.undecided as usize / 2", "self.options.limits.undecided as usize")]),
+    "nothing is kept for a full disk": ("disk", [("disk.rs", "folder.use_spare(segment).map_err(|_| error)", "Err(error)")]),
     "output unbounded": ("output", [("server.rs", "match client.owes() <= most && ", "match client.owes() <= usize::MAX && ")]),
     "frames where no zeros are": ("disk", [("room.rs", "self.end + bytes <= self.here", "self.end + bytes <= self.segment")]),
     "lock of a file alone": ("lock", [("folder.rs", "folder.try_lock().and_then(|()| file.try_lock())", "file.try_lock()")]),
@@ -269,9 +275,14 @@ def gone(program, room):
         yield "it doesn't spin while it can accept nothing", server.processor() - begun < 0.3 and len(server.said().splitlines()) - lines < 6
         sets = b"".join(bulk("SET", f"key{number}", b"x" * 1000) for number in range(200))
         link.sendall(sets)
-        time.sleep(1.5)
-        resource.prlimit(server.process.pid, resource.RLIMIT_NOFILE, (1024, 1024))
         replies = b""
+        link.settimeout(1.5)
+        with contextlib.suppress(OSError):
+            while len(replies) < 5 * 200:
+                replies += link.recv(MB) or b"?" * 5000
+        yield "what wants a handle waits", len(replies) < 5 * 200
+        resource.prlimit(server.process.pid, resource.RLIMIT_NOFILE, (1024, 1024))
+        link.settimeout(30)
         with contextlib.suppress(OSError):
             while len(replies) < 5 * 200:
                 replies += link.recv(MB) or b"?" * 5000
@@ -337,6 +348,25 @@ def output(program, room):
         yield "a line tells of it", "more than may wait" in server.said()
         yield "others are as they were", server.line(b"STRLEN k\r\n") == b":%d\r\n" % (8 * MB - 1000)
         yield "all of it is let go of", until(lambda: server.status("VmRSS") < base + 80 * 1024)
+    with ended(Server(program, room / "idle")) as server:
+        yield "another start", server.listens() and server.line(bulk("SET", "k", b"x" * (8 * MB - 1000))) == b"+OK\r\n"
+        used, links = server.info("used_memory"), [server.link() for _ in range(12)]
+        for link in links:
+            link.sendall(bulk("MGET", *["k"] * 4))
+            yield "it gets much", is_read(link, 4 * (8 * MB - 1000))
+        yield "who got much and stays keeps no room for it", until(lambda: server.info("used_memory") < used + 4 * MB)
+        links[0].sendall(b"MULTI\r\nINCR n\r\nEXEC\r\nGET n\r\n")
+        yield "and goes on as before", is_read(links[0], len(b"+OK\r\n+QUEUED\r\n*1\r\n:1\r\n$1\r\n1\r\n"))
+
+
+def is_read(link, count):
+    """Whether so many bytes come, or more that end with them."""
+    while count > 0:
+        came = link.recv(MB)
+        if not came:
+            return False
+        count -= len(came)
+    return True
 
 
 def is_over_unread(link):
@@ -539,6 +569,8 @@ def disk(program, room):
         yield "refused by name", until(lambda: told.append(server.line(one, 5)) or told[-1] == no_room)
         yield "and before that done", set(told[:-1]) <= {b"+OK\r\n"}
         yield "reads go on", server.line(b"GET a\r\n") == b"$1\r\n"
+        adds = ["SET", "GETSET", "MSET", "APPEND", "INCRBY", "DECRBY"]
+        yield "each that adds is", [server.line(bulk(word, "b", "1" * 20_000), 5) for word in adds] == [no_room] * len(adds)
         begun = time.monotonic()
         said = server.line(b"SAVE\r\n", 5), server.line(b"BACKUP one\r\n", 5)
         yield "SAVE and BACKUP fail by name at once", all(it.startswith(b"-IOERR no snapshot") for it in said) and time.monotonic() - begun < 4
@@ -553,11 +585,27 @@ def disk(program, room):
         yield "serves reads", server.line(b"GET c\r\n", 5) == b"$1\r\n" and server.line(b"DBSIZE\r\n", 5) == b":1\r\n"
         yield "refuses writes by name", server.line(b"SET d 1\r\n", 5) == no_room
         yield "and snapshots", server.line(b"SAVE\r\n", 5).startswith(b"-IOERR no snapshot")
-        mark.unlink()
-        yield "takes them once there is room", until(lambda: server.line(b"SET d 1\r\n", 5) == b"+OK\r\n")
-        yield "and makes snapshots", server.line(b"SAVE\r\n", 20) == b"+OK\r\n" and server.end() == 0
+        yield "and carries DEL out", server.line(b"DEL c\r\n", 5) == b":1\r\n" and server.line(b"GET c\r\n", 5) == b"$-1\r\n"
+        yield "which stays", server.end(signal.SIGKILL) == -9
     with ended(Server(program, folder, *words, **env)) as server:
-        yield "all is there", server.listens() and server.line(b"MGET c d\r\n") == b"*2\r\n" and server.line(b"DBSIZE\r\n") == b":2\r\n"
+        yield "another start there", server.listens() and server.line(b"DBSIZE\r\n", 5) == b":0\r\n"
+        mark.unlink()
+        yield "takes writes once there is room", until(lambda: server.line(b"SET d 1\r\n", 5) == b"+OK\r\n")
+        yield "and makes snapshots", server.line(b"SAVE\r\n", 20) == b"+OK\r\n" and server.end() == 0
+        mark.touch()
+    for turn in range(3):
+        with ended(Server(program, folder, *words, **env)) as server:
+            yield f"start {turn} on a full disk of which nothing comes", server.listens() and server.line(b"GET d\r\n") == b"$1\r\n" and server.end() == 0
+    with ended(Server(program, folder, *words, **env)) as server:
+        yield "carries FLUSHALL out behind them", server.listens() and server.line(b"FLUSHALL\r\n", 5) == b"+OK\r\n"
+        mark.unlink()
+        yield "and goes on", until(lambda: server.line(b"SET e 1\r\n", 5) == b"+OK\r\n") and server.end() == 0
+    with ended(Server(program, folder, *words, **env)) as server:
+        yield "all is there", server.listens() and server.line(b"MGET d e\r\n") == b"*2\r\n" and server.line(b"DBSIZE\r\n") == b":1\r\n" and server.end() == 0
+    mark.touch()
+    (folder / "spare").write_bytes(b"damage".ljust((folder / "spare").stat().st_size, b"\0"))
+    with ended(Server(program, folder, *words, **env)) as server:
+        yield "what was kept and is damaged isn't used", server.listens() and server.line(b"DEL e\r\n", 5) == no_room and server.line(b"GET e\r\n") == b"$1\r\n"
 
 
 # ---- passwords
@@ -617,9 +665,12 @@ def tried(program, name, room):
 
 
 def finds(name, room):
-    """Whether the part that is to find a wrong host does."""
+    """What the part that is to find a wrong host says of it."""
     part, edits = WRONG[name]
-    return tried(crashes.built(room, edits), part, room)[1]
+    home = room / name.replace(" ", "-")
+    home.mkdir()
+    (home / "shim.so").symlink_to(room / "shim.so")
+    return tried(crashes.built(home, edits), part, home)[1]
 
 
 def main():
@@ -634,11 +685,8 @@ def main():
         room = pathlib.Path(room)
         subprocess.run(["cc", "-O2", "-shared", "-fPIC", "-o", room / "shim.so", HERE / "shim.c", "-ldl", "-lpthread"], check=True)
         if options.wrong is not None:
-            for place, name in enumerate(it for it in WRONG if not options.wrong or any(part in it for part in options.wrong)):
-                home = room / str(place)
-                home.mkdir()
-                (home / "shim.so").symlink_to(room / "shim.so")
-                found = finds(name, home)
+            names = [name for name in WRONG if not options.wrong or any(part in name for part in options.wrong)]
+            for name, found in zip(names, pool.map(lambda name: finds(name, room), names)):
                 print(f"{name}: {found[0] if found else 'NOT FOUND'}", flush=True)
                 passed, failed = passed + bool(found), failed + ([] if found else [name])
         else:

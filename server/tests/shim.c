@@ -8,6 +8,9 @@
  *   SHIM_SLOW     microseconds that each sync takes longer
  *   SHIM_CUT      parts of a thousand of the heads that cut what failed, at which it waits a little, and then the power is lost
  *   SHIM_LIES     syncs answer well and do nothing, which crashes.py is to find
+ *   SHIM_ACTS     a folder: while it has a file `hold-writes` or `hold-syncs` all writes into segments wait, or all their syncs, each of
+ *                 which adds a byte to the file `held` there; where it has a file `fail` the next such sync fails, and where it has a file
+ *                 `short` the next such write is short: that file is gone then
  *
  * A sync that fails is told once to each open file that wrote before, and what it was to bring to the disk is not on it, nor will
  * a later sync bring it there: so Linux does.
@@ -35,14 +38,14 @@
 #define INODES 1024
 
 struct record { uint64_t kind, inode, id, offset, len; };
-static struct { int known, ours, is_folder, inode, seen; uint64_t number; } fds[FDS];
+static struct { int known, ours, is_folder, is_segment, inode, seen; uint64_t number; } fds[FDS];
 static struct { uint64_t number; int failures; } inodes[INODES];
 static pthread_mutex_t lock = PTHREAD_MUTEX_INITIALIZER;
 static int journal = -1, faults[3], over;
 static useconds_t slow;
 static int lies, cuts, has_failed;
 static uint64_t next_id = 1, state;
-static const char *folder, *full;
+static const char *folder, *full, *acts;
 static ssize_t (*real_pwrite)(int, const void *, size_t, off_t), (*real_write)(int, const void *, size_t);
 static int (*real_fdatasync)(int), (*real_fsync)(int), (*real_close)(int), (*real_rename)(const char *, const char *), (*real_unlink)(const char *);
 
@@ -57,6 +60,7 @@ __attribute__((constructor)) static void begin(void) {
     real_unlink = dlsym(RTLD_NEXT, "unlink");
     folder = getenv("SHIM_FOLDER");
     full = getenv("SHIM_FULL");
+    acts = getenv("SHIM_ACTS");
     if ((text = getenv("SHIM_OVER"))) over = atoi(text);
     if ((text = getenv("SHIM_FAULTS"))) sscanf(text, "%d,%d,%d", faults, faults + 1, faults + 2);
     lies = getenv("SHIM_LIES") != NULL;
@@ -73,6 +77,26 @@ __attribute__((constructor)) static void begin(void) {
 static int happens(int of_thousand) {
     state ^= state << 13, state ^= state >> 7, state ^= state << 17;
     return (int)(state % 1000) < of_thousand;
+}
+
+/* Whether something is wished for; where that is once, it is gone then. */
+static int act(const char *name, int is_once) {
+    char path[4096];
+    if (!acts) return 0;
+    snprintf(path, sizeof path, "%s/%s", acts, name);
+    return (is_once ? real_unlink(path) : access(path, F_OK)) == 0;
+}
+
+/* Waits while that is wished for, and tells that it does; the lock is not held. */
+static void hold(const char *name) {
+    char path[4096];
+    int held;
+    if (!act(name, 0)) return;
+    snprintf(path, sizeof path, "%s/held", acts);
+    held = open(path, O_WRONLY | O_CREAT | O_APPEND | O_CLOEXEC, 0600);
+    if (held < 0 || real_write(held, "x", 1) < 0) abort();
+    real_close(held);
+    while (act(name, 0)) usleep(1000);
 }
 
 static int is_full(void) { return full && access(full, F_OK) == 0; }
@@ -99,6 +123,7 @@ static int is_ours(int fd) {
     path[len] = 0;
     if (strncmp(path, folder, strlen(folder)) || (path[strlen(folder)] && path[strlen(folder)] != '/')) return 0;
     fds[fd].is_folder = S_ISDIR(stat.st_mode);
+    fds[fd].is_segment = !strncmp(strrchr(path, '/') + 1, "log-", 4);
     fds[fd].number = stat.st_ino;
     for (i = 0; i < INODES - 1 && inodes[i].number && inodes[i].number != stat.st_ino; i++) {}
     inodes[i].number = stat.st_ino;
@@ -129,9 +154,19 @@ static void note_after(int fd, uint64_t id) {
     pthread_mutex_unlock(&lock);
 }
 
+/* Whether it is one of a segment. */
+static int is_of_segment(int fd) {
+    int is;
+    pthread_mutex_lock(&lock);
+    is = is_ours(fd) && fds[fd].is_segment;
+    pthread_mutex_unlock(&lock);
+    return is;
+}
+
 ssize_t pwrite64(int fd, const void *bytes, size_t len, off_t offset) {
     uint64_t id = 0;
     ssize_t did;
+    if (is_of_segment(fd)) hold("hold-writes");
     pthread_mutex_lock(&lock);
     if (is_ours(fd)) {
         if (has_failed && offset == 0 && len == HEAD && happens(cuts)) {
@@ -145,7 +180,7 @@ ssize_t pwrite64(int fd, const void *bytes, size_t len, off_t offset) {
             errno = is_no_room ? ENOSPC : EIO;
             return -1;
         }
-        if (len > 1 && happens(faults[1])) len = 1 + (size_t)(state % (len - 1));
+        if (len > 1 && (happens(faults[1]) || (fds[fd].is_segment && act("short", 1)))) len = 1 + (size_t)(state % (len - 1));
         id = note_before(fd, len, offset);
     }
     pthread_mutex_unlock(&lock);
@@ -181,7 +216,7 @@ static int sync_by(int fd, int (*real)(int)) {
     ours = is_ours(fd);
     if (ours) {
         is_folder = fds[fd].is_folder;
-        if (!is_folder && happens(faults[2])) {
+        if (!is_folder && (happens(faults[2]) || (fds[fd].is_segment && act("fail", 1)))) {
             inodes[fds[fd].inode].failures++;
             has_failed = 1;
             note('F', fds[fd].number, 0, 0, "", 0);
@@ -199,6 +234,7 @@ static int sync_by(int fd, int (*real)(int)) {
     did = real(fd);
     if (!ours) return did;
     if (slow) usleep(slow);
+    if (is_of_segment(fd)) hold("hold-syncs");
     pthread_mutex_lock(&lock);
     if (fds[fd].seen < inodes[fds[fd].inode].failures) { /* it failed meanwhile */
         fds[fd].seen = inodes[fds[fd].inode].failures;

@@ -67,6 +67,14 @@ class Server:
         return self.process.wait(60)
 
 
+def until(holds):
+    """Whether something becomes so in a while."""
+    end = time.monotonic() + 60
+    while not holds() and time.monotonic() < end:
+        time.sleep(0.05)
+    return holds()
+
+
 def tries(program, room):
     """What is tried, and whether it is so."""
     folder = room / "store"
@@ -80,7 +88,7 @@ def tries(program, room):
     sets = b"".join(b"SET key%d %s\r\n" % (number % 50, b"x" * 1000) for number in range(1000))
     yield "segments that are full", first.ask(sets, b"+OK\r\n" * 1000)
     yield "a snapshot by size", first.says("snapshot up to segment")
-    yield "what it stands for is removed", len(list(folder.glob("log-*"))) < 14
+    yield "what it stands for is removed", until(lambda: len(list(folder.glob("log-*"))) < 14)
     yield "a snapshot on command", first.ask(b"SAVE\r\n", b"+OK\r\n") and len(list(folder.glob("snapshot-*"))) == 1
     yield from backup(program, first, folder)
     yield from hosts(first)

@@ -243,6 +243,9 @@ SAID = {
         "wish_of": "the wish that a job is, as contracts see it",
     },
     "sk_run": {
+        "EndsPlayed": "steps are played as the words want it: strictly or not",
+        "EndsWorld": "the events of a world are, likewise",
+        "Shown": "what is wanted beside an answer is told: nothing, or its lines and its instruction",
         "Answers": "the lines of a talk are answered in turn, and this text is their answers",
         "foreseen": "the place of the trace where an event goes, and what its step would touch",
         "left_by": "the record that a trace leaves",

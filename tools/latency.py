@@ -3,9 +3,9 @@
 
     tools/latency.py [--program PATH] [--round-trips 0,10,100] [--load NAME | FILE] [--write | --check]
 
-PATH is the program `speculate`: `build/speculate` where none is given, which `tools/build.py` builds in some two minutes where
-it does not stand. A load is one of those below, or a scenario of a world, whose scripts run from top to bottom. A
-scheduler with a clock decides when each process gets a turn, when the server answers a request and when its reply is
+PATH is the program `speculate`: `build/speculate` where none is given, which `tools/build.py` builds where it does
+not stand. A load is one of those below, or a scenario of a world, whose scripts run from top to bottom, and in which
+no other client writes: what else a file has is refused by its name. A scheduler with a clock decides when each process gets a turn, when the server answers a request and when its reply is
 given; what each of these does is what `speculate play` answers, so which request is made, which guess fails and what
 is done again comes from the desk and the server themselves. Time is counted in turns: a turn takes 1, and the reply to a
 request is given one round trip after it was made.
@@ -63,6 +63,9 @@ def load_of(path):
         raise told.Fault(f"{path}: a script with {aside!r} does not run from top to bottom")
     words = [told.words_of(line) for line in scenario.head]
     files = {kind: [(it[1], int(it[2]), it[3]) for it in words if it[:1] == [kind]] for kind in ("copy", "remote")}
+    edit = next((line for line in scenario.lines if told.words_of(line)[0] == "edit"), None)
+    if edit:
+        raise told.Fault(f"{path}: {edit!r} is another client's, whose writes have no place on this clock")
     load = Load(scenario.about or os.path.basename(path), lines, files["copy"], files["remote"])
     load.head = scenario.head[:-1]
     return load

@@ -1,14 +1,15 @@
 #!/usr/bin/env python3
 """Prints what a reader of the headline has to believe: the definitions that the public clauses of `Kernel` reach.
 
-    tools/reading.py            the list as docs/HEADLINE.md has it
-    tools/reading.py --write    puts it there
+    tools/reading.py            the list with the names of all definitions
+    tools/reading.py --write    puts it into docs/HEADLINE.md, of the table of instructions lines alone
 
 The heart comes first, then the kernel, then all that the plain kernel does at a step. In each part a file comes behind
 those that it cites. Lengths are lines, with the comments above a definition; types of the code are listed with their file.
 """
 import re
 import sys
+from itertools import groupby
 sys.dont_write_bytecode = True
 from sources import Index, ROOT, crates, depth, imports_of, words_of
 
@@ -130,22 +131,33 @@ def believe(found, index):
     return "\n".join(lines)
 
 
-def page(found, index):
+def by_crate(files):
+    """How many lines of each crate are among these, in the order in which they are read."""
+    told = ((crate, [sum(it.length for it in held) for _, held in its]) for crate, its in groupby(files.items(), key=lambda it: it[1][0].crate))
+    return ", ".join(f"{sum(lengths)} of `{crate}` in {len(lengths)} files" for crate, lengths in told) + "."
+
+
+def page(found, index, is_whole):
+    """The list: all names of definitions, or, as on the page, lines alone of the table of instructions, which is skimmed."""
     named = [it for _, names in PARTS for it in names or []]
     lines = [BEGIN, ""]
     total = sum(it.length for it in found)
     lines += [f"In all {len(found)} definitions and types, {total} lines, in {len({it.file for it in found})} files.", ""]
     for title, names in PARTS:
         its = [it for it in found if (it.crate in names if names else it.crate not in named)]
-        lines += [f"**{title}** ({len(its)}, {sum(it.length for it in its)} lines).", "", "| file | lines | definitions |", "|---|---|---|"]
-        lines += [row(*it) for it in files_in_order(its, index).items()] + [""]
+        lines += [f"**{title}** ({len(its)}, {sum(it.length for it in its)} lines).", ""]
+        files = files_in_order(its, index)
+        if names or is_whole:
+            lines += ["| file | lines | definitions |", "|---|---|---|"] + [row(*it) for it in files.items()] + [""]
+        else:
+            lines += [by_crate(files), ""]
     return "\n".join(lines + [END])
 
 
 def with_list(found, index):
     """The text of docs/HEADLINE.md with the list in its place."""
     head, rest = PAGE.read_text().split(BEGIN)
-    return head + page(found, index) + rest.split(END)[1]
+    return head + page(found, index, False) + rest.split(END)[1]
 
 
 def faults(found, index):
@@ -160,7 +172,7 @@ def main():
     if sys.argv[1:] == ["--write"]:
         PAGE.write_text(with_list(found, index))
     else:
-        print(page(found, index))
+        print(page(found, index, True))
 
 
 if __name__ == "__main__":

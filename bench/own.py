@@ -117,7 +117,7 @@ def twice(program, left, right):
 def main(program, costs=None, library=None):
     """All rows."""
     rows = Rows()
-    rows.row(alone(program, "write"), 450, "a step, no guess open")
+    rows.row(alone(program, "write"), 400, "a step, no guess open")
     rows.row(under_own(program, "write"), 600, "a step under one own guess, with its share of the decision")
     if costs:
         rows.row(beside(costs, 62, 100), 500, "a step beside 62 guesses of others")
@@ -126,9 +126,9 @@ def main(program, costs=None, library=None):
     rows.row(guess_with(program, "wrong"), 1_300, "a guess with its step and its failure")
     for ends, name in (("right", "commit"), ("wrong", "failure")):
         ratio = decision(program, ends, 100_000) / decision(program, ends, 0)
-        rows.row(ratio, 1.05, f"a {name} beside 100,000 keys that don't rest on it / beside none")
+        rows.row(ratio, 1.02, f"a {name} beside 100,000 keys that don't rest on it / beside none")
     if costs:
-        for guesses, limit, name in ((False, 1.1, "a step"), (True, 1.5, "a guess with its decision")):
+        for guesses, limit, name in ((False, 1.1, "a step"), (True, 1.1, "a guess with its decision")):
             ratio = beside(costs, 1_000, 1_100, guesses) / beside(costs, 0, 1_100, guesses)
             rows.row(ratio, limit, f"{name} beside 1,000 open guesses of others / beside none")
     rows.row(a_key(program), 60, "bytes of a present key beyond key and value, nothing open")

@@ -4,6 +4,7 @@ The program is run once with `--steps` on the whole scenario, and once on each b
 tags, reads, writes and outputs are its own. What is looked up here in the scenario is what no report repeats: the
 instruction at a place, the script of a process and its terminal.
 """
+import itertools
 import os
 import re
 import subprocess
@@ -22,8 +23,8 @@ class Fault(Exception):
 
 
 def words_of(line):
-    found = WORD.findall(line.rstrip("\r"))
-    return [] if found and found[0].startswith("#") else found
+    """The words of a line, up to its comment."""
+    return list(itertools.takewhile(lambda word: not word.startswith("#"), WORD.findall(line.rstrip("\r"))))
 
 
 def plain(name):

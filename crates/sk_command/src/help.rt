@@ -93,8 +93,8 @@ In these lines:
   V        a version, a number from 0 on; G a guess, a number from 1 on
   ENTITY   as the report has it: proc PID, sig PID, exit PID, obj M:N,
            link M:N NAME or copy NAME
-`speculate help instructions` prints the instructions of scripts. A line that
-begins with # is a comment.
+`speculate help instructions` prints the instructions of scripts. A word that
+begins with # begins a comment, up to the end of its line.
 
 Status: 0 done; 1 a fault in the file; 2 a fault in the words;
 3 want of memory, a read or write that failed, or a desk that

@@ -1,5 +1,5 @@
 -- What the proofs of this crate cite from outside of them, passed on from one place. Declares nothing.
-pub use Rattle.std.proofs.Common.{Some, Bool, subst, Ok, ◌∷◌, Err, slice_index, ◌≡◌}
+pub use Rattle.std.proofs.Common.{Some, Bool, subst, Ok, ◌∷◌, Err, ◌≡◌}
 pub use Rattle.std.proofs.Common.{◌+◌, Option, List, bytes_eq, ◌++◌, length, ◌||◌, ℕ, true, drop, None}
 pub use Rattle.std.proofs.Common.{if◌then◌else◌, false, refl, codes, Result, [], ◌∙◌, nat_lt, ◌==◌, sym}
 pub use Rattle.std.proofs.lemmas.Slice.Eq.{bytes_eq-Decides}
@@ -8,7 +8,7 @@ pub use Rattle.std.specs.List.{list_any}
 pub use Rattle.std.specs.Str.Lines.{lines}
 pub use Rattle.sk_script.specs.Forms.{brings_content, is_said, fits}
 pub use Rattle.sk_faults.specs.Found.{IsToldIn, wrong_at, is_wide, count_at, second, next_index, fault_at, IsOther}
-pub use Rattle.sk_faults.specs.Found.{or_else, open_at, unknown_input, found_of, kind_of, operand_fault, input_word}
+pub use Rattle.sk_faults.specs.Found.{or_else, open_at, unknown_input, kind_of, operand_fault, input_word}
 pub use Rattle.sk_faults.specs.Found.{Agrees, third, found_behind}
 pub use Rattle.sk_faults.specs.Parts.{line_at}
 pub use Rattle.sk_faults.specs.Tables.{input_forms, world_forms, heading_forms, other_forms}

@@ -1,9 +1,9 @@
 -- What is found in a line of a script is what its reading tells: a label, or an instruction.
 use Rattle.sk_faults.proofs.Names.{◌≡◌, ℕ, List, [], ◌∷◌, ◌++◌, Bool, true, false, ◌==◌, Some, None, Option, Result, Ok}
-use Rattle.sk_faults.proofs.Names.{Err, length, slice_index, if◌then◌else◌, none_of, FaultKind, ◌>>=◌, INSTRUCTIONS}
+use Rattle.sk_faults.proofs.Names.{Err, length, if◌then◌else◌, none_of, FaultKind, ◌>>=◌, INSTRUCTIONS}
 use Rattle.sk_faults.proofs.Names.{Instruction, place_of, instruction, ScriptState, label_in, declares_or_does, line_of}
 use Rattle.sk_faults.proofs.Names.{undeclared, room_for, Form, is_end_of, instruction_forms, is_some, operand_fault}
-use Rattle.sk_faults.proofs.Names.{found_of, Agrees, IsToldIn}
+use Rattle.sk_faults.proofs.Names.{Agrees, IsToldIn}
 use Rattle.sk_words.specs.declared.fault.FaultKind.TheVariants as kinds
 use Rattle.sk_script.specs.Scripting as code
 use Rattle.sk_script.specs.Scripting.{added}
@@ -42,8 +42,4 @@ labelled s None w ws =
 pub script_told : (s : ScriptState) (ws : List (List ℕ)) → is_end_of ws ≡ false → IsToldIn parts.Script ws (added s (line_of ws))
 unfolding added
 script_told s [] e = tt
-script_told s (w ∷ ws) e =
-    elim (slice_index w 0 == 35) as (λ (t : Bool). Agrees ws (added s (if t then code.Ignored else declares_or_does (label_in w) w ws)) (found_of parts.Script (if t then None else Some (w, ws)))) [
-      | true ↦ tt
-      | false ↦ rw e (labelled s (label_in w) w ws)
-    ]
+script_told s (w ∷ ws) e = rw e (labelled s (label_in w) w ws)

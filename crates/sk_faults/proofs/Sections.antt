@@ -1,12 +1,12 @@
 -- What is found in a line of a section without inputs, or in a declaration, is what its reading tells.
-use Rattle.sk_faults.proofs.Names.{ℕ, List, [], ◌∷◌, Bool, true, false, ◌==◌, Some, None, Option, Result, Ok, Err}
-use Rattle.sk_faults.proofs.Names.{slice_index, if◌then◌else◌, refl, nat_lt, length, FaultKind, ◌>>=◌, literal, pid}
+use Rattle.sk_faults.proofs.Names.{ℕ, List, [], ◌∷◌, Bool, true, false, Some, None, Option, Result, Ok, Err}
+use Rattle.sk_faults.proofs.Names.{if◌then◌else◌, refl, nat_lt, length, FaultKind, ◌>>=◌, literal, pid}
 use Rattle.sk_faults.proofs.Names.{name, natural, index, short, one_of, two_of, three_of, unknown, first_of}
 use Rattle.sk_faults.proofs.Names.{BOOT_OBJECTS, has_script, has_object, has_copy, has_process, with_object, with_copy}
 use Rattle.sk_faults.proofs.Names.{with_process, ObjectKind, File, Dir, Pipe, Declared, object, content_of, copy}
 use Rattle.sk_faults.proofs.Names.{has_remote, with_remote, remote, process, once, declaration_rules, new_name}
 use Rattle.sk_faults.proofs.Names.{new_script, line_rules, declared_next, line_said, world_rules, Form, Found, forms_in}
-use Rattle.sk_faults.proofs.Names.{world_forms, heading_forms, other_forms, operand_fault, found_behind, found_of}
+use Rattle.sk_faults.proofs.Names.{world_forms, heading_forms, other_forms, operand_fault, found_behind}
 use Rattle.sk_faults.proofs.Names.{Agrees, IsToldIn}
 use Rattle.sk_words.specs.declared.fault.FaultKind.TheVariants as kinds
 use Rattle.sk_scenario.specs.KeptEvent.events
@@ -151,8 +151,4 @@ declared_agrees d word ws =
 
 pub declaration_told : (d : Declared) (ws : List (List ℕ)) → IsToldIn parts.Declarations ws (line_said d (first_of ws))
 declaration_told d [] = tt
-declaration_told d (w ∷ ws) =
-    elim (slice_index w 0 == 35) as (λ (t : Bool). Agrees ws (line_said d (if t then None else Some (w, ws))) (found_of parts.Declarations (if t then None else Some (w, ws)))) [
-      | true ↦ tt
-      | false ↦ declared_agrees d w ws
-    ]
+declaration_told d (w ∷ ws) = declared_agrees d w ws

@@ -131,12 +131,6 @@ fn write_surplus<W: fmt::Write>(
     f: &mut fmt::Formatter<W>,
 ) -> fmt::Result {
     let first = Shown(first);
-    if let [b'#', ..] = word {
-        return write!(
-            f,
-            "a comment behind {first} (expected on a line of its own)"
-        );
-    }
     let word = Shown(word);
     write!(
         f,

@@ -17,7 +17,7 @@ use Rattle.sk_questions.specs.Named.{entity_of}
 -- ---- printed numbers and processes have no colon, and no byte that ends a word
 
 record Plain (w : List ℕ) : Type 0 where
-  bare : list_all (ltb 34) w ≡ true
+  bare : list_all (ltb 35) w ≡ true
   no_colon : list_any (λ b. eqb b 58) w ≡ false
 
 plain_digits : (ds : List ℕ) → all_ascii_digits ds ≡ true → Plain ds
@@ -26,7 +26,7 @@ plain_digits (d ∷ ds) h =
     let t = tells_all_ascii_digits.parts d ds h in
     let rest = plain_digits ds t.1 in
     record {
-      bare = rw (lt-ltb 34 d (omega (arith, t.0.0)), rest.bare) refl;
+      bare = rw (lt-ltb 35 d (omega (arith, t.0.0)), rest.bare) refl;
       no_colon = rw (ne_eqb d 58 (λ e. omega (arith, t.0, e)), rest.no_colon) refl;
     }
 
@@ -35,7 +35,7 @@ plain_number n lt = plain_digits (decimal n) (digits_decimal own n lt)
 
 plain_joined : (v w : List ℕ) → Plain v → Plain w → Plain (v ++ 46 ∷ w)
 plain_joined v w h k = record {
-  bare = list_all-append (ltb 34) v (46 ∷ w) ∙ rw (h.bare, k.bare) refl;
+  bare = list_all-append (ltb 35) v (46 ∷ w) ∙ rw (h.bare, k.bare) refl;
   no_colon = list_any-append (λ b. eqb b 58) v (46 ∷ w) ∙ rw (h.no_colon, k.no_colon) refl;
 }
 
@@ -63,9 +63,9 @@ plain_maker (Some p) h = plain_process p h.3
 
 -- ---- an object is read again, and is a word
 
-bare_with : (v w : List ℕ) → list_all (ltb 34) v ≡ true → list_all (ltb 34) w ≡ true → is_bare_word (v ++ 58 ∷ w) ≡ true
+bare_with : (v w : List ℕ) → list_all (ltb 35) v ≡ true → list_all (ltb 35) w ≡ true → is_bare_word (v ++ 58 ∷ w) ≡ true
 bare_with [] w h k = rw k refl
-bare_with (b ∷ bs) w h k = list_all-append (ltb 34) (b ∷ bs) (58 ∷ w) ∙ rw (h, k) refl
+bare_with (b ∷ bs) w h k = list_all-append (ltb 35) (b ∷ bs) (58 ∷ w) ∙ rw (h, k) refl
 
 object_is_word : (o : ObjId) → IsObject o → IsWord (object_word o)
 object_is_word o h = bare_word (object_word o) (bare_with (maker_word o.maker) (decimal o.count) (plain_maker o.maker h.0).bare (plain_number o.count (omega (arith, h.1))).bare)
@@ -104,22 +104,22 @@ object_again o h =
 
 -- ---- a name is read again, and is a word
 
-byte_is_bare : (b : ℕ) → is_name_byte b ≡ true → ltb 34 b ≡ true
+byte_is_bare : (b : ℕ) → is_name_byte b ≡ true → ltb 35 b ≡ true
 byte_is_bare b h =
-    elim (ltb 34 b) as (λ t. ltb 34 b ≡ t → t ≡ true) [
+    elim (ltb 35 b) as (λ t. ltb 35 b ≡ t → t ≡ true) [
       | true ↦ λ e. refl
       | false ↦ λ e.
-          let low = ltb-false 34 b e in
+          let low = ltb-false 35 b e in
           let none : is_name_byte b ≡ false
           = rw (lt-leb 97 b (omega arith), lt-leb 65 b (omega arith), lt-leb 48 b (omega arith), ne_eqb b 46 (λ t. omega arith), ne_eqb b 95 (λ t. omega arith), ne_eqb b 45 (λ t. omega arith), ne_eqb b 47 (λ t. omega arith)) refl in
           absurd (let t : false ≡ true = sym none ∙ h in cc)
     ] refl
 
-bytes_are_bare : (w : List ℕ) → list_all is_name_byte w ≡ true → list_all (ltb 34) w ≡ true
+bytes_are_bare : (w : List ℕ) → list_all is_name_byte w ≡ true → list_all (ltb 35) w ≡ true
 bytes_are_bare [] h = refl
 bytes_are_bare (b ∷ bs) h = let p = and_parts (is_name_byte b) (list_all is_name_byte bs) h in rw (byte_is_bare b p.0, bytes_are_bare bs p.1) refl
 
-some_bare : (w : List ℕ) → 0 < length w → list_all (ltb 34) w ≡ true → is_bare_word w ≡ true
+some_bare : (w : List ℕ) → 0 < length w → list_all (ltb 35) w ≡ true → is_bare_word w ≡ true
 some_bare [] some h = absurd (omega arith)
 some_bare (b ∷ bs) some h = h
 

@@ -58,7 +58,7 @@ begins_reply text rest is = begins world_event (codes "reply" ∷ []) text rest 
 -- ---- the ends of lines
 
 digit_word : (d : ℕ) → 48 ≤ d → IsWord (d ∷ [])
-digit_word d low = bare_word (d ∷ []) (rw (lt-ltb 34 d (omega (arith, low))) refl)
+digit_word d low = bare_word (d ∷ []) (rw (lt-ltb 35 d (omega (arith, low))) refl)
 
 pub one_said : {A : Type 0} (read : List ℕ → Result A FaultKind) (w : List ℕ) (x : A) → IsWord w → read w ≡ Ok x → one_of read (w ∷ []) ≡ Ok x
 unfolding one_of

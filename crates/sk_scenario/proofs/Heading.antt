@@ -1,6 +1,6 @@
 -- A line that begins a script has `script` as its first word: from the table of first words.
-use Rattle.sk_scenario.proofs.Names.{◌≡◌, ℕ, List, [], ◌∷◌, Bool, true, false, Some, None, Result, Ok, Err, refl, ap}
-use Rattle.sk_scenario.proofs.Names.{◌∙◌, if◌then◌else◌, bytes_eq, slice_index, codes, ◌==◌, FaultKind, ◌>>=◌, Rule}
+use Rattle.sk_scenario.proofs.Names.{◌≡◌, ℕ, List, [], ◌∷◌, Bool, true, false, Result, Ok, Err, refl, ap}
+use Rattle.sk_scenario.proofs.Names.{◌∙◌, if◌then◌else◌, bytes_eq, codes, FaultKind, ◌>>=◌, Rule}
 use Rattle.sk_scenario.proofs.Names.{rule_in, words, first_of, none_of, Heading, Said, Declared, declares}
 use Rattle.sk_scenario.proofs.Names.{declared_next, heading_rule, line_said, new_script, begins_script}
 use Rattle.sk_scenario.proofs.Names.{begins_script_of}
@@ -65,11 +65,7 @@ word_begins d word ws x name =
 
 first_begins : (d : Declared) (ws : List (List ℕ)) (x : Said × Declared) (name : List ℕ) → line_said d (first_of ws) ≡ Ok x → x.0 ≡ says.Script name → begins_script_of ws ≡ true
 first_begins d [] x name e is = absurd (declared_is_other name (let same : (says.Declared, d) ≡ x = cc in ap (λ (y : Said × Declared). y.0) same ∙ is))
-first_begins d (w ∷ ws) x name e is =
-    elim (slice_index w 0 == 35) as (λ (b : Bool). line_said d (if b then None else Some (w, ws)) ≡ Ok x → x.0 ≡ says.Script name → begins_script_of (w ∷ ws) ≡ true) [
-      | true ↦ λ e is. absurd (declared_is_other name (let same : (says.Declared, d) ≡ x = cc in ap (λ (y : Said × Declared). y.0) same ∙ is))
-      | false ↦ λ e is. word_begins d w ws x name e is
-    ] e is
+first_begins d (w ∷ ws) x name e is = word_begins d w ws x name e is
 
 pub line_begins : (d : Declared) (line : List ℕ) (x : Said × Declared) (name : List ℕ) → line_said d (first_of (words line)) ≡ Ok x → x.0 ≡ says.Script name → begins_script line ≡ true
 line_begins d line x name e is = first_begins d (words line) x name e is

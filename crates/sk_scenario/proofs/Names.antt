@@ -6,7 +6,7 @@ pub use Rattle.std.proofs.lemmas.Bool.{le-leb, lt-ltb, ltb-false, ltb-true}
 pub use Rattle.std.proofs.lemmas.List.{append_assoc, length-append, append-nil}
 pub use Rattle.std.proofs.lemmas.Result.{err_from_is_err_and}
 pub use Rattle.std.specs.List.{list_all, AllByRecursion}
-pub use Rattle.std.specs.Prelude.{bytes_eq, ◌⊎◌, MatchOption, slice_index, if◌then◌else◌, codes, ◌==◌}
+pub use Rattle.std.specs.Prelude.{bytes_eq, ◌⊎◌, MatchOption, if◌then◌else◌, codes, ◌==◌}
 pub use Rattle.std.proofs.lemmas.Str.{digit_value_digit}
 pub use Rattle.std.proofs.lemmas.Str.Parse.{tells_all_ascii_digits}
 pub use Rattle.std.specs.Char.{digit_value}

@@ -42,9 +42,9 @@ one_more text rest tail n d r is low high = record {
   value = value_more r.digits 0 d ∙ ap (λ (k : ℕ). digits_value_after 10 k (d ∷ [])) r.value ∙ said d n low high;
 }
 
-bare : (ds : List ℕ) → all_ascii_digits ds ≡ true → list_all (ltb 34) ds ≡ true
+bare : (ds : List ℕ) → all_ascii_digits ds ≡ true → list_all (ltb 35) ds ≡ true
 bare [] h = refl
-bare (d ∷ ds) h = let t = tells_all_ascii_digits.parts d ds h in rw (lt-ltb 34 d (omega (arith, t.0.0)), bare ds t.1) refl
+bare (d ∷ ds) h = let t = tells_all_ascii_digits.parts d ds h in rw (lt-ltb 35 d (omega (arith, t.0.0)), bare ds t.1) refl
 
 digits_word : (ds : List ℕ) → all_ascii_digits ds ≡ true → 0 < length ds → IsWord ds
 digits_word [] h some = absurd (omega (arith, some))

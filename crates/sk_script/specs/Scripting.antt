@@ -21,10 +21,10 @@ abbrev pub declares_or_does : Option (List ℕ) → List ℕ → List (List ℕ)
 declares_or_does (Some name) word ws = Declares name ws
 declares_or_does None word ws = Does word ws
 
--- a line without words, or whose first word begins with #, is ignored
+-- a line without words is ignored
 abbrev pub line_of : List (List ℕ) → Line
 line_of [] = Ignored
-line_of (w ∷ ws) = if slice_index w 0 == 35 then Ignored else declares_or_does (label_in w) w ws
+line_of (w ∷ ws) = declares_or_does (label_in w) w ws
 
 -- ---- the labels of all lines
 

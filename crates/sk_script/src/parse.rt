@@ -42,9 +42,6 @@ fn line_of<'a>(line: &'a [u8]) -> Line<'a>
     let Some(first) = words.next() else {
         return Line::Ignored;
     };
-    if let [b'#', ..] = first {
-        return Line::Ignored;
-    }
     match label_in(first) {
         Some(label) => Line::Declares(label, words),
         None => Line::Does(first, words),

@@ -8,7 +8,7 @@ use Rattle.sk_words.proofs.WordsAgain.{bare_word}
 
 -- what is known of decimal digits
 record Digits (ds : List ℕ) : Type 0 where
-  bare : list_all (ltb 34) ds ≡ true
+  bare : list_all (ltb 35) ds ≡ true
   no_dot : list_any (λ b. eqb b 46) ds ≡ false
 
 decimal_digits : (ds : List ℕ) → all_ascii_digits ds ≡ true → Digits ds
@@ -17,7 +17,7 @@ decimal_digits (d ∷ ds) h =
     let t = tells_all_ascii_digits.parts d ds h in
     let rest = decimal_digits ds t.1 in
     record {
-      bare = rw (lt-ltb 34 d (omega (arith, t.0.0)), rest.bare) refl;
+      bare = rw (lt-ltb 35 d (omega (arith, t.0.0)), rest.bare) refl;
       no_dot = rw (ne_eqb d 46 (λ e. omega (arith, t.0.0)), rest.no_dot) refl;
     }
 
@@ -32,7 +32,7 @@ pub no_dot : (n : ℕ) → n < 2 ^ 64 → list_any (λ b. eqb b 46) (decimal n) 
 no_dot n lt = (decimal_digits (decimal n) (are_digits n lt)).no_dot
 
 -- digits make a bare word where there are any
-some_bare : (w : List ℕ) → 0 < length w → list_all (ltb 34) w ≡ true → is_bare_word w ≡ true
+some_bare : (w : List ℕ) → 0 < length w → list_all (ltb 35) w ≡ true → is_bare_word w ≡ true
 some_bare [] some h = absurd (omega arith)
 some_bare (b ∷ bs) some h = h
 

@@ -56,14 +56,14 @@ four a b c d h k l m =
 
 -- ---- a path has so many
 
-all_bare : (w : List ℕ) → is_bare_word w ≡ true → list_all (ltb 34) w ≡ true
+all_bare : (w : List ℕ) → is_bare_word w ≡ true → list_all (ltb 35) w ≡ true
 all_bare [] h = refl
 all_bare (b ∷ bs) h = h
 
 dotted_bare : (v w : List ℕ) → is_bare_word v ≡ true → is_bare_word w ≡ true → is_bare_word (v ++ 46 ∷ w) ≡ true
 dotted_bare [] w h k = absurd cc
 dotted_bare (b ∷ bs) w h k =
-    list_all-append (ltb 34) (b ∷ bs) (46 ∷ w) ∙ rw (h, all_bare w k) refl
+    list_all-append (ltb 35) (b ∷ bs) (46 ∷ w) ∙ rw (h, all_bare w k) refl
 
 -- what is known of a printed path
 record Path (p : ℕ) : Type 0 where

@@ -15,7 +15,11 @@ between_cases : (b : ℕ) (bs : List ℕ) → (b == 34) ≡ false → list_any i
 between_cases b bs plain between word =
     elim (is_blank b) as (λ o. is_blank b ≡ o → list_any is_open (words_from Between (b ∷ bs)) ≡ false) [
       | true ↦ λ e. rw e between
-      | false ↦ λ e. rw (e, plain) (onto_plain b (words_from Word bs) plain word)
+      | false ↦ λ e.
+          elim (b == 35) as (λ o. (b == 35) ≡ o → list_any is_open (words_from Between (b ∷ bs)) ≡ false) [
+            | true ↦ λ f. rw (e, f) refl
+            | false ↦ λ f. rw (e, f, plain) (onto_plain b (words_from Word bs) plain word)
+          ] refl
     ] refl
 
 word_cases : (b : ℕ) (bs : List ℕ) → (b == 34) ≡ false → list_any is_open (words_from Between bs) ≡ false → list_any is_open (words_from Word bs) ≡ false → list_any is_open (words_from Word (b ∷ bs)) ≡ false

@@ -6,41 +6,43 @@ use Rattle.sk_words.proofs.Names.{IsWord, IsLine, is_bare_word, ends_line}
 
 -- ---- bare words
 
--- a byte above 34
+-- a byte above 35
 record Bare (b : ℕ) : Type 0 where
   blank : is_blank b ≡ false
   quote : eqb b 34 ≡ false
+  comment : eqb b 35 ≡ false
   end : ends_line b ≡ false
 
-bare : (b : ℕ) → ltb 34 b ≡ true → Bare b
+bare : (b : ℕ) → ltb 35 b ≡ true → Bare b
 bare b h =
-    let low = ltb-true 34 b h in
+    let low = ltb-true 35 b h in
     record {
       blank = rw (ne_eqb b 32 (λ e. omega arith), ne_eqb b 9 (λ e. omega arith)) refl;
       quote = ne_eqb b 34 (λ e. omega arith);
+      comment = ne_eqb b 35 (λ e. omega arith);
       end = rw (ne_eqb b 10 (λ e. omega arith), ne_eqb b 13 (λ e. omega arith)) refl;
     }
 
-in_word : (w rest : List ℕ) → list_all (ltb 34) w ≡ true → words_from Word (w ++ 32 ∷ rest) ≡ w ∷ words rest
+in_word : (w rest : List ℕ) → list_all (ltb 35) w ≡ true → words_from Word (w ++ 32 ∷ rest) ≡ w ∷ words rest
 in_word [] rest h = refl
-in_word (b ∷ bs) rest h = let p = and_parts (ltb 34 b) (list_all (ltb 34) bs) h in rw ((bare b p.0).blank, in_word bs rest p.1) refl
+in_word (b ∷ bs) rest h = let p = and_parts (ltb 35 b) (list_all (ltb 35) bs) h in rw ((bare b p.0).blank, in_word bs rest p.1) refl
 
-last_word : (w : List ℕ) → list_all (ltb 34) w ≡ true → words_from Word w ≡ w ∷ []
+last_word : (w : List ℕ) → list_all (ltb 35) w ≡ true → words_from Word w ≡ w ∷ []
 last_word [] h = refl
-last_word (b ∷ bs) h = let p = and_parts (ltb 34 b) (list_all (ltb 34) bs) h in rw ((bare b p.0).blank, last_word bs p.1) refl
+last_word (b ∷ bs) h = let p = and_parts (ltb 35 b) (list_all (ltb 35) bs) h in rw ((bare b p.0).blank, last_word bs p.1) refl
 
-bare_in_line : (w : List ℕ) → list_all (ltb 34) w ≡ true → list_any ends_line w ≡ false
+bare_in_line : (w : List ℕ) → list_all (ltb 35) w ≡ true → list_any ends_line w ≡ false
 bare_in_line [] h = refl
-bare_in_line (b ∷ bs) h = let p = and_parts (ltb 34 b) (list_all (ltb 34) bs) h in rw ((bare b p.0).end, bare_in_line bs p.1) refl
+bare_in_line (b ∷ bs) h = let p = and_parts (ltb 35 b) (list_all (ltb 35) bs) h in rw ((bare b p.0).end, bare_in_line bs p.1) refl
 
 pub bare_word : (w : List ℕ) → is_bare_word w ≡ true → IsWord w
 bare_word [] h = absurd cc
 bare_word (b ∷ bs) h =
-    let p = and_parts (ltb 34 b) (list_all (ltb 34) bs) h in
+    let p = and_parts (ltb 35 b) (list_all (ltb 35) bs) h in
     let first = bare b p.0 in
     record {
-      before_others = λ rest. rw (first.blank, first.quote, in_word bs rest p.1) refl;
-      last = rw (first.blank, first.quote, last_word bs p.1) refl;
+      before_others = λ rest. rw (first.blank, first.comment, first.quote, in_word bs rest p.1) refl;
+      last = rw (first.blank, first.comment, first.quote, last_word bs p.1) refl;
       closed = rw first.quote refl;
       in_line = rw (first.end, bare_in_line bs p.1) refl;
     }

@@ -19,10 +19,10 @@ pub record IsWord (word : List ℕ) : Type 0 where
   pub closed : is_open word ≡ false
   pub in_line : list_any ends_line word ≡ false
 
--- one byte or more, all of them above blanks, line ends and quotes: a word for sure
+-- one byte or more, all of them above blanks, line ends, quotes and #: a word for sure
 abbrev pub is_bare_word : List ℕ → Bool
 is_bare_word [] = false
-is_bare_word (b ∷ bs) = list_all (nat_lt 34) (b ∷ bs)
+is_bare_word (b ∷ bs) = list_all (nat_lt 35) (b ∷ bs)
 
 -- A line: no LF is in it, and no CR at its end.
 pub record IsLine (line : List ℕ) : Type 0 where

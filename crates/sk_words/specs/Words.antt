@@ -1,5 +1,5 @@
 -- How a line is cut into words.
-use Rattle.std.specs.Prelude.{ℕ, Bool, true, false, List, [], ◌∷◌, ◌==◌, ◌||◌, if◌then◌else◌, Option, Some, None, slice_index}
+use Rattle.std.specs.Prelude.{ℕ, Bool, true, false, List, [], ◌∷◌, ◌==◌, ◌||◌, if◌then◌else◌, Option, Some, None}
 use Rattle.std.specs.List.{onto_first}
 use Rattle.sk_words.specs.declared.line.Place.{Place}
 use Rattle.sk_words.specs.declared.line.Place.TheVariants.{Between, Word, Literal, Escape}
@@ -10,10 +10,13 @@ is_blank b = b == 32 || b == 9
 
 -- The words of a line, or of its rest behind a place in a word, the first then being the rest of that word.
 -- A literal begins with a quote that begins its word, and a blank within it parts no words. Behind a backslash a
--- quote doesn't end it.
+-- quote doesn't end it. A # that would begin a word begins a comment, which has no words.
 abbrev pub words_from : Place → List ℕ → List (List ℕ)
 words_from Between [] = []
-words_from Between (b ∷ bs) = if is_blank b then words_from Between bs else onto_first b (if b == 34 then words_from Literal bs else words_from Word bs)
+words_from Between (b ∷ bs) =
+    if is_blank b then words_from Between bs
+    else if b == 35 then []
+    else onto_first b (if b == 34 then words_from Literal bs else words_from Word bs)
 words_from Word [] = [] ∷ []
 words_from Word (b ∷ bs) = if is_blank b then [] ∷ words_from Between bs else onto_first b (words_from Word bs)
 words_from Literal [] = [] ∷ []
@@ -21,7 +24,7 @@ words_from Literal (b ∷ bs) = onto_first b (if b == 34 then words_from Word bs
 words_from Escape [] = [] ∷ []
 words_from Escape (b ∷ bs) = onto_first b (words_from Literal bs)
 
--- the words of a line; a literal is one word
+-- the words of a line before its comment; a literal is one word
 abbrev pub words : List ℕ → List (List ℕ)
 words line = words_from Between line
 
@@ -44,7 +47,7 @@ abbrev pub has_quote : List ℕ → Bool
 has_quote [] = false
 has_quote (b ∷ bs) = b == 34 || has_quote bs
 
--- the first word of a line and the words behind it; none where the line has no word, or its first begins with #
+-- the first word of a line and the words behind it; none where the line has no word
 abbrev pub first_of : List (List ℕ) → Option (List ℕ × List (List ℕ))
 first_of [] = None
-first_of (w ∷ ws) = if slice_index w 0 == 35 then None else Some (w, ws)
+first_of (w ∷ ws) = Some (w, ws)

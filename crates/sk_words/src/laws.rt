@@ -34,7 +34,7 @@ pub fn processes()
 {}
 
 /// Words with single spaces between them are cut again, none of them an open literal, and are one
-/// line. Bytes that are all above blanks, line ends and quotes are a word.
+/// line. Bytes that are all above blanks, line ends, quotes and # are a word.
 pub fn words()
     ensures bare { (w : List ℕ) → is_bare_word w ≡ true → IsWord w }
     ensures again { (ws : List (List ℕ)) → AllByRecursion IsWord ws → words (spaced ws) ≡ ws }

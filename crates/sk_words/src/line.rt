@@ -16,7 +16,8 @@ enum Place {
     Escape,
 }
 
-/// The words of what is left of a line. Spaces and tabs part words, but not within a literal.
+/// The words of what is left of a line. Spaces and tabs part words, but not within a literal; a
+/// word that would begin with `#` begins a comment, which ends the line.
 #[derive(Drop)]
 pub struct Words<'a> {
     rest: &'a [u8],
@@ -135,6 +136,9 @@ impl<'a> Words<'a> {
         let [first, more @ ..] = rest else {
             return None;
         };
+        if *first == b'#' {
+            return None;
+        }
         let len = if *first == b'"' {
             1 + word_len(more, Place::Literal)
         } else {
@@ -162,16 +166,13 @@ impl<'a> Words<'a> {
     }
 }
 
-/// The first word of a line and the words behind it; `None` where the line is empty or a comment.
+/// The first word of a line and the words behind it; `None` where it has no word.
 pub fn first_word(line: &[u8]) -> Option<(&[u8], Words<'_>)>
     ensures { MatchOption result (first_of (words line.now) ≡ None)
         (λ x. first_of (words line.now) ≡ Some (x.0.now, x.1)) }
 {
     let mut words = Words::of(line);
     let first = words.next()?;
-    if let [b'#', ..] = first {
-        return None;
-    }
     Some((first, words))
 }
 

@@ -4,7 +4,7 @@ use Rattle.sk_guesses.proofs.Names.{◌&&◌, List, [], ◌∷◌, ◌++◌, map
 use Rattle.sk_guesses.proofs.Names.{append_assoc, arith, ◌==◌, Ok, Err, AllByRecursion, nat_cmp, true≢false, length-map}
 use Rattle.sk_guesses.proofs.Names.{map-append, list_any-append, IsStrictlySortedBy-filter, LAST_GUESS, has, rests_on}
 use Rattle.sk_guesses.proofs.Names.{with_drawn, with_failure, with_status, Open, numbers, not_struck, still_open}
-use Rattle.sk_guesses.proofs.Names.{Status, Undecided, Committed, Struck, has_filter, and_both, KeptView, AreKept}
+use Rattle.sk_guesses.proofs.Names.{Status, Undecided, Committed, has_filter, and_both, KeptView, AreKept}
 use Rattle.sk_guesses.proofs.Names.{AreStatuses, forgotten, known, one_drawn, struck_with, with_struck, OpenGuess}
 use Rattle.sk_guesses.proofs.Names.{after_commit, but, not_resting, opens_of, Listing, Token, Redeemed, AreBelow}
 use Rattle.std.specs.Prelude.{Result}

@@ -1,5 +1,5 @@
 -- The undecided guesses after a draw, a decision and a strike.
-use Rattle.sk_guesses.proofs.Names.{◌≡◌, ◌≢◌, ℕ, zero, suc, ◌<◌, ◌≤◌, ◌+◌, ◌-◌, length, length-set, Bool, true, false}
+use Rattle.sk_guesses.proofs.Names.{◌≡◌, ◌≢◌, ℕ, zero, suc, ◌<◌, ◌≤◌, ◌-◌, length, length-set, Bool, true, false}
 use Rattle.sk_guesses.proofs.Names.{cond, not, ◌||◌, ◌&&◌, List, [], ◌∷◌, ◌++◌, map, Option, Some, None, refl, sym, ◌∙◌}
 use Rattle.sk_guesses.proofs.Names.{ap, subst, arith, ◌==◌, slice_set, slice_index_or, is_some, nat_cmp, Less}
 use Rattle.sk_guesses.proofs.Names.{nat_cmp_is, AllByRecursion, filter, prefix_len, nat_le, nat_lt, true≢false}
@@ -8,7 +8,7 @@ use Rattle.sk_guesses.proofs.Names.{list_any-append, IsStrictlySortedBy-filter, 
 use Rattle.sk_guesses.proofs.Names.{rests_on, with_failure, numbers, not_struck, Status, Undecided, Committed, Failed}
 use Rattle.sk_guesses.proofs.Names.{Struck, has_filter, above, status_in, GuessesView, is_full, is_undecided}
 use Rattle.sk_guesses.proofs.Names.{undecided_of, status_since, decided, drawn, next_of, OpenGuess, AreOpen, opens_of}
-use Rattle.sk_guesses.proofs.Names.{dependents_of, but, not_resting, after_commit, without_tag, struck_by, open_in}
+use Rattle.sk_guesses.proofs.Names.{dependents_of, guess_tags, but, not_resting, after_commit, without_tag, struck_by, open_in}
 use Rattle.sk_guesses.proofs.Names.{without_list, depending, relieved, left_to, with_entity, without_entity, Ordering}
 use Rattle.sk_guesses.proofs.Names.{Listing, length-map, ltb-true}
 use Rattle.std.specs.List.Sorted.{IsStrictlySortedBy}
@@ -238,6 +238,14 @@ not_there g k ls is le = sym (is_there g k ls is) ∙ isnt (nat_lt k (length ls)
 
 pub missing : {E : Type 0} → (g k : ℕ) (ls : List (Listing E)) → k ≡ prefix_len (is_other g) ls → length ls ≤ k → [] ≡ dependents_of g (map guess_of ls)
 missing g k ls is le = sym (none_there g (map guess_of ls) (not_there g k ls is le))
+
+pub found_tags : {E : Type 0} → (g k : ℕ) (ls : List (Listing E)) (l : (Listing E)) → k ≡ prefix_len (is_other g) ls → k < length ls → l ≡ slice_index_or ls k l → Some l.guess.tags ≡ guess_tags g (opens_of (map guess_of ls))
+found_tags g k [] l is lt at = absurd (omega arith)
+found_tags g k (x ∷ ls) l is lt at = grind (arith, nat_tests, found_tags g (prefix_len (is_other g) ls) ls l refl)
+
+pub missing_tags : {E : Type 0} → (g k : ℕ) (ls : List (Listing E)) → k ≡ prefix_len (is_other g) ls → length ls ≤ k → None ≡ guess_tags g (opens_of (map guess_of ls))
+missing_tags g k [] is le = refl
+missing_tags g k (x ∷ ls) is le = grind (arith, nat_tests, missing_tags g (prefix_len (is_other g) ls) ls refl)
 
 pub none_taken : {E : Type 0} → (g k : ℕ) (ls : List (Listing E)) → k ≡ prefix_len (is_other g) ls → length ls ≤ k → map guess_of ls ≡ without_list g (map guess_of ls)
 none_taken g k [] is le = refl

@@ -1,6 +1,6 @@
 -- Passes over the guesses, many of which share a list, and what is seen of them.
-use Rattle.sk_guesses.proofs.Names.{◌≡◌, ℕ, suc, ◌<◌, ◌≤◌, ◌+◌, length, length-set, Bool, true, false, cond, not, List}
-use Rattle.sk_guesses.proofs.Names.{[], ◌∷◌, ◌++◌, map, inl, inr, refl, sym, ◌∙◌, ap, subst, arith, slice_set, has}
+use Rattle.sk_guesses.proofs.Names.{◌≡◌, ℕ, suc, ◌<◌, ◌≤◌, ◌+◌, length, length-set, Bool, true, false, cond, List}
+use Rattle.sk_guesses.proofs.Names.{[], ◌∷◌, ◌++◌, map, inl, inr, refl, sym, ◌∙◌, ap, subst, arith, slice_set}
 use Rattle.sk_guesses.proofs.Names.{slice_index_or, AllByRecursion, AllZip, true≢false, remove, OpenGuess, Listing, left_to}
 use Rattle.sk_guesses.proofs.Names.{zero, Ordering, without_entity, with_entity, without_tag, get_or-set_same}
 use Rattle.std.proofs.lemmas.Bool.{cases_lt}

@@ -16,7 +16,7 @@ pub use Rattle.slab.specs.Slab.{Slab, slab_len}
 pub use Rattle.std.specs.Borrow.{Lends, sem}
 pub use Rattle.std.specs.List.{AllByRecursion, AllZip, filter, insert, list_any, prefix_len, remove}
 pub use Rattle.std.specs.List.Sorted.{IsBinarySearchResult, IsSearchInRange, IsStrictlySortedBy}
-pub use Rattle.std.specs.Option.{unwrap_or}
+pub use Rattle.std.specs.Option.{option_copied, unwrap_or}
 pub use Rattle.std.specs.Ordering.{eq_by_cmp, nat_cmp}
 pub use Rattle.std.specs.Vec.{vec_capacity}
 pub use Rattle.std.specs.declared.cmp.Ordering.{Ordering}

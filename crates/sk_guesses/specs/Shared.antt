@@ -1,6 +1,6 @@
 -- Undecided guesses, many of which share one list of what rests on them.
-use Rattle.std.specs.Prelude.{◌≡◌, ◌≤◌, ◌<◌, ◌+◌, ℕ, Bool, true, false, not, List, [], length, if◌then◌else◌, ◌⊎◌}
-use Rattle.sk_guesses.specs.Base.{AllByRecursion, has}
+use Rattle.std.specs.Prelude.{◌≡◌, ◌≤◌, ◌<◌, ◌+◌, ℕ, Bool, true, false, not, List, [], length, map, if◌then◌else◌, ◌⊎◌}
+use Rattle.sk_guesses.specs.Base.{AllByRecursion, IsStrictlySortedBy, nat_cmp, has}
 use Rattle.sk_guesses.specs.Opens.{OpenGuess}
 use Rattle.sk_guesses.specs.Room.{Listing}
 
@@ -20,6 +20,10 @@ IsReady n o = o.shares ≡ true → (o.guess.dependents ≡ []) × (n ≤ o.room
 
 abbrev pub AreReady : {E : Type 0} → ℕ → List (Sharing E) → Type 0
 AreReady n os = AllByRecursion (IsReady n) os
+
+-- their numbers rise
+abbrev pub AreRising : {E : Type 0} → List (Sharing E) → Type 0
+AreRising os = IsStrictlySortedBy nat_cmp (map (λ o. o.guess.id) os)
 
 -- a guess is among some, or it is not
 abbrev pub is_named : Bool → List ℕ → ℕ → Bool

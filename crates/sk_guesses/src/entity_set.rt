@@ -251,9 +251,20 @@ impl<E: Key> EntitySet<E> {
         }
     }
 
+    /// The set of these, in any order, each of which may be there more than once. It takes their room.
+    pub(crate) fn of(entities: Vec<E>) -> EntitySet<E>
+        ensures { result.entities ≡ with_entities E.order [] entities.items }
+    {
+        let mut entities = entities;
+        entities.sort_unstable();
+        entities.dedup();
+        EntitySet { entities }
+    }
+
     /// The entities as a list.
     pub fn into_vec(self) -> Vec<E>
         ensures items { result.items ≡ self.entities }
+        ensures room { vec_capacity result ≡ length self.entities + self.room }
         ensures rising { IsStrictlySortedBy E.order result.items }
     {
         self.entities

@@ -1,12 +1,12 @@
 //! The guesses of a kernel that keeps nothing of decided ones.
 ghost use Rattle.std.specs.Prelude.{◌≡◌, ◌≢◌, ◌<◌, ◌≤◌, ◌+◌, ◌==◌, ◌&&◌, ◌∷◌, ◌++◌, ℕ, [], true, false, not, slice_index_or, if◌then◌else◌, length, map, nat_le, get_or, Option, Some, OnOk, OnErr, MatchOption};
-ghost use Rattle.sk_guesses.specs.Base.{IsStrictlySortedBy, unwrap_or, vec_capacity, LAST_GUESS, with_drawn};
+ghost use Rattle.sk_guesses.specs.Base.{IsStrictlySortedBy, option_copied, unwrap_or, vec_capacity, LAST_GUESS, with_drawn};
 ghost use Rattle.sk_guesses.specs.Base.{with_failure, with_status, has, without, not_struck, numbers, still_open};
 ghost use Rattle.sk_guesses.specs.Base.{Status, Committed, Undecided};
 ghost use Rattle.sk_guesses.specs.EntitySet.{with_entities};
 ghost use Rattle.sk_guesses.specs.Kept.{known, none_drawn, one_drawn, keys_of, forgotten, redeemed_kept, struck_with, with_struck, AreStatuses, HasKeptRoom};
 ghost use Rattle.sk_guesses.specs.Room.{Listing};
-ghost use Rattle.sk_guesses.specs.Opens.{after_commit, depending, dependents_of, left_to, not_resting, opens_of, without_list};
+ghost use Rattle.sk_guesses.specs.Opens.{after_commit, depending, dependents_of, left_to, not_resting, opens_of, guess_tags, without_list};
 
 use crate::open_list::{
     are_earlier, close_committed, close_resting, first_resting, leave_to, oldest, place_of,
@@ -137,6 +137,36 @@ fn add_written<E: Key, V>(list: &mut EntitySet<E>, written: &[(E, V)])
     }
 }
 
+/// No more entities than these are added in the order in which a step writes them.
+const FEW: usize = 8;
+
+/// The entities of what was written, in its order, in a list with room for them.
+fn written_in<E: Key, V>(list: Vec<E>, written: &[(E, V)]) -> Vec<E>
+    requires empty { list.items ≡ [] }
+    requires room { length written.now ≤ vec_capacity list }
+    ensures { result.items ≡ keys_of written.now }
+{
+    let mut entities = list;
+    for write in written {
+        entities.push_reserved(write.0);
+    }
+    entities
+}
+
+/// The set of the entities of what was written, in the room of a list. Many are sorted where they stand.
+fn set_of_written<E: Key, V>(list: EntitySet<E>, written: &[(E, V)]) -> EntitySet<E>
+    requires empty { list.entities ≡ [] }
+    requires room { length written.now ≤ list.room }
+    ensures { result.entities ≡ with_entities E.order [] (keys_of written.now) }
+{
+    if written.len() <= FEW {
+        let mut set = list;
+        add_written(&mut set, written);
+        return set;
+    }
+    EntitySet::of(written_in(list.into_vec(), written))
+}
+
 impl<E: Key> OpenGuesses<E> {
     /// No guess drawn yet, for the kernel of this number, of whose guesses so many may be undecided at once.
     pub fn new(alloc: Global, kernel: u64, limit: u16) -> OpenGuesses<E>
@@ -248,6 +278,17 @@ impl<E: Key> OpenGuesses<E> {
         self.opens.at(place).dependents()
     }
 
+    /// The guesses that an undecided guess's own step rests on, itself among them: where it is alone, its commit is firm.
+    pub fn tags(&self, id: GuessId) -> Option<&TagSet>
+        ensures { option_copied result ≡ guess_tags id (opens_of self.now.opens) }
+    {
+        let place = place_of(&self.opens, id);
+        if place >= self.opens.len() {
+            return None;
+        }
+        Some(self.opens.at(place).tags())
+    }
+
     /// Moves out the list of the entities that rest on a guess, for its decision.
     pub fn take_dependents(&mut self, id: GuessId) -> EntitySet<E>
         ensures list { result.entities ≡ dependents_of id self.old.opens }
@@ -291,8 +332,8 @@ impl<E: Key> OpenGuesses<E> {
             → AreStatuses self.new.view (opens_of self.new.opens) (with_drawn (Some id) status) }
     {
         self.below = stays_below(self.below, &tags, id);
-        let mut dependents = std::mem::replace(&mut self.next, EntitySet::new(self.alloc));
-        add_written(&mut dependents, written);
+        let next = std::mem::replace(&mut self.next, EntitySet::new(self.alloc));
+        let dependents = set_of_written(next, written);
         self.opens.push_reserved(id, tags, dependents);
         self.drawn = id.number();
         Guess::new(self.kernel, id)

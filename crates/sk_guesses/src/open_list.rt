@@ -211,6 +211,8 @@ pub(crate) fn oldest<E: Key>(opens: &Opens<E>) -> Option<GuessId>
 
 /// Takes an entity out of the lists of the guesses in a set.
 pub(crate) fn relieve<E: Key>(opens: &mut Opens<E>, tags: &TagSet, entity: &E)
+    requires { IsStrictlySortedBy nat_cmp
+        (numbers (opens_of (map (λ l. l.guess) opens.old.items))) }
     ensures opens { map (λ l. l.guess) opens.new.items
         ≡ map (relieved E.order tags.now entity.now) (map (λ l. l.guess) opens.old.items) }
     ensures as_many { length opens.new.items ≡ length opens.old.items }
@@ -220,6 +222,8 @@ pub(crate) fn relieve<E: Key>(opens: &mut Opens<E>, tags: &TagSet, entity: &E)
 
 /// Leaves an entity to the lists of the guesses in a set alone.
 pub(crate) fn leave_to<E: Key>(opens: &mut Opens<E>, tags: &TagSet, entity: &E)
+    requires { IsStrictlySortedBy nat_cmp
+        (numbers (opens_of (map (λ l. l.guess) opens.old.items))) }
     ensures opens { map (λ l. l.guess) opens.new.items
         ≡ map (left_to E.order tags.now entity.now) (map (λ l. l.guess) opens.old.items) }
     ensures as_many { length opens.new.items ≡ length opens.old.items }

@@ -1,10 +1,10 @@
 //! The undecided guesses, many of which share one list of what rests on them.
 ghost use Rattle.std.specs.Prelude.{◌≡◌, ◌<◌, ◌≤◌, ◌+◌, ◌∷◌, ◌++◌, ℕ, List, [], true, false, length, map, slice_index_or, slice_set, OnOk, OnErr, IsOk, if◌then◌else◌};
-ghost use Rattle.sk_guesses.specs.Base.{remove, AllByRecursion, AllZip, IsStrictlySortedBy, has};
+ghost use Rattle.sk_guesses.specs.Base.{remove, AllByRecursion, AllZip, IsStrictlySortedBy, nat_cmp, has, numbers};
 ghost use Rattle.sk_guesses.specs.EntitySet.{with_entity, without_entity};
-ghost use Rattle.sk_guesses.specs.Opens.{depending, without_tag};
+ghost use Rattle.sk_guesses.specs.Opens.{depending, opens_of, without_tag};
 ghost use Rattle.sk_guesses.specs.Room.{Listing};
-ghost use Rattle.sk_guesses.specs.Shared.{seen, is_named, changing, IsReady, AreReady, HasPlace, IsRoomier, IsPlaced, Agrees, IsChanged, WillChange};
+ghost use Rattle.sk_guesses.specs.Shared.{seen, is_named, changing, IsReady, AreReady, HasPlace, IsRoomier, IsPlaced, Agrees, IsChanged, WillChange, Sharing, AreRising};
 
 use crate::EntitySet;
 use crate::open_guess::OpenGuess;
@@ -49,6 +49,13 @@ impl<'a, E: Key> Seen<'a, E> {
         ensures { result ≡ has id self.now.guess.tags }
     {
         self.tags.contains(id)
+    }
+
+    /// The guesses that its own step rests on.
+    pub(crate) fn tags(&self) -> &'a TagSet
+        ensures { result.now ≡ self.now.guess.tags }
+    {
+        self.tags
     }
 
     /// The entities that rest on it, by rising order.
@@ -96,15 +103,86 @@ fn any_shares<E: Key>(row: &Row<OpenGuess<E>>) -> bool
     false
 }
 
+/// How many of a list that rises are below a guess, by halves.
+fn count_below(ids: &[GuessId], id: GuessId) -> usize
+    requires { IsStrictlySortedBy nat_cmp ids.now }
+    ensures below { (k d : ℕ) → k < result → slice_index_or ids.now k d < id }
+    ensures others { (k d : ℕ) → result ≤ k → k < length ids.now → id ≤ slice_index_or ids.now k d }
+    ensures bound { result ≤ length ids.now }
+{
+    let mut low = 0;
+    let mut high = ids.len();
+    while low < high {
+        let middle = low + (high - low) / 2;
+        if ids[middle].number() < id.number() {
+            low = middle + 1;
+        } else {
+            high = middle;
+        }
+    }
+    low
+}
+
+/// The first place from one on whose guess is not below another, by halves. Mostly that is the newest.
+fn first_from<E: Key>(row: &Row<OpenGuess<E>>, from: usize, id: GuessId) -> usize
+    requires rising { AreRising row.now.items }
+    requires bound { from ≤ length row.now.items }
+    ensures below { (k : ℕ) (d : Sharing E) → from ≤ k → k < result
+        → (slice_index_or row.now.items k d).guess.id < id }
+    ensures least { from ≤ result }
+    ensures bound { result ≤ length row.now.items }
+{
+    let mut low = from;
+    let mut high = row.len();
+    if low < high && row.at(high - 1).id().number() <= id.number() {
+        low = high - 1;
+    }
+    while low < high {
+        let middle = low + (high - low) / 2;
+        if row.at(middle).id().number() < id.number() {
+            low = middle + 1;
+        } else {
+            high = middle;
+        }
+    }
+    low
+}
+
+/// The first place from one on whose guess may be among some; where those that are not among them are asked for, that place.
+fn next_named<E: Key>(row: &Row<OpenGuess<E>>, tags: &TagSet, within: bool, from: usize) -> usize
+    requires rising { AreRising row.now.items }
+    requires bound { from ≤ length row.now.items }
+    ensures none { (k : ℕ) (d : Sharing E) → from ≤ k → k < result
+        → is_named within tags.now (slice_index_or row.now.items k d).guess.id ≡ false }
+    ensures least { from ≤ result }
+    ensures bound { result ≤ length row.now.items }
+{
+    if !within {
+        return from;
+    }
+    if from >= row.len() {
+        return from;
+    }
+    let ids = tags.ids();
+    let passed = count_below(ids, row.at(from).id());
+    if passed >= ids.len() {
+        return row.len();
+    }
+    first_from(row, from, ids[passed])
+}
+
 /// Whether one that shares the list is among these guesses, or is not.
 fn any_named<E: Key>(row: &Row<OpenGuess<E>>, tags: &TagSet, within: bool) -> bool
+    requires { AreRising row.now.items }
     ensures { result ≡ false → AllByRecursion
         (λ o. o.shares ≡ true → is_named within tags.now o.guess.id ≡ false) row.now.items }
 {
-    for place in 0..row.len() {
+    let mut place = next_named(row, tags, within, 0);
+    while place < row.len() {
         if row.at(place).shares_named(tags, within) {
             return true;
         }
+        place = next_named(row, tags, within, place + 1);
     }
     false
 }
@@ -140,6 +218,7 @@ fn part_other<E: Key>(open: &mut OpenGuess<E>, shared: &[E], tags: &TagSet, with
 fn agree<E: Key>(row: &mut Row<OpenGuess<E>>, shared: &[E], tags: &TagSet, within: bool) -> bool
     requires rising { IsStrictlySortedBy E.order shared.now }
     requires ready { AreReady (length shared.now) row.old.items }
+    requires ids { AreRising row.old.items }
     ensures { AllZip (Agrees shared.now (is_named within tags.now) result) row.old.items
         row.new.items }
 {
@@ -152,23 +231,29 @@ fn agree<E: Key>(row: &mut Row<OpenGuess<E>>, shared: &[E], tags: &TagSet, withi
 
 /// Adds an entity to the own lists of these guesses, where there is room for it.
 fn depend_own<E: Key>(row: &mut Row<OpenGuess<E>>, tags: &TagSet, entity: &E)
-    requires { AllByRecursion (λ o. o.shares ≡ false → has o.guess.id tags.now ≡ true
+    requires room { AllByRecursion (λ o. o.shares ≡ false → has o.guess.id tags.now ≡ true
         → 0 < o.room) row.old.items }
+    requires ids { AreRising row.old.items }
     ensures { AllZip (IsChanged (λ es. with_entity E.order es entity.now) (λ g. has g tags.now))
         row.old.items row.new.items }
 {
-    for place in 0..row.len() {
+    let mut place = next_named(row, tags, true, 0);
+    while place < row.len() {
         row.at_mut(place).depend(tags, entity);
+        place = next_named(row, tags, true, place + 1);
     }
 }
 
 /// Takes an entity out of the own lists of these guesses, or of all others.
 fn leave_own<E: Key>(row: &mut Row<OpenGuess<E>>, tags: &TagSet, within: bool, entity: &E)
+    requires { AreRising row.old.items }
     ensures { AllZip (IsChanged (λ es. without_entity E.order es entity.now)
         (is_named within tags.now)) row.old.items row.new.items }
 {
-    for place in 0..row.len() {
+    let mut place = next_named(row, tags, within, 0);
+    while place < row.len() {
         row.at_mut(place).leave(tags, within, entity);
+        place = next_named(row, tags, within, place + 1);
     }
 }
 
@@ -181,12 +266,15 @@ fn reserve_own<E: Key>(
 ) -> Result<(), AllocError>
     requires places { shared < places }
     requires ready { AreReady shared row.old.items }
+    requires ids { AreRising row.old.items }
     ensures same { AllZip (IsRoomier shared) row.old.items row.new.items }
     ensures ok { OnOk result
         (AllZip (IsPlaced (λ g. has g tags.now) shared) row.old.items row.new.items) }
 {
-    for place in 0..row.len() {
+    let mut place = next_named(row, tags, true, 0);
+    while place < row.len() {
         row.at_mut(place).reserve(tags, shared, places)?;
+        place = next_named(row, tags, true, place + 1);
     }
     Ok(())
 }
@@ -405,6 +493,8 @@ impl<E: Key> Opens<E> {
 
     /// Adds an entity to the lists of these guesses. Without memory everything is as it was.
     pub(crate) fn depend(&mut self, tags: &TagSet, entity: &E) -> Result<(), AllocError>
+        requires { IsStrictlySortedBy nat_cmp
+            (numbers (opens_of (map (λ l. l.guess) self.old.items))) }
         ensures ok { OnOk result (map (λ l. l.guess) self.new.items
             ≡ map (depending E.order tags.now entity.now) (map (λ l. l.guess) self.old.items)) }
         ensures err { OnErr result (self.new.items ≡ self.old.items) }
@@ -425,6 +515,8 @@ impl<E: Key> Opens<E> {
 
     /// Takes an entity out of the lists of these guesses, or of all others.
     pub(crate) fn leave(&mut self, tags: &TagSet, within: bool, entity: &E)
+        requires { IsStrictlySortedBy nat_cmp
+            (numbers (opens_of (map (λ l. l.guess) self.old.items))) }
         ensures { map (λ l. l.guess) self.new.items
             ≡ map (changing (λ es. without_entity E.order es entity.now)
             (is_named within tags.now)) (map (λ l. l.guess) self.old.items) }

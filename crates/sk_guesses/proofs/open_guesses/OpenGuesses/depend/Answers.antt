@@ -18,3 +18,6 @@ invariant_of-self-2 g c =
     let R = g.E.Key.order in
     let e = c.args.entity.now in
     kept_mapped c.self.invariant c.depend.new.self.items (depending R c.args.tags.now e) (depending_keeps R c.args.tags.now e) c.in_ok-depend.ensures.ok
+
+pub depend-requires : goal.depend-requires
+depend-requires g c = c.self.invariant.0.rising

@@ -11,7 +11,7 @@ pub invariant_of-self : goal.invariant_of-self
 invariant_of-self g c =
     let v : KeptView = record { kernel = c.self.inside.kernel; limit = c.self.inside.limit; drawn = c.self.inside.drawn; struck = c.self.inside.struck.items } in
     let ls = c.self.inside.opens.items in
-    let l : Listing _ = record { guess = record { id = c.args.id; tags = c.args.tags; dependents = c.add_written.new.list.entities } } in
+    let l : Listing _ = record { guess = record { id = c.args.id; tags = c.args.tags; dependents = c.set_of_written-dependents.result.entities } } in
     let was : v.drawn ≡ c.args.self.now.view.drawn = ap (λ (r : Kept _). r.view.drawn) c.self.view_is in
     let next : c.args.id ≡ v.drawn + 1 = c.requires.number ∙ ap (λ n. n + 1) (sym was) in
     let number : l.guess.id ≡ v.drawn + 1 = next in
@@ -23,7 +23,7 @@ invariant_of-self g c =
     let places : length v.struck + length ls < vec_capacity c.self.inside.struck =
     omega (arith, c.requires.room.1, as_many, ap (λ (r : Kept _). length r.view.struck) c.self.view_is, ap (λ (r : Kept _). r.strikes) c.self.view_is) in (
       kept_drawn v ls c.push_reserved.new.self.items c.self.inside.next.entities (vec_capacity c.self.inside.struck) l c.number-self-inside.result _ c.push_reserved.ensures.items number drawn
-          (ap (λ (s : SetView _). s.entities) c.replace-dependents.ensures.after ∙ c.new.ensures) own few last places c.self.invariant.0,
+          (ap (λ (s : SetView _). s.entities) c.replace-next.ensures.after ∙ c.new.ensures) own few last places c.self.invariant.0,
       λ below.
           subst (λ xs. AreBelow (opens_of xs)) (sym (ap (map guess_of) c.push_reserved.ensures.items ∙ rw map-append refl))
           (below_more (map guess_of ls) l.guess (c.self.invariant.1 (c.stays_below-self-inside.ensures.before below))
@@ -34,7 +34,7 @@ pub returns-clause-statuses : goal.returns-clause-statuses
 returns-clause-statuses g c = λ status are.
     let v : KeptView = record { kernel = c.self.inside.kernel; limit = c.self.inside.limit; drawn = c.self.inside.drawn; struck = c.self.inside.struck.items } in
     let os = map guess_of c.self.inside.opens.items in
-    let l : Listing _ = record { guess = record { id = c.args.id; tags = c.args.tags; dependents = c.add_written.new.list.entities } } in
+    let l : Listing _ = record { guess = record { id = c.args.id; tags = c.args.tags; dependents = c.set_of_written-dependents.result.entities } } in
     let new = map guess_of c.push_reserved.new.self.items in
     let was : v.drawn ≡ c.args.self.now.view.drawn = ap (λ (r : Kept _). r.view.drawn) c.self.view_is in
     let next : c.args.id ≡ v.drawn + 1 = c.requires.number ∙ ap (λ n. n + 1) (sym was) in

@@ -14,3 +14,6 @@ pub returns-clause-opens : goal.returns-clause-opens
 returns-clause-opens g c =
     c.leave_to.ensures.opens
     ∙ ap (λ (r : Kept _). map (left_to g.E.Key.order c.args.tags.now c.args.entity.now) r.opens) c.self.view_is
+
+pub leave_to-requires : goal.leave_to-requires
+leave_to-requires g c = c.self.invariant.0.rising

@@ -5,6 +5,7 @@ use Rattle.sk_guesses.specs.Shared.{changing, seen, AreReady, Agrees, HasPlace, 
 use Rattle.sk_guesses.proofs.Opens.{guess_of}
 use Rattle.sk_guesses.proofs.Shared.{on_err, all_of, IsReserved, reserved_ready, reserved_seen, places_stay, IsTurned}
 use Rattle.sk_guesses.proofs.Shared.{turned_seen, more_ready, will_turn, will_fit}
+use Rattle.sk_guesses.proofs.Named.{seen_rising, roomier_rising, agreed_rising}
 use Rattle.sk_guesses.proofs.open_row.Opens.depend.Goals as goal
 
 pub invariant_of-self-in_err-reserve_own : goal.invariant_of-self-in_err-reserve_own
@@ -25,8 +26,24 @@ agree-changes-requires-clause-ready g c =
     record { same = c.reserve.ensures.entities; count = c.as_slice-count.ensures.entities; ready = c.self.invariant.0; roomier = c.reserve_own.ensures.same } in
     subst (λ xs. AreReady (length xs) c.reserve_own.new.row.items) (sym c.as_slice.ensures.entities) (reserved_ready room)
 
-pub depend_own-requires : goal.depend_own-requires
-depend_own-requires g c =
+pub reserve_own-requires-clause-ids : goal.reserve_own-requires-clause-ids
+reserve_own-requires-clause-ids g c =
+    seen_rising c.self.inside.shared.entities c.self.inside.row.items c.args.self.now.items (ap (λ (r : InOrder _). r.items) c.self.view_is) c.requires
+
+pub agree-changes-requires-clause-ids : goal.agree-changes-requires-clause-ids
+agree-changes-requires-clause-ids g c =
+    roomier_rising (length c.as_slice-count.result.now) c.self.inside.row.items c.reserve_own.new.row.items c.reserve_own.ensures.same
+    (seen_rising c.self.inside.shared.entities c.self.inside.row.items c.args.self.now.items (ap (λ (r : InOrder _). r.items) c.self.view_is) c.requires)
+
+pub depend_own-requires-clause-ids : goal.depend_own-requires-clause-ids
+depend_own-requires-clause-ids g c =
+    let c2 = λ (h : ℕ). has h c.args.tags.now in
+    agreed_rising c.as_slice.result.now c2 c.agree-changes.result c.reserve_own.new.row.items c.agree-changes.new.row.items c.agree-changes.ensures
+    (roomier_rising (length c.as_slice-count.result.now) c.self.inside.row.items c.reserve_own.new.row.items c.reserve_own.ensures.same
+    (seen_rising c.self.inside.shared.entities c.self.inside.row.items c.args.self.now.items (ap (λ (r : InOrder _). r.items) c.self.view_is) c.requires))
+
+pub depend_own-requires-clause-room : goal.depend_own-requires-clause-room
+depend_own-requires-clause-room g c =
     let n = length c.as_slice-count.result.now in
     let c2 = λ (h : ℕ). has h c.args.tags.now in
     let stay = places_stay c2 c.agree-changes.result n c.as_slice.result.now c.self.inside.row.items c.reserve_own.new.row.items c.agree-changes.new.row.items c.in_ok-reserve_own.ensures.ok c.agree-changes.ensures in

@@ -3,10 +3,20 @@ use Rattle.sk_guesses.proofs.Names.{AllZip, ◌∙◌, List, length, map, ap, sy
 use Rattle.sk_guesses.specs.Shared.{is_named, changing, seen, AreReady, Agrees}
 use Rattle.sk_guesses.proofs.Opens.{guess_of}
 use Rattle.sk_guesses.proofs.Shared.{IsTurned, turned_seen, less_ready}
+use Rattle.sk_guesses.proofs.Named.{seen_rising, agreed_rising}
 use Rattle.sk_guesses.proofs.open_row.Opens.leave.Goals as goal
 
 pub agree-changes-requires-clause-ready : goal.agree-changes-requires-clause-ready
 agree-changes-requires-clause-ready g c = subst (λ xs. AreReady (length xs) c.self.inside.row.items) (sym c.as_slice.ensures.entities) c.self.invariant.0
+
+pub agree-changes-requires-clause-ids : goal.agree-changes-requires-clause-ids
+agree-changes-requires-clause-ids g c =
+    seen_rising c.self.inside.shared.entities c.self.inside.row.items c.args.self.now.items (ap (λ (r : InOrder _). r.items) c.self.view_is) c.requires
+
+pub leave_own-requires : goal.leave_own-requires
+leave_own-requires g c =
+    agreed_rising c.as_slice.result.now (is_named c.args.within c.args.tags.now) c.agree-changes.result c.self.inside.row.items c.agree-changes.new.row.items c.agree-changes.ensures
+    (seen_rising c.self.inside.shared.entities c.self.inside.row.items c.args.self.now.items (ap (λ (r : InOrder _). r.items) c.self.view_is) c.requires)
 
 pub invariant_of-self : goal.invariant_of-self
 invariant_of-self g c =

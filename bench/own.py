@@ -87,6 +87,13 @@ def beside(costs, others, present, guesses=False):
     return (run(3_000) - run(1_000)) / 2_000
 
 
+def resting(costs, others):
+    """What a step over a new key costs under an own guess beside so many open guesses of others; its commit is the same in both runs."""
+    def run(steps):
+        return counted([costs, "costs::beside::beside_others"], OTHERS=others, PRESENT=1_100, GUESSES=1, STEPS=steps)
+    return (run(91) - run(1)) / 90
+
+
 def byte_keys(costs):
     """What a step costs over keys of 16 bytes with values of 100."""
     few, many = (counted([costs, "costs::byte_keys::byte_steps"], STEPS=steps) for steps in (1_000, 3_000))
@@ -131,6 +138,7 @@ def main(program, costs=None, library=None):
         for guesses, limit, name in ((False, 1.1, "a step"), (True, 1.1, "a guess with its decision")):
             ratio = beside(costs, 1_000, 1_100, guesses) / beside(costs, 0, 1_100, guesses)
             rows.row(ratio, limit, f"{name} beside 1,000 open guesses of others / beside none")
+        rows.row(resting(costs, 1_000) / resting(costs, 62), 1.1, "a step that rests on a guess beside 1,000 open guesses of others / beside 62")
     rows.row(a_key(program), 60, "bytes of a present key beyond key and value, nothing open")
     if costs:
         rows.row(byte_keys(costs), 900, "a step over keys of 16 bytes with values of 100")

@@ -1,10 +1,10 @@
 -- One slot of all is changed.
 use Rattle.sk_slots.proofs.Names.{arith, same_Some, ◌≡◌, ℕ, List, [], ◌∷◌, Bool, true, false, cond, ◌||◌, not, Option}
 use Rattle.sk_slots.proofs.Names.{Some, None, ◌+◌, ◌<◌, length, drop, refl, sym, ◌∙◌, ap, subst, get_or, is_none}
-use Rattle.sk_slots.proofs.Names.{Result, Ok, Err, OnOk, OnErr, eq_by_cmp, Ordering, IsTotalOrder, eq_by_cmp_equiv}
+use Rattle.sk_slots.proofs.Names.{Result, Ok, Err, OnOk, eq_by_cmp, Ordering, IsTotalOrder, eq_by_cmp_equiv}
 use Rattle.sk_slots.proofs.Names.{Equal-is, FinMap, IsAntisymmetric, get, insert, remove, get-insert, get-remove}
 use Rattle.sk_slots.proofs.Names.{true≢false, is_in, Note, unwound, cut, drop-cons, suc-eq-add-one, and_both}
-use Rattle.sk_slots.proofs.Names.{SlotView, is_bare, is_empty, is_settled, IsPrepared, slot_in, HasPrepared}
+use Rattle.sk_slots.proofs.Names.{SlotView, are_of, is_bare, is_empty, is_settled, IsPrepared, slot_in, HasPrepared, last_tags}
 use Rattle.std.proofs.lemmas.Bool.Decides.{nat_tests}
 
 empty_is : {A : Type 0} (xs : List A) → is_empty xs ≡ true → xs ≡ []
@@ -137,10 +137,6 @@ pub when_ok : {A E P Q : Type 0} (r : Result A E) → OnOk r P → (P → Q) →
 when_ok (Ok x) p f = f p
 when_ok (Err why) p f = tt
 
-pub either : {A E P Q Z : Type 0} (r : Result A E) → OnOk r P → OnErr r Q → (P → Z) → (Q → Z) → Z
-either (Ok x) p q f h = f p
-either (Err why) p q f h = h q
-
 pub both_more : {V : Type 0} (g : ℕ) (e rest : Bool) (v w : Option V) (x y : List (Note V)) → w ≡ cond e (unwound g x v) v → y ≡ cond e (cut g x) x
     → (cond rest (unwound g y w) w ≡ cond (e || rest) (unwound g x v) v) × (cond rest (cut g y) y ≡ cond (e || rest) (cut g x) x)
 both_more g true true v w x y is log = ((λ i. unwound g (log i) (is i)) ∙ unwound_twice g x (unwound g x v), ap (cut g) log ∙ cut_twice g x)
@@ -150,3 +146,14 @@ both_more g false false v w x y is log = (is, log)
 
 pub next_of : {K : Type 0} (es : List K) (i : ℕ) (e : K) → i < length es → e ≡ get_or es i e → drop i es ≡ e ∷ drop (i + 1) es
 next_of es i e within is = drop-cons es i e within ∙ (λ k. sym is k ∷ drop (suc-eq-add-one i k) es)
+
+-- a key that is left, or the next, rests on no other guess
+pub alone_more : {K V : Type 0} {R : K → K → Ordering} → IsAntisymmetric R → (g : ℕ) (rest : List K) (q k : K)
+    (log : K → List (Note V)) (new : List (Note V)) → is_in R (k ∷ rest) q ≡ true → are_of g (last_tags [] (log k)) ≡ true
+    → new ≡ cond (eq_by_cmp R q k) (cut g (log q)) (log q) → (is_in R rest q ≡ true → are_of g (last_tags [] new) ≡ true)
+    → are_of g (last_tags [] (log q)) ≡ true
+alone_more {R = R} exact g rest q k log new among one is left =
+    elim (eq_by_cmp R q k) as (λ b. eq_by_cmp R q k ≡ b → (b || is_in R rest q) ≡ true → new ≡ cond b (cut g (log q)) (log q) → are_of g (last_tags [] (log q)) ≡ true) [
+      | true ↦ λ e _ _. ap (λ x. are_of g (last_tags [] (log x))) (same_by exact q k e) ∙ one
+      | false ↦ λ _ later same. ap (λ ns. are_of g (last_tags [] ns)) (sym same) ∙ left later
+    ] refl among is

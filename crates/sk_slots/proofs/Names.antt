@@ -11,7 +11,7 @@ pub use Rattle.std.specs.FinMap.{IsAntisymmetric, insert}
 pub use Rattle.std.specs.List.{prefix_len}
 pub use Rattle.std.specs.Option.{option_copied_mut, unwrap_or}
 pub use Rattle.std.specs.Ordering.{eq_by_cmp}
-pub use Rattle.std.specs.Prelude.{slice_set, Ok, is_none, Err, is_some, OnErr, slice_index_or, Result, OnOk, ◌==◌}
+pub use Rattle.std.specs.Prelude.{slice_set, IfOk, Ok, is_none, Err, is_some, slice_index_or, Result, OnOk, ◌==◌}
 pub use Rattle.std.specs.Prelude.{get_or}
 pub use Rattle.std.specs.Vec.{vec_len, vec_capacity}
 pub use Rattle.std.specs.declared.cmp.Ordering.{Ordering}
@@ -25,7 +25,7 @@ pub use Rattle.sk_record.specs.Effects.{is_in}
 pub use Rattle.sk_record.specs.Merged.{Merges, merged, same_tags}
 pub use Rattle.sk_record.specs.Notes.{Note, last_tags, cut, has, committed, noted, unwound, without}
 pub use Rattle.sk_slots.specs.Kept.{CanGoBack, seen, newest_tags, rewound, ready_tags, without_ready}
-pub use Rattle.sk_slots.specs.Slot.{goes_unnoted, noted_on, is_empty, is_bare, SlotView, is_settled, IsPrepared}
+pub use Rattle.sk_slots.specs.Slot.{are_of, goes_unnoted, noted_on, is_empty, is_bare, SlotView, is_settled, IsPrepared}
 pub use Rattle.sk_slots.specs.Slots.{IsReady, log_at, slot_in, HasPrepared, found, look_at, AllSettled, SettledBut}
 pub use Rattle.sk_slots.specs.declared.notes.Kept.{Kept}
 pub use Rattle.std.proofs.lemmas.List.{take_all, drop_all}

@@ -1,6 +1,7 @@
 -- What a key has, with the value before each write that can be undone, the oldest first.
-use Rattle.std.specs.Prelude.{◌≡◌, ◌&&◌, not, ℕ, Bool, true, false, List, [], ◌∷◌, ◌++◌, Option, Some, is_none, refl, if◌then◌else◌}
+use Rattle.std.specs.Prelude.{◌≡◌, ◌==◌, ◌&&◌, not, ℕ, Bool, true, false, List, [], ◌∷◌, ◌++◌, Option, Some, is_none, refl, if◌then◌else◌}
 use Rattle.std.specs.Coded.{Coded, code_by, coded×, coded_ℕ, coded_list, coded_option}
+use Rattle.std.specs.List.{list_all}
 use Rattle.sk_record.specs.Notes.{Note, last_tags}
 use Rattle.sk_record.specs.Merged.{same_tags}
 
@@ -17,6 +18,10 @@ abbrev pub slot_code : {V : Type 0} → Coded V → Coded (SlotView V)
 slot_code {V} code =
     code_by (Option V × (List (Note V) × Option (List ℕ))) (coded× (coded_option code) (coded× (coded_list (note_code code)) (coded_option (coded_list coded_ℕ))))
     (λ s. (s.value, (s.log, s.ready))) (λ p. record { value = p.0; log = p.1.0; ready = p.1.1 }) (λ _. refl)
+
+-- these tags are of no guess but one
+abbrev pub are_of : ℕ → List ℕ → Bool
+are_of g tags = list_all (λ t. t == g) tags
 
 abbrev pub is_empty : {A : Type 0} → List A → Bool
 is_empty [] = true

@@ -1,11 +1,11 @@
 //! What a key has, with its undo log.
-ghost use Rattle.std.specs.Prelude.{◌≡◌, [], OnOk, IsOk, Option, None, Some, true, false, not};
+ghost use Rattle.std.specs.Prelude.{◌≡◌, [], OnOk, IfOk, IsOk, Option, None, Some, true, false, not};
 ghost use Rattle.std.specs.Option.{option_copied, unwrap_or};
 ghost use Rattle.sk_record.specs.Notes.{last_tags, unwound, cut, committed};
 ghost use Rattle.sk_record.specs.Merged.{merged, same_tags};
 ghost use Rattle.sk_inversion.specs.Undone.{value_before, FitsBefore};
 ghost use Rattle.sk_slots.specs.Kept.{newest_tags, ready_tags, seen, without_ready, CanGoBack, CanTakeIn};
-ghost use Rattle.sk_slots.specs.Slot.{goes_unnoted, noted_on, is_bare, is_settled, IsPrepared};
+ghost use Rattle.sk_slots.specs.Slot.{are_of, goes_unnoted, noted_on, is_bare, is_settled, IsPrepared};
 
 use crate::notes::{
     Kept, Notes, before_first, fill, go_back, goes_unnoted, let_go, lighten, merge, noted,
@@ -109,6 +109,16 @@ impl<V, I: Inversion<V>> Slot<V, I> {
         }
     }
 
+    /// Whether the newest note rests on no guess but one.
+    pub fn rests_on_no_other(&self, id: GuessId) -> bool
+        ensures { result ≡ are_of id (last_tags [] self.now.log) }
+    {
+        match self.tags() {
+            Some(tags) => tags.ids().iter().all(|tag| *tag == id),
+            None => true,
+        }
+    }
+
     /// Whether there is neither a value nor a note.
     fn is_bare(&self) -> bool
         ensures { result ≡ is_bare self.now }
@@ -134,16 +144,17 @@ impl<V: Drop, I: Inversion<V>> Slot<V, I> {
         !self.is_bare()
     }
 
-    /// Makes room for what a write with these tags notes.
-    pub fn prepare(&mut self, tags: &TagSet) -> Result<(), AllocError>
+    /// Makes room for what a write with these tags notes, and answers whether it is not noted.
+    pub fn prepare(&mut self, tags: &TagSet) -> Result<bool, AllocError>
         ensures value { self.new.value ≡ self.old.value }
         ensures log { self.new.log ≡ self.old.log }
         ensures ok { OnOk result (IsPrepared tags.now self.new) }
         ensures kept { IsPrepared tags.now self.old → IsPrepared tags.now self.new }
         ensures room { goes_unnoted tags.now self.old.log ≡ true → IsOk result }
+        ensures same { IfOk result (λ same. same ≡ goes_unnoted tags.now self.old.log) }
     {
         if goes_unnoted(noted(self.log.as_slice(), self.has_ready), tags) {
-            return Ok(());
+            return Ok(true);
         }
         let own = tags.copy()?;
         self.log.reserve(1)?;
@@ -153,7 +164,7 @@ impl<V: Drop, I: Inversion<V>> Slot<V, I> {
             before: Before::Was(None),
         });
         self.has_ready = true;
-        Ok(())
+        Ok(false)
     }
 
     /// Sets or changes what is there, where what is to be noted has room. An old value is moved into the note. Answers whether
@@ -183,13 +194,15 @@ impl<V: Drop, I: Inversion<V>> Slot<V, I> {
         self.is_settled()
     }
 
-    /// Puts back what was there before the first write that rests on the guess. It takes no memory.
-    pub fn unwind(&mut self, id: GuessId)
+    /// Puts back what was there before the first write that rests on the guess. It takes no memory. Answers as `write` does.
+    pub fn unwind(&mut self, id: GuessId) -> bool
         ensures value { self.new.value ≡ unwound id self.old.log self.old.value }
         ensures log { self.new.log ≡ cut id self.old.log }
+        ensures settled { result ≡ is_settled self.new }
     {
         let_go::<V, I>(&mut self.log, &mut self.has_ready);
         let place = before_first(self.log.as_slice(), id);
         go_back::<V, I>(&mut self.value, &mut self.log, place);
+        self.is_settled()
     }
 }

@@ -1,5 +1,5 @@
 //! All keys with their slots.
-ghost use Rattle.std.specs.Prelude.{◌≡◌, ◌∷◌, [], List, Some, length, true, is_some, position, OnOk, IsOk, if◌then◌else◌};
+ghost use Rattle.std.specs.Prelude.{◌≡◌, ◌∷◌, [], List, Some, length, true, is_some, position, OnOk, IfOk, IsOk, if◌then◌else◌};
 ghost use Rattle.std.specs.Option.{option_copied, unwrap_or};
 ghost use Rattle.std.specs.Ordering.{eq_by_cmp};
 ghost use Rattle.sk_record.specs.Effects.{is_in};
@@ -8,7 +8,7 @@ ghost use Rattle.std.specs.Map.{keys_of};
 ghost use Rattle.std.specs.Map.Iter.{ShowsInOrder, deref};
 ghost use Rattle.sk_record.specs.Merged.{merged};
 ghost use Rattle.sk_record.specs.Notes.{last_tags, unwound, cut, committed};
-ghost use Rattle.sk_slots.specs.Slot.{SlotView, goes_unnoted, noted_on};
+ghost use Rattle.sk_slots.specs.Slot.{SlotView, are_of, goes_unnoted, noted_on};
 ghost use Rattle.sk_slots.specs.Slots.{found, look_at, log_at, AllSettled, IsReady, SettledBut};
 
 use crate::Slot;
@@ -25,6 +25,15 @@ use std::marker::Model;
 #[derive(Drop)]
 pub struct Slots<K: Key + Hash, V, I: Inversion<V> = Whole> {
     slots: Table<K, Slot<V, I>>,
+}
+
+/// What a failure left at a key.
+#[derive(Clone, Copy)]
+struct Unwound {
+    /// Nothing is left to be settled.
+    is_settled: bool,
+    /// The key rested on no other guess.
+    is_alone: bool,
 }
 
 impl<K: Key + Hash, V, I: Inversion<V>> Model for Slots<K, V, I> {
@@ -113,8 +122,9 @@ impl<K: Key + Hash, V, I: Inversion<V>> Slots<K, V, I> {
 }
 
 impl<K: Key + Hash, V: Drop, I: Inversion<V>> Slots<K, V, I> {
-    /// Makes room for what a write of a key with these tags notes. The key is looked for at a place first.
-    pub fn prepare(&mut self, place: usize, key: &K, tags: &TagSet) -> Result<(), AllocError>
+    /// Makes room for what a write of a key with these tags notes, and answers whether it is not noted, as the key has just
+    /// these tags. The key is looked for at a place first.
+    pub fn prepare(&mut self, place: usize, key: &K, tags: &TagSet) -> Result<bool, AllocError>
         ensures look { (q : K) → look_at K.order self.new q ≡ look_at K.order self.old q }
         ensures log { (q : K) → log_at K.order self.new q ≡ log_at K.order self.old q }
         ensures ok { OnOk result (IsReady K.order tags.now self.new key.now) }
@@ -124,13 +134,16 @@ impl<K: Key + Hash, V: Drop, I: Inversion<V>> Slots<K, V, I> {
             → SettledBut K.order keys self.old → SettledBut K.order keys self.new }
         ensures room { (slot : SlotView V) → found K.order self.old key.now ≡ Some slot
             → goes_unnoted tags.now slot.log ≡ true → IsOk result }
+        ensures same { IfOk result
+            (λ same. same ≡ goes_unnoted tags.now (log_at K.order self.old key.now)) }
     {
         if let Some(slot) = self.slots.get_mut_near(place, key) {
             return slot.prepare(tags);
         }
         let mut slot = Slot::new(self.slots.alloc());
-        slot.prepare(tags)?;
-        self.slots.put(*key, slot)
+        let same = slot.prepare(tags)?;
+        self.slots.put(*key, slot)?;
+        Ok(same)
     }
 
     /// Sets or changes what a key has, where what is to be noted has room. The key is looked for at a place first. Answers
@@ -207,7 +220,7 @@ impl<K: Key + Hash, V: Drop, I: Inversion<V>> Slots<K, V, I> {
     }
 
     /// Takes back what rests on a guess at one key.
-    fn unwind_at(&mut self, key: &K, id: GuessId)
+    fn unwind_at(&mut self, key: &K, id: GuessId) -> Unwound
         ensures look { (q : K) → look_at K.order self.new q
             ≡ (if eq_by_cmp K.order q key.now then unwound id (log_at K.order self.old q)
             (look_at K.order self.old q) else look_at K.order self.old q) }
@@ -216,11 +229,43 @@ impl<K: Key + Hash, V: Drop, I: Inversion<V>> Slots<K, V, I> {
             K.order self.old q) }
         ensures settled { (keys : List K) → is_in K.order keys key.now ≡ true
             → SettledBut K.order keys self.old → SettledBut K.order keys self.new }
+        ensures done { result.is_settled ≡ true
+            → (keys : List K) → SettledBut K.order (key.now ∷ keys) self.old
+            → SettledBut K.order keys self.new }
+        ensures alone { result.is_alone ≡ are_of id (last_tags [] (log_at K.order self.old key.now)) }
     {
         let Some(slot) = self.slots.get_mut(key) else {
-            return;
+            return Unwound {
+                is_settled: false,
+                is_alone: true,
+            };
         };
-        slot.unwind(id);
+        let is_alone = slot.rests_on_no_other(id);
+        let is_settled = slot.unwind(id);
+        Unwound {
+            is_settled,
+            is_alone,
+        }
+    }
+
+    /// The same, and lets go of the slot where nothing is there and nothing is noted. Answers whether the key rested on no
+    /// other guess.
+    fn unwind_one(&mut self, key: &K, id: GuessId) -> bool
+        ensures look { (q : K) → look_at K.order self.new q
+            ≡ (if eq_by_cmp K.order q key.now then unwound id (log_at K.order self.old q)
+            (look_at K.order self.old q) else look_at K.order self.old q) }
+        ensures log { (q : K) → log_at K.order self.new q
+            ≡ (if eq_by_cmp K.order q key.now then cut id (log_at K.order self.old q) else log_at
+            K.order self.old q) }
+        ensures settled { AllSettled K.order self.old → AllSettled K.order self.new }
+        ensures alone { result ≡ are_of id (last_tags [] (log_at K.order self.old key.now)) }
+    {
+        let unwound = self.unwind_at(key, id);
+        if unwound.is_settled {
+            return unwound.is_alone;
+        }
+        self.settle(key);
+        unwound.is_alone
     }
 
     /// Takes a guess out of the notes of these keys, and leaves out those that then rest on just what the note before them
@@ -237,8 +282,8 @@ impl<K: Key + Hash, V: Drop, I: Inversion<V>> Slots<K, V, I> {
         }
     }
 
-    /// Takes back what rests on a guess at these keys. It takes no memory.
-    pub fn unwind(&mut self, id: GuessId, keys: &[K])
+    /// Takes back what rests on a guess at these keys. It takes no memory. Answers whether they rested on no other guess.
+    pub fn unwind(&mut self, id: GuessId, keys: &[K]) -> bool
         ensures look { (q : K) → look_at K.order self.new q
             ≡ (if is_in K.order keys.now q then unwound id (log_at K.order self.old q)
             (look_at K.order self.old q) else look_at K.order self.old q) }
@@ -246,10 +291,13 @@ impl<K: Key + Hash, V: Drop, I: Inversion<V>> Slots<K, V, I> {
             ≡ (if is_in K.order keys.now q then cut id (log_at K.order self.old q) else log_at
             K.order self.old q) }
         ensures settled { AllSettled K.order self.old → AllSettled K.order self.new }
+        ensures alone { result ≡ true → (q : K) → is_in K.order keys.now q ≡ true
+            → are_of id (last_tags [] (log_at K.order self.old q)) ≡ true }
     {
+        let mut alone = true;
         for key in keys {
-            self.unwind_at(key, id);
-            self.settle(key);
+            alone &= self.unwind_one(key, id);
         }
+        alone
     }
 }

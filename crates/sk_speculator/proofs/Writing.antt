@@ -7,6 +7,7 @@ use Rattle.sk_speculator.proofs.Names.{or_right, append-nil, exact_bytes, is_in,
 use Rattle.sk_speculator.proofs.Names.{Merges, all_kept, left_out, SlotView, goes_unnoted, noted_on, look_at, log_at}
 use Rattle.sk_speculator.proofs.Names.{IsReady, noted_again, keys_of, made_by, Performed, AllAlmostExact, OpenGuess}
 use Rattle.std.specs.Prelude.{Result, Ok, Err}
+use Rattle.sk_speculator.proofs.Names.{list_any-append, tags_by, with_tags}
 
 module _ {V : Type 0} where
   -- a note for a write, or what stands for it
@@ -170,6 +171,43 @@ pub almost_as : {K : Type 0} (R : K → K → Ordering) (tags : K → List ℕ) 
 almost_as R tags ks all same [] almost = tt
 almost_as R tags ks all same (o ∷ os) almost =
     (record { kept = almost.0.kept; others = λ k out. almost.0.others k (same k ∙ out) }, almost_as R tags ks all same os almost.1)
+
+-- and so where the last of the first keys is told first
+either_way : (a b : Bool) → (a || (b || false)) ≡ (b || a)
+either_way true true = refl
+either_way true false = refl
+either_way false true = refl
+either_way false false = refl
+
+pub almost_last : {K : Type 0} (R : K → K → Ordering) (tags : K → List ℕ) (ks : List K) (i : ℕ) (k : K) → i < length ks
+    → k ≡ get_or ks i k → (os : List (OpenGuess K)) → AllAlmostExact R tags (take (i + 1) ks) os
+    → AllAlmostExact R tags (k ∷ take i ks) os
+almost_last R tags ks i k lt is os almost =
+    almost_as R tags (take (i + 1) ks) (k ∷ take i ks)
+    (λ q.
+    ap (λ xs. is_in R xs q) (take_next ks i k lt is) ∙ list_any-append (eq_by_cmp R q) (take i ks) (k ∷ [])
+    ∙ either_way (is_in R (take i ks) q) (eq_by_cmp R q k))
+    os almost
+
+-- what is known to be there is not missed
+pub or_known : (a b : Bool) → (b ≡ true → a ≡ true) → a ≡ (a || b)
+or_known true b known = refl
+or_known false true known = known refl
+or_known false false known = refl
+
+-- where keys have just these tags they rest on what they did
+pub tags_same : {K V : Type 0} (R : K → K → Ordering) (logs : K → List (Note V)) (tags : List ℕ) (ks : List K)
+    → ((q : K) → is_in R ks q ≡ true → goes_unnoted tags (logs q) ≡ true) → (k : K)
+    → tags_by logs k ≡ with_tags R tags ks (tags_by logs) k
+tags_same R logs tags ks same k =
+    elim (is_in R ks k) as (λ b. is_in R ks k ≡ b → last_tags [] (logs k) ≡ cond b tags (last_tags [] (logs k))) [
+      | true ↦ λ here. sym ((exact_bytes tags (last_tags [] (logs k))).0 (same k here))
+      | false ↦ λ _. refl
+    ] refl
+
+pub only_one : (b : Bool) → (b || false) ≡ true → b ≡ true
+only_one true is = refl
+only_one false is = absurd (true≢false (sym is))
 
 -- ---- answers
 pub when_ok : {A E P Q : Type 0} (r : Result A E) → OnOk r P → (P → Q) → OnOk r Q

@@ -3,7 +3,7 @@ pub use Rattle.sk_deeds.specs.Deed.{Deed, Entry, again, effect_of}
 pub use Rattle.sk_deeds.specs.Told.{Told, told_more, with_told}
 pub use Rattle.sk_guesses.specs.Dependents.{AllAlmostExact, AllExact, Covers, Depends, tags_by, with_tags}
 pub use Rattle.sk_guesses.specs.Kept.{AreStatuses, HasKeptRoom, KeptView, keys_of, known, none_drawn, one_drawn, struck_with, with_struck}
-pub use Rattle.sk_guesses.specs.Opens.{OpenGuess, opens_of}
+pub use Rattle.sk_guesses.specs.Opens.{OpenGuess, guess_tags, opens_of}
 pub use Rattle.sk_guesses.specs.Token.{Token}
 pub use Rattle.sk_ids.specs.declared.guess.TheConstants.{LAST_GUESS}
 pub use Rattle.sk_inversion.specs.declared.whole.NoUndo.{NoUndo}
@@ -18,7 +18,7 @@ pub use Rattle.sk_record.specs.Step.{perform}
 pub use Rattle.sk_record.specs.Trace.{Commit, Event, Fail, Taken, marks}
 pub use Rattle.sk_record.specs.UndoState.{Open, UndoState, not_struck, numbers, still_open, tags_at}
 pub use Rattle.sk_record.specs.declared.status.Status.{Status}
-pub use Rattle.sk_slots.specs.Slot.{SlotView, slot_code}
+pub use Rattle.sk_slots.specs.Slot.{SlotView, are_of, goes_unnoted, slot_code}
 pub use Rattle.sk_slots.specs.Slots.{AllSettled, IsReady, SettledBut, log_at, look_at}
 pub use Rattle.sk_speculator.specs.declared.decided.Committed.{Committed}
 pub use Rattle.sk_speculator.specs.declared.decided.Failed.{Failed}

@@ -64,8 +64,15 @@ fn tags_of_step<K: Key + Hash, V, O, I: Inversion<V>>(
     ensures own { OnOk result (is_some own.now ≡ true → both.new.own ≡ both.new.tags) }
 {
     both.tags = own_tags(alloc, own);
-    add_tags(slots, &mut both.tags, step.looked.as_slice(), places)?;
-    add_written_tags(slots, &mut both.tags, step.written.as_slice(), places)?;
+    let looked = step.looked.as_slice();
+    add_tags(slots, &mut both.tags, looked, places)?;
+    add_written_tags(
+        slots,
+        &mut both.tags,
+        looked,
+        step.written.as_slice(),
+        places,
+    )?;
     let _rising = both.tags.ids();
     if own.is_some() {
         both.own = both.tags.copy()?;
@@ -103,8 +110,8 @@ fn reserve_guess<K: Key>(
     Ok(())
 }
 
-/// Makes room for the notes of writes, adds their keys to the lists of the guesses that they come to rest on, and makes
-/// room for the guess of the step. Without memory the lists have what they had.
+/// Makes room for the notes of writes, adds their keys to the lists of the guesses that they come to rest on, if they are not
+/// all there already, and makes room for the guess of the step. Without memory the lists have what they had.
 fn make_ready<K: Key + Hash, V: Drop, I: Inversion<V>>(
     alloc: Global,
     slots: &mut Slots<K, V, I>,
@@ -136,8 +143,8 @@ fn make_ready<K: Key + Hash, V: Drop, I: Inversion<V>>(
     ensures err { OnErr result
         (AllExact K.order (tags_by (log_at K.order slots.old)) guesses.new.opens) }
 {
-    prepare_all(slots, tags, written, places)?;
-    depend_all(alloc, guesses, slots, no_tags, tags, written, places)?;
+    let same = prepare_all(slots, tags, written, places)?;
+    depend_all(alloc, guesses, slots, no_tags, tags, written, places, same)?;
     if reserve_guess(guesses, own, written.len()).is_err() {
         relieve_written(guesses, slots, no_tags, written);
         return Err(AllocError);
@@ -256,7 +263,8 @@ fn ask_alone<K: Key + Hash, V: Drop, O: Drop, I: Inversion<V>>(
     let written = step.written.as_slice();
     find_all(slots, places, written)?;
     reserve_output(said, &step.said)?;
-    prepare_all(slots, no_tags, written, places.as_slice())
+    prepare_all(slots, no_tags, written, places.as_slice())?;
+    Ok(())
 }
 
 /// Takes a step whose keys rest on nothing: it wants no tags and no notes. Without memory nothing that is seen has changed.

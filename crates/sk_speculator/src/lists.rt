@@ -1,7 +1,7 @@
 //! The lists of what rests on each undecided guess, as steps and failures change them.
 ghost use Rattle.std.specs.Prelude.{◌≡◌, ℕ, [], true, IfOk, OnErr, OnOk, IsSorted};
 ghost use Rattle.sk_speculator.specs.Base.{tags_by, with_tags, AllAlmostExact, AllExact, Covers, Depends, keys_of};
-ghost use Rattle.sk_speculator.specs.Base.{is_in, opens_of, has, last_tags, log_at};
+ghost use Rattle.sk_speculator.specs.Base.{is_in, opens_of, goes_unnoted, has, last_tags, log_at};
 
 use crate::writes::next_place;
 use sk_guesses::OpenGuesses;
@@ -171,9 +171,9 @@ fn depend_each<K: Key + Hash, V, I: Inversion<V>>(
     Ok(())
 }
 
-/// Adds what a step writes to the lists of the guesses that the step rests on. Where it writes many keys these are added by
-/// rising order: then each stands behind those that were added, and none has to move. Without memory the lists have what
-/// they had.
+/// Adds what a step writes to the lists of the guesses that the step rests on, if it is not there, as all keys have just these
+/// tags. Where it writes many keys these are added by rising order: then each stands behind those that were added, and none
+/// has to move. Without memory the lists have what they had.
 pub(crate) fn depend_all<K: Key + Hash, V, I: Inversion<V>>(
     alloc: Global,
     guesses: &mut OpenGuesses<K>,
@@ -182,11 +182,14 @@ pub(crate) fn depend_all<K: Key + Hash, V, I: Inversion<V>>(
     tags: &TagSet,
     written: &[(K, I::Write)],
     places: &[usize],
+    same: bool,
 ) -> Result<(), AllocError>
     requires exact { AllExact K.order (tags_by (log_at K.order slots.now)) guesses.old.opens }
     requires covers { Covers K.order tags.now (keys_of written.now)
         (tags_by (log_at K.order slots.now)) }
     requires no_tags { no_tags.now ≡ [] }
+    requires same { same ≡ true → (q : K) → is_in K.order (keys_of written.now) q ≡ true
+        → goes_unnoted tags.now (log_at K.order slots.now q) ≡ true }
     ensures view { guesses.new.view ≡ guesses.old.view }
     ensures opens { opens_of guesses.new.opens ≡ opens_of guesses.old.opens }
     ensures ok { OnOk result
@@ -196,6 +199,9 @@ pub(crate) fn depend_all<K: Key + Hash, V, I: Inversion<V>>(
     ensures err { OnErr result
         (AllExact K.order (tags_by (log_at K.order slots.now)) guesses.new.opens) }
 {
+    if same {
+        return Ok(());
+    }
     if written.len() <= FEW {
         return depend_few(guesses, slots, no_tags, tags, written, places);
     }
@@ -226,8 +232,9 @@ pub(crate) fn relieve_written<K: Key + Hash, V, I: Inversion<V>>(
     }
 }
 
-/// Takes keys out of the lists of the guesses that they do not rest on.
-pub(crate) fn relieve_all<K: Key + Hash, V, I: Inversion<V>>(
+/// Takes keys out of the lists of the guesses that they do not rest on, the last first: where they rise, each then stands behind
+/// those that are left, and none of these has to move.
+fn relieve_all<K: Key + Hash, V, I: Inversion<V>>(
     guesses: &mut OpenGuesses<K>,
     slots: &Slots<K, V, I>,
     no_tags: &TagSet,
@@ -240,7 +247,31 @@ pub(crate) fn relieve_all<K: Key + Hash, V, I: Inversion<V>>(
     ensures opens { opens_of guesses.new.opens ≡ opens_of guesses.old.opens }
     ensures exact { AllExact K.order (tags_by (log_at K.order slots.now)) guesses.new.opens }
 {
-    for key in keys {
+    for place in (0..keys.len()).rev() {
+        let key = &keys[place];
         guesses.leave_to(tags_of(slots, no_tags, key), key);
     }
+}
+
+/// The same behind a failure. Keys that rested on no other guess are in no list.
+pub(crate) fn relieve_rest<K: Key + Hash, V, I: Inversion<V>>(
+    guesses: &mut OpenGuesses<K>,
+    slots: &Slots<K, V, I>,
+    no_tags: &TagSet,
+    keys: &[K],
+    alone: bool,
+)
+    requires almost { AllAlmostExact K.order (tags_by (log_at K.order slots.now)) keys.now
+        guesses.old.opens }
+    requires alone { alone ≡ true
+        → AllExact K.order (tags_by (log_at K.order slots.now)) guesses.old.opens }
+    requires no_tags { no_tags.now ≡ [] }
+    ensures view { guesses.new.view ≡ guesses.old.view }
+    ensures opens { opens_of guesses.new.opens ≡ opens_of guesses.old.opens }
+    ensures exact { AllExact K.order (tags_by (log_at K.order slots.now)) guesses.new.opens }
+{
+    if alone {
+        return;
+    }
+    relieve_all(guesses, slots, no_tags, keys);
 }

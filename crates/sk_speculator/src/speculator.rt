@@ -1,7 +1,7 @@
 //! The kernel.
 ghost use Rattle.std.specs.Prelude.{◌≡◌, ◌≢◌, ◌==◌, ◌<◌, ◌∷◌, ◌&&◌, ℕ, [], true, false, None, Some, Option, is_some, is_none, length, get_or, IfErr, IfOk, IfSome, OnErr, OnOk};
 ghost use Rattle.sk_speculator.specs.Base.{IsStrictlySortedBy, non_zero_u16_get, ShowsInOrder, deref, slice_get};
-ghost use Rattle.sk_speculator.specs.Base.{option_copied, option_map, known, none_drawn, AreStatuses, is_in, released};
+ghost use Rattle.sk_speculator.specs.Base.{option_copied, option_map, guess_tags, known, none_drawn, AreStatuses, is_in, released};
 ghost use Rattle.sk_speculator.specs.Base.{has, numbers, tags_at, Status, said_at, first_of, waiting_of, look_at};
 ghost use Rattle.sk_speculator.specs.Base.{log_at, IsDistinct, eq_by_cmp, Memory};
 ghost use Rattle.sk_speculator.specs.Calls.{next_of, Commits, CommitPost, FailsIn, FailPost, Refuses, Takes, TookBack};
@@ -9,7 +9,7 @@ ghost use Rattle.sk_speculator.specs.Emptied.{IsEmptied};
 ghost use Rattle.sk_speculator.specs.Parts.{deed, machine_of, made_by, undo_state_of, IsSame};
 
 use crate::asking::{StepTags, ask, perform, perform_alone};
-use crate::lists::{relieve_all, tags_of};
+use crate::lists::{relieve_rest, tags_of};
 use crate::{Committed, Failed, Refusal, Step, Undone};
 use indexmap::map::Keys;
 use sk_guesses::{Guess, OpenGuesses, Redeemed, Status};
@@ -132,6 +132,13 @@ impl<K: Key + Hash, V, O, I: Inversion<V>> Speculator<K, V, O, I> {
             → IfSome result (λ is. status id ≡ Some is) }
     {
         self.guesses.status(id)
+    }
+
+    /// The guesses that an undecided guess's own step depends on, itself among them: its commit is firm where it is alone.
+    pub fn tags_of_guess(&self, id: GuessId) -> Option<&TagSet>
+        ensures { option_copied result ≡ guess_tags id self.now.opens }
+    {
+        self.guesses.tags(id)
     }
 
     /// How many guesses are undecided.
@@ -405,13 +412,14 @@ impl<K: Key + Hash, V: Drop, O: Drop, I: Inversion<V>> Speculator<K, V, O, I> {
         ensures back { TookBack K.order self.old id result }
     {
         let keys = self.guesses.take_dependents(id);
-        self.slots.unwind(id, keys.as_slice());
+        let alone = self.slots.unwind(id, keys.as_slice());
         let struck = self.guesses.fail(id);
-        relieve_all(
+        relieve_rest(
             &mut self.guesses,
             &self.slots,
             &self.no_tags,
             keys.as_slice(),
+            alone,
         );
         self.said.drop_of(id);
         Undone {

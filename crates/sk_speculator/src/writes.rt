@@ -1,6 +1,6 @@
 //! The writes of a step: the guesses that their keys rest on, the room for their notes, and the writes themselves.
-ghost use Rattle.std.specs.Prelude.{◌≡◌, ◌||◌, ◌∷◌, ℕ, Option, true, [], None, OnOk};
-ghost use Rattle.sk_speculator.specs.Base.{keys_of, is_in, has, look_at, log_at, AllSettled, IsReady, SettledBut};
+ghost use Rattle.std.specs.Prelude.{◌≡◌, ◌||◌, ◌∷◌, ℕ, Option, true, [], None, IfOk, OnOk};
+ghost use Rattle.sk_speculator.specs.Base.{keys_of, is_in, has, goes_unnoted, look_at, log_at, AllSettled, IsReady, SettledBut};
 ghost use Rattle.sk_speculator.specs.Parts.{any_rests, made_by, Performed};
 
 use sk_ids::TagSet;
@@ -95,42 +95,79 @@ pub(crate) fn add_tags<K: Key + Hash, V, I: Inversion<V>>(
     Ok(())
 }
 
-/// Adds to a set the guesses that the keys of writes rest on.
+/// Whether a key is the one that was looked at in this turn.
+fn is_looked<K: Key>(looked: &[K], turn: usize, key: &K) -> bool
+    ensures { result ≡ true → is_in K.order looked.now key.now ≡ true }
+{
+    match looked.get(turn) {
+        Some(own) => own == key,
+        None => false,
+    }
+}
+
+/// Adds to a set the guesses that a key rests on which is written. Mostly it was looked at in its turn, and they are there.
+fn add_written_tags_at<K: Key + Hash, V, I: Inversion<V>>(
+    slots: &Slots<K, V, I>,
+    all: &mut TagSet,
+    looked: &[K],
+    turn: usize,
+    place: usize,
+    key: &K,
+) -> Result<(), AllocError>
+    requires { (g : ℕ) → any_rests K.order slots.now g looked.now ≡ true → has g all.old ≡ true }
+    ensures { OnOk result ((g : ℕ) → has g all.new
+        ≡ (has g all.old || any_rests K.order slots.now g (key.now ∷ []))) }
+{
+    if is_looked(looked, turn, key) {
+        return Ok(());
+    }
+    add_tags_at(slots, all, place, key)
+}
+
+/// Adds to a set the guesses that the keys of writes rest on. Those of the keys that were looked at are in it.
 pub(crate) fn add_written_tags<K: Key + Hash, V, I: Inversion<V>>(
     slots: &Slots<K, V, I>,
     all: &mut TagSet,
+    looked: &[K],
     written: &[(K, I::Write)],
     places: &[usize],
 ) -> Result<(), AllocError>
+    requires { (g : ℕ) → any_rests K.order slots.now g looked.now ≡ true → has g all.old ≡ true }
     ensures { OnOk result ((g : ℕ) → has g all.new
         ≡ (has g all.old || any_rests K.order slots.now g (keys_of written.now))) }
 {
     let mut near = places.iter();
-    for write in written {
-        add_tags_at(slots, all, next_place(&mut near), &write.0)?;
+    for (turn, write) in written.iter().enumerate() {
+        let place = next_place(&mut near);
+        add_written_tags_at(slots, all, looked, turn, place, &write.0)?;
     }
     Ok(())
 }
 
-/// Makes room for what writes with these tags note.
+/// Makes room for what writes with these tags note, and answers whether none of them is noted, as their keys have just these
+/// tags.
 pub(crate) fn prepare_all<K: Key + Hash, V: Drop, I: Inversion<V>>(
     slots: &mut Slots<K, V, I>,
     tags: &TagSet,
     written: &[(K, I::Write)],
     places: &[usize],
-) -> Result<(), AllocError>
+) -> Result<bool, AllocError>
     ensures look { (q : K) → look_at K.order slots.new q ≡ look_at K.order slots.old q }
     ensures log { (q : K) → log_at K.order slots.new q ≡ log_at K.order slots.old q }
     ensures settled { SettledBut K.order (keys_of written.now) slots.old
         → SettledBut K.order (keys_of written.now) slots.new }
     ensures ready { OnOk result ((q : K) → is_in K.order (keys_of written.now) q ≡ true
         → IsReady K.order tags.now slots.new q) }
+    ensures same { IfOk result (λ same. same ≡ true
+        → (q : K) → is_in K.order (keys_of written.now) q ≡ true
+        → goes_unnoted tags.now (log_at K.order slots.old q) ≡ true) }
 {
+    let mut same = true;
     let mut near = places.iter();
     for write in written {
-        slots.prepare(next_place(&mut near), &write.0, tags)?;
+        same &= slots.prepare(next_place(&mut near), &write.0, tags)?;
     }
-    Ok(())
+    Ok(same)
 }
 
 /// The key of a write, and what is written, which is moved out.

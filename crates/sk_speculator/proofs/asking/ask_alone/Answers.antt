@@ -8,10 +8,12 @@ returns-clause-settled g c =
     subst (λ xs. SettledBut g.K.Key.order (keys_of xs) c.args.slots.now → SettledBut g.K.Key.order (keys_of xs) c.prepare_all.new.slots)
     c.as_slice-written.ensures.value c.prepare_all.ensures.settled
 
+pub returns-in_err-prepare_all-clause-settled : goal.returns-in_err-prepare_all-clause-settled
+returns-in_err-prepare_all-clause-settled g c =
+    subst (λ xs. SettledBut g.K.Key.order (keys_of xs) c.args.slots.now → SettledBut g.K.Key.order (keys_of xs) c.prepare_all.new.slots)
+    c.as_slice-written.ensures.value c.prepare_all.ensures.settled
+
 pub returns-clause-ready : goal.returns-clause-ready
 returns-clause-ready g c =
-    subst (λ xs. OnOk c.prepare_all.result ((q : _) → is_in g.K.Key.order (keys_of xs) q ≡ true → IsReady g.K.Key.order c.args.no_tags.now c.prepare_all.new.slots q))
-    c.as_slice-written.ensures.value c.prepare_all.ensures.ready
-
-pub returns-clause-room : goal.returns-clause-room
-returns-clause-room g c = always_ok c.prepare_all.result c.in_ok-reserve_output.ensures.ok
+    subst (λ xs. (q : _) → is_in g.K.Key.order (keys_of xs) q ≡ true → IsReady g.K.Key.order c.args.no_tags.now c.prepare_all.new.slots q)
+    c.as_slice-written.ensures.value c.in_ok-prepare_all.ensures.ready

@@ -1,6 +1,6 @@
 -- What is seen of the slots is as before, and so are the lists where there is no memory.
 use Rattle.sk_speculator.proofs.Names.{[], sym, ◌∙◌, ap, subst, IsTotalOrder, IsAntisymmetric, tags_by, exact_as, has}
-use Rattle.sk_speculator.proofs.Names.{last_tags, log_at}
+use Rattle.sk_speculator.proofs.Names.{last_tags, log_at, goes_unnoted}
 use Rattle.sk_speculator.proofs.asking.make_ready.Goals as goal
 
 pub depend_all-requires-clause-exact : goal.depend_all-requires-clause-exact
@@ -13,3 +13,7 @@ depend_all-requires-clause-exact g c =
 pub depend_all-requires-clause-covers : goal.depend_all-requires-clause-covers
 depend_all-requires-clause-covers g c = λ k n here rests.
     c.requires.covers k n here (ap (λ log. has n (last_tags [] log)) (sym (c.prepare_all.ensures.log k)) ∙ rests)
+
+pub depend_all-requires-clause-same : goal.depend_all-requires-clause-same
+depend_all-requires-clause-same g c = λ same q here.
+    ap (goes_unnoted c.args.tags.now) (c.prepare_all.ensures.log q) ∙ c.in_ok-same.ensures.same same q here

@@ -1,10 +1,11 @@
 -- All but the keys that are left are in the lists of their guesses alone.
-use Rattle.sk_speculator.proofs.Names.{◌≡◌, drop, AllAlmostExact, tags_by, opens_of, log_at}
+use Rattle.sk_speculator.proofs.Names.{◌≡◌, ◌≤◌, length, take, AllAlmostExact, tags_by, opens_of, log_at}
 use Rattle.sk_speculator.proofs.lists.relieve_all.Given as goal
 
-abbrev pub invariant-loop-key : goal.invariant-loop-key
-invariant-loop-key g l =
+abbrev pub invariant-loop-place : goal.invariant-loop-place
+invariant-loop-place g l =
     let R = g.K.Key.order in
     (l.guesses.view ≡ l.fn.guesses.view)
     × (opens_of l.guesses.opens ≡ opens_of l.fn.guesses.opens)
-    × AllAlmostExact R (tags_by (log_at R l.slots)) (drop l.key-index l.keys) l.guesses.opens
+    × (l.place ≤ length l.keys)
+    × AllAlmostExact R (tags_by (log_at R l.slots)) (take l.place l.keys) l.guesses.opens

@@ -33,3 +33,21 @@ returns-clause-ok g c = λ _. ap (λ ns. Some (newest_tags [] ns)) c.push_reserv
 
 pub returns-clause-kept : goal.returns-clause-kept
 returns-clause-kept g c = λ _ _. ap (λ ns. Some (newest_tags [] ns)) c.push_reserved.ensures.items ∙ ap Some (newest_more [] c.let_go.new.log.items (record { tags = c.in_ok-own.own; before = Was None }) ∙ c.in_ok-own.ensures)
+
+pub returns-then-goes_unnoted-clause-same : goal.returns-then-goes_unnoted-clause-same
+returns-then-goes_unnoted-clause-same g c =
+    let tags = c.args.tags.now in
+    let ks = without_ready c.self.inside.has_ready c.self.inside.log.items in
+    let base = c.noted.ensures ∙ ap (without_ready c.self.inside.has_ready) c.as_slice.ensures.value in
+    let on : same_tags tags (newest_tags [] ks) ≡ true = ap (λ xs. same_tags tags (newest_tags [] xs)) (sym base) ∙ sym c.goes_unnoted.ensures ∙ c.if-goes_unnoted.true in
+    sym (ap (same_tags tags) (seen_tags g.I.Inversion.undone c.self.inside.value [] ks) ∙ on)
+    ∙ ap (λ (s : SlotView _). goes_unnoted tags s.log) c.self.view_is
+
+pub returns-clause-same : goal.returns-clause-same
+returns-clause-same g c =
+    let tags = c.args.tags.now in
+    let ks = without_ready c.self.inside.has_ready c.self.inside.log.items in
+    let base = c.noted.ensures ∙ ap (without_ready c.self.inside.has_ready) c.as_slice.ensures.value in
+    let off : same_tags tags (newest_tags [] ks) ≡ false = ap (λ xs. same_tags tags (newest_tags [] xs)) (sym base) ∙ sym c.goes_unnoted.ensures ∙ c.if-goes_unnoted.false in
+    sym (ap (same_tags tags) (seen_tags g.I.Inversion.undone c.self.inside.value [] ks) ∙ off)
+    ∙ ap (λ (s : SlotView _). goes_unnoted tags s.log) c.self.view_is

@@ -1,15 +1,20 @@
 #!/usr/bin/env python3
-"""How the work of one request grows with its keys: twice the keys are to take at most 2.2 times the server's processor time.
+"""How the work of one request grows with its keys: twice the keys are to take at most 2.2 times the server's instructions.
 
-    server/tests/grows.py --server SERVER [--keys N]     with N keys (20,000), and with twice as many
+    server/tests/grows.py --server SERVER [--keys N]     with N keys (4,000), and with twice as many
 
-Each request goes over keys that rise, that fall, and that stand in no order, since what is quick for one order may be slow for
-another; the worst of them counts, and of each the least of some rounds, so other work on the machine matters little. A line for each
-request, and 'N passed, M failed' last.
+Instructions are counted by valgrind's callgrind, and so nearly the same at each run: seconds also grow as less of the keys fits into
+the processor's caches. Each request goes over keys that rise, that fall, and that stand in no order, since what is quick for one
+order may be slow for another; the worst of them counts. A line for each request, and 'N passed, M failed' last; 'not there' where
+there is no valgrind.
 """
 import argparse
+import concurrent.futures
+import os
 import pathlib
 import random
+import re
+import shutil
 import socket
 import subprocess
 import sys
@@ -18,8 +23,8 @@ import threading
 import time
 
 MOST = 2.2
-ROUNDS = 5
 ORDERS = ("rising", "falling", "mixed")
+SUMMED = re.compile(r"^(?:summary|totals): (\d+)$", re.M)
 
 
 def request(*words):
@@ -27,13 +32,15 @@ def request(*words):
 
 
 class Server:
-    """A server of its own, and a connection to it that sends beside what it reads."""
+    """A server of its own, whose instructions are counted, and a connection to it that sends beside what it reads."""
 
-    def __init__(self, program, folder):
+    def __init__(self, program, room):
+        self.room, self.seen = pathlib.Path(room), set()
         with socket.socket() as free:
             free.bind(("127.0.0.1", 0))
             self.port = free.getsockname()[1]
-        words = [program, "--folder", folder, "--address", f"127.0.0.1:{self.port}"]
+        words = ["valgrind", "--tool=callgrind", f"--callgrind-out-file={self.room / 'counts'}", program]
+        words += ["--folder", self.room / "store", "--address", f"127.0.0.1:{self.port}"]
         self.process = subprocess.Popen(words, stdout=subprocess.DEVNULL, stderr=subprocess.DEVNULL)
         self.link = self.connected()
         self.file = self.link.makefile("rb")
@@ -46,10 +53,17 @@ class Server:
                 time.sleep(0.1)
         raise SystemExit("grows: the server does not listen")
 
-    def worked(self):
-        """The seconds that its threads have been on a processor."""
-        threads = pathlib.Path(f"/proc/{self.process.pid}/task").glob("*/schedstat")
-        return sum(int(it.read_text().split()[0]) for it in threads) / 1e9
+    def counted(self):
+        """How many instructions it has carried out since the last time."""
+        for _ in range(20):
+            subprocess.run(["callgrind_control", "-d", str(self.process.pid)], capture_output=True, check=False)
+            new = set(self.room.glob("counts.*")) - self.seen
+            sums = [SUMMED.search(it.read_text(errors="replace")) for it in new]
+            if sums and all(sums):
+                self.seen |= new
+                return sum(int(it.group(1)) for it in sums)
+            time.sleep(0.1)
+        raise SystemExit("grows: valgrind does not tell what it counted")
 
     def send(self, data):
         threading.Thread(target=self.link.sendall, args=(data,)).start()
@@ -60,14 +74,17 @@ class Server:
             return self.file.read(int(line[1:]) + 2)[:-2]
         if line[:1] == b"*":
             return [self.reply() for _ in range(int(line[1:]))]
-        assert not line.startswith(b"-"), line
+        assert line and not line.startswith(b"-"), line
         return line[:-2]
 
-    def took(self, *words):
-        begun = self.worked()
+    def ask(self, *words):
         self.send(request(*words))
-        self.reply()
-        return self.worked() - begun
+        return self.reply()
+
+    def took(self, *words):
+        self.counted()
+        self.ask(*words)
+        return self.counted()
 
     def queue(self, requests):
         self.send(request(b"MULTI") + b"".join(request(*it) for it in requests))
@@ -79,19 +96,19 @@ class Server:
         self.process.wait()
 
 
-def times(server, keys):
-    """The seconds of each request over these keys."""
-    yield "MSET", server.took(b"MSET", *(word for key in keys for word in (key, b"1")))
+def counts(server, keys):
+    """The instructions of each request over these keys."""
+    pairs = [word for key in keys for word in (key, b"1")]
+    yield "MSET", server.took(b"MSET", *pairs)
     yield "MGET", server.took(b"MGET", *keys)
     yield "EXISTS", server.took(b"EXISTS", *keys)
     yield "DEL", server.took(b"DEL", *keys)
     server.queue([(b"INCR", key) for key in keys])
     yield "EXEC", server.took(b"EXEC")
     yield "FLUSHALL", server.took(b"FLUSHALL")
-    server.took(b"MSET", *(word for key in keys for word in (key, b"1")))
+    server.ask(b"MSET", *pairs)
     server.queue([(b"SET", b"%s.more" % key, b"1") for key in keys] + [(b"DBSIZE",)])
     yield "EXEC with DBSIZE", server.took(b"EXEC")
-    server.took(b"FLUSHALL")
 
 
 def ordered(order, count):
@@ -103,41 +120,36 @@ def ordered(order, count):
     return keys
 
 
-def measure(program, count, least):
-    """Keeps the least seconds of each request over so many keys, by their order."""
-    with tempfile.TemporaryDirectory() as folder:
-        server = Server(program, folder)
+def measured(program, order, count):
+    """The instructions of each request over so many keys in an order."""
+    with tempfile.TemporaryDirectory() as room:
+        server = Server(program, room)
         try:
-            for order in ORDERS:
-                for name, seconds in times(server, ordered(order, count)):
-                    least[name, order] = min(seconds, least.get((name, order), seconds))
+            return dict(counts(server, ordered(order, count)))
         finally:
             server.end()
-
-
-def worst(once, twice):
-    """The order of keys in which a request grows most, and how it grows, by the request."""
-    ratios = {at: twice[at] / once[at] for at in once}
-    return {name: max((ratios[at], at[1]) for at in ratios if at[0] == name) for name, _ in once}
 
 
 def main():
     words = argparse.ArgumentParser()
     words.add_argument("--server", required=True)
-    words.add_argument("--keys", type=int, default=20_000)
+    words.add_argument("--keys", type=int, default=4_000)
     told = words.parse_args()
-    once, twice = {}, {}
-    for _ in range(ROUNDS):
-        measure(told.server, told.keys, once)
-        measure(told.server, 2 * told.keys, twice)
-        grown = worst(once, twice)
-        if all(ratio <= MOST for ratio, _ in grown.values()):
-            break
-    for name, (ratio, order) in grown.items():
-        seconds = f"{once[name, order]:.3f} s, {2 * told.keys:,} keys {twice[name, order]:.3f} s"
-        print(f"{name}: {told.keys:,} {order} keys {seconds}, {ratio:.2f} times")
-    failed = sum(ratio > MOST for ratio, _ in grown.values())
-    print(f"{len(grown) - failed} passed, {failed} failed")
+    if not (shutil.which("valgrind") and shutil.which("callgrind_control")):
+        print("not there")
+        return 0
+    sizes = (told.keys, 2 * told.keys)
+    runs = [(order, count) for count in reversed(sizes) for order in ORDERS]
+    with concurrent.futures.ThreadPoolExecutor(min(len(runs), os.cpu_count() or 1)) as beside:
+        made = dict(zip(runs, beside.map(lambda run: measured(told.server, *run), runs)))
+    once, twice = ({order: made[order, count] for order in ORDERS} for count in sizes)
+    failed = 0
+    for name in once[ORDERS[0]]:
+        ratio, order = max((twice[order][name] / once[order][name], order) for order in ORDERS)
+        millions = f"{once[order][name] / 1e6:,.1f} million instructions, {sizes[1]:,} {twice[order][name] / 1e6:,.1f}"
+        print(f"{name}: {sizes[0]:,} {order} keys {millions}, {ratio:.2f} times")
+        failed += ratio > MOST
+    print(f"{len(once[ORDERS[0]]) - failed} passed, {failed} failed")
     return int(failed > 0)
 
 

@@ -11,5 +11,6 @@ pub mod Works
 pub mod Bulks
 pub mod Placed
 pub mod Placings
+mod Digests
 mod InOrder
 pub mod Spoken

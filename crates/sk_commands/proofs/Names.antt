@@ -73,7 +73,7 @@ pub use Rattle.std.proofs.Common.{slice_get, ◌||◌}
 pub use Rattle.std.proofs.lemmas.List.Folds.{list_any-append}
 pub use Rattle.std.proofs.lemmas.Option.{same_Some}
 pub use Rattle.std.specs.BTreeMap.{insert_entry, is_at}
-pub use Rattle.std.specs.Cmp.{tied_itself}
+pub use Rattle.std.specs.Cmp.{nat_cmp_total, tied_itself}
 pub use Rattle.std.specs.Cmp.Lexicographic.{nat_list_cmp_total}
 pub use Rattle.std.specs.FinMap.{slice_cmp-IsAntisymmetric, nat_cmp-IsAntisymmetric}
 pub use Rattle.std.specs.Ordering.{eq_by_cmp, is_eq, match_ordering}
@@ -86,3 +86,4 @@ pub use Rattle.std.proofs.lemmas.Map.Keys.{sorted_from_all_adjacent}
 pub use Rattle.std.specs.Ordering.{ordering_reverse}
 pub use Rattle.std.proofs.lemmas.List.{get_or-map}
 pub use Rattle.std.proofs.lemmas.Bool.{ltb-true, ltb-false}
+pub use Rattle.std.specs.Map.{lookup}

@@ -15,17 +15,17 @@ bytes_cmp = slice_cmp nat_cmp
 abbrev pub key_cmp : Vec ℕ → Vec ℕ → Ordering
 key_cmp a b = bytes_cmp a.items b.items
 
-equal : (r : Ordering) → is_eq r ≡ true → r ≡ Equal
+pub equal : (r : Ordering) → is_eq r ≡ true → r ≡ Equal
 equal Equal e = refl
 equal s e = cc
 
-tied_is : (a b : List ℕ) → bytes_cmp a b ≡ Equal → a ≡ b
+pub tied_is : (a b : List ℕ) → bytes_cmp a b ≡ Equal → a ≡ b
 tied_is a b e = slice_cmp-IsAntisymmetric nat_cmp-IsAntisymmetric a b e
 
 ties : (a b : List ℕ) → a ≡ b → is_eq (bytes_cmp a b) ≡ true
 ties a b e = ap is_eq (subst (λ x. bytes_cmp a x ≡ Equal) e (tied_itself nat_list_cmp_total a))
 
-same_test : (a b : List ℕ) → is_eq (bytes_cmp a b) ≡ bytes_eq a b
+pub same_test : (a b : List ℕ) → is_eq (bytes_cmp a b) ≡ bytes_eq a b
 same_test a b = same_from_decides _ _ (λ e. tied_is a b (equal _ e), ties a b) (bytes_eq-Decides a b)
 
 -- ---- a place is kept
@@ -66,14 +66,14 @@ kept k v (p ∷ places) q =
     ] refl
 
 -- by the bytes of a key that is a copy of the one that is written
-keeps : (k : Vec ℕ) (v : ℕ) (places new : List (Vec ℕ × ℕ)) (key q : List ℕ) → new ≡ insert_entry key_cmp places k v → k.items ≡ key → place_in new q ≡ cond (bytes_eq q key) (Some v) (place_in places q)
+pub keeps : (k : Vec ℕ) (v : ℕ) (places new : List (Vec ℕ × ℕ)) (key q : List ℕ) → new ≡ insert_entry key_cmp places k v → k.items ≡ key → place_in new q ≡ cond (bytes_eq q key) (Some v) (place_in places q)
 keeps k v places new key q is same =
     ap (λ es. place_in es q) is ∙ kept k v places q
     ∙ ap (λ b. cond b (Some v) (place_in places q)) (same_test q k.items ∙ ap (bytes_eq q) same)
 
 -- ---- one write more
 
-last_of : (ws : List Kept) (w : Kept) → slice_get (ws ++ w ∷ []) (length ws) ≡ Some w
+pub last_of : (ws : List Kept) (w : Kept) → slice_get (ws ++ w ∷ []) (length ws) ≡ Some w
 last_of [] w = refl
 last_of (v ∷ ws) w = last_of ws w
 
@@ -82,7 +82,7 @@ earlier [] w i h = let wrong : ⊥ = omega arith in absurd wrong
 earlier (v ∷ ws) w zero h = refl
 earlier (v ∷ ws) w (suc i) h = earlier ws w i (omega arith)
 
-earlier_at : (ws : List Kept) (w : Kept) (place : Option ℕ) → ((i : ℕ) → place ≡ Some i → i < length ws) → write_at (ws ++ w ∷ []) place ≡ write_at ws place
+pub earlier_at : (ws : List Kept) (w : Kept) (place : Option ℕ) → ((i : ℕ) → place ≡ Some i → i < length ws) → write_at (ws ++ w ∷ []) place ≡ write_at ws place
 earlier_at ws w None h = refl
 earlier_at ws w (Some i) h = earlier ws w i (h i refl)
 
@@ -97,7 +97,7 @@ named_on true place n false e = refl
 named_on false place n true e = e
 named_on false place n false e = e
 
-below_on : (b : Bool) (place : Option ℕ) (n i : ℕ) → ((j : ℕ) → place ≡ Some j → j < n) → cond b (Some n) place ≡ Some i → i < n + 1
+pub below_on : (b : Bool) (place : Option ℕ) (n i : ℕ) → ((j : ℕ) → place ≡ Some j → j < n) → cond b (Some n) place ≡ Some i → i < n + 1
 below_on true place n i h e = let same : n ≡ i = same_Some n i e in omega arith
 below_on false place n i h e = let less : i < n = h i e in omega arith
 
@@ -105,26 +105,24 @@ names_more : (ws : List Kept) (w : Kept) → map (λ w. w.0) (told (ws ++ w ∷ 
 names_more [] w = refl
 names_more (v ∷ ws) w = ap (λ x. v.0.items ∷ x) (names_more ws w)
 
-longer : (ws : List Kept) (w : Kept) → length (ws ++ w ∷ []) ≡ length ws + 1
+pub longer : (ws : List Kept) (w : Kept) → length (ws ++ w ∷ []) ≡ length ws + 1
 longer ws w = length-append ws (w ∷ [])
 
-pub one_noted : (places new : List (Vec ℕ × ℕ)) (ws : List Kept) (w : Kept) (k : Vec ℕ) → new ≡ insert_entry key_cmp places k (length ws) → k.items ≡ w.0.items → AreLast places ws → AreLast new (ws ++ w ∷ [])
-one_noted places new ws w k is same last = record {
+-- the place is kept of one write more, and of each other key the place that it had
+pub one_more_last : (place new : List ℕ → Option ℕ) (ws : List Kept) (w : Kept) → ((q : List ℕ) → new q ≡ cond (bytes_eq q w.0.items) (Some (length ws)) (place q)) → AreLast place ws → AreLast new (ws ++ w ∷ [])
+one_more_last place new ws w is last = record {
   values = λ key has.
       ap (λ f. f key) (last_write ws w has)
-      ∙ value_on ws w (bytes_eq key w.0.items) (place_in places key) (after (told ws) has key) (has key) (last.below key) (last.values key has)
-      ∙ ap (λ x. had_by (write_at (ws ++ w ∷ []) x) (has key)) (sym (keeps k (length ws) places new w.0.items key is same));
+      ∙ value_on ws w (bytes_eq key w.0.items) (place key) (after (told ws) has key) (has key) (last.below key) (last.values key has)
+      ∙ ap (λ x. had_by (write_at (ws ++ w ∷ []) x) (has key)) (sym (is key));
   named = λ key.
-      ap is_some (keeps k (length ws) places new w.0.items key is same)
-      ∙ named_on (bytes_eq key w.0.items) (place_in places key) (length ws) (is_among key (map (λ w. w.0) (told ws))) (last.named key)
+      ap is_some (is key)
+      ∙ named_on (bytes_eq key w.0.items) (place key) (length ws) (is_among key (map (λ w. w.0) (told ws))) (last.named key)
       ∙ sym (ap (list_any (bytes_eq key)) (names_more ws w) ∙ list_any-append (bytes_eq key) (map (λ w. w.0) (told ws)) (w.0.items ∷ []));
   below = λ key i e.
       subst (λ n. i < n) (sym (longer ws w))
-      (below_on (bytes_eq key w.0.items) (place_in places key) (length ws) i (last.below key) (sym (keeps k (length ws) places new w.0.items key is same) ∙ e));
+      (below_on (bytes_eq key w.0.items) (place key) (length ws) i (last.below key) (sym (is key) ∙ e));
 }
-
-pub none_noted : AreLast [] []
-none_noted = record { values = λ key has. refl; named = λ key. refl; below = λ key i e. cc }
 
 -- ---- keys that are made absent
 

@@ -227,7 +227,9 @@ hidewillow_told hidewillow_own_guess(hidewillow_own *own);
 hidewillow_told hidewillow_own_commit(hidewillow_own *own, uint64_t guess);
 
 /* Fails a guess: what rests on it is taken back. Told: DONE, where `number` is how many keys it took
- * back and `bytes` how many guesses it struck; GONE or NO_TOKEN. It takes no memory. */
+ * back and `bytes` how many guesses it struck, of which hidewillow_own_status tells each; GONE or NO_TOKEN.
+ * Outputs that rest on it are dropped: of a channel as many as waited before (hidewillow_own_waiting), less
+ * those that may go out since and those that wait still. It takes no memory. */
 hidewillow_told hidewillow_own_fail(hidewillow_own *own, uint64_t guess);
 
 /* Shows the key at a place among those that the last failure took back, from 0 on, in an order of its
@@ -265,8 +267,10 @@ hidewillow_told hidewillow_own_key(hidewillow_own *own, size_t place, uint8_t *r
 hidewillow_told hidewillow_own_dependent(hidewillow_own *own, uint64_t guess, size_t place, uint8_t *room,
                                          size_t room_bytes);
 
-/* Tells what is known of a guess. Told: SHOWN with 1 where it is undecided, with 2 where another's failure
- * struck it and nobody has decided it since; ABSENT where it was never drawn or is decided. */
+/* Tells what is known of a guess. Told: SHOWN with 1 where it is undecided, and as `bytes` on how many undecided
+ * guesses its own step rests, itself among them: where that is 1 its commit stands for good, else the failure of
+ * another may take it back; SHOWN with 2 where another's failure struck it and nobody has decided it since;
+ * ABSENT where it was never drawn or is decided. */
 hidewillow_told hidewillow_own_status(hidewillow_own *own, uint64_t guess);
 
 /* Tells how many outputs of a channel wait: the first that rests on a guess, and all behind it. Told: SHOWN
@@ -643,6 +647,15 @@ hidewillow_told hidewillow_store_tell_unknown(hidewillow_store *store, uint16_t 
 /* Tells whether a fault was told on a channel: what comes is dropped, and it is to be hung up once its
  * output is taken. Told: DONE with 1, or 0. */
 hidewillow_told hidewillow_store_is_closed(hidewillow_store *store, uint16_t channel);
+
+/* Tells how many bytes the commands take that wait for EXEC on a channel, each word 64 more than its own:
+ * more than EXEC logs of them. Told: DONE, with how many `bytes`, 0 where no queue is open. */
+hidewillow_told hidewillow_store_queued(hidewillow_store *store, uint16_t channel);
+
+/* Tells whether a request may write whose first word this is: as a command, or by carrying out a queue.
+ * Where not it writes nothing, whatever its words are. Told: DONE with 1, or 0; ABSENT where the word names
+ * no command. */
+hidewillow_told hidewillow_may_write(const uint8_t *word, size_t word_bytes);
 
 /* Moves bytes that may go out on a channel into the room, in the order of what it asked for. To be called
  * until it moves none. Told: DONE, with how many `bytes`; REFUSED 1; MEMORY where none was moved for want

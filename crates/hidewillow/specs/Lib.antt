@@ -47,6 +47,7 @@ pub use Rattle.sk_store.specs.Names
 pub use Rattle.sk_store.specs.Start
 pub use Rattle.sk_guesses.specs.Token
 pub use Rattle.sk_guesses.specs.Kept as GuessesKept
+pub use Rattle.sk_guesses.specs.Opens as GuessesOpens
 pub use Rattle.sk_deeds.specs.Deed as OwnDeed
 pub use Rattle.sk_deeds.specs.Told as OwnTold
 pub use Rattle.sk_inversion.specs.Undone as OwnUndone

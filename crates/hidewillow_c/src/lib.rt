@@ -21,10 +21,11 @@ ghost use Rattle.sk_handles.specs.Reading.{EndsWith, GivesPiece, ReadingOpens, T
 ghost use Rattle.sk_handles.specs.Reopening.{StoreOpens};
 ghost use Rattle.sk_requests.specs.Replies.{error_text};
 ghost use Rattle.sk_commands.specs.Faults.{words_of};
+ghost use Rattle.sk_commands.specs.Names.{name_of};
 ghost use Rattle.sk_commands.specs.declared.fault.Fault.TheVariants.{Unknown};
 ghost use Rattle.sk_handles.specs.RoundCalls.{SaysStill, TakesRound};
 ghost use Rattle.sk_handles.specs.StoreCalls as durable;
-ghost use Rattle.sk_handles.specs.StoreCalls.{Connects, CountsStore, CutsOff, Decides, Feeds, FeedsAhead, HangsUp, NextReady, OutputsTo, SendsHead, ShowsAhead, ShowsAsked, Syncs, TakesFrame, TellsClosed, TellsCut, TellsReply, Turns, WindsUp};
+ghost use Rattle.sk_handles.specs.StoreCalls.{may_write_told, Connects, CountsStore, CutsOff, Decides, Feeds, FeedsAhead, HangsUp, NextReady, OutputsTo, SendsHead, ShowsAhead, ShowsAsked, Syncs, TakesFrame, TellsClosed, TellsCut, TellsQueued, TellsReply, Turns, WindsUp};
 ghost use Rattle.sk_durable.specs.Store.{rests_on_at};
 ghost use Rattle.sk_handles.specs.OwnCalls.{key_at, tag_at, undone_at, value_of, Clears, Commits, CountsOwn, Fails, Guesses, Looks, OwnOpens, Puts, Releases, Removes, Says, ShowsDependent, ShowsKept, Steps, TellsChannel, TellsPlaces, TellsStatus, TellsTag, TellsWaiting};
 
@@ -694,6 +695,14 @@ pub extern "C" fn hidewillow_store_is_closed(
     with!(store, alloc, held => store_calls::tell_closed(&mut held, channel))
 }
 
+/// Tells how many bytes the commands take that wait for EXEC on a channel; none where no queue is open.
+#[unsafe(no_mangle)]
+pub extern "C" fn hidewillow_store_queued(alloc: Global, store: &mut Durable, channel: u16) -> Told
+    ensures { Tells (TellsQueued channel) (Unit {0}) result store.old.held store.new.held }
+{
+    with!(store, alloc, held => store_calls::tell_queued(&held, channel))
+}
+
 /// Moves bytes that may go out on a channel into the room. It is to be called until it moves none.
 #[unsafe(no_mangle)]
 pub extern "C" fn hidewillow_store_output(
@@ -852,6 +861,14 @@ pub extern "C" fn hidewillow_store_close(alloc: Global, store: &mut Durable)
     ensures { store.new.held ≡ None }
 {
     let _held = take_out(store, alloc);
+}
+
+/// Tells whether a request may write whose first word this is: as a command, or by carrying out a queue.
+#[unsafe(no_mangle)]
+pub extern "C" fn hidewillow_may_write(word: &[u8]) -> Told
+    ensures { result ≡ may_write_told (name_of word.now) }
+{
+    store_calls::tell_may_write(word)
 }
 
 /// Opens a desk over the kernel that a text declares, for a handle that holds nothing: the text ends with the line `world`, and

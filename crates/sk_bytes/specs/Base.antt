@@ -5,6 +5,7 @@ pub use Rattle.sk_bytes.specs.declared.refusal.Refusal.{Refusal}
 pub use Rattle.sk_bytes.specs.declared.refusal.Refusal.TheVariants.{LongKey, LongValue, Memory, NoNumber, TooMany}
 pub use Rattle.sk_deeds.specs.Deed.{Deed}
 pub use Rattle.sk_guesses.specs.Kept.{known, none_drawn, struck_with}
+pub use Rattle.sk_guesses.specs.Opens.{guess_tags}
 pub use Rattle.sk_guesses.specs.Token.{Token}
 pub use Rattle.sk_index.specs.Index.{Numbered, bytes_cmp, number_of, string_of}
 pub use Rattle.sk_outputs.specs.Said.{first_of, said_at, waiting_of}

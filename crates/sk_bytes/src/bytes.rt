@@ -1,6 +1,6 @@
 //! The kernel over byte strings.
 ghost use Rattle.std.specs.Prelude.{◌≡◌, ◌==◌, ◌≤◌, ◌∷◌, ℕ, List, [], true, false, None, Some, get_or, length, IfErr, IfOk, IfSome, OnErr, OnOk};
-ghost use Rattle.sk_bytes.specs.Base.{non_zero_u16_get, slice_get, option_copied, option_map, known, none_drawn};
+ghost use Rattle.sk_bytes.specs.Base.{non_zero_u16_get, slice_get, option_copied, option_map, guess_tags, known, none_drawn};
 ghost use Rattle.sk_bytes.specs.Base.{released, numbers, tags_at, said_at, first_of, waiting_of, look_at, log_at};
 ghost use Rattle.sk_bytes.specs.Base.{next_of, Refuses, Takes, IsEmptied, undo_state_of, bytes_cmp, string_of, at_key};
 ghost use Rattle.sk_bytes.specs.Base.{CommitPost, LongKey, vec_capacity};
@@ -175,6 +175,13 @@ impl<V, O> Bytes<V, O> {
         ensures { result ≡ known self.now.parts.guesses self.now.parts.opens id }
     {
         self.kernel.status(id)
+    }
+
+    /// The guesses that an undecided guess's own step depends on, itself among them: its commit is firm where it is alone.
+    pub fn tags_of_guess(&self, id: GuessId) -> Option<&TagSet>
+        ensures { option_copied result ≡ guess_tags id self.now.parts.opens }
+    {
+        self.kernel.tags_of_guess(id)
     }
 
     /// How many guesses are undecided.

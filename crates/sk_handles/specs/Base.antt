@@ -18,10 +18,12 @@ pub use Rattle.sk_client.specs.declared.desk.ReplyRefusal.TheVariants.{Memory, O
 pub use Rattle.sk_client.specs.declared.desk.Turn.{Turn}
 pub use Rattle.sk_client.specs.declared.world.WorldAnswer.{WorldAnswer}
 pub use Rattle.sk_commands.specs.Faults.{words_of}
+pub use Rattle.sk_commands.specs.Names.{may_write_by, name_of}
+pub use Rattle.sk_commands.specs.declared.name.Name.{Name}
 pub use Rattle.sk_counts.specs.Counts.{AreCounts}
 pub use Rattle.sk_counts.specs.declared.counts.Counts.{Counts}
 pub use Rattle.sk_durable.specs.Posts.{ConnectPost, CutFramePost, CutPost, DecidePost, FeedAheadPost, FeedPost, FramePost, HangUpPost, LearnPost, OutputPost, ReadyPost, TellPost}
-pub use Rattle.sk_durable.specs.Store.{StoreView, asked_at, is_closed, rests_on_at}
+pub use Rattle.sk_durable.specs.Store.{StoreView, asked_at, is_closed, queued as queued_bytes, rests_on_at}
 pub use Rattle.sk_durable.specs.contracts.store.Store.{the_row}
 pub use Rattle.sk_durable.specs.declared.limits.Limits.{Limits}
 pub use Rattle.sk_durable.specs.declared.refusal.NotDone.{NotDone}
@@ -64,6 +66,7 @@ pub use Rattle.sk_handles.specs.declared.told.Told.{Told}
 pub use Rattle.sk_handles.specs.declared.told.Unopened.{Unopened}
 pub use Rattle.sk_held.specs.Held.{CommitsBy, FailsBy, GuessPost, HeldView, IsNew, LooksPost, PutsPost, SaysPost, StepPost, WritesPost, no_step}
 pub use Rattle.sk_held.specs.Outputs.{MayBring, but_first, first_of}
+pub use Rattle.sk_guesses.specs.Opens.{guess_tags}
 pub use Rattle.sk_ids.specs.Guess.{IsGuessNumber}
 pub use Rattle.sk_ids.specs.declared.entity.Entity.{Entity}
 pub use Rattle.sk_index.specs.Index.{bytes_cmp, string_of}

@@ -5,7 +5,7 @@ use Rattle.sk_handles.specs.Base.{bytes_cmp, next_of, undo_state_of, Committed, 
 use Rattle.sk_handles.specs.Base.{NoNumber, HeldView, no_step, CommitsBy, FailsBy, GuessPost, IsNew, LooksPost}
 use Rattle.sk_handles.specs.Base.{PutsPost, SaysPost, StepPost, WritesPost, but_first, first_of, MayBring, ABSENT}
 use Rattle.sk_handles.specs.Base.{DONE, GONE, GUESSED, HELD, MEMORY, NO_TOKEN, REFUSED, SHOWN, STEPPED, WRITTEN}
-use Rattle.sk_handles.specs.Base.{OwnCounts, Told, HasPlaces, KeyCounts, IsGuessNumber, Status, known, resting_on, string_of, waiting_of}
+use Rattle.sk_handles.specs.Base.{OwnCounts, Told, HasPlaces, KeyCounts, IsGuessNumber, Status, known, guess_tags, resting_on, string_of, waiting_of}
 use Rattle.sk_record.specs.UndoState.{tags_at}
 use Rattle.sk_bytes.specs.declared.refusal.Refusal.{Refusal}
 use Rattle.sk_bytes.specs.declared.refusal.Refusal.TheVariants.{Memory}
@@ -136,10 +136,15 @@ status_number Status.Struck = 2
 status_number Status.Committed = 3
 status_number Status.Failed = 4
 
--- whether a guess is undecided, or struck and not decided; of any other there is none
+-- on how many undecided guesses the own step of a guess depends, itself among them; none where it is not undecided
+abbrev pub depends_on : ℕ → HeldView → ℕ
+depends_on g h = option_map_or length (guess_tags g h.kernel.parts.opens) 0
+
+-- Whether a guess is undecided, or struck and not decided, and on how many its own step depends: on one alone where its commit
+-- is firm. Of any other there is none.
 abbrev pub TellsStatus : ℕ → Told → HeldView → Type 0
 TellsStatus g told h =
-    (IsGuessNumber g × (told ≡ option_map_or (λ s. just SHOWN (status_number s)) (known h.kernel.parts.guesses h.kernel.parts.opens g) (just ABSENT 0)))
+    (IsGuessNumber g × (told ≡ option_map_or (λ s. record { answer = SHOWN; number = status_number s; bytes = depends_on g h }) (known h.kernel.parts.guesses h.kernel.parts.opens g) (just ABSENT 0)))
     ⊎ ((IsGuessNumber g → ⊥) × (told ≡ just ABSENT 0))
 
 -- how many outputs of a channel wait: the first that rests on a guess, and all behind it

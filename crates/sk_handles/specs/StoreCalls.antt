@@ -3,9 +3,9 @@ use Rattle.std.specs.Prelude.{◌≡◌, ◌+◌, ◌==◌, ℕ, not, List, leng
 use Rattle.sk_handles.specs.Base.{option_map_or, look_at, bytes_cmp, next_payload, cut_due, in_flight, undecided}
 use Rattle.sk_handles.specs.Base.{Sealed, Cut, Queued, Outcome, channel_at, End, Fed, ConnectPost, CutFramePost}
 use Rattle.sk_handles.specs.Base.{CutPost, DecidePost, FeedAheadPost, FeedPost, FramePost, HangUpPost, LearnPost}
-use Rattle.sk_handles.specs.Base.{OutputPost, ReadyPost, TellPost, asked_at, is_closed, StoreView, WindUpPost, ABSENT}
+use Rattle.sk_handles.specs.Base.{OutputPost, ReadyPost, TellPost, asked_at, is_closed, queued_bytes, StoreView, WindUpPost, ABSENT}
 use Rattle.sk_handles.specs.Base.{COMMITTED, DONE, FAILED, MEMORY, REFUSED, SHOWN, CutOff, FramePlace, StoreCounts}
-use Rattle.sk_handles.specs.Base.{Told, NotDone}
+use Rattle.sk_handles.specs.Base.{Told, NotDone, Name, may_write_by}
 use Rattle.sk_batches.specs.declared.batch.Stage.TheVariants as stages
 use Rattle.sk_batches.specs.declared.refusal.Refusal.TheVariants as queued
 use Rattle.sk_durable.specs.declared.refusal.Refusal.{Refusal}
@@ -62,6 +62,11 @@ abbrev pub outcome_told : Option Outcome → Told
 outcome_told (Some (Outcome.Logged batch)) = just COMMITTED batch
 outcome_told (Some (Outcome.Refused batch keys)) = record { answer = FAILED; number = batch; bytes = keys }
 outcome_told None = just ABSENT 0
+
+-- whether a request may write whose first word says this name, or that it says none
+abbrev pub may_write_told : Option Name → Told
+may_write_told (Some name) = just DONE (if may_write_by name then 1 else 0)
+may_write_told None = just ABSENT 0
 
 -- ---- where a frame is to be written
 
@@ -154,6 +159,10 @@ pub record AreStoreCounts (a : StoreView) (counts : StoreCounts) : Type 0 where
 
 abbrev pub TellsClosed : ℕ → Told → StoreView → Type 0
 TellsClosed channel told a = told ≡ just DONE (if is_closed (channel_at a.channels channel) then 1 else 0)
+
+-- how many bytes the commands take that wait for EXEC on a channel
+abbrev pub TellsQueued : ℕ → Told → StoreView → Type 0
+TellsQueued channel told a = told ≡ record { answer = DONE; number = 0; bytes = queued_bytes (channel_at a.channels channel) }
 
 abbrev pub CountsStore : StoreCounts → Told → StoreView → Type 0
 CountsStore counts told a = (told ≡ just SHOWN 0) × AreStoreCounts a counts

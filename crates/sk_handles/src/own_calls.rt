@@ -1,6 +1,6 @@
 //! What the calls of a kernel over its caller's own byte strings do, and what they are told.
 ghost use Rattle.std.specs.Prelude.{◌≡◌, option_map};
-ghost use Rattle.sk_handles.specs.OwnCalls.{commit_told, fail_told, part_told, refused, status_number, AreOwnCounts, Commits, Fails, Guesses, Looks, Puts, Releases, Removes, Says, ShowsBytes, ShowsDependent, Steps, TellsChannel, TellsPlaces, TellsStatus, TellsTag, TellsWaiting};
+ghost use Rattle.sk_handles.specs.OwnCalls.{commit_told, depends_on, fail_told, part_told, refused, status_number, AreOwnCounts, Commits, Fails, Guesses, Looks, Puts, Releases, Removes, Says, ShowsBytes, ShowsDependent, Steps, TellsChannel, TellsPlaces, TellsStatus, TellsTag, TellsWaiting};
 ghost use Rattle.sk_handles.specs.OwnCalls as own;
 ghost use Rattle.sk_handles.specs.Told.{just, told_by};
 
@@ -240,7 +240,17 @@ fn number_of(status: Status) -> u64
     }
 }
 
-/// What is known of a guess.
+/// On how many undecided guesses the own step of a guess depends, itself among them.
+fn depends_on(held: &Held, id: GuessId) -> usize
+    ensures { result ≡ depends_on id held.now }
+{
+    match held.kernel().tags_of_guess(id) {
+        Some(tags) => tags.ids().len(),
+        None => 0,
+    }
+}
+
+/// What is known of a guess, and on how many its own step depends.
 pub fn tell_status(held: &Held, guess: u64) -> Told
     ensures { TellsStatus guess result held.now }
 {
@@ -248,7 +258,7 @@ pub fn tell_status(held: &Held, guess: u64) -> Told
         return Told::of(ABSENT, 0);
     };
     match held.kernel().status(id) {
-        Some(status) => Told::of(SHOWN, number_of(status)),
+        Some(status) => Told::of(SHOWN, number_of(status)).with_text(depends_on(held, id)),
         None => Told::of(ABSENT, 0),
     }
 }

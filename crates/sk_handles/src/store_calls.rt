@@ -1,8 +1,8 @@
 //! What the calls of a store do, and what they are told.
 ghost use Rattle.std.specs.Prelude.{◌≡◌, if◌then◌else◌};
-ghost use Rattle.sk_handles.specs.Base.{option_map_or, error_text, rests_on_at, words_of};
+ghost use Rattle.sk_handles.specs.Base.{option_map_or, error_text, name_of, rests_on_at, words_of};
 ghost use Rattle.sk_commands.specs.declared.fault.Fault.TheVariants.{Unknown};
-ghost use Rattle.sk_handles.specs.StoreCalls.{done_told, end_number, fed_told, output_told, outcome_told, place_of, queue_refused, store_refused, value_at, AreStoreCounts, Connects, CutsOff, Decides, Feeds, FeedsAhead, HangsUp, Fails, IsDone, NextReady, OutputsTo, SendsHead, ShowsAhead, ShowsAsked, Syncs, TakesFrame, TellsClosed, TellsCut, TellsReply, Turns, WindsUp};
+ghost use Rattle.sk_handles.specs.StoreCalls.{done_told, end_number, fed_told, may_write_told, output_told, outcome_told, place_of, queue_refused, store_refused, value_at, AreStoreCounts, Connects, CutsOff, Decides, Feeds, FeedsAhead, HangsUp, Fails, IsDone, NextReady, OutputsTo, SendsHead, ShowsAhead, ShowsAsked, Syncs, TakesFrame, TellsClosed, TellsCut, TellsQueued, TellsReply, Turns, WindsUp};
 ghost use Rattle.sk_handles.specs.OwnCalls.{ShowsBytes, TellsTag};
 ghost use Rattle.sk_handles.specs.Told.{just, told_by};
 
@@ -11,6 +11,7 @@ use crate::room::put;
 use crate::told::Told;
 use sk_batched::Outcome;
 use sk_batches::{Refusal as Queued, Sealed};
+use sk_commands::Name;
 use sk_durable::{End, Fed, NotDone, Refusal, Store};
 use sk_led::wind_up;
 
@@ -117,10 +118,10 @@ fn of_told(did: Result<(), Refusal>) -> Told
     }
 }
 
-fn of_closed(is_closed: bool) -> Told
-    ensures { result ≡ just DONE (if is_closed then 1 else 0) }
+fn of_flag(flag: bool) -> Told
+    ensures { result ≡ just DONE (if flag then 1 else 0) }
 {
-    Told::of(DONE, u64::from(is_closed))
+    Told::of(DONE, u64::from(flag))
 }
 
 fn of_output(did: Result<usize, Refusal>) -> Told
@@ -254,7 +255,24 @@ pub fn tell_closed(store: &mut Store, channel: u16) -> Told
     ensures told { TellsClosed channel result store.old }
     ensures same { store.new ≡ store.old }
 {
-    of_closed(store.is_closed(channel))
+    of_flag(store.is_closed(channel))
+}
+
+/// Tells how many bytes the commands take that wait for EXEC on a channel.
+pub fn tell_queued(store: &Store, channel: u16) -> Told
+    ensures { TellsQueued channel result store.now }
+{
+    Told::of(DONE, 0).with_text(store.queued(channel))
+}
+
+/// Tells whether a request may write whose first word this is.
+pub fn tell_may_write(word: &[u8]) -> Told
+    ensures { result ≡ may_write_told (name_of word.now) }
+{
+    match Name::of(word) {
+        Some(name) => of_flag(name.may_write()),
+        None => Told::of(ABSENT, 0),
+    }
 }
 
 pub fn output(store: &mut Store, channel: u16, room: &mut [u8]) -> Told

@@ -68,6 +68,8 @@ pub struct Link {
     output: File,
     server: Option<Child>,
     frames: Frames,
+    /// Where it is read to.
+    room: Box<[u8]>,
     waiting: Vec<u8>,
     written: usize,
     uploads: u64,
@@ -129,10 +131,10 @@ impl Link {
             let flags = OFlag::from_bits_truncate(fcntl(file.as_raw_fd(), FcntlArg::F_GETFL)?);
             fcntl(file.as_raw_fd(), FcntlArg::F_SETFL(flags | OFlag::O_NONBLOCK))?;
         }
-        let (frames, waiting) = (Frames::default(), Vec::new());
+        let (frames, room, waiting) = (Frames::default(), vec![0; 1 << 16].into(), Vec::new());
         let (sent, received) = (0, 0);
         let (written, uploads, broken) = (0, 0, None);
-        let mut link = Link { input, output, server, frames, waiting, written, uploads, broken, sent, received };
+        let mut link = Link { input, output, server, frames, room, waiting, written, uploads, broken, sent, received };
         let (secret, session) = (Bytes(says.0), Bytes(says.1.to_vec()));
         link.send(Request::Hello { protocol: PROTOCOL, secret, session })?;
         Ok(link)
@@ -241,13 +243,12 @@ impl Link {
 
     /// Takes in what has come; whether more may come.
     fn take_in(&mut self) -> io::Result<bool> {
-        let mut room = [0; 1 << 16];
         loop {
-            match self.input.read(&mut room) {
+            match self.input.read(&mut self.room) {
                 Ok(0) => return Ok(false),
                 Ok(len) => {
                     self.received += len as u64;
-                    self.frames.push(&room[..len]);
+                    self.frames.push(&self.room[..len]);
                 }
                 Err(error) if error.kind() == io::ErrorKind::Interrupted => {}
                 Err(error) if error.kind() == io::ErrorKind::WouldBlock => return Ok(true),

@@ -19,7 +19,7 @@ use crate::codec::{Bytes, Decode, Encode, Fields, Malformed};
 use crate::name::Name;
 
 /// The number of this protocol; both sides must have the same.
-pub const PROTOCOL: u32 = 2;
+pub const PROTOCOL: u32 = 3;
 /// What a greeting begins with.
 pub const GREETING: [u8; 8] = *b"hwfiles\n";
 /// Longer contents go ahead by pieces.
@@ -28,6 +28,8 @@ pub const LONGEST_HERE: usize = 16 << 10;
 pub const LONGEST_PIECE: usize = 1 << 20;
 /// The longest file.
 pub const LONGEST_FILE: u64 = 4 << 30;
+/// Files up to here come along unasked, where there is room.
+pub const LONGEST_ALONG: u64 = 64 << 10;
 
 /// What is known of a name: see above.
 #[derive(Clone, Copy, PartialEq, Eq, PartialOrd, Ord, Hash, Debug, Default)]
@@ -207,8 +209,8 @@ pub enum Request {
     /// The greeting; a server at a port wants its secret. Where a session is named, the server keeps on the disk which of its
     /// epochs was done last.
     Hello { protocol: u32, secret: Bytes, session: Bytes },
-    /// All names from here on downwards, parents first.
-    Tree { id: u64, name: Name },
+    /// All names from here on downwards, parents first; behind them the contents of some (`Along`), within so many bytes.
+    Tree { id: u64, name: Name, along: u64 },
     /// A folder's own entry and those of its names.
     Folder { id: u64, name: Name },
     /// One name.
@@ -239,6 +241,29 @@ pub enum Reply {
     Refused { number: u64, stale: Vec<Entry>, folders: Vec<Vec<Entry>> },
     /// It can't go on, and ends.
     Fault { why: Bytes },
+}
+
+/// Which files' contents come behind their names unasked: the first ones that are small, as long as there is room. Both sides find
+/// them by the same entries.
+pub struct Along {
+    room: u64,
+    count: u64,
+}
+
+impl Along {
+    pub fn within(room: u64) -> Along {
+        Along { room, count: 0 }
+    }
+
+    /// Under which number its contents come, if they do.
+    pub fn takes(&mut self, entry: &Entry) -> Option<u64> {
+        let fits = entry.kind == Kind::File && (1..=self.room.min(LONGEST_ALONG)).contains(&entry.size);
+        fits.then(|| {
+            self.room -= entry.size;
+            self.count += 1;
+            1 << 63 | self.count
+        })
+    }
 }
 
 /// Gives a struct or an enum its fields in order; a variant begins with its letter.
@@ -294,7 +319,7 @@ coded!(enum Step {
 });
 coded!(enum Request {
     b'H' Hello { protocol, secret, session }
-    b'T' Tree { id, name }
+    b'T' Tree { id, name, along }
     b'F' Folder { id, name }
     b'N' Entry { id, name }
     b'R' Read { id, name, offset, len }
@@ -455,6 +480,16 @@ mod tests {
             assert!(message::<Request>(&bytes[4..len]).is_err(), "{len}");
         }
         assert_eq!(message::<Request>(&[&bytes[4..], &[0]].concat()), Err(Malformed::Long));
+    }
+
+    #[test]
+    fn small_files_come_along() {
+        let file = |size| Entry { kind: Kind::File, size, ..Entry::default() };
+        let mut along = Along::within(LONGEST_ALONG + 10);
+        let taken: Vec<bool> =
+            [0, 7, LONGEST_ALONG + 1, LONGEST_ALONG, 4, 3].map(|s| along.takes(&file(s)).is_some()).into();
+        assert_eq!(taken, [false, true, false, true, false, true]);
+        assert_eq!(along.takes(&Entry { kind: Kind::Folder, size: 1, ..Entry::default() }), None);
     }
 
     #[test]

@@ -10,7 +10,7 @@ named. The last line is 'N passed, M failed'.
 ways     over ssh, and over a server that is started here; by another user than root
 same     commands and a build, with epochs refused at random: status, output and each file are as of a local run
 foreign  the same while another program gives the files new versions
-copy     clients that count under a lock folder: no number is lost or made twice
+copy     clients that count under a lock folder, and clients that append to one file: nothing is lost or made twice
 held     with a long way nothing is shown, and no outside file appears, before the server has answered
 resume   a server that is killed and comes back: status, output and files are as of a local run
 deaths   either side is killed at random moments: what was shown is on the server, and the rest is as if it never began
@@ -197,6 +197,31 @@ os.setpgid(child, child)
 os.write(write, b'x')
 print(os.waitpid(-child, 0)[1], os.path.exists('on'))
 os.chown('on', os.getuid(), -1)
+gone, over = open('gone', 'w+'), open('over', 'w+')
+open('new', 'w').close()
+os.unlink('gone'); os.rename('new', 'over')
+print(os.fstat(gone.fileno()).st_nlink, os.fstat(over.fileno()).st_nlink)
+"""
+READING = """
+import os
+os.mkdir('many')
+names = [f'name-{n:04}-' + 'x' * 190 for n in range(400)]
+for name in names: os.symlink('x', 'many/' + name)
+seen = []
+with os.scandir('many') as it:
+    for entry in it:
+        seen.append(entry.name)
+        os.unlink('many/' + entry.name)
+print(len(seen), sorted(seen) == names)
+os.rmdir('many')
+"""
+WRITING = """
+import os
+for n in range(20):
+    with open(f'w{n % 4}', 'w' if n < 4 else 'a') as f:
+        f.write(f'first {n}, '); f.flush(); os.stat(f.name); os.fchmod(f.fileno(), 0o640); os.stat(f.name)
+        f.write('more\\n')
+print([open(f'w{n}').read() for n in range(4)])
 """
 GIT = """
 git init -q -b main . && git add . && git commit -qm one && echo '/* more */' >> f0.c && git diff --stat && git commit -qam two &&
@@ -216,6 +241,8 @@ COMMANDS = {
     "files": (c_project(9), ["sh", "-c", FILES], ()),
     "python": ({}, [sys.executable, "-c", PYTHON], ()),
     "odd": ({}, [sys.executable, "-c", ODD], ()),
+    "writing": ({}, [sys.executable, "-c", WRITING], ()),
+    "reading": ({}, [sys.executable, "-c", READING], ()),
 }
 
 
@@ -232,11 +259,15 @@ def compare(place, here, there, but):
     return bad
 
 
-def change_versions(folder, stop, seed):
+# A file that gets a new version between two looks of git counts for git as changed, on a local disk too: it is to look at contents.
+CONTENTS = {"GIT_CONFIG_COUNT": "1", "GIT_CONFIG_KEY_0": "core.checkStat", "GIT_CONFIG_VALUE_0": "minimal"}
+
+
+def change_versions(folder, stop, seed, longest=0.05):
     """Gives files new versions that change nothing, as where somebody writes the same once more. By a link its file would get the link's
     mode."""
     dice = random.Random(seed)
-    while not stop.wait(dice.uniform(0.001, 0.05)):
+    while not stop.wait(dice.uniform(0.001, longest)):
         files = [pathlib.Path(at, it) for at, folders, names in os.walk(folder)
                  for it in names if ".hidewillow" not in at and ".git" not in at and not os.path.islink(os.path.join(at, it))]
         for it in files and [dice.choice(files)]:
@@ -253,12 +284,13 @@ def same(given, name, percent, seed, foreign=False, env=None, options=()):
     try:
         here = locally(place, words)
         with Served(given.build, place.there, "--delay-ms", "5", "--refuse-percent", str(percent), "--seed", str(seed), *options) as served:
-            changing = threading.Thread(target=change_versions, args=(place.there, stop, seed))
+            longest = 0.01 if name == "writing" else 0.05
+            changing = threading.Thread(target=change_versions, args=(place.there, stop, seed, longest))
             if foreign:
                 changing.start()
             try:
                 build = given.wrong if env else given.build
-                there = ran(place.command(build, served.at, words), env={**os.environ, **FIXED, **(env or {})})
+                there = ran(place.command(build, served.at, words), env={**os.environ, **FIXED, **(CONTENTS if foreign else {}), **(env or {})})
             finally:
                 stop.set()
                 if foreign:
@@ -343,12 +375,57 @@ def count_together(given, clients, rounds, env=None):
         place.away()
 
 
+APPEND_PY = """
+import os, sys
+for k in range(int(sys.argv[2])):
+    f = open('log', 'ab', buffering=0)
+    os.stat('other'); open(f'own.{sys.argv[1]}', 'w').close()
+    f.write(f'{sys.argv[1]} {k}\\n'.encode())
+    os.stat('other'); f.close()
+"""
+APPEND_SH = """
+loop() { i=0; while [ $i -lt $2 ]; do echo "$1 $i" >> log; i=$((i+1)); mkdir d.$1; rmdir d.$1; done; }
+loop $1 $2 & loop $1+ $2 & wait
+"""
+APPENDS = {"python": ([sys.executable, "append.py"], [""]), "shell": (["sh", "append.sh"], ["", "+"])}
+
+
+def append_together(given, kind, clients, rounds):
+    """Clients that append to one file without a lock, which stays open over other calls: each line is there once, in its writer's order."""
+    words, writers = APPENDS[kind]
+    place = Place({"log": "", "other": "x", "append.py": APPEND_PY, "append.sh": APPEND_SH})
+    running = []
+    try:
+        with Served(given.build, place.there, "--delay-ms", "3") as served:
+            for at in range(clients):
+                place.mount, place.stats = place.room / f"mount{at}", place.room / f"stats{at}"
+                place.mount.mkdir()
+                command = place.command(given.build, served.at, [*words, f"c{at}", str(rounds)])
+                running.append(subprocess.Popen(command, stdout=subprocess.DEVNULL, stderr=subprocess.PIPE, text=True, stdin=subprocess.DEVNULL))
+            said = [it.communicate(timeout=LONG)[1] for it in running]
+        bad = [f"status {it.returncode}: {err[-200:]}" for it, err in zip(running, said) if it.returncode or err]
+        lines = [it.split() for it in (place.there / "log").read_text().splitlines()]
+        for writer in [f"c{at}{it}" for at in range(clients) for it in writers]:
+            own = [int(it[1]) for it in lines if it[0] == writer]
+            bad += [] if own == list(range(rounds)) else [f"{writer}: {own}"]
+        return bad + ([] if len(lines) == clients * len(writers) * rounds else [f"{len(lines)} lines"])
+    except subprocess.TimeoutExpired:
+        for it in running:
+            it.kill()
+        return ["it did not end"]
+    finally:
+        place.away()
+
+
 def part_copy(given, counted):
     for at in range(given.rounds * 2):
         counted.said(f"copy, {at}", count_together(given, 2 + at % 3, 6))
+        for kind in APPENDS:
+            counted.said(f"copy: appends, {kind}, {at}", append_together(given, kind, 4, 6))
 
 
-HELD = "cat a >/dev/null; t=$(date +%s.%N); echo $t; echo $t > {outside}"
+# The folder is asked for behind that moment, however slow the machine is.
+HELD = "cat a >/dev/null; t=$(date +%s.%N); mkdir d; echo $t; echo $t > {outside}"
 
 
 def is_held(given, env=None):
@@ -365,7 +442,7 @@ def is_held(given, env=None):
             return ["nothing was shown"]
         began = float(line)
         if shown - began < 1.8:
-            bad.append(f"shown {shown - began:.2f} s after it was said")
+            bad.append(f"shown {shown - began:.2f} s after what it depends on")
         if not outside.exists() or outside.stat().st_mtime - began < 1.8:
             bad.append("the outside file came too soon")
         return bad
@@ -431,8 +508,35 @@ def has_word(process, word):
         return False
 
 
+def children_of(process):
+    return [int(it) for it in pathlib.Path(f"/proc/{process}/task/{process}/children").read_text().split()]
+
+
+def puts_back(given):
+    """Where it is killed, a scratch folder has again what it had before all that was not decided."""
+    place = Place({"n": "1\n"})
+    scratch = place.room / "scratch"
+    fill(scratch, {"changed": "before", "gone": "it", "folder/": ""})
+    here = picture(scratch)
+    try:
+        with Served(given.build, place.there, "--delay-ms", "2000") as served:
+            inside = f"cat n; cd {scratch}; echo new > changed; rm gone; rmdir folder; mv changed moved; echo > made; sleep 9"
+            process = subprocess.Popen(place.command(given.build, served.at, ["sh", "-c", inside], "--scratch", scratch),
+                                       stdin=subprocess.DEVNULL, stdout=subprocess.DEVNULL, stderr=subprocess.DEVNULL)
+            begin = time.time()
+            while not (scratch / "made").exists() and time.time() - begin < LONG:
+                time.sleep(0.02)
+            did = picture(scratch)
+            process.kill()
+            process.wait()
+            left = left_behind(place.mount)
+        return [] if did != here == picture(scratch) and not left else [f"was {did}", f"is {picture(scratch)}", f"left {left}"]
+    finally:
+        place.away()
+
+
 def leaves_nothing(given):
-    """What a killed run kept in a scratch folder goes with the next one."""
+    """What a run kept in a scratch folder whose supervisor was killed, too, goes with the next one."""
     place = Place({"n": "1\n"})
     scratch = place.room / "scratch"
     scratch.mkdir()
@@ -444,6 +548,9 @@ def leaves_nothing(given):
             begin = time.time()
             while not list(scratch.glob(".hidewillow*")) and time.time() - begin < LONG:
                 time.sleep(0.02)
+            process.send_signal(signal.SIGSTOP)
+            for it in children_of(process.pid):
+                os.kill(it, signal.SIGKILL)
             process.kill()
             process.wait()
             left_behind(place.mount)
@@ -457,13 +564,14 @@ def leaves_nothing(given):
 
 def part_deaths(given, counted):
     counted.said("deaths: scratch", leaves_nothing(given))
+    counted.said("deaths: scratch is put back", puts_back(given))
     dice = random.Random(17)
     for at in range(given.rounds * 4):
         whom = ("server", "client")[at % 2]
         counted.said(f"deaths: {whom}, {at}", dies(given, dice, whom))
 
 
-RESUMED = "i=0; while [ $i -lt 150 ]; do i=$((i+1)); echo $i >> log; mkdir d$i; mv d$i e$i; echo $i > f; cat f; done"
+RESUMED = "i=0; while [ $i -lt 250 ]; do i=$((i+1)); echo $i >> log; mkdir d$i; mv d$i e$i; echo $i > f; cat f; done"
 
 
 def goes_on(given, dice):
@@ -473,11 +581,16 @@ def goes_on(given, dice):
     try:
         with Served(given.build, place.there, "--delay-ms", "5") as served:
             def kills():
-                while not stop.wait(dice.uniform(0.1, 0.8)):
+                # Where the server is lost before it has said what there is, nothing began that could go on.
+                while not (place.there / "log").exists() and not stop.wait(0.005):
+                    pass
+                longest = 0.2
+                while not stop.wait(dice.uniform(longest / 10, longest)):
                     served.process.kill()
                     served.process.wait()
-                    stop.wait(dice.uniform(0, 0.5))
+                    stop.wait(dice.uniform(0, 0.3))
                     served.__enter__()
+                    longest = 1.5
             killing = threading.Thread(target=kills)
             command = place.command(given.build, served.at, ["sh", "-c", RESUMED], "--resume")
             killing.start()

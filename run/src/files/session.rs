@@ -10,7 +10,8 @@ use super::shared::{Locked, Shared};
 use super::tree::Tree;
 use super::uploads::{self, Uploads};
 use crate::codec::{frame, message, Bytes};
-use crate::wire::{Reply, Request, Step, Version, PROTOCOL};
+use crate::name::Name;
+use crate::wire::{Along, Reply, Request, Step, Version, LONGEST_PIECE, PROTOCOL};
 use std::io::{self, Read, Write};
 use std::sync::atomic::{AtomicU64, Ordering};
 use std::time::Duration;
@@ -145,12 +146,7 @@ impl<'a> Session<'a> {
     fn take(&mut self, request: Request) -> io::Result<()> {
         match request {
             Request::Hello { .. } => Err(io::Error::new(io::ErrorKind::InvalidData, "a second greeting")),
-            Request::Tree { id, name } => {
-                drop(self.lock(false)?);
-                let out = self.out;
-                let tell = |entries, more| out.send(frame(&Reply::Entries { id, entries, more }));
-                fetch::tree(&self.root, name, &self.shared, tell)
-            }
+            Request::Tree { id, name, along } => self.tree(id, name, Along::within(along)),
             Request::Folder { id, name } => {
                 let _locked = self.lock(false)?;
                 let entries = fetch::folder(&self.root, &name, &self.shared)?;
@@ -161,11 +157,7 @@ impl<'a> Session<'a> {
                 let entries = vec![fetch::entry(&self.root, name, &self.shared)?];
                 self.say(&Reply::Entries { id, entries, more: false })
             }
-            Request::Read { id, name, offset, len } => {
-                let _locked = self.lock(false)?;
-                let (version, size, bytes) = fetch::read(&self.root, &name, (offset, len), &self.shared)?;
-                self.say(&Reply::Content { id, version, size, bytes: Bytes(bytes) })
-            }
+            Request::Read { id, name, offset, len } => self.read(id, &name, (offset, len)),
             Request::Piece { upload, bytes } => self.uploads.add(upload, bytes.0),
             Request::Epoch { number, falls_with_earlier, steps } => self.epoch(number, falls_with_earlier, steps),
             Request::Acknowledge { number } => {
@@ -173,6 +165,23 @@ impl<'a> Session<'a> {
                 Ok(())
             }
         }
+    }
+
+    fn tree(&mut self, id: u64, name: Name, mut along: Along) -> io::Result<()> {
+        drop(self.lock(false)?);
+        let out = self.out;
+        let mut taken = Vec::new();
+        fetch::tree(&self.root, name, &self.shared, |entries, more| {
+            taken.extend(entries.iter().filter_map(|e| Some((along.takes(e)?, e.name.clone()))));
+            out.send(frame(&Reply::Entries { id, entries, more }))
+        })?;
+        taken.iter().try_for_each(|(id, name)| self.read(*id, name, (0, LONGEST_PIECE as u32)))
+    }
+
+    fn read(&mut self, id: u64, name: &Name, at: (u64, u32)) -> io::Result<()> {
+        let _locked = self.lock(false)?;
+        let (version, size, bytes) = fetch::read(&self.root, name, at, &self.shared)?;
+        self.say(&Reply::Content { id, version, size, bytes: Bytes(bytes) })
     }
 
     fn epoch(&mut self, number: u64, falls_with_earlier: bool, steps: Vec<Step>) -> io::Result<()> {

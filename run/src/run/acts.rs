@@ -118,6 +118,8 @@ impl Supervisor {
             return self.change_scratch(pid, uses);
         }
         match self.need(Some(pid))? {
+            // [16]
+            Need::Go if self.take_name_of_open(uses) => self.change_alone(pid, uses)?,
             Need::Go => {
                 let Some(act) = self.act(pid, uses)? else { return Ok(()) };
                 self.keep(act.undo);
@@ -135,6 +137,12 @@ impl Supervisor {
     }
     /// Only this machine's files change: that is undone with what it rests on.
     fn change_scratch(&mut self, pid: Pid, uses: &[Use]) -> Done {
+        // [16]
+        if !self.epochs.is_quiet() && self.take_name_of_open(uses) {
+            self.settle()?;
+            self.tree.hold(pid, Hold::Settled);
+            return Ok(());
+        }
         if let Some(act) = self.act(pid, uses)? {
             self.keep(act.undo);
             self.go(pid);
@@ -266,7 +274,9 @@ impl Supervisor {
         for u in uses {
             match u {
                 Use::Look(_) | Use::Read(_) | Use::List(_) => v.extend(self.looks(std::slice::from_ref(u), true)),
-                Use::Open { at: Target::Remote(n), truncates, .. } => v.push(self.opened(n, *truncates)),
+                Use::Open { at: Target::Remote(n), truncates, appends, .. } => {
+                    v.push(self.opened(n, *truncates, *appends));
+                }
                 Use::Remove(Target::Remote(n)) => v.push(self.removed(n, false)),
                 Use::RemoveFolder(Target::Remote(n)) => v.push(self.removed(n, true)),
                 Use::MakeFolder(Target::Remote(n)) => v.extend(self.folder_made(n)),
@@ -288,9 +298,12 @@ impl Supervisor {
     fn look(&self, name: &Name) -> Step {
         Step::Look { name: name.clone(), version: self.names.get(name).version }
     }
-    fn opened(&mut self, name: &Name, truncates: bool) -> Step {
+    fn opened(&mut self, name: &Name, truncates: bool, appends: bool) -> Step {
         let k = self.names.get(name);
         let m = present(&self.names.local(name)).filter(|m| m.is_file());
+        if let Some(m) = &m {
+            self.begin_draft(name, m, truncates || k.kind == Kind::Absent, appends);
+        }
         match (k.kind, m) {
             (Kind::Absent, Some(m)) => put(name, Version::ABSENT, self.epochs.new_version(), &m, Vec::new()),
             (Kind::File, Some(m)) if truncates => put(name, k.version, self.epochs.new_version(), &m, Vec::new()),
@@ -350,6 +363,7 @@ impl Supervisor {
         let m = present(&path).filter(Metadata::is_file)?;
         let contents = sys::read_quietly(&path).unwrap_or_default();
         self.stored.named(m.ino(), to);
+        self.undo.has_name(&m);
         Some(put(to, Version::ABSENT, self.epochs.new_version(), &m, contents))
     }
     fn attributes_set(&mut self, name: &Name) -> Option<Step> {
@@ -380,6 +394,9 @@ impl Supervisor {
                 Use::Remove(at) => self.before_removal(&at.path(&self.names), &mut v),
                 Use::RemoveFolder(at) if at.remote().is_none_or(|n| !n.is_root()) => {
                     v.extend(self.undo.move_folder(&at.path(&self.names)));
+                }
+                Use::Link(from, to) if present(&from.path(&self.names)).is_none() => {
+                    v.extend(self.undo.name_nameless(&to.path(&self.names)));
                 }
                 Use::MakeFolder(at) | Use::MakeLink(at) | Use::MakeNode(at) | Use::Link(_, at) => {
                     let path = at.path(&self.names);

@@ -42,6 +42,7 @@ pub enum Use {
         at: Target,
         truncates: bool,
         creates: bool,
+        appends: bool,
     },
     Remove(Target),
     RemoveFolder(Target),
@@ -156,7 +157,8 @@ impl Caller<'_> {
         let Some(to) = self.lead(folder, path, !has(libc::O_NOFOLLOW) && !exclusive, v) else { return };
         let unnamed = has(libc::O_TMPFILE);
         let writes = flags & libc::O_ACCMODE != libc::O_RDONLY || has(libc::O_TRUNC) || has(libc::O_CREAT);
-        let open = |at| Use::Open { at, truncates: has(libc::O_TRUNC), creates: has(libc::O_CREAT) };
+        let (truncates, creates, appends) = (has(libc::O_TRUNC), has(libc::O_CREAT), has(libc::O_APPEND));
+        let open = |at| Use::Open { at, truncates, creates, appends };
         match to {
             Where::Remote(n) if has(libc::O_PATH) || unnamed => v.push(Use::Look(n)),
             Where::Remote(n) if writes => v.push(open(Target::Remote(n))),

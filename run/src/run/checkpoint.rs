@@ -1,28 +1,42 @@
 //! A checkpoint of all processes at one moment: a stopped fork of each, and what a fork has not.
 use crate::name::Name;
 use crate::run::descriptors::{self, Descriptor, Kind};
+use crate::run::drafts::Drafts;
+use crate::run::folders::Reading;
 use crate::run::inject::{self, to_be_restarted, Call};
 use crate::run::paths::{bytes, Where};
 use crate::run::supervisor::{Done, Supervisor};
 use crate::run::sys::{self, Pid, Regs, Stop, Told};
 use crate::run::tree::{Copy, Facts, State, Thread};
-use std::collections::{HashMap, HashSet};
+use std::collections::HashMap;
 use std::fs::File;
-use std::io::Read;
+use std::io::{self, Read};
 use std::os::fd::{AsRawFd, OwnedFd, RawFd};
 use std::rc::Rc;
 use std::time::Instant;
 
+/// Descriptors of one description, by its number, and its offset.
+type Shared = HashMap<(Pid, RawFd), (usize, u64)>;
+
+/// A pipe, how much it holds, and what is in it.
+pub struct Pipe {
+    pub handle: Rc<OwnedFd>,
+    pub capacity: libc::c_int,
+    pub contents: Vec<u8>,
+}
+
 pub struct Snapshot {
     pub processes: Vec<(Pid, Facts, Rc<Copy>)>,
     /// Descriptors that are shared: the number of the description, and its offset.
-    pub shared: HashMap<(Pid, RawFd), (usize, u64)>,
-    /// What was in pipes.
-    pub pipes: Vec<(Rc<OwnedFd>, Vec<u8>)>,
+    pub shared: Shared,
+    /// Folders that are just being read.
+    pub readings: Vec<Reading>,
+    pub pipes: Vec<Pipe>,
     /// Files that had to be stored, and what was said after they were closed.
     pub due: Vec<Name>,
     pub said: Vec<(usize, Vec<u8>)>,
     pub root_status: Option<i32>,
+    pub drafts: Drafts,
 }
 
 /// The registers with which a stopped process goes on, and with which its copy does.
@@ -171,16 +185,24 @@ impl Supervisor {
             .filter(|(i, p)| Some(**i) != but && p.hold.is_none() && matches!(p.state, State::Again | State::Stopped))
             .map(|(i, _)| *i)
             .collect();
-        for pid in stopped {
-            self.tree.queue.retain(|q| *q != pid);
-            if self.tree.at(pid).listens {
-                self.tree.at(pid).state = State::Running;
-                let _ = sys::listen(pid);
+        self.go_each(&stopped);
+        Ok(())
+    }
+    /// Lets those of them go on that were stopped and aren't held.
+    pub fn go_each(&mut self, pids: &[Pid]) {
+        for pid in pids {
+            let Some(p) = self.tree.get(*pid).filter(|p| p.hold.is_none()) else { continue };
+            if !matches!(p.state, State::Again | State::Stopped) {
+                continue;
+            }
+            self.tree.queue.retain(|q| q != pid);
+            if self.tree.at(*pid).listens {
+                self.tree.at(*pid).state = State::Running;
+                let _ = sys::listen(*pid);
             } else {
-                self.go(pid);
+                self.go(*pid);
             }
         }
-        Ok(())
     }
     /// Copies all that have run since they were copied, and begins an epoch; or says why that can't be.
     fn copy_all(&mut self) -> Done<Option<&'static str>> {
@@ -319,26 +341,30 @@ impl Supervisor {
             pipes.entry(d.inode).or_insert_with(|| d.handle.clone());
         }
         Snapshot {
+            readings: self.readings(&processes),
             shared: shared_descriptions(&processes),
-            pipes: pipes.into_values().map(|h| (h.clone(), peek_pipe(&h))).collect(),
+            pipes: pipes.into_values().filter_map(|handle| Pipe::of(handle).ok()).collect(),
             processes,
             due: self.stored.due.clone(),
             said: self.streams.pending.clone(),
             root_status: self.tree.root_status,
+            drafts: self.drafts.clone(),
         }
+    }
+    /// Folders that are just being read, and that we may have to put names back into.
+    fn readings(&self, processes: &[(Pid, Facts, Rc<Copy>)]) -> Vec<Reading> {
+        let all = processes.iter().flat_map(|(pid, _, c)| c.descriptors.iter().map(|d| (*pid, d)));
+        all.filter(|(_, d)| d.kind == Kind::Folder && self.undo.has_folder(d.device))
+            .filter_map(|(pid, d)| Some((pid, d, descriptors::position(pid, d.fd)?.0)))
+            .filter(|(_, _, position)| *position > 0)
+            .filter_map(|(pid, d, position)| Reading::at(pid, d, position).ok())
+            .collect()
     }
     /// Files that are open for writing, by their inodes.
     fn open_for_writing(&self, all: &[Pid]) -> HashMap<(u64, u64), Rc<OwnedFd>> {
         let copies = all.iter().filter_map(|p| self.tree.get(*p)?.copy.as_ref());
         let writing = copies.flat_map(|c| &c.descriptors).filter(|d| d.kind == Kind::File { writing: true });
         writing.map(|d| ((d.device, d.inode), d.handle.clone())).collect()
-    }
-    /// Whether a process has this file open for writing, as of the last copies.
-    pub fn is_open_for_writing(&self, name: &Name) -> bool {
-        use std::os::unix::fs::MetadataExt;
-        let all: HashSet<(u64, u64)> = self.open_for_writing(&self.tree.processes()).into_keys().collect();
-        let m = std::fs::symlink_metadata(self.names.local(name));
-        !all.is_empty() && m.is_ok_and(|m| all.contains(&(m.dev(), m.ino())))
     }
 }
 
@@ -349,7 +375,7 @@ fn signal_of_user(signal: i32) -> sys::SigInfo {
 }
 
 /// Which descriptors of files are one description, with its offset.
-fn shared_descriptions(processes: &[(Pid, Facts, Rc<Copy>)]) -> HashMap<(Pid, RawFd), (usize, u64)> {
+fn shared_descriptions(processes: &[(Pid, Facts, Rc<Copy>)]) -> Shared {
     let mut same_file: HashMap<(u64, u64, i32), Vec<(Pid, RawFd)>> = HashMap::new();
     for (pid, _, c) in processes {
         for d in c.descriptors.iter().filter(|d| matches!(d.kind, Kind::File { .. } | Kind::Folder)) {
@@ -369,25 +395,31 @@ fn shared_descriptions(processes: &[(Pid, Facts, Rc<Copy>)]) -> HashMap<(Pid, Ra
     shared
 }
 
+impl Pipe {
+    fn of(handle: Rc<OwnedFd>) -> io::Result<Pipe> {
+        let from = sys::open(&sys::fd_path(handle.as_raw_fd()), libc::O_RDONLY | libc::O_NONBLOCK)?;
+        // SAFETY: numbers only.
+        let capacity = unsafe { libc::fcntl(from.as_raw_fd(), libc::F_GETPIPE_SZ) };
+        let contents = peek(&from, capacity)?;
+        Ok(Pipe { handle, capacity, contents })
+    }
+}
+
 /// What is in a pipe, which stays there.
-fn peek_pipe(pipe: &OwnedFd) -> Vec<u8> {
-    let path = sys::fd_path(pipe.as_raw_fd());
-    let Ok(from) = sys::open(&path, libc::O_RDONLY | libc::O_NONBLOCK) else { return Vec::new() };
-    let mut n: libc::c_int = 0;
+fn peek(from: &OwnedFd, capacity: libc::c_int) -> io::Result<Vec<u8>> {
+    let (mut n, mut contents): (libc::c_int, Vec<u8>) = (0, Vec::new());
     // SAFETY: the number is ours.
     unsafe { libc::ioctl(from.as_raw_fd(), libc::FIONREAD, &raw mut n) };
-    let Ok((read, write)) = crate::run::output::pipe() else { return Vec::new() };
     if n <= 0 {
-        return Vec::new();
+        return Ok(contents);
     }
-    let room = libc::c_int::max(n, 65536);
+    let (read, write) = crate::run::output::pipe()?;
     // SAFETY: numbers only.
     unsafe {
-        libc::fcntl(write.as_raw_fd(), libc::F_SETPIPE_SZ, room);
+        libc::fcntl(write.as_raw_fd(), libc::F_SETPIPE_SZ, capacity.max(n));
         libc::tee(from.as_raw_fd(), write.as_raw_fd(), n as usize, libc::SPLICE_F_NONBLOCK);
     }
     drop(write);
-    let mut v = Vec::new();
-    let _ = File::from(read).read_to_end(&mut v);
-    v
+    File::from(read).read_to_end(&mut contents)?;
+    Ok(contents)
 }

@@ -3,6 +3,7 @@ use crate::run::output::Streams;
 use crate::run::sys::{self, Pid};
 use std::fs;
 use std::os::fd::{AsRawFd, OwnedFd, RawFd};
+use std::os::unix::fs::MetadataExt;
 use std::path::PathBuf;
 use std::rc::Rc;
 
@@ -53,6 +54,14 @@ pub fn of(pid: Pid, streams: &Streams) -> Vec<Descriptor> {
         .collect();
     v.sort_unstable_by_key(|d| d.fd);
     v
+}
+
+/// Those that are of this file.
+pub fn at(pid: Pid, file: (u64, u64)) -> Vec<RawFd> {
+    let all = fs::read_dir(format!("/proc/{pid}/fd")).into_iter().flatten().flatten();
+    all.filter(|e| fs::metadata(e.path()).is_ok_and(|m| (m.dev(), m.ino()) == file))
+        .filter_map(|e| e.file_name().to_str()?.parse().ok())
+        .collect()
 }
 
 fn describe(pid: Pid, fd: RawFd, streams: &Streams) -> Option<Descriptor> {

@@ -17,6 +17,17 @@ pub struct Epoch {
     pub snapshot: Snapshot,
     pub steps: Vec<Step>,
     pub born: Instant,
+    /// Something was said in it.
+    pub says: bool,
+    /// When it was asked for.
+    pub asked: Instant,
+}
+
+impl Epoch {
+    fn begin(number: u64, snapshot: Snapshot) -> Epoch {
+        let born = Instant::now();
+        Epoch { number, snapshot, steps: Vec::new(), born, says: false, asked: born }
+    }
 }
 
 /// A call, or a store, that waits for its own reply.
@@ -53,6 +64,8 @@ pub struct Epochs {
     pub theirs: HashMap<Version, Version>,
     /// What a checkpoint has cost lately: an epoch is at least ten times as long.
     pub cost: Duration,
+    /// How long an answer took lately: what shows nothing needn't be asked more often.
+    pub way: Duration,
     next: u64,
     next_version: u64,
 }
@@ -83,6 +96,7 @@ impl Epochs {
             believed: HashMap::new(),
             theirs: HashMap::new(),
             cost: Duration::ZERO,
+            way: Duration::ZERO,
             next: 0,
             next_version: 0,
         }
@@ -127,7 +141,7 @@ impl Supervisor {
         }
         let full = self.epochs.is_full();
         if let Some(e) = &self.epochs.current {
-            if full || e.born.elapsed() < self.epoch_length() || !self.checkpoint(pid)? {
+            if full || e.born.elapsed() < self.epoch_length(e) || !self.checkpoint(pid)? {
                 return Ok(Need::Go);
             }
             return Ok(self.after_checkpoint(pid));
@@ -147,15 +161,16 @@ impl Supervisor {
             _ => Need::Go,
         }
     }
-    fn epoch_length(&self) -> Duration {
-        self.options.epoch.max(self.epochs.cost * 10).min(self.options.epoch * 20)
+    fn epoch_length(&self, e: &Epoch) -> Duration {
+        let way = if e.says { Duration::ZERO } else { self.epochs.way.min(self.options.epoch * 5) };
+        self.options.epoch.max(self.epochs.cost * 10).max(way).min(self.options.epoch * 20)
     }
     /// The tree stands at a checkpoint: a new epoch begins.
     pub fn begin_epoch(&mut self, snapshot: Snapshot) -> Done {
         self.close_epoch()?;
         let number = self.epochs.new_number();
         self.epochs.decides.begin(number);
-        self.epochs.current = Some(Epoch { number, snapshot, steps: Vec::new(), born: Instant::now() });
+        self.epochs.current = Some(Epoch::begin(number, snapshot));
         self.stats.epochs += 1;
         self.stats.most_undecided = self.stats.most_undecided.max(self.epochs.decides.undecided());
         self.trace.note("epoch", &[("number", number)]);
@@ -167,12 +182,13 @@ impl Supervisor {
         let steps = std::mem::take(&mut e.steps);
         self.stats.guesses += steps.len() as u64;
         self.trace.note("asked", &[("number", e.number), ("steps", steps.len() as u64)]);
+        e.asked = Instant::now();
         self.link.send(Request::Epoch { number: e.number, falls_with_earlier: true, steps })?;
         self.epochs.sent.push_back(e);
         Ok(())
     }
     pub fn close_old_epoch(&mut self) -> Done {
-        if self.epochs.current.as_ref().is_some_and(|e| e.born.elapsed() >= self.epoch_length()) {
+        if self.epochs.current.as_ref().is_some_and(|e| e.born.elapsed() >= self.epoch_length(e)) {
             self.take_output()?;
             self.close_epoch()?;
         }

@@ -231,8 +231,6 @@ impl Supervisor {
         let (r, number) = (p.regs, p.regs.orig_rax as i64);
         match number {
             libc::SYS_clone | libc::SYS_fork | libc::SYS_vfork => self.fork_call(pid, number, r),
-            // the C library makes a clone then
-            libc::SYS_clone3 => self.finish(pid, -i64::from(libc::ENOSYS)),
             libc::SYS_getppid => {
                 let parent = self.tree.at(pid).facts.parent.max(1);
                 self.finish(pid, i64::from(parent));

@@ -8,15 +8,14 @@ use crate::run::names::Known;
 use crate::run::supervisor::{Done, Supervisor};
 use crate::run::sys::{self, Pid};
 use crate::run::tree::Hold;
-use crate::wire::{Entry, Kind, Request, Version, LONGEST_PIECE};
+use crate::wire::{Along, Entry, Kind, Request, Version, LONGEST_ALONG, LONGEST_PIECE};
 use std::collections::HashMap;
 use std::fs;
 use std::os::unix::fs::MetadataExt;
 
 /// How many names near one that is wanted are looked at, how long what comes along may be, and how much of it.
 const MOST_NEAR: usize = 200;
-const SMALL: u64 = 64 << 10;
-const MOST_BESIDE: u64 = 256 << 10;
+pub const MOST_BESIDE: u64 = 256 << 10;
 
 /// A file's contents as they come.
 struct Contents {
@@ -24,6 +23,12 @@ struct Contents {
     bytes: Vec<u8>,
     left: usize,
     spoilt: bool,
+}
+
+impl Contents {
+    fn of(version: Version, pieces: usize) -> Contents {
+        Contents { version, bytes: Vec::new(), left: pieces, spoilt: false }
+    }
 }
 
 #[derive(Default)]
@@ -50,9 +55,19 @@ impl Asked {
 }
 
 impl Fetching {
-    fn number(&mut self) -> u64 {
+    pub fn number(&mut self) -> u64 {
         self.next += 1;
         self.next
+    }
+    /// Contents that the server sends behind all names, unasked.
+    pub fn comes_along(&mut self, entries: &[Entry]) {
+        let mut along = Along::within(MOST_BESIDE);
+        for e in entries {
+            if let Some(id) = along.takes(e) {
+                self.contents.insert(e.name.clone(), Contents::of(e.version, 1));
+                self.pieces.insert(id, (e.name.clone(), 0));
+            }
+        }
     }
     /// Answers that are under way are of what is no more.
     pub fn forget_all(&mut self) {
@@ -116,7 +131,7 @@ impl Supervisor {
                 continue;
             }
             let size = self.size_here(&n);
-            if size > SMALL || size > room {
+            if size > LONGEST_ALONG.min(room) {
                 continue;
             }
             room -= size;
@@ -127,8 +142,7 @@ impl Supervisor {
     fn ask_contents(&mut self, name: &Name, size: u64) -> Done {
         let pieces = size.div_ceil(LONGEST_PIECE as u64).max(1);
         let version = self.names.get(name).version;
-        let all = Contents { version, bytes: Vec::new(), left: pieces as usize, spoilt: false };
-        self.fetching.contents.insert(name.clone(), all);
+        self.fetching.contents.insert(name.clone(), Contents::of(version, pieces as usize));
         for i in 0..pieces {
             let (id, offset) = (self.fetching.number(), i * LONGEST_PIECE as u64);
             self.fetching.pieces.insert(id, (name.clone(), offset));
@@ -170,19 +184,21 @@ impl Supervisor {
             self.set_told(&n, Known { have: true, ..k });
         }
     }
-    pub fn on_entries(&mut self, id: u64, entries: Vec<Entry>, more: bool) {
-        let Some(asked) = self.fetching.entries.get_mut(&id) else { return };
+    pub fn on_entries(&mut self, id: u64, entries: Vec<Entry>, more: bool) -> Done {
+        let Some(asked) = self.fetching.entries.get_mut(&id) else { return Ok(()) };
         asked.entries.extend(entries);
         if more {
-            return;
+            return Ok(());
         }
-        let Some(asked) = self.fetching.entries.remove(&id) else { return };
+        let Some(asked) = self.fetching.entries.remove(&id) else { return Ok(()) };
         if asked.listing {
             self.fresh_folder(&asked.entries);
         } else {
             asked.entries.iter().for_each(|e| self.fresh_entry(e));
         }
+        self.merge_drafts()?;
         self.tree.wake(Hold::Fetch);
+        Ok(())
     }
     /// A name is what the server says now; but where we have changed it, that is on top of it.
     pub fn fresh_entry(&mut self, e: &Entry) {
@@ -194,9 +210,13 @@ impl Supervisor {
         if old.version == e.version && old.kind == e.kind && old.kind != Kind::Absent {
             return;
         }
-        if self.stored.due.contains(&e.name) || self.is_open_for_writing(&e.name) {
+        let is_due = self.names.names_of_file(&e.name).iter().any(|n| self.stored.due.contains(n));
+        if is_due || self.is_open_for_writing(&e.name) {
             let kind = if e.kind == Kind::Absent { Kind::Absent } else { old.kind };
             self.set_told(&e.name, Known { version: e.version, kind, have: true, looked: 0, ..old });
+            if e.kind == Kind::File && old.kind == Kind::File {
+                self.changed_drafts.push(e.name.clone());
+            }
             return;
         }
         if e.kind == Kind::Absent {
@@ -205,8 +225,17 @@ impl Supervisor {
             }
         }
         self.stored.forget(&e.name);
-        let k = self.names.install(e);
+        let others = self.names.others_of(e);
+        let mut k = self.names.install(e);
+        let same = others.iter().filter(|n| *n != &e.name).map(|n| self.names.get(n)).find(|o| o.version == e.version);
+        k.have |= same.is_some_and(|o| o.have);
         self.set_told(&e.name, k);
+        for n in others.iter().filter(|n| *n != &e.name) {
+            // all names of a file are of what it is now
+            if !self.is_changed(n) && self.names.link_again(&e.name, n).is_ok() {
+                self.set_told(n, k);
+            }
+        }
         if e.kind == Kind::Folder {
             self.stored.watch(&self.names, &e.name);
         }
@@ -233,6 +262,7 @@ impl Supervisor {
         while let Some(name) = self.stored.due.first().cloned() {
             if self.stored.changed(&self.names, &name).is_none() {
                 self.stored.due.remove(0);
+                self.end_draft(&name, None);
                 continue;
             }
             let need = if self.epochs.is_storing() { Need::Hold } else { self.need(pid)? };
@@ -267,6 +297,7 @@ impl Supervisor {
             let Some(name) = self.stored.due.first().cloned() else { break };
             if self.stored.changed(&self.names, &name).is_none() {
                 self.stored.due.remove(0);
+                self.end_draft(&name, None);
                 continue;
             }
             self.store(&name, false)?;
@@ -279,6 +310,9 @@ impl Supervisor {
         self.stats.stores += 1;
         self.stats.stored_bytes += contents.len() as u64;
         let base = self.names.get(name).version;
+        if !alone {
+            self.end_draft(name, Some(&contents));
+        }
         let steps = vec![put(name, base, self.epochs.new_version(), &m, contents)];
         self.stored.stored(name, mark);
         if !alone {

@@ -35,7 +35,9 @@ const FNV_BEGIN: u64 = 0xcbf2_9ce4_8422_2325;
 const FNV_PRIME: u64 = 0x0100_0000_01b3;
 
 /// Calls of which the code knows where the path is.
-const LOOKS: [i64; 11] = [
+const LOOKS: [i64; 12] = [
+    // a search for a program tries one folder after the other
+    libc::SYS_execve,
     libc::SYS_open,
     libc::SYS_stat,
     libc::SYS_lstat,
@@ -86,6 +88,8 @@ std::arch::global_asm!(
     "cmp eax, 6",
     "je 23f",
     "cmp eax, 89",
+    "je 23f",
+    "cmp eax, 59",
     "je 23f",
     "cmp eax, 267",
     "je 22f",
@@ -356,7 +360,7 @@ impl Supervisor {
             Inside::Not => 1,
         };
         if seen < ENOUGH {
-            p.facts.inside = Inside::Seen(seen);
+            self.set_inside(pid, Inside::Seen(seen));
             return false;
         }
         if (BASE..BASE + SIZE).contains(&(site as usize)) {
@@ -364,14 +368,14 @@ impl Supervisor {
         }
         let Some(length) = self.paths.board().length(pid, site) else { return false };
         let Some(place) = self.mapped(pid, inside) else {
-            self.tree.at(pid).facts.inside = Inside::Never;
+            self.set_inside(pid, Inside::Never);
             let _ = sys::set_registers(pid, &regs);
             return false;
         };
         let old = sys::read_word(pid, site);
         let done = sys::write_word(pid, (BASE + PLACES + place * 8) as u64, site + length as u64)
             && old.is_some_and(|old| sys::write_word(pid, site, jump(place, old)));
-        self.tree.at(pid).facts.inside = Inside::Mapped(place + usize::from(done));
+        self.set_inside(pid, Inside::Mapped(place + usize::from(done)));
         self.stats.inside += u64::from(done);
         if done || inside != Inside::Mapped(place) {
             self.make_again(pid);
@@ -379,11 +383,29 @@ impl Supervisor {
         }
         done || inside != Inside::Mapped(place)
     }
-    /// No other thread or process has its memory.
+    /// No other thread or process runs in its memory: who lends it that stands still.
     fn is_alone(&self, pid: Pid) -> bool {
-        let Some(p) = self.tree.get(pid).filter(|p| p.state == State::Entry && !p.thread) else { return false };
-        let shares = p.vforked.is_some() || self.tree.lends_memory(pid) || p.facts.process != pid;
-        !shares && self.tree.threads_of(pid).is_empty()
+        let Some(p) = self.tree.get(pid).filter(|p| p.state == State::Entry) else { return false };
+        let has_own = |pid: Pid| {
+            self.tree.get(pid).is_some_and(|p| !p.thread && p.facts.process == pid)
+                && self.tree.threads_of(pid).is_empty()
+        };
+        match p.vforked {
+            None => has_own(pid) && !self.tree.lends_memory(pid),
+            Some(of) => {
+                let lender_is_first = self.tree.get(of).is_some_and(|q| q.vforked.is_none());
+                has_own(pid) && has_own(of) && lender_is_first && !self.tree.lends_memory(pid)
+            }
+        }
+    }
+    /// What its memory has of it; that is who lent it the memory's, too.
+    fn set_inside(&mut self, pid: Pid, inside: Inside) {
+        let p = self.tree.at(pid);
+        p.facts.inside = inside;
+        let lender = p.vforked;
+        if let Some(q) = lender.and_then(|of| self.tree.get_mut(of)) {
+            q.facts.inside = inside;
+        }
     }
     /// Has a program at a stop of the filter map the board, where it has not; the next place to replace.
     fn mapped(&mut self, pid: Pid, inside: Inside) -> Option<usize> {

@@ -27,6 +27,9 @@ pub struct Known {
     pub looked: u64,
 }
 
+/// What a file's number has where it got its names here.
+const OURS: u64 = 1 << 63;
+
 pub struct Names {
     /// Where the local copies are.
     data: PathBuf,
@@ -129,6 +132,26 @@ impl Names {
         }
         self.entries.iter().filter(|(_, o)| o.file == k.file).map(|(n, _)| n.clone()).collect()
     }
+    /// The names that are known of the file that an entry tells of, where it has several.
+    pub fn others_of(&self, e: &Entry) -> Vec<Name> {
+        if e.kind != Kind::File || e.links <= 1 {
+            return Vec::new();
+        }
+        // one that got its names here has a number of ours until the server tells its own
+        let ours = Some(self.get(&e.name).file).filter(|file| file & OURS != 0);
+        let is_it = |k: &Known| k.kind == Kind::File && (k.file == e.file & !OURS || Some(k.file) == ours);
+        self.entries.iter().filter(|(_, k)| is_it(k)).map(|(n, _)| n.clone()).collect()
+    }
+    /// A name is of the same local file as another.
+    pub fn link_again(&mut self, of: &Name, name: &Name) -> io::Result<()> {
+        self.next += 1;
+        let (new, path) = (self.making.join(format!("n{}", self.next)), self.local(name));
+        fs::hard_link(self.local(of), &new)?;
+        keeping_folder_time(&path, || fs::rename(&new, &path));
+        // where both were of one file already the rename has done nothing
+        let _ = fs::remove_file(new);
+        Ok(())
+    }
 
     /// Notes what is known; the numbers are what it is called where it is decided.
     pub fn set(&mut self, name: &Name, known: Known) -> (u64, Option<u64>) {
@@ -174,7 +197,7 @@ impl Names {
     }
     pub fn new_file_number(&mut self) -> u64 {
         self.next += 1;
-        1 << 63 | self.next
+        OURS | self.next
     }
 
     /// Makes the local copy what the server has; contents come later.
@@ -188,7 +211,7 @@ impl Names {
             kind: e.kind,
             have: e.kind != Kind::File || e.size == 0 || (same && old.have),
             listed: old.listed && e.kind == Kind::Folder,
-            file: if e.links > 1 && e.kind == Kind::File { e.file & !(1 << 63) } else { 0 },
+            file: if e.links > 1 && e.kind == Kind::File { e.file & !OURS } else { 0 },
             looked: 0,
         }
     }
@@ -244,9 +267,9 @@ impl Names {
             // touched only: who has it open has the same file still
             return fs::set_permissions(path, Permissions::from_mode(e.mode));
         }
-        let shared = (e.links > 1).then(|| self.entries.iter().find(|(_, k)| k.file == e.file)).flatten();
-        if let Some((other, _)) = shared.filter(|(n, k)| **n != e.name && k.version == e.version) {
-            let other = self.local(other);
+        let same = self.others_of(e).into_iter().find(|n| *n != e.name && self.get(n).version == e.version);
+        if let Some(other) = same {
+            let other = self.local(&other);
             let _ = fs::remove_file(path);
             return fs::hard_link(other, path);
         }

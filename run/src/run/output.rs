@@ -28,6 +28,8 @@ pub struct Streams {
     held: usize,
     pub said: u64,
     pub shown: u64,
+    /// Where it is read to.
+    room: Box<[u8]>,
 }
 
 /// A pipe: the end that is read, and the end that is written.
@@ -60,7 +62,7 @@ impl Streams {
         // SAFETY: numbers only.
         let me = unsafe { libc::getpid() };
         let one = sys::compare_descriptions((me, 1), (me, 2)).is_eq() || same_terminal();
-        let mut all = Vec::new();
+        let (mut all, room) = (Vec::new(), vec![0; 65536].into());
         for out in if one { vec![1] } else { vec![1, 2] } {
             let (from, to) = pipe()?;
             let inode = sys::stat(from.as_raw_fd())?.st_ino;
@@ -68,7 +70,7 @@ impl Streams {
             let from = unsafe { File::from_raw_fd(from.into_raw_fd()) };
             all.push(Stream { from: Some(from), to, inode, out });
         }
-        Ok(Streams { all, chunks: HashMap::new(), pending: Vec::new(), next: 0, held: 0, said: 0, shown: 0 })
+        Ok(Streams { all, chunks: HashMap::new(), pending: Vec::new(), next: 0, held: 0, said: 0, shown: 0, room })
     }
     pub fn signal_when_ready(&self) {
         self.readers().for_each(signal_when_ready);
@@ -85,18 +87,18 @@ impl Streams {
     }
     /// Takes in what was said so far.
     pub fn read(&mut self) {
-        let mut buf = vec![0u8; 65536];
         for i in 0..self.all.len() {
             while self.held < MOST_HELD {
                 let Some(from) = &mut self.all[i].from else { break };
-                let Ok(n @ 1..) = from.read(&mut buf) else { break };
+                let Ok(n @ 1..) = from.read(&mut self.room) else { break };
                 self.said += n as u64;
+                let said = self.room[..n].to_vec();
                 if wrong::is(wrong::OUTPUT_AT_ONCE) {
-                    self.write(i, &buf[..n]);
+                    self.write(i, &said);
                     continue;
                 }
                 self.held += n;
-                self.pending.push((i, buf[..n].to_vec()));
+                self.pending.push((i, said));
             }
         }
     }
@@ -141,10 +143,9 @@ impl Streams {
     }
     /// What was said after the checkpoint was never said; this was pending at it.
     pub fn take_back(&mut self, decides: &mut dyn Decides, pending: Vec<(usize, Vec<u8>)>) {
-        let mut buf = vec![0u8; 65536];
         for s in &mut self.all {
             if let Some(from) = &mut s.from {
-                while matches!(from.read(&mut buf), Ok(1..)) {}
+                while matches!(from.read(&mut self.room), Ok(1..)) {}
             }
         }
         self.show(decides);

@@ -10,18 +10,21 @@ impl Supervisor {
     /// Takes in all replies that are there.
     pub fn receive(&mut self) -> Done {
         self.link.flush()?;
-        while let Some(r) = self.link.receive()? {
+        while let Some(r) = self.next_reply()? {
             self.on_reply(r)?;
         }
         Ok(())
     }
+    fn next_reply(&mut self) -> Done<Option<Reply>> {
+        match self.later.pop_front() {
+            Some(r) => Ok(Some(r)),
+            None => Ok(self.link.receive()?),
+        }
+    }
     fn on_reply(&mut self, r: Reply) -> Done {
         match r {
             Reply::Welcome { .. } => Ok(()),
-            Reply::Entries { id, entries, more } => {
-                self.on_entries(id, entries, more);
-                Ok(())
-            }
+            Reply::Entries { id, entries, more } => self.on_entries(id, entries, more),
             Reply::Content { id, version, size, bytes } => self.on_content(id, version, size, bytes),
             Reply::Accepted { number, versions } => {
                 if self.options.resume {
@@ -44,7 +47,8 @@ impl Supervisor {
         if may_go != Some(number) || self.epochs.sent.front().map(|e| e.number) != Some(number) {
             return Err(Failure::Lost(format!("an answer to {number} where one to {may_go:?} is due")));
         }
-        drop(self.epochs.sent.pop_front());
+        let way = self.epochs.sent.pop_front().map_or(self.epochs.way, |e| e.asked.elapsed());
+        self.epochs.way = (self.epochs.way * 3 + way) / 4;
         self.epochs.fails = 0;
         self.trace.note("accepted", &[("number", number)]);
         self.streams.show(&mut *self.epochs.decides);
@@ -72,6 +76,9 @@ impl Supervisor {
         }
         if a.made.is_some() {
             self.apply(&a.steps);
+        }
+        if a.store.is_some() {
+            self.end_drafts_of(&a.steps);
         }
         let alive = a.pid.filter(|p| self.tree.get(*p).is_some_and(|p| p.hold == Some(Hold::Reply)));
         if let Some(pid) = alive {
@@ -101,6 +108,7 @@ impl Supervisor {
             self.stored.is_due(name);
         }
         self.fresh(stale, folders);
+        self.merge_drafts()?;
         let alive = a.pid.filter(|p| self.tree.get(*p).is_some_and(|p| p.hold == Some(Hold::Reply)));
         if let Some(pid) = alive {
             self.tree.at(pid).hold = None;

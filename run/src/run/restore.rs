@@ -1,11 +1,14 @@
 //! Going back to a checkpoint: each process is made anew from its copy, with its old number.
+use crate::run::checkpoint::{Pipe, Snapshot};
 use crate::run::decides::Back;
 use crate::run::descriptors::{Descriptor, Kind};
+use crate::run::folders::{self, Again};
 use crate::run::inject::Puppet;
+use crate::run::paths::{bytes, Where};
 use crate::run::supervisor::{Done, Failure, Supervisor};
 use crate::run::sys::{self, Pid, SigInfo, Told};
 use crate::run::tree::{Copy, Facts, Process, State, Thread};
-use crate::run::{checkpoint::Snapshot, undo, wrong};
+use crate::run::{undo, wrong};
 use std::collections::{HashMap, HashSet};
 use std::fs::{self, File};
 use std::io::{Read, Write};
@@ -15,8 +18,10 @@ use std::time::Instant;
 
 const NR_RSEQ: i64 = 334;
 
-/// Descriptions that were opened once more, by file, description and flags.
-type Opened = HashMap<(u64, u64, usize, i32), OwnedFd>;
+/// A description, by its file, its number and its flags.
+type Key = (u64, u64, usize, i32);
+/// Descriptions that were opened once more.
+type Opened = HashMap<Key, OwnedFd>;
 
 impl Supervisor {
     /// All goes back to a checkpoint; `fresh` then takes in what the server has.
@@ -34,20 +39,24 @@ impl Supervisor {
         self.names.forget_looks();
         self.watch_all();
         self.tree.root_status = snapshot.root_status;
+        self.drafts.clone_from(&snapshot.drafts);
         let pipes = refill(&snapshot.pipes)?;
         let mut opened = Opened::new();
         for (pid, facts, copy) in &snapshot.processes {
             self.make_anew(*pid, facts, copy, &snapshot, &mut opened)?;
         }
-        drop((pipes, opened));
         set_groups(&snapshot.processes, self.tree.group)?;
         fresh(self)?;
+        self.merge_drafts()?;
+        self.read_on(&snapshot, &opened)?;
+        drop((pipes, opened));
         self.stats.rollback_time += begin.elapsed();
         self.trace.note("rolled back", &[("processes", snapshot.processes.len() as u64)]);
         self.go_all(None)
     }
-    fn kill_all(&mut self) {
-        let mut left: HashSet<Pid> = self.tree.all.keys().copied().collect();
+    /// None of them runs any more afterwards.
+    pub fn kill_all(&mut self) {
+        let mut left: HashSet<Pid> = self.tree.all.keys().copied().filter(|p| sys::is_there(*p)).collect();
         left.iter().for_each(|p| sys::kill(*p, libc::SIGKILL));
         // who waits for a child that has its memory can only end with it, so in any order
         while !left.is_empty() {
@@ -134,17 +143,26 @@ impl Supervisor {
         p.call(libc::SYS_close, [far, 0, 0, 0])?;
         Ok(())
     }
+    /// Folders that were being read give what was left of them.
+    fn read_on(&mut self, of: &Snapshot, opened: &Opened) -> Done {
+        let again = of.readings.iter().filter_map(|r| {
+            let at = opened.get(&group_of(r.pid, &r.of, of).0)?.as_raw_fd();
+            let folder = match self.paths.place(bytes(&r.of.path())) {
+                Where::Remote(n) => self.names.local(&n),
+                Where::Scratch(p) => p,
+                Where::Local(_) => return None,
+            };
+            folder.is_dir().then_some(Again { of: r, at, folder })
+        });
+        let all: Vec<Again> = again.collect();
+        folders::read_on(&all, &mut self.undo).map_err(|e| Failure::Broken(format!("a folder that is read: {e}")))
+    }
     /// Opens what a descriptor was of, once for all that shared it.
     fn description(&self, pid: Pid, d: &Descriptor, of: &Snapshot, opened: &mut Opened) -> Done<RawFd> {
         if let Kind::Output(i) = d.kind {
             return Ok(self.streams.end_of(i));
         }
-        let (group, offset) = match of.shared.get(&(pid, d.fd)) {
-            Some((g, o)) => (*g, *o),
-            None if d.kind == Kind::Pipe => (0, 0),
-            None => (1_000_000 + pid as usize * 4096 + d.fd as usize, d.offset),
-        };
-        let key = (d.device, d.inode, group, d.flags);
+        let (key, offset) = group_of(pid, d, of);
         if let Some(fd) = opened.get(&key) {
             return Ok(fd.as_raw_fd());
         }
@@ -206,6 +224,16 @@ impl Supervisor {
     }
 }
 
+/// Which description a descriptor was of, and its offset.
+fn group_of(pid: Pid, d: &Descriptor, of: &Snapshot) -> (Key, u64) {
+    let (group, offset) = match of.shared.get(&(pid, d.fd)) {
+        Some((g, o)) => (*g, *o),
+        None if d.kind == Kind::Pipe => (0, 0),
+        None => (1_000_000 + pid as usize * 4096 + d.fd as usize, d.offset),
+    };
+    ((d.device, d.inode, group, d.flags), offset)
+}
+
 /// Signals that were pending are so again: the first are the thread's, the others its process's.
 fn send_again(p: &mut Puppet, process: Pid, pending: &[Vec<SigInfo>; 2]) -> Done {
     if pending.iter().all(Vec::is_empty) {
@@ -252,16 +280,18 @@ fn next_number(pid: Pid) -> Done {
 }
 
 /// Pipes have again what was in them. As long as these are held, their ends don't close.
-fn refill(pipes: &[(Rc<OwnedFd>, Vec<u8>)]) -> Done<Vec<File>> {
+fn refill(pipes: &[Pipe]) -> Done<Vec<File>> {
     let mut held = Vec::new();
     let mut buf = vec![0u8; 65536];
-    for (handle, bytes) in pipes {
+    for Pipe { handle, capacity, contents } in pipes {
         let broken = |e: std::io::Error| Failure::Broken(format!("a pipe: {e}"));
         let fd = sys::open(&sys::fd_path(handle.as_raw_fd()), libc::O_RDWR | libc::O_NONBLOCK).map_err(broken)?;
         let mut pipe = File::from(fd);
         while matches!(pipe.read(&mut buf), Ok(1..)) {}
+        // SAFETY: numbers only.
+        unsafe { libc::fcntl(pipe.as_raw_fd(), libc::F_SETPIPE_SZ, *capacity) };
         if !wrong::is(wrong::PIPE_EMPTY) {
-            pipe.write_all(bytes).map_err(broken)?;
+            pipe.write_all(contents).map_err(broken)?;
         }
         held.push(pipe);
     }

@@ -5,7 +5,7 @@ use crate::run::epochs::Alone;
 use crate::run::names::Known;
 use crate::run::output;
 use crate::run::start::all_names;
-use crate::run::supervisor::{Done, Failure, Supervisor, FORWARD};
+use crate::run::supervisor::{Done, Failure, Supervisor, FORWARD, ORPHANED};
 use crate::wire::{Entry, Kind};
 use std::collections::HashSet;
 use std::sync::atomic::Ordering;
@@ -22,9 +22,11 @@ impl Supervisor {
         self.stop_all()?;
         let (link, done, entries) = self.connect_again(why)?;
         self.link = link;
+        self.later.clear();
         output::signal_when_ready(self.link.handles().0);
         self.take_as_done(done)?;
         self.undo_others(&entries)?;
+        self.merge_drafts()?;
         eprintln!("hidewillow-run: the server is back");
         self.trace.note("back", &[("done", done)]);
         self.go_all(None)?;
@@ -33,11 +35,11 @@ impl Supervisor {
     fn connect_again(&self, why: &str) -> Done<(Link, u64, Vec<Entry>)> {
         loop {
             std::thread::sleep(PAUSE);
-            if FORWARD.load(Ordering::Relaxed) != 0 {
+            if FORWARD.load(Ordering::Relaxed) != 0 || ORPHANED.load(Ordering::Relaxed) {
                 return Err(Failure::Lost(why.to_owned()));
             }
             let Ok(mut link) = Link::open_as(&self.options.at, &self.session) else { continue };
-            if let Ok((done, entries)) = all_names(&mut link) {
+            if let Ok((done, entries)) = all_names(&mut link, 0) {
                 return Ok((link, done, entries));
             }
         }

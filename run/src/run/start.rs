@@ -1,8 +1,9 @@
 //! From the command line to the command, and from its end to ours.
 use crate::client::Link;
 use crate::name::Name;
+use crate::run::drafts::Drafts;
 use crate::run::epochs::Epochs;
-use crate::run::fetching::Fetching;
+use crate::run::fetching::{Fetching, MOST_BESIDE};
 use crate::run::filter;
 use crate::run::ground;
 use crate::run::inside::Board;
@@ -12,23 +13,28 @@ use crate::run::output::{self, Streams};
 use crate::run::paths::{bytes, Paths};
 use crate::run::stats::{Stats, Trace, Why};
 use crate::run::stored::Stored;
-use crate::run::supervisor::{Failure, Supervisor, FORWARD, READY};
+use crate::run::supervisor::{Failure, Supervisor, FORWARD, ORPHANED, READY};
 use crate::run::sys::{self, Pid};
 use crate::run::tree::{Facts, Process, State, Tree};
 use crate::run::undo::{self, UndoLog};
 use crate::wire::{Entry, Reply, Request};
+use std::collections::VecDeque;
 use std::ffi::CString;
 use std::fs::{self, File};
 use std::io::{self, Read, Write};
 use std::os::fd::{AsRawFd, OwnedFd};
 use std::os::unix::fs::MetadataExt;
-use std::sync::atomic::Ordering;
+use std::sync::atomic::{AtomicI32, Ordering};
 use std::time::{Duration, Instant};
 
 /// The status where the connection ends, or something is lost.
 const LOST: i32 = 75;
 /// The status where it can't begin.
 const CANNOT: i32 = 125;
+/// What tells the supervisor that its starter was killed.
+const ORPHAN: i32 = libc::SIGPWR;
+/// So many ticks later it has to have ended, whatever it waits for.
+static TICKS: AtomicI32 = AtomicI32::new(2000);
 /// The server has this long for the folder's names.
 const PATIENCE: Duration = Duration::from_secs(60);
 
@@ -52,7 +58,7 @@ pub fn run(options: Options) -> i32 {
             return LOST;
         }
     };
-    let entries = match all_names(&mut link) {
+    let entries = match all_names(&mut link, MOST_BESIDE) {
         Ok((_, e)) => e,
         Err(e) => {
             say(format_args!("the server is lost: {e}"));
@@ -78,10 +84,10 @@ fn new_session(options: &Options) -> io::Result<Vec<u8>> {
     Ok(random.iter().map(|b| format!("{b:02x}")).collect::<String>().into_bytes())
 }
 
-/// The last epoch of the session that was done; the folder's own entry, and those of all names in it.
-pub fn all_names(link: &mut Link) -> io::Result<(u64, Vec<Entry>)> {
+/// The last epoch of the session that was done; the folder's own entry, and those of all names in it. Contents of some come behind.
+pub fn all_names(link: &mut Link, along: u64) -> io::Result<(u64, Vec<Entry>)> {
+    link.send(Request::Tree { id: 0, name: Name::root(), along })?;
     let Reply::Welcome { root, done, .. } = reply(link)? else { return Err(io::ErrorKind::InvalidData.into()) };
-    link.send(Request::Tree { id: 0, name: Name::root() })?;
     let mut all = vec![root];
     loop {
         let Reply::Entries { entries, more, .. } = reply(link)? else {
@@ -173,7 +179,12 @@ fn end_by(signal: i32) -> ! {
 /// A signal handler: something can be read, or a signal is for the command.
 extern "C" fn on_signal(signal: libc::c_int) {
     match signal {
+        libc::SIGALRM if ORPHANED.load(Ordering::Relaxed) && TICKS.fetch_sub(1, Ordering::Relaxed) < 0 => {
+            // SAFETY: ends this process, and all others with it.
+            unsafe { libc::_exit(LOST) }
+        }
         libc::SIGIO | libc::SIGALRM => {}
+        ORPHAN => ORPHANED.store(true, Ordering::Relaxed),
         s => FORWARD.store(s, Ordering::Relaxed),
     }
     READY.store(true, Ordering::Relaxed);
@@ -251,6 +262,9 @@ fn prepare(mut options: Options, (link, session): (Link, Vec<u8>), entries: &[En
         epochs: Epochs::new(),
         why: Why::new(options.why),
         fetching: Fetching::default(),
+        drafts: Drafts::default(),
+        changed_drafts: Vec::new(),
+        later: VecDeque::new(),
         tree: Tree::default(),
         stats: Stats::default(),
         stopping: false,
@@ -281,6 +295,7 @@ fn install_all(s: &mut Supervisor, entries: &[Entry]) -> io::Result<()> {
         }
     }
     s.names.set_folder_times(entries);
+    s.fetching.comes_along(entries);
     let due = Vec::new();
     s.stored.discard(&s.paths, due);
     Ok(())
@@ -288,9 +303,12 @@ fn install_all(s: &mut Supervisor, entries: &[Entry]) -> io::Result<()> {
 
 /// Signals tell of what can be read while a process is waited for; a tick makes up for those that come too soon.
 fn hear(s: &Supervisor) {
-    for signal in [libc::SIGIO, libc::SIGALRM, libc::SIGTERM, libc::SIGHUP, libc::SIGUSR1, libc::SIGUSR2] {
+    for signal in [libc::SIGIO, libc::SIGALRM, libc::SIGTERM, libc::SIGHUP, libc::SIGUSR1, libc::SIGUSR2, ORPHAN] {
         handle(signal, on_signal as *const () as usize);
     }
+    // from here on there may be something to be taken back
+    // SAFETY: numbers only.
+    unsafe { libc::prctl(libc::PR_SET_PDEATHSIG, ORPHAN) };
     output::signal_when_ready(s.link.handles().0);
     s.streams.signal_when_ready();
     let tick = libc::timeval { tv_sec: 0, tv_usec: 5000 };

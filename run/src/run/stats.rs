@@ -17,6 +17,8 @@ pub struct Stats {
     pub fetches: u64,
     pub stores: u64,
     pub stored_bytes: u64,
+    /// Files that others changed while they were written here.
+    pub merged: u64,
     pub epochs: u64,
     pub checkpoints: u64,
     pub checkpoint_time: Duration,
@@ -112,6 +114,7 @@ impl Stats {
         line("waits", self.waits.to_string());
         line("fetches", self.fetches.to_string());
         line("stores", format!("{} bytes {}", self.stores, self.stored_bytes));
+        line("merged", self.merged.to_string());
         line("epochs", self.epochs.to_string());
         let us = each(self.checkpoint_time, self.checkpoints);
         line("checkpoints", format!("{} us_each {us:.0}", self.checkpoints));

@@ -1,5 +1,7 @@
 //! The supervisor as a whole, and its loop.
 use crate::client::Link;
+use crate::name::Name;
+use crate::run::drafts::Drafts;
 use crate::run::epochs::Epochs;
 use crate::run::fetching::Fetching;
 use crate::run::ground::Ground;
@@ -12,6 +14,8 @@ use crate::run::stored::Stored;
 use crate::run::sys::{self, Pid};
 use crate::run::tree::{Process, State, Tree};
 use crate::run::undo::UndoLog;
+use crate::wire::Reply;
+use std::collections::VecDeque;
 use std::fmt;
 use std::io;
 use std::os::fd::RawFd;
@@ -54,6 +58,8 @@ pub type Done<T = ()> = Result<T, Failure>;
 pub static READY: AtomicBool = AtomicBool::new(false);
 /// A signal that is for the command.
 pub static FORWARD: AtomicI32 = AtomicI32::new(0);
+/// The process that began this one was killed.
+pub static ORPHANED: AtomicBool = AtomicBool::new(false);
 
 pub struct Supervisor {
     pub options: Options,
@@ -67,6 +73,11 @@ pub struct Supervisor {
     pub paths: Paths,
     pub undo: UndoLog,
     pub stored: Stored,
+    pub drafts: Drafts,
+    /// Those that others have changed, until what was written here is written over that.
+    pub changed_drafts: Vec<Name>,
+    /// Replies that came while another was waited for.
+    pub later: VecDeque<Reply>,
     pub streams: Streams,
     pub epochs: Epochs,
     pub stats: Stats,
@@ -92,6 +103,9 @@ impl Supervisor {
                     self.let_signals_in();
                     self.misses_none()?;
                     looked = Instant::now();
+                }
+                if ORPHANED.load(Ordering::Relaxed) {
+                    return Err(Failure::Broken("it was killed".to_owned()));
                 }
                 self.forward_signal();
                 self.take_output()?;
@@ -178,16 +192,16 @@ impl Supervisor {
     }
     fn say_pending(&mut self) {
         if self.stored.due.is_empty() && !self.epochs.is_changing() {
+            if let Some(e) = self.epochs.current.as_mut().filter(|_| !self.streams.pending.is_empty()) {
+                e.says = true;
+            }
             self.streams.say(&mut *self.epochs.decides);
         }
         self.trace.output(self.streams.said, self.streams.shown);
     }
     /// Kills all processes, and takes back what isn't decided.
     pub fn abandon(&mut self) {
-        for pid in self.tree.all.keys() {
-            sys::kill(*pid, libc::SIGKILL);
-        }
-        self.tree.all.clear();
+        self.kill_all();
         for (_, a) in self.epochs.alone.drain() {
             crate::run::undo::take_back(a.undo);
         }

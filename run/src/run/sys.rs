@@ -305,6 +305,12 @@ pub fn read_quietly(p: &Path) -> io::Result<Vec<u8>> {
     open_quietly(p)?.read_to_end(&mut contents)?;
     Ok(contents)
 }
+/// Whether no process of this machine has a file open: a lease to write it is given then alone. `false` where none is to be had.
+pub fn is_nowhere_open(p: &Path) -> bool {
+    let Ok(file) = open(p, libc::O_RDONLY | libc::O_NONBLOCK | libc::O_NOFOLLOW) else { return false };
+    // SAFETY: numbers only; the lease ends with the descriptor.
+    unsafe { libc::fcntl(file.as_raw_fd(), libc::F_SETLEASE, libc::F_WRLCK) == 0 }
+}
 /// A handle of a file that neither reads nor writes, by which it can be opened again.
 pub fn handle(p: &Path) -> io::Result<OwnedFd> {
     open(p, libc::O_PATH)

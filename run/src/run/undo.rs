@@ -12,6 +12,11 @@ use std::rc::Rc;
 pub enum Undo {
     /// It was made: it goes.
     Made(PathBuf),
+    /// A file without a name got one. It may get one just once, so this is not removed, but moved away, until it gets it again.
+    Named {
+        path: PathBuf,
+        saved: PathBuf,
+    },
     /// It was removed: its file has another name, from where it is put back.
     Gone {
         saved: PathBuf,
@@ -60,7 +65,7 @@ pub enum Undo {
 type Mark = (i64, i64, u64);
 
 /// A file's contents. Those of two moments share the pieces that are the same.
-type Pieces = Vec<Rc<[u8]>>;
+pub type Pieces = Vec<Rc<[u8]>>;
 const PIECE: usize = 256 << 10;
 
 /// A file's contents when it was this.
@@ -70,9 +75,9 @@ struct Image {
 }
 
 /// Reads a file; pieces that are as in `old` are those.
-fn pieces(mut from: impl Read, old: &[Rc<[u8]>]) -> Pieces {
+pub fn pieces(mut from: impl Read, old: &[Rc<[u8]>]) -> Pieces {
     let mut all = Pieces::new();
-    let mut piece = Vec::with_capacity(PIECE);
+    let mut piece = Vec::new();
     loop {
         piece.clear();
         if !matches!(from.by_ref().take(PIECE as u64).read_to_end(&mut piece), Ok(1..)) {
@@ -91,6 +96,8 @@ pub struct UndoLog {
     images: HashMap<(u64, u64), Image>,
     /// Folders for saved names, by the device that they are on.
     folders: Vec<(u64, PathBuf)>,
+    /// Where names of files that had none before may have been moved to.
+    moved: Vec<PathBuf>,
     next: u64,
     /// Each folder for saved names is locked as long as this lives.
     locks: Vec<OwnedFd>,
@@ -141,6 +148,19 @@ impl UndoLog {
     pub fn extend(&mut self, epoch: u64, all: Vec<Undo>) {
         self.log.extend(all.into_iter().map(|u| (epoch, u)));
     }
+    /// A file that has no name is about to get this one.
+    pub fn name_nameless(&mut self, path: &Path) -> Option<Undo> {
+        let saved = self.new_place(fs::metadata(path.parent()?).ok()?.dev())?;
+        self.moved.push(saved.clone());
+        Some(Undo::Named { path: path.to_owned(), saved })
+    }
+    /// It has that name again: the one that it was moved to goes.
+    pub fn has_name(&mut self, m: &Metadata) {
+        let is_it = |p: &PathBuf| fs::symlink_metadata(p).is_ok_and(|o| (o.dev(), o.ino()) == (m.dev(), m.ino()));
+        for p in self.moved.iter().filter(|p| is_it(p)) {
+            let _ = fs::remove_file(p);
+        }
+    }
     /// Keeps a name's file before the name goes.
     pub fn keep_name(&mut self, path: &Path) -> Option<Undo> {
         let m = fs::symlink_metadata(path).ok()?;
@@ -160,13 +180,25 @@ impl UndoLog {
         fs::rename(path, &saved).ok()?;
         Some(Undo::FolderGone { saved, path: path.to_owned() })
     }
-    fn new_place(&mut self, device: u64) -> Option<PathBuf> {
+    /// Whether names that go from this device can be kept.
+    pub fn has_folder(&self, device: u64) -> bool {
+        self.folders.iter().any(|(d, _)| *d == device)
+    }
+    /// A name on this device that nobody sees.
+    pub fn new_place(&mut self, device: u64) -> Option<PathBuf> {
         let (_, folder) = self.folders.iter().find(|(d, _)| *d == device)?;
         self.next += 1;
         if !folder.exists() {
             self.locks.extend(made_locked(folder));
         }
         Some(folder.join(format!("s{}", self.next)))
+    }
+    /// What is in a file.
+    pub fn contents(&mut self, path: &Path) -> Pieces {
+        match (sys::handle(path), fs::symlink_metadata(path)) {
+            (Ok(handle), Ok(m)) => self.image(&handle, &m),
+            _ => Pieces::new(),
+        }
     }
     /// Keeps a file's contents before they change.
     pub fn keep_content(&mut self, path: &Path) -> Option<Undo> {
@@ -251,6 +283,7 @@ pub fn take_back(changes: Vec<Undo>) {
 fn take_back_one(u: Undo) -> std::io::Result<()> {
     match u {
         Undo::Made(path) => fs::remove_file(&path).or_else(|_| fs::remove_dir(&path)),
+        Undo::Named { path, saved } => fs::rename(path, saved),
         Undo::Gone { saved, path } => {
             fs::rename(&saved, &path)?;
             // where both were one file still, the rename did nothing

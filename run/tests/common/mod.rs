@@ -266,7 +266,7 @@ impl Model {
     pub fn read(client: &mut Client) -> Model {
         let mut model = Model { clock: 1_650_000_000_000_000_000, ..Model::default() };
         let mut of_file: HashMap<u64, usize> = HashMap::new();
-        client.link.send(Request::Tree { id: 3, name: Name::root() }).unwrap();
+        client.link.send(Request::Tree { id: 3, name: Name::root(), along: 0 }).unwrap();
         loop {
             let Reply::Entries { entries, more, .. } = client.reply().unwrap() else { panic!("no entries") };
             for entry in entries {

@@ -1,7 +1,7 @@
 //! Accounts over the caller's own keys: transfers under guesses, a failure, and what is shown.
 //!
 //!     cargo run --release --example accounts
-use hidewillow::speculator::{Decided, Refusal, Speculator, Step};
+use hidewillow::speculator::{Decided, Failure, Refusal, Speculator, Step};
 use std::fmt;
 
 const CHANNEL: u16 = 1;
@@ -81,9 +81,12 @@ fn main() -> Result<(), Box<dyn std::error::Error + Send + Sync>> {
     if let Err(unpaid) = spec.try_step(|s| transfer(s, "bob", "ann", 1000)) {
         println!("bob can't pay 1000: {unpaid}");
     }
-    if let Decided::Failed { mut keys, struck } = spec.fail(wages)? {
+    if let Decided::Failed(Failure { mut keys, struck, outputs, .. }) = spec.fail(wages)? {
         keys.sort();
-        println!("the first fails: back to what they had are {}; {struck} guess struck", keys.join(", "));
+        println!("the first fails: back to what they had are {}; {} guess struck", keys.join(", "), struck.len());
+        for (channel, count) in outputs {
+            println!("  never said: {count} of channel {channel}");
+        }
     }
     println!("the other is gone: {}", spec.commit(rent)? == Decided::Gone);
     show(&mut spec, "after it")?;
@@ -91,7 +94,7 @@ fn main() -> Result<(), Box<dyn std::error::Error + Send + Sync>> {
     drop(dropped);
     show(&mut spec, "a guess whose token was dropped")?;
     let ((), again) = spec.try_guess(|s| transfer(s, "ann", "bob", 20))?;
-    println!("committed: {}", spec.commit(again)? == Decided::Committed);
+    println!("committed for good: {}", spec.commit(again)? == Decided::Committed { firm: true });
     show(&mut spec, "a guess that holds")?;
     Ok(())
 }

@@ -59,7 +59,14 @@ fn main() -> io::Result<()> {
     ledger.close()?;
 
     // The next start finds all of it, and so does `hidewillow-server --folder`.
-    show(&File::open(&folder)?)?;
+    let ledger = File::open(&folder)?;
+    show(&ledger)?;
+
+    // A backup is a folder that opens by itself.
+    let backup = folder.join(format!("backups/{}", process::id()));
+    ledger.backup(&backup)?;
+    println!("bob pays ann 35: {}", transfer(&ledger, "bob", "ann", 35)?);
+    show(&File::open(&backup)?)?;
     if named.is_none() {
         fs::remove_dir_all(&folder)?;
     }

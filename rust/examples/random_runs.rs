@@ -1,7 +1,7 @@
 //! Random runs of kernels over byte strings, each call and what it told printed: `c/random_runs.c` prints the same of the same runs.
 //!
 //!     cargo run --release --example random_runs -- 300
-use hidewillow::speculator::{Decided, Guess, Refusal, Speculator, Step};
+use hidewillow::speculator::{Decided, Failure, Guess, Refusal, Speculator, Step};
 
 const LIMIT: u16 = 5;
 const CHANNELS: u16 = 3;
@@ -84,12 +84,12 @@ fn decide(dice: &mut Dice, kernel: &mut Speculator, guess: Guess) -> Result<(), 
         _ => kernel.fail(guess)?,
     };
     match decided {
-        Decided::Committed => println!("committed"),
+        Decided::Committed { .. } => println!("committed"),
         Decided::Gone => println!("gone"),
-        Decided::Failed { keys, struck } => {
+        Decided::Failed(Failure { keys, struck, .. }) => {
             let places = (0..KEYS.len()).filter(|place| keys.contains(&key(*place)));
             let told = places.fold(String::new(), |all, place| format!("{all} {place}"));
-            println!("failed{told}, {struck} struck");
+            println!("failed{told}, {} struck", struck.len());
         }
     }
     Ok(())

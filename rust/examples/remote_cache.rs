@@ -131,7 +131,7 @@ impl Client {
     fn reply(&mut self, asked: Asked) -> Result<bool, Wrong> {
         self.now = self.now.max(asked.arrives);
         if asked.copy == asked.answer {
-            return Ok(self.spec.commit(asked.guess)? == Decided::Committed);
+            return Ok(matches!(self.spec.commit(asked.guess)?, Decided::Committed { .. }));
         }
         let failed = self.spec.fail(asked.guess)? != Decided::Gone;
         self.spec.step(|s| {

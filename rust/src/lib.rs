@@ -24,6 +24,26 @@
 //! # Ok::<_, Box<dyn std::error::Error + Send + Sync>>(())
 //! ```
 //!
+//! ```no_run
+//! # use hidewillow::store::File;
+//! let bank = File::open("bank")?;
+//! bank.set("ann", "100")?; // on the disk now
+//! let mut ahead = bank.ahead()?;
+//! ahead.set("bob", "30")?; // answered before the disk has it
+//! assert!(ahead.wait()?.is_empty()); // now it has all
+//! # Ok::<_, std::io::Error>(())
+//! ```
+//!
+//! ```no_run
+//! # use hidewillow::Play;
+//! let mut kernel = Play::open("script main\nfetch /x\nsay\nend\ncopy /x 3 \"old\"\nprocess 1 main 1\n")?;
+//! kernel.line("guess 1 good")?; // it fetches from its cached copy
+//! kernel.line("step 1 none")?;
+//! assert!(kernel.drain(1)?.is_empty()); // what it says is held
+//! kernel.line("fail 1")?; // it stands before its `fetch` again
+//! # Ok::<_, hidewillow::Error>(())
+//! ```
+//!
 //! It needs Rust 1.95 and the library in the repository's `build/` or where `HIDEWILLOW_LIB` says, and no other crate. Keys have
 //! at most 65,536 bytes, values and outputs 16,777,216; at most 65,535 guesses are undecided at once.
 #![warn(missing_docs)]
@@ -32,6 +52,7 @@ pub mod desk;
 pub mod engine;
 pub mod shared;
 pub mod speculator;
+mod standing;
 pub mod store;
 pub mod watch;
 
@@ -553,6 +574,12 @@ impl Play {
             SHOWN => Ok(counts),
             _ => Err(Error::Memory),
         }
+    }
+}
+
+impl fmt::Debug for Play {
+    fn fmt(&self, f: &mut fmt::Formatter<'_>) -> fmt::Result {
+        f.debug_struct("Play").field("section", &self.section).finish_non_exhaustive()
     }
 }
 

@@ -1,5 +1,6 @@
 //! A kernel over keys and values of your own.
 use crate::data::{Data, Like};
+use crate::standing::{Item, Standing};
 use crate::watch::{Fate, Watch, Watches};
 use crate::{
     hidewillow_own_channel, hidewillow_own_clear, hidewillow_own_close, hidewillow_own_commit, hidewillow_own_counts,
@@ -10,7 +11,7 @@ use crate::{
     STEPPED, WRITTEN,
 };
 use std::cell::RefCell;
-use std::collections::BTreeSet;
+use std::collections::{BTreeMap, BTreeSet};
 use std::fmt;
 use std::marker::PhantomData;
 use std::sync::{Arc, Mutex, MutexGuard, PoisonError};
@@ -140,17 +141,29 @@ pub enum Status {
 /// What a decision came to.
 #[derive(Debug, Clone, PartialEq, Eq)]
 pub enum Decided<K = Vec<u8>> {
-    /// The guess was committed. What it wrote may still rest on other undecided guesses, and is taken back if one of them fails.
-    Committed,
-    /// The guess failed. These keys have what they had before it, each once, and so many guesses were struck.
-    Failed {
-        /// The keys, in no order of their own.
-        keys: Vec<K>,
-        /// How many other guesses rested on it.
-        struck: usize,
+    /// The guess was committed.
+    Committed {
+        /// Whether it rests on no other guess that is undecided, and so stands for good. Else the failure of one of those takes it back,
+        /// and tells so.
+        firm: bool,
     },
+    /// The guess failed.
+    Failed(Failure<K>),
     /// Another guess's failure had struck it: nothing was left to decide.
     Gone,
+}
+
+/// What a failure took back.
+#[derive(Debug, Clone, PartialEq, Eq)]
+pub struct Failure<K = Vec<u8>> {
+    /// The keys that have what they had before the guess, each once, in no order of their own.
+    pub keys: Vec<K>,
+    /// The numbers of the undecided guesses that rested on it, which are struck.
+    pub struck: Vec<u64>,
+    /// The numbers of the guesses that were committed, but not firm, and rested on it.
+    pub committed: Vec<u64>,
+    /// How many outputs of which channels will never be said.
+    pub outputs: BTreeMap<u16, usize>,
 }
 
 /// The handle of the library, and a room for what it shows, which is used again.
@@ -158,8 +171,10 @@ struct Inner {
     /// It is of zeros or as the last call left it, since none but these methods pass it.
     own: Own,
     room: Vec<u8>,
-    /// The guesses whose tokens are out, who watches which, and who waits for outputs.
+    /// The guesses whose tokens are out, those of them that are struck, what rests on them, who watches which, and who waits for outputs.
     out: BTreeSet<u64>,
+    struck: BTreeSet<u64>,
+    standing: Standing,
     watches: Watches,
     waiting: Vec<Waker>,
 }
@@ -176,34 +191,76 @@ impl Inner {
         }
     }
 
-    /// Commits a guess: what is told.
-    fn commit(&mut self, id: u64) -> Told {
+    /// Commits a guess: whether it is firm; nothing where it was struck.
+    fn commit(&mut self, id: u64) -> Option<bool> {
+        let firm = self.known(id).bytes == 1;
         // SAFETY: as `Inner::own` says.
         let told = unsafe { hidewillow_own_commit(&raw mut self.own, id) };
-        self.decided(id, Fate::Committed);
-        told
+        if !self.is_decided(id, &told) {
+            return None;
+        }
+        let stand = self.standing.committed(id).into_iter().chain(firm.then_some(Item::Guess(id)));
+        for item in stand {
+            match item {
+                Item::Guess(guess) if !self.out.contains(&guess) => self.watches.tell(guess, Fate::Committed),
+                _ => (),
+            }
+        }
+        Some(firm)
     }
 
-    /// Fails a guess: what is told.
-    fn fail(&mut self, id: u64) -> Told {
+    /// Fails a guess: how many keys it took back, and what else; nothing where it was struck.
+    fn fail(&mut self, id: u64) -> Option<(u64, Failure<()>)> {
         // SAFETY: as `Inner::own` says.
         let told = unsafe { hidewillow_own_fail(&raw mut self.own, id) };
-        self.decided(id, Fate::Failed);
-        if told.answer == DONE && told.bytes > 0 {
-            for other in self.watches.all() {
-                if self.status(other) == Some(Status::Struck) {
+        if !self.is_decided(id, &told) {
+            return None;
+        }
+        self.watches.tell(id, Fate::Failed);
+        let mut did = Failure { keys: Vec::new(), struck: Vec::new(), committed: Vec::new(), outputs: BTreeMap::new() };
+        for item in self.standing.failed(id) {
+            match item {
+                Item::Output { channel, .. } => *did.outputs.entry(channel).or_default() += 1,
+                Item::Guess(other) => {
                     self.watches.tell(other, Fate::Struck);
+                    let list = if self.out.contains(&other) { &mut did.struck } else { &mut did.committed };
+                    list.push(other);
                 }
             }
         }
-        told
+        self.struck.extend(&did.struck);
+        Some((told.number, did))
     }
 
-    /// A guess is decided, and those who watch it are told, but where it was struck before, which they were told then.
-    fn decided(&mut self, id: u64, fate: Fate) {
+    /// Whether a token that has come back decided its guess, which was not struck then.
+    fn is_decided(&mut self, id: u64, told: &Told) -> bool {
         self.out.remove(&id);
-        self.watches.tell(id, fate);
+        self.struck.remove(&id);
         self.changed();
+        told.answer == DONE
+    }
+
+    /// The undecided guesses that one of these keys rests on, each once.
+    fn rests<'a>(&mut self, keys: impl Iterator<Item = &'a [u8]>) -> Vec<u64> {
+        let mut rests = Vec::new();
+        for key in keys {
+            self.add_tags(key, &mut rests);
+        }
+        rests.sort_unstable();
+        rests.dedup();
+        rests
+    }
+
+    /// Adds the undecided guesses that a key rests on, by rising number.
+    fn add_tags(&mut self, key: &[u8], tags: &mut Vec<u64>) {
+        for place in 0.. {
+            // SAFETY: as `Inner::own` says; the key is apart from the handle.
+            let told = unsafe { hidewillow_own_tag(&raw mut self.own, key.as_ptr(), key.len(), place) };
+            if told.answer != SHOWN {
+                return;
+            }
+            tags.push(told.number);
+        }
     }
 
     /// Wakes who waits for outputs: there may be some now.
@@ -211,10 +268,15 @@ impl Inner {
         self.waiting.drain(..).for_each(Waker::wake);
     }
 
-    /// What is known of a guess.
-    fn status(&mut self, id: u64) -> Option<Status> {
+    /// What is known of a guess, and on how many undecided ones its own step rests, itself among them.
+    fn known(&mut self, id: u64) -> Told {
         // SAFETY: as `Inner::own` says.
-        match unsafe { hidewillow_own_status(&raw mut self.own, id) } {
+        unsafe { hidewillow_own_status(&raw mut self.own, id) }
+    }
+
+    /// The same as a status.
+    fn status(&mut self, id: u64) -> Option<Status> {
+        match self.known(id) {
             Told { answer: SHOWN, number: 1, .. } => Some(Status::Undecided),
             Told { answer: SHOWN, .. } => Some(Status::Struck),
             _ => None,
@@ -287,6 +349,12 @@ pub struct Step<'a, K: ?Sized = [u8], V: ?Sized = [u8]> {
     of: Of<K, V>,
 }
 
+impl<K: ?Sized, V: ?Sized> fmt::Debug for Step<'_, K, V> {
+    fn fmt(&self, f: &mut fmt::Formatter<'_>) -> fmt::Result {
+        f.debug_struct("Step").field("looked", &self.looked).field("written", &self.written).finish_non_exhaustive()
+    }
+}
+
 impl<K: ?Sized + Data, V: ?Sized + Data> Step<'_, K, V> {
     /// What a key has, which the step rests on from now on; `None` where it is absent.
     ///
@@ -342,8 +410,13 @@ impl<K: ?Sized + Data, V: ?Sized + Data> Step<'_, K, V> {
         Ok(())
     }
 
-    /// Writes the step into the kernel's draft.
-    fn hand_over(self) -> Result<(), Refusal> {
+    /// Writes the step into the kernel's draft: what it says, and on what it rests, as far as somebody asks for that.
+    fn hand_over(self, is_guess: bool) -> Result<Taken, Refusal> {
+        let mut taken = Taken { rests: Vec::new(), channel: self.said.as_ref().map(|(channel, _)| *channel) };
+        if is_guess || taken.channel.is_some() {
+            let keys = self.looked.iter().chain(self.written.iter().map(|(key, _)| key));
+            taken.rests = self.inner.rests(keys.map(Vec::as_slice));
+        }
         let own = &mut self.inner.own;
         // SAFETY: as `Inner::own` says; the slices are those of references, apart from the handle and never written.
         unsafe {
@@ -366,8 +439,14 @@ impl<K: ?Sized + Data, V: ?Sized + Data> Step<'_, K, V> {
                 done(told, WRITTEN)?;
             }
         }
-        Ok(())
+        Ok(taken)
     }
+}
+
+/// What is known of a step that is handed over: the undecided guesses that it rests on, and to which channel it says something.
+struct Taken {
+    rests: Vec<u64>,
+    channel: Option<u16>,
 }
 
 /// A speculative kernel over keys and values of your own, `[u8]` where no types are named.
@@ -389,7 +468,7 @@ impl<K: ?Sized + Data, V: ?Sized + Data> Step<'_, K, V> {
 ///     s.say(1, "bob has what ann has")
 /// })?;
 /// assert_eq!(spec.released(1)?, None);
-/// assert_eq!(spec.commit(guess)?, Decided::Committed);
+/// assert_eq!(spec.commit(guess)?, Decided::Committed { firm: true });
 /// assert!(spec.released(1)?.is_some());
 /// # Ok::<_, Box<dyn std::error::Error + Send + Sync>>(())
 /// ```
@@ -440,6 +519,8 @@ impl<K: ?Sized + Data, V: ?Sized + Data> Speculator<K, V> {
             own: Own { at: std::ptr::null_mut() },
             room: Vec::new(),
             out: BTreeSet::new(),
+            struck: BTreeSet::new(),
+            standing: Standing::default(),
             watches: Watches::default(),
             waiting: Vec::new(),
         };
@@ -449,14 +530,18 @@ impl<K: ?Sized + Data, V: ?Sized + Data> Speculator<K, V> {
         Ok(Speculator { inner: RefCell::new(inner), dropped: Arc::default(), of: PhantomData })
     }
 
-    fn write<R, E: From<Refusal>>(&mut self, step: impl FnOnce(&mut Step<'_, K, V>) -> Result<R, E>) -> Result<R, E> {
+    fn write<R, E: From<Refusal>>(
+        &mut self,
+        is_guess: bool,
+        step: impl FnOnce(&mut Step<'_, K, V>) -> Result<R, E>,
+    ) -> Result<(R, Taken), E> {
         let inner = self.inner.get_mut();
         inner.settle(&self.dropped);
         let (looked, written) = (Vec::new(), Vec::new());
         let mut draft = Step { inner, looked, written, said: None, of: PhantomData };
         let result = step(&mut draft)?;
-        draft.hand_over()?;
-        Ok(result)
+        let taken = draft.hand_over(is_guess)?;
+        Ok((result, taken))
     }
 
     /// Takes a step: what the closure looks at, writes and says. Where it ends with an error nothing has changed.
@@ -475,10 +560,14 @@ impl<K: ?Sized + Data, V: ?Sized + Data> Speculator<K, V> {
         &mut self,
         step: impl FnOnce(&mut Step<'_, K, V>) -> Result<R, E>,
     ) -> Result<R, E> {
-        let result = self.write(step)?;
+        let (result, Taken { rests, channel }) = self.write(false, step)?;
+        let inner = self.inner.get_mut();
         // SAFETY: as `Inner::own` says.
-        done(unsafe { hidewillow_own_take(&raw mut self.inner.get_mut().own) }, STEPPED)?;
-        self.inner.get_mut().changed();
+        done(unsafe { hidewillow_own_take(&raw mut inner.own) }, STEPPED)?;
+        if let Some(channel) = channel {
+            inner.standing.output(channel, &rests);
+        }
+        inner.changed();
         Ok(result)
     }
 
@@ -501,15 +590,20 @@ impl<K: ?Sized + Data, V: ?Sized + Data> Speculator<K, V> {
         &mut self,
         step: impl FnOnce(&mut Step<'_, K, V>) -> Result<R, E>,
     ) -> Result<(R, Guess), E> {
-        let result = self.write(step)?;
+        let (result, Taken { mut rests, channel }) = self.write(true, step)?;
+        let inner = self.inner.get_mut();
         // SAFETY: as `Inner::own` says.
-        let told = done(unsafe { hidewillow_own_guess(&raw mut self.inner.get_mut().own) }, GUESSED)?;
-        let dropped = Arc::clone(&self.dropped);
-        self.inner.get_mut().out.insert(told.number);
-        Ok((result, Guess { id: told.number, dropped, spent: false }))
+        let id = done(unsafe { hidewillow_own_guess(&raw mut inner.own) }, GUESSED)?.number;
+        inner.out.insert(id);
+        inner.standing.add(Item::Guess(id), &rests);
+        if let Some(channel) = channel {
+            rests.push(id);
+            inner.standing.output(channel, &rests);
+        }
+        Ok((result, Guess { id, dropped: Arc::clone(&self.dropped), spent: false }))
     }
 
-    /// Commits a guess of this kernel: nothing rests on it any more.
+    /// Commits a guess of this kernel: nothing rests on it any more, and whether it stands for good.
     ///
     /// # Errors
     /// A guess of another kernel is given back.
@@ -517,11 +611,8 @@ impl<K: ?Sized + Data, V: ?Sized + Data> Speculator<K, V> {
         if !self.owns(&guess) {
             return Err(Stranger(guess));
         }
-        let told = self.settled().commit(guess.spend());
-        Ok(match told.answer {
-            DONE => Decided::Committed,
-            _ => Decided::Gone,
-        })
+        let firm = self.settled().commit(guess.spend());
+        Ok(firm.map_or(Decided::Gone, |firm| Decided::Committed { firm }))
     }
 
     /// Fails a guess of this kernel: what rests on it is taken back. Keys whose bytes are no `K`, or for which there is no
@@ -534,13 +625,12 @@ impl<K: ?Sized + Data, V: ?Sized + Data> Speculator<K, V> {
             return Err(Stranger(guess));
         }
         let mut inner = self.settled();
-        let told = inner.fail(guess.spend());
-        if told.answer != DONE {
+        let Some((count, Failure { struck, committed, outputs, .. })) = inner.fail(guess.spend()) else {
             return Ok(Decided::Gone);
-        }
-        let places = 0..usize::try_from(told.number).unwrap_or(usize::MAX);
-        let keys = places.filter_map(|place| inner.undone(place).ok().flatten().and_then(K::read));
-        Ok(Decided::Failed { keys: keys.collect(), struck: told.bytes })
+        };
+        let places = 0..usize::try_from(count).unwrap_or(usize::MAX);
+        let keys = places.filter_map(|place| inner.undone(place).ok().flatten().and_then(K::read)).collect();
+        Ok(Decided::Failed(Failure { keys, struck, committed, outputs }))
     }
 
     /// What a key has; `None` where it is absent. A step that is to rest on it gets it itself ([`Step::get`]).
@@ -555,16 +645,9 @@ impl<K: ?Sized + Data, V: ?Sized + Data> Speculator<K, V> {
 
     /// The undecided guesses that a key rests on, by rising number.
     pub fn tags(&self, key: impl Like<K>) -> Vec<u64> {
-        let (mut inner, key) = (self.settled(), key.like().bytes());
         let mut tags = Vec::new();
-        loop {
-            // SAFETY: as `Inner::own` says; the key is apart from the handle.
-            let told = unsafe { hidewillow_own_tag(&raw mut inner.own, key.as_ptr(), key.len(), tags.len()) };
-            if told.answer != SHOWN {
-                return tags;
-            }
-            tags.push(told.number);
-        }
+        self.settled().add_tags(&key.like().bytes(), &mut tags);
+        tags
     }
 
     /// The keys that are there, each once, in no order of their own.
@@ -614,13 +697,11 @@ impl<K: ?Sized + Data, V: ?Sized + Data> Speculator<K, V> {
 
     /// The numbers of the struck guesses whose tokens are still out, by rising number.
     pub fn struck(&self) -> Vec<u64> {
-        let mut inner = self.settled();
-        let out: Vec<u64> = inner.out.iter().copied().collect();
-        out.into_iter().filter(|id| inner.status(*id) == Some(Status::Struck)).collect()
+        self.settled().struck.iter().copied().collect()
     }
 
-    /// What becomes of a guess, as a future that its decision wakes, whoever decides it. One whose token is dropped fails at the next call
-    /// of the kernel; with the kernel all fail that are undecided.
+    /// What becomes of a guess in the end, as a future that a decision wakes, whoever decides. One whose token is dropped fails at the next
+    /// call of the kernel; with the kernel all fail that are not known yet.
     pub fn watch(&self, guess: &Guess) -> Watch {
         let mut inner = self.settled();
         let known = match inner.status(guess.id).filter(|_| self.owns(guess)) {
@@ -700,8 +781,9 @@ mod tests {
     use super::*;
 
     fn inner() -> Inner {
-        let own = Own { at: std::ptr::null_mut() };
-        Inner { own, room: Vec::new(), out: BTreeSet::new(), watches: Watches::default(), waiting: Vec::new() }
+        let (own, standing, watches) = (Own { at: std::ptr::null_mut() }, Standing::default(), Watches::default());
+        let (out, struck) = (BTreeSet::new(), BTreeSet::new());
+        Inner { own, room: Vec::new(), out, struck, standing, watches, waiting: Vec::new() }
     }
 
     #[test]

@@ -7,6 +7,7 @@
 //! The log in a folder that a [`File`] has is `hidewillow-server`'s too: each reads what the other left. Its parts are public for the
 //! server alone, without a page here, and may change.
 #![allow(clippy::must_use_candidate)]
+mod backup;
 #[doc(hidden)]
 #[allow(clippy::missing_errors_doc)]
 pub mod calls;
@@ -46,14 +47,15 @@ pub use reply::Reply;
 
 use crate::{Told, ABSENT, DONE, MEMORY, OPENED, SHOWN};
 use calls::{
-    hidewillow_recovery_close, hidewillow_recovery_end, hidewillow_recovery_feed, hidewillow_recovery_head,
-    hidewillow_recovery_open, hidewillow_recovery_snapshot, hidewillow_store_ahead, hidewillow_store_asked,
-    hidewillow_store_close, hidewillow_store_connect, hidewillow_store_counts, hidewillow_store_cut,
-    hidewillow_store_cut_due, hidewillow_store_cut_frame, hidewillow_store_decide, hidewillow_store_failed,
-    hidewillow_store_feed, hidewillow_store_feed_ahead, hidewillow_store_hang_up, hidewillow_store_is_closed,
-    hidewillow_store_lost, hidewillow_store_next_ready, hidewillow_store_open, hidewillow_store_output,
-    hidewillow_store_rests_on, hidewillow_store_synced, hidewillow_store_take_frame, hidewillow_store_tell,
-    hidewillow_store_tell_unknown, hidewillow_store_turn, hidewillow_store_value, Durable, Recovering,
+    hidewillow_may_write, hidewillow_recovery_close, hidewillow_recovery_end, hidewillow_recovery_feed,
+    hidewillow_recovery_head, hidewillow_recovery_open, hidewillow_recovery_snapshot, hidewillow_store_ahead,
+    hidewillow_store_asked, hidewillow_store_close, hidewillow_store_connect, hidewillow_store_counts,
+    hidewillow_store_cut, hidewillow_store_cut_due, hidewillow_store_cut_frame, hidewillow_store_decide,
+    hidewillow_store_failed, hidewillow_store_feed, hidewillow_store_feed_ahead, hidewillow_store_hang_up,
+    hidewillow_store_is_closed, hidewillow_store_lost, hidewillow_store_next_ready, hidewillow_store_open,
+    hidewillow_store_output, hidewillow_store_queued, hidewillow_store_rests_on, hidewillow_store_synced,
+    hidewillow_store_take_frame, hidewillow_store_tell, hidewillow_store_tell_unknown, hidewillow_store_turn,
+    hidewillow_store_value, Durable, Recovering,
 };
 use std::hash::{BuildHasher, RandomState};
 use std::{fmt, io, ptr};
@@ -430,6 +432,12 @@ impl Store {
         (it.answer, it.number) == (DONE, 1)
     }
 
+    /// How many bytes the commands take that wait for EXEC on a channel, at least as many as EXEC logs; 0 where no queue is open.
+    pub fn queued(&mut self, channel: u16) -> usize {
+        // SAFETY: as above.
+        unsafe { hidewillow_store_queued(&raw mut self.0, channel) }.bytes
+    }
+
     /// Moves bytes that may go out on a channel into the room: how many. To be called until it moves none.
     ///
     /// # Errors
@@ -586,6 +594,14 @@ impl Store {
         unsafe { hidewillow_store_counts(&raw mut self.0, &raw mut counts) };
         counts
     }
+}
+
+/// Whether a request may write whose first word this is, as a command or by carrying out a queue; `None` where it names no command.
+#[must_use]
+pub fn may_write(word: &[u8]) -> Option<bool> {
+    // SAFETY: the word is read, and no more.
+    let it = unsafe { hidewillow_may_write(word.as_ptr(), word.len()) };
+    (it.answer == DONE).then_some(it.number == 1)
 }
 
 impl Drop for Store {

@@ -6,14 +6,14 @@ use std::pin::Pin;
 use std::sync::{Arc, Mutex, MutexGuard, PoisonError};
 use std::task::{Context, Poll, Waker};
 
-/// What became of a guess.
+/// What became of a guess in the end.
 #[derive(Debug, Clone, Copy, PartialEq, Eq)]
 pub enum Fate {
-    /// It was committed.
+    /// It was committed, and rests on nothing undecided any more: it stands for good.
     Committed,
     /// It failed, by its token, as that was dropped, or with its kernel.
     Failed,
-    /// Another guess's failure took its step away.
+    /// Another guess's failure took its step away, it may have been committed before.
     Struck,
 }
 

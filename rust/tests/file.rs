@@ -5,7 +5,7 @@ use hidewillow::store::{File, Reply};
 use std::collections::BTreeMap;
 use std::io::{BufRead, BufReader};
 use std::os::unix::fs::PermissionsExt;
-use std::path::PathBuf;
+use std::path::{Path, PathBuf};
 use std::process::{Command, Stdio};
 use std::sync::atomic::{AtomicU32, Ordering};
 use std::{env, fs, io, process, thread};
@@ -165,6 +165,133 @@ fn snapshots_take_the_place_of_the_log() -> io::Result<()> {
         assert_eq!(store.get([place % 5])?, Some(vec![place; 1 << 20]));
     }
     assert_eq!(store.get("behind")?, Some(b"it".to_vec()));
+    Ok(())
+}
+
+/// What is left beside a backup that was in the making.
+fn left_beside(backup: &Path) -> io::Result<usize> {
+    let name = backup.file_name().unwrap_or_default().to_string_lossy();
+    let home = fs::read_dir(backup.parent().unwrap_or(backup))?;
+    Ok(home.flatten().filter(|it| it.file_name().to_string_lossy().starts_with(&format!(".{name}"))).count())
+}
+
+#[test]
+fn a_backup_opens_by_itself_with_all_that_was_answered_before() -> io::Result<()> {
+    let (room, copy) = (Room::new(), Room::new());
+    let store = room.open()?;
+    for place in 0..40u8 {
+        store.set([place % 10], vec![place; 1 << 18])?;
+    }
+    store.backup(&copy.0)?;
+    store.set("later", "1")?;
+    let other = copy.open()?;
+    assert_eq!(other.command(&[b"DBSIZE"])?, Reply::Number(10));
+    assert_eq!(other.get([9])?, Some(vec![39; 1 << 18]));
+    other.set([9], "its own")?;
+    assert_eq!(store.get([9])?, Some(vec![39; 1 << 18]));
+    assert_eq!(fs::metadata(&copy.0)?.permissions().mode() & 0o777, 0o700);
+    let within = room.0.join("backups/one");
+    store.backup(&within)?;
+    drop((store, other));
+    assert_eq!(File::open(&within)?.get("later")?.as_deref(), Some(&b"1"[..]));
+    assert_eq!(room.open()?.command(&[b"DBSIZE"])?, Reply::Number(11));
+    assert_eq!(copy.open()?.get([9])?.as_deref(), Some(&b"its own"[..]));
+    Ok(())
+}
+
+#[test]
+fn a_backup_is_refused_where_something_is_or_may_not_be() -> io::Result<()> {
+    let (room, copy) = (Room::new(), Room::new());
+    let store = room.open()?;
+    store.set("a", "1")?;
+    let refused = |path: &Path| store.backup(path).expect_err("it is refused").kind();
+    fs::write(&copy.0, "another's")?;
+    assert_eq!(refused(&copy.0), io::ErrorKind::AlreadyExists);
+    assert_eq!(fs::read(&copy.0)?, b"another's");
+    fs::remove_file(&copy.0)?;
+    assert_eq!(refused(&room.0), io::ErrorKind::AlreadyExists);
+    assert_eq!(refused(&room.0.join("log-0000000009")), io::ErrorKind::InvalidInput);
+    assert_eq!(refused(&copy.0.join("..")), io::ErrorKind::InvalidInput);
+    assert_eq!(refused(&copy.0.join("a/b")), io::ErrorKind::NotFound);
+    assert_eq!(left_beside(&copy.0)?, 0);
+    // What a crash left of one is no hindrance.
+    let left = copy.0.with_file_name(format!(".{}.new-backup", copy.0.file_name().unwrap_or_default().display()));
+    fs::create_dir(&left)?;
+    fs::write(left.join("snapshot-0000000009-900"), "half of one")?;
+    fs::write(left.join("new-0-store"), "")?;
+    store.backup(&copy.0)?;
+    assert_eq!(refused(&copy.0), io::ErrorKind::AlreadyExists);
+    assert_eq!(left_beside(&copy.0)?, 0);
+    assert_eq!(copy.open()?.get("a")?.as_deref(), Some(&b"1"[..]));
+    Ok(())
+}
+
+#[test]
+fn backups_beside_writers_have_whole_transactions() -> io::Result<()> {
+    let room = Room::new();
+    let store = room.open()?;
+    thread::scope(|scope| {
+        let keepers: Vec<_> = (0..3)
+            .map(|_| {
+                scope.spawn(|| {
+                    let copy = Room::new();
+                    store.backup(&copy.0)?;
+                    let there = copy.open()?;
+                    assert_eq!(there.get("one")?, there.get("two")?);
+                    store.snapshot()
+                })
+            })
+            .collect();
+        for round in 0..100u8 {
+            store.transaction(|t| {
+                t.set("one", [round]);
+                t.set("two", [round]);
+                Ok(())
+            })?;
+        }
+        keepers.into_iter().try_for_each(|keeper| keeper.join().expect("no panic"))
+    })
+}
+
+/// In a process of its own, where this folder has little room.
+#[test]
+fn backs_up_in_a_child() -> io::Result<()> {
+    let Some(full) = env::var_os("HIDEWILLOW_FULL").map(PathBuf::from) else { return Ok(()) };
+    let room = Room::new();
+    let store = room.open()?;
+    store.set("a", vec![7; 4 << 20])?;
+    let copy = full.join("copy");
+    assert_eq!(store.backup(&copy).expect_err("there is no room").kind(), io::ErrorKind::StorageFull);
+    assert_eq!(fs::read_dir(&full)?.count(), 0);
+    store.set("a", "1")?;
+    store.backup(&copy)?;
+    assert_eq!(File::open(&copy)?.get("a")?.as_deref(), Some(&b"1"[..]));
+    // Where the store's own disk is full, what wants a segment more is refused too.
+    let small = File::open(full.join("store"))?;
+    let refused = (0..200).find_map(|_| small.set("b", vec![1; 10_000]).err());
+    assert_eq!(refused.map(|error| error.kind()), Some(io::ErrorKind::StorageFull));
+    assert_eq!(small.snapshot().expect_err("there is no room").kind(), io::ErrorKind::StorageFull);
+    assert_eq!(small.backup(room.0.join("other")).expect_err("there is no room").kind(), io::ErrorKind::StorageFull);
+    assert_eq!(small.get("b")?, Some(vec![1; 10_000]));
+    Ok(())
+}
+
+#[test]
+fn a_backup_without_room_leaves_nothing() -> io::Result<()> {
+    let full = Room::new();
+    fs::create_dir(&full.0)?;
+    let mounts = "mount -t tmpfs -o size=1m none \"$HIDEWILLOW_FULL\" && exec \"$@\"";
+    let did = Command::new("unshare")
+        .args(["-rm", "sh", "-c", mounts, "sh"])
+        .arg(env::current_exe()?)
+        .args(["--exact", "backs_up_in_a_child"])
+        .env("HIDEWILLOW_FULL", &full.0)
+        .output()?;
+    match did.status.code() {
+        Some(0) => (),
+        Some(101) => panic!("{}", String::from_utf8_lossy(&did.stdout)),
+        _ => eprintln!("no small file system may be mounted here: nothing is tried on one"),
+    }
     Ok(())
 }
 

@@ -1,6 +1,6 @@
 //! Random runs of a kernel over byte strings, each held against a plain list of the steps that stand: what every key has and rests
 //! on, what goes out, and what a failure tells. `RUNS` says how many runs there are, `SEED` with which one they begin.
-use hidewillow::speculator::{Decided, Guess, Refusal, Speculator, Status, Stranger};
+use hidewillow::speculator::{Decided, Failure, Guess, Refusal, Speculator, Status, Stranger};
 use hidewillow::watch::{Fate, Watch};
 use std::collections::{BTreeMap, BTreeSet, HashMap, VecDeque};
 
@@ -31,6 +31,16 @@ struct Taken {
     said: Option<(u16, Bytes)>,
     /// The undecided guesses that it depends on.
     rests: BTreeSet<u64>,
+    is_committed: bool,
+}
+
+/// What a failure takes out.
+#[derive(Default)]
+struct Fallen {
+    keys: BTreeSet<Bytes>,
+    struck: BTreeSet<u64>,
+    committed: BTreeSet<u64>,
+    outputs: BTreeMap<u16, usize>,
 }
 
 /// The plain list: the steps that stand, in order.
@@ -61,20 +71,32 @@ impl Plain {
         self.steps.push(step);
     }
 
-    fn commit(&mut self, guess: u64) {
+    /// The committed guesses that stand for good since.
+    fn commit(&mut self, guess: u64) -> Vec<u64> {
+        let mut firm = Vec::new();
         for step in &mut self.steps {
-            step.rests.remove(&guess);
+            step.is_committed |= step.own == Some(guess);
+            if step.rests.remove(&guess) && step.is_committed && step.rests.is_empty() {
+                firm.extend(step.own);
+            }
         }
+        firm
     }
 
-    /// Takes out what rests on a guess: the keys that it wrote, and the other guesses that go with it.
-    fn fail(&mut self, guess: u64) -> (BTreeSet<Bytes>, BTreeSet<u64>) {
+    /// Takes out what rests on a guess.
+    fn fail(&mut self, guess: u64) -> Fallen {
         let (gone, stay): (Vec<_>, Vec<_>) = self.steps.drain(..).partition(|it| it.rests.contains(&guess));
         self.steps = stay;
-        let keys = gone.iter().flat_map(|it| it.written.iter().map(|(key, _)| key.clone())).collect();
-        // A committed guess is no longer among what its own step rests on.
-        let struck = gone.iter().filter_map(|it| it.own.filter(|own| it.rests.contains(own) && *own != guess));
-        (keys, struck.collect())
+        let mut fallen = Fallen::default();
+        for step in gone {
+            fallen.keys.extend(step.written.into_iter().map(|(key, _)| key));
+            if let Some((channel, _)) = step.said {
+                *fallen.outputs.entry(channel).or_default() += 1;
+            }
+            let others = if step.is_committed { &mut fallen.committed } else { &mut fallen.struck };
+            others.extend(step.own.filter(|own| *own != guess));
+        }
+        fallen
     }
 
     /// Whether an output of a channel may go out.
@@ -145,8 +167,10 @@ impl Run {
     /// A step, or the step of a guess: looks, writes that are read again, removals, an output.
     fn step(&mut self, as_guess: bool) {
         let Run { dice, kernel, plain, count, .. } = self;
-        let (mut looked, mut taken) =
-            (Vec::new(), Taken { own: None, written: Vec::new(), said: None, rests: BTreeSet::new() });
+        let (mut looked, mut taken) = (
+            Vec::new(),
+            Taken { own: None, written: Vec::new(), said: None, rests: BTreeSet::new(), is_committed: false },
+        );
         *count += 1;
         let write = |s: &mut hidewillow::speculator::Step<'_>| {
             for _ in 0..dice.roll(4) {
@@ -223,10 +247,11 @@ impl Run {
         match self.dice.roll(5) {
             0 | 1 => {
                 let decided = self.kernel.commit(guess).expect("its own");
-                assert_eq!(decided == Decided::Gone, is_gone);
-                if !is_gone {
-                    self.plain.commit(id);
-                    self.comes_to(id, Fate::Committed);
+                let firm = if is_gone { Vec::new() } else { self.plain.commit(id) };
+                let wanted = Decided::Committed { firm: firm.contains(&id) };
+                assert_eq!(decided, if is_gone { Decided::Gone } else { wanted });
+                for it in firm {
+                    self.comes_to(it, Fate::Committed);
                 }
             }
             2 => {
@@ -237,10 +262,12 @@ impl Run {
                 let decided = self.kernel.fail(guess).expect("its own");
                 let fallen = self.fails(id, is_gone);
                 match (decided, fallen) {
-                    (Decided::Failed { keys, struck }, Some((wanted, others))) => {
-                        assert_eq!(struck, others, "so many guesses went with it");
-                        assert_eq!(keys.len(), wanted.len(), "each key once");
-                        assert_eq!(keys.into_iter().collect::<BTreeSet<_>>(), wanted);
+                    (Decided::Failed(Failure { keys, struck, committed, outputs }), Some(wanted)) => {
+                        assert_eq!(keys.len(), wanted.keys.len(), "each key once");
+                        assert_eq!(keys.into_iter().collect::<BTreeSet<_>>(), wanted.keys);
+                        assert_eq!(struck, wanted.struck.into_iter().collect::<Vec<_>>(), "these went with it");
+                        assert_eq!(committed, wanted.committed.into_iter().collect::<Vec<_>>(), "and these");
+                        assert_eq!(outputs, wanted.outputs);
                     }
                     (decided, None) => assert_eq!(decided, Decided::Gone),
                     (decided, _) => panic!("{decided:?} of a guess that stood"),
@@ -250,18 +277,17 @@ impl Run {
         Some(())
     }
 
-    fn fails(&mut self, id: u64, is_gone: bool) -> Option<(BTreeSet<Bytes>, usize)> {
+    fn fails(&mut self, id: u64, is_gone: bool) -> Option<Fallen> {
         if is_gone {
             return None;
         }
-        let (keys, struck) = self.plain.fail(id);
-        let others = struck.len();
+        let fallen = self.plain.fail(id);
         self.comes_to(id, Fate::Failed);
-        for other in &struck {
+        for other in fallen.struck.iter().chain(&fallen.committed) {
             self.comes_to(*other, Fate::Struck);
         }
-        self.struck.extend(struck);
-        Some((keys, others))
+        self.struck.extend(&fallen.struck);
+        Some(fallen)
     }
 
     /// So it is with a guess from now on.
@@ -353,6 +379,40 @@ fn runs_stand_as_the_plain_list_does() {
     }
 }
 
+/// A shop whose orders each rest on those before: who is told that his order stands for good gets its letter too, and nobody else.
+#[test]
+fn nobody_is_told_committed_for_what_is_taken_back() -> Result<(), Box<dyn std::error::Error + Send + Sync>> {
+    let (mut dice, mut shop) = (Dice(3), Speculator::<str, u64>::open(64, 1)?);
+    let (mut watches, mut open, mut taken_back) = (BTreeMap::new(), Vec::new(), 0);
+    for order in 0..200_u64 {
+        let ((), paid) = shop.guess(|s| {
+            let before = s.get("orders")?.unwrap_or_default();
+            s.put("orders", before + 1);
+            s.say(1, order.to_le_bytes())
+        })?;
+        watches.insert(paid.id(), shop.watch(&paid));
+        open.push(paid);
+        while open.len() > 9 || order == 199 && !open.is_empty() {
+            let paid = open.remove(dice.roll(open.len()));
+            let (id, is_refused) = (paid.id(), dice.roll(10) == 0);
+            match if is_refused { shop.fail(paid)? } else { shop.commit(paid)? } {
+                Decided::Committed { firm } => assert_eq!(watches[&id].fate(), firm.then_some(Fate::Committed)),
+                Decided::Failed(back) => {
+                    taken_back += back.committed.len();
+                    let gone = back.committed.iter().chain(&back.struck);
+                    assert!(gone.into_iter().all(|it| watches[it].fate() == Some(Fate::Struck)));
+                }
+                Decided::Gone => assert_eq!(watches[&id].fate(), Some(Fate::Struck)),
+            }
+        }
+    }
+    let told = watches.values().filter(|it| it.fate() == Some(Fate::Committed)).count();
+    let letters = std::iter::from_fn(|| shop.released(1).transpose()).count();
+    assert!(watches.values().all(|it| it.fate().is_some()) && taken_back > 0);
+    assert_eq!((letters, shop.value("orders")?), (told, Some(told as u64)));
+    Ok(())
+}
+
 #[test]
 fn a_key_and_a_value_have_limits() -> Result<(), Refusal> {
     let mut kernel: Speculator = Speculator::open(2, 1)?;
@@ -381,7 +441,7 @@ fn a_key_and_a_value_have_limits() -> Result<(), Refusal> {
         s.remove(&longest);
         Ok(())
     })?;
-    let Ok(Decided::Failed { keys, .. }) = kernel.fail(guess) else { panic!("it failed") };
+    let Ok(Decided::Failed(Failure { keys, .. })) = kernel.fail(guess) else { panic!("it failed") };
     assert_eq!(keys, [longest]);
     Ok(())
 }
@@ -398,7 +458,7 @@ fn typed_keys_and_values() -> Result<(), Refusal> {
         s.put(7, String::from("other"));
         Ok(())
     })?;
-    let Ok(Decided::Failed { keys, .. }) = kernel.fail(guess) else { panic!("it failed") };
+    let Ok(Decided::Failed(Failure { keys, .. })) = kernel.fail(guess) else { panic!("it failed") };
     assert_eq!(keys, [7]);
     let mut other: Speculator<str, u32> = Speculator::open(2, 1)?;
     other.step(|s| {
@@ -423,7 +483,7 @@ fn a_kernel_and_a_token_may_go_to_another_thread() -> Result<(), Box<dyn std::er
     })?;
     let there = shop.clone();
     let decided = std::thread::spawn(move || there.commit(guess)).join().expect("no panic")?;
-    assert_eq!((decided, shop.value("stock")?), (Decided::Committed, Some(1)));
+    assert_eq!((decided, shop.value("stock")?), (Decided::Committed { firm: true }, Some(1)));
     Ok(())
 }
 

@@ -188,6 +188,12 @@ unsafe extern "C" {
     /// Tells whether a fault was told on a channel: what comes is dropped, and it is to be hung up once its output is taken.
     pub fn hidewillow_store_is_closed(store: *mut Durable, channel: u16) -> Told;
 
+    /// Tells how many bytes the commands take that wait for EXEC on a channel; none where no queue is open.
+    pub fn hidewillow_store_queued(store: *mut Durable, channel: u16) -> Told;
+
+    /// Tells whether a request may write whose first word this is: as a command, or by carrying out a queue.
+    pub fn hidewillow_may_write(word: *const u8, word_count: usize) -> Told;
+
     /// Moves bytes that may go out on a channel into the room. It is to be called until it moves none.
     pub fn hidewillow_store_output(store: *mut Durable, channel: u16, room: *mut u8, room_count: usize) -> Told;
 

@@ -33,7 +33,7 @@ use super::StoreLimits;
 use std::collections::BTreeMap;
 use std::fs::DirBuilder;
 use std::os::unix::fs::DirBuilderExt;
-use std::path::Path;
+use std::path::{self, Path};
 use std::sync::Arc;
 use std::thread::{self, JoinHandle};
 use std::time::Duration;
@@ -261,7 +261,18 @@ impl File {
     /// # Errors
     /// Those of the disk.
     pub fn snapshot(&self) -> io::Result<()> {
-        self.0.shared.snapshot()
+        self.0.shared.snapshot(None)
+    }
+
+    /// Makes a folder that a store starts on, here or by `hidewillow-server`, with all that was answered before. It is on the disk then, and
+    /// has its name only once it is whole; the folder above it is made if it isn't there.
+    ///
+    /// # Errors
+    /// [`io::ErrorKind::AlreadyExists`] where something has that name, [`io::ErrorKind::InvalidInput`] where it would stand among the
+    /// files of this store or has no name, [`io::ErrorKind::StorageFull`] where a disk is full, and others of the disk; then there is
+    /// nothing of it.
+    pub fn backup(&self, folder: impl AsRef<Path>) -> io::Result<()> {
+        self.0.shared.snapshot(Some(path::absolute(folder)?))
     }
 
     /// Stops, for all clones, once all that was asked for is on the disk.

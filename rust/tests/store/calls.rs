@@ -278,6 +278,11 @@ impl Store {
         (0..).map(at).map_while(|told| shown(told, SHOWN, "store_rests_on")).map(|told| told.number).collect()
     }
 
+    /// How many bytes the commands take that wait for EXEC on a channel.
+    pub fn queued(&mut self, channel: u16) -> usize {
+        must(unsafe { c::hidewillow_store_queued(&mut self.0, channel) }, DONE, "store_queued").bytes
+    }
+
     pub fn counts(&mut self) -> StoreCounts {
         let mut counts = StoreCounts::default();
         must(unsafe { c::hidewillow_store_counts(&mut self.0, &mut counts) }, SHOWN, "store_counts");

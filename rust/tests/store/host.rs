@@ -122,8 +122,11 @@ impl Host {
         }
     }
 
-    /// Each key has what it has in the plain store, and rests on what the last that wrote it did.
+    /// Each key has what it has in the plain store, and rests on what the last that wrote it did; each queue is as long as what came.
     fn judge(&mut self) {
+        for link in &self.links {
+            assert_eq!(self.store.queued(link.channel), link.reader.queued(), "how much waits for EXEC");
+        }
         for key in KEYS.map(|it| vec![it]) {
             assert_eq!(self.store.value(&key).as_ref(), self.model.map().get(&key), "the value of {key:?}");
             let rests: Vec<_> = self.model.rests_on(&key).into_iter().collect();

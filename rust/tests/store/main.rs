@@ -53,3 +53,11 @@ fn a_store_is_what_the_plain_one_is_3() {
 fn a_store_is_what_the_plain_one_is_4() {
     make(3);
 }
+
+#[test]
+fn names_tell_what_may_write() {
+    let told = |words: &[&str]| words.iter().map(|it| hidewillow::store::may_write(it.as_bytes())).collect::<Vec<_>>();
+    assert_eq!(told(&["SET", "del", "IncrBy", "MSET", "APPEND", "FLUSHALL", "exec"]), [Some(true); 7]);
+    assert_eq!(told(&["GET", "exists", "MGet", "KEYS", "DBSIZE", "MULTI", "discard"]), [Some(false); 7]);
+    assert_eq!(told(&["NONE", ""]), [None; 2]);
+}

@@ -154,6 +154,11 @@ impl Reader {
         Some(self.work(&words))
     }
 
+    /// How many bytes the queue takes, if one is open.
+    pub fn queued(&self) -> usize {
+        self.queue.as_ref().map_or(0, |queue| queue.bytes)
+    }
+
     /// The host told what it is asked.
     pub fn tell(&mut self) {
         assert!(self.is_posed, "the host is asked");

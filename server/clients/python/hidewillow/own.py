@@ -20,7 +20,8 @@ import ctypes
 import os
 import pathlib
 from contextlib import contextmanager
-from dataclasses import dataclass
+from collections import deque
+from dataclasses import dataclass, field
 from typing import Iterator, Union
 
 Data = Union[bytes, str]
@@ -83,12 +84,15 @@ class Guess:
 
 @dataclass(frozen=True)
 class Decided:
-    """What a decision came to: 'committed', 'failed' with the keys that have what they had before and how many guesses went with it, or
-    'gone' where another guess's failure had taken it back."""
+    """What a decision came to: 'committed', and `firm` where it stands for good, else the failure of another guess may take it back;
+    'failed' with the keys that have what they had before, how many guesses went with it, and of channels with outputs that will never be
+    said how many these are; or 'gone' where another guess's failure had taken it back."""
 
     what: str
     keys: tuple[bytes, ...] = ()
     struck: int = 0
+    firm: bool = False
+    dropped: dict[int, int] = field(default_factory=dict)
 
 
 class Step:
@@ -150,6 +154,9 @@ class Speculator:
             raise ValueError(f"as many guesses may be undecided as 1 to 65,535, and not {guesses}")
         self._library = _library()
         self._own = _Own()
+        # Channels of which outputs may wait, and outputs that may go out and were taken from the kernel when a guess failed.
+        self._said: set[int] = set()
+        self._ready: dict[int, deque[bytes]] = {}
         drawn = int.from_bytes(os.urandom(8), "little") if seed is None else seed
         self._call("open", OPENED, 1, guesses, drawn)
 
@@ -174,6 +181,7 @@ class Speculator:
         yield step
         step._hand_over()
         self._call("take", STEPPED)
+        self._has_said(step)
 
     @contextmanager
     def guess(self) -> Iterator[Step]:
@@ -182,19 +190,35 @@ class Speculator:
         yield step
         step._hand_over()
         step.guess = Guess(self._call("guess", GUESSED).number)
+        self._has_said(step)
+
+    def _has_said(self, step: Step) -> None:
+        if step._said:
+            self._said.add(step._said[0])
 
     def commit(self, guess: Guess) -> Decided:
         """Commits a guess. Raises `LookupError` where it is decided, or was never drawn here."""
+        firm = self._told("status", guess.number).bytes == 1
         told = self._decide("commit", guess)
-        return Decided("committed" if told.answer == DONE else "gone")
+        return Decided("committed", firm=firm) if told.answer == DONE else Decided("gone")
 
     def fail(self, guess: Guess) -> Decided:
         """Fails a guess: what rests on it is taken back. Raises `LookupError` where it is decided, or was never drawn here."""
+        waited = {channel: self._held(channel)[1] for channel in self._said}
         told = self._decide("fail", guess)
         if told.answer != DONE:
             return Decided("gone")
         keys = tuple(self._shown("undone", place) or b"" for place in range(told.number))
-        return Decided("failed", keys, told.bytes)
+        left = {channel: sum(self._held(channel)) for channel in waited}
+        dropped = {channel: count - left[channel] for channel, count in sorted(waited.items()) if count > left[channel]}
+        self._said = {channel for channel in self._said if self.waiting(channel)}
+        return Decided("failed", keys, told.bytes, dropped=dropped)
+
+    def _held(self, channel: int) -> tuple[int, int]:
+        """Takes what may go out on a channel: how many that were, and how many wait."""
+        ready = [*iter(lambda: self._shown("released", channel), None)]
+        self._ready.setdefault(channel, deque()).extend(ready)
+        return len(ready), self.waiting(channel)
 
     def value(self, key: Data) -> bytes | None:
         """What a key has; None where it is absent. A step that is to rest on it gets it itself."""
@@ -240,12 +264,19 @@ class Speculator:
 
     def outputs(self) -> Iterator[tuple[int, bytes]]:
         """All outputs that may go out now, with their channels, in order for each; each is gone from the kernel as it is handed out."""
+        for channel in sorted(self._ready):
+            for output in self.released(channel):
+                yield channel, output
         while (told := self._told("channel")).answer == SHOWN:
             for output in self.released(told.number):
                 yield told.number, output
 
     def released(self, channel: int) -> Iterator[bytes]:
         """The outputs of a channel that may go out now, one after another; each is gone from the kernel as it is handed out."""
+        ready = self._ready.get(channel, ())
+        while ready:
+            yield ready.popleft()
+        self._ready.pop(channel, None)
         while (output := self._shown("released", channel)) is not None:
             yield output
 

@@ -2,6 +2,7 @@
 HIDEWILLOW_AT, as 127.0.0.1:7379; those of the kernel want libhidewillow.so. What is not there is skipped, and said so.
 """
 import asyncio
+import collections
 import contextlib
 import dataclasses
 import inspect
@@ -39,19 +40,34 @@ class Plain:
         step = self.last(key)
         return set(step["rests"]) if step else set()
 
-    def take(self, looked, written, own):
+    def take(self, looked, written, own, said):
         rests = set().union(*(self.rests(key) for key in [*looked, *written])) | ({own} if own else set())
-        self.steps.append({"written": written, "rests": rests, "own": own})
+        self.steps.append({"written": written, "rests": rests, "own": own, "said": said})
 
     def commit(self, guess):
+        """Whether its own step rests on nothing more."""
         for step in self.steps:
             step["rests"].discard(guess)
+        return not any(step["own"] == guess and step["rests"] for step in self.steps)
+
+    def released(self):
+        """The outputs that may go out, which are out then."""
+        out, held = [], set()
+        for step in self.steps:
+            if step["said"] and step["said"][0] not in held:
+                if step["rests"]:
+                    held.add(step["said"][0])
+                else:
+                    out.append(step["said"])
+                    step["said"] = None
+        return out
 
     def fail(self, guess):
         gone = [it for it in self.steps if guess in it["rests"]]
         self.steps = [it for it in self.steps if guess not in it["rests"]]
         struck = {it["own"] for it in gone if it["own"] in it["rests"]} - {guess}
-        return {key for it in gone for key in it["written"]}, struck
+        dropped = collections.Counter(it["said"][0] for it in gone if it["said"])
+        return {key for it in gone for key in it["written"]}, struck, dict(dropped)
 
 
 @unittest.skipUnless("HIDEWILLOW_SO" in os.environ or any(
@@ -69,6 +85,8 @@ class OwnState(unittest.TestCase):
                 self.step_of(dice, kernel, plain, open_guesses, struck, keys)
             elif open_guesses:
                 self.decision_of(dice, kernel, plain, open_guesses, struck)
+            if dice.random() < 0.4:
+                self.assertEqual(sorted(kernel.outputs()), sorted(plain.released()))
             for key in keys:
                 self.assertEqual(kernel.value(key), plain.value(key))
                 self.assertEqual(set(kernel.tags(key)), plain.rests(key))
@@ -92,10 +110,13 @@ class OwnState(unittest.TestCase):
                     step.remove(key) if value is None else step.put(key, value)
                     written[key] = value
                     self.assertEqual(step.get(key), value)
+                said = dice.choice([None, (dice.randrange(2), b"%d" % len(plain.steps))])
+                if said:
+                    step.say(*said)
         except Refusal:
             self.assertTrue(is_guess and len([it for it in open_guesses if it.number not in struck]) == 5)
             return
-        plain.take(looked, written, step.guess.number if is_guess else None)
+        plain.take(looked, written, step.guess.number if is_guess else None, said)
         if is_guess:
             open_guesses.append(step.guess)
 
@@ -106,11 +127,11 @@ class OwnState(unittest.TestCase):
         if guess.number in struck:
             self.assertEqual(decided.what, "gone")
         elif commits:
-            self.assertEqual(decided.what, "committed")
-            plain.commit(guess.number)
+            self.assertEqual((decided.what, decided.firm), ("committed", plain.commit(guess.number)))
         else:
-            keys, others = plain.fail(guess.number)
+            keys, others, dropped = plain.fail(guess.number)
             self.assertEqual((decided.what, set(decided.keys), len(decided.keys), decided.struck), ("failed", keys, len(keys), len(others)))
+            self.assertEqual(decided.dropped, dropped)
             struck |= others
         with self.assertRaises(LookupError):
             kernel.commit(guess)

@@ -311,6 +311,12 @@ impl Desk {
     }
 }
 
+impl fmt::Debug for Desk {
+    fn fmt(&self, f: &mut fmt::Formatter<'_>) -> fmt::Result {
+        f.debug_struct("Desk").finish_non_exhaustive()
+    }
+}
+
 impl Drop for Desk {
     fn drop(&mut self) {
         // SAFETY: of the handle as in `turn`, and nothing uses it behind this.

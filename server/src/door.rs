@@ -12,10 +12,10 @@ pub const LONGEST: usize = 1 << 14;
 pub const OK: &[u8] = b"+OK\r\n";
 const WRONG: &[u8] = b"-WRONGPASS invalid username-password pair or user is disabled.\r\n";
 
-/// What was queued since MULTI: bytes of requests that write, and of what all are to be told.
+/// What was queued since MULTI: whether some of it may write, and the bytes of what all of it is to be told.
 #[derive(Clone, Copy, Default)]
 pub struct Queue {
-    pub writes: usize,
+    pub writes: bool,
     pub shows: usize,
 }
 
@@ -68,13 +68,13 @@ impl Guest {
     }
 
     /// What was queued by a request that was carried out.
-    pub fn has_queued(&mut self, does: Does, bytes: usize, shows: usize) {
+    pub fn has_queued(&mut self, does: Does, shows: usize) {
         match (does, &mut self.queue) {
             (Does::Queues, queue) => _ = queue.get_or_insert_default(),
             (Does::Drops | Does::CarriesOut, queue) => *queue = None,
             (_, Some(queue)) => {
-                let writes = if matches!(does, Does::Adds | Does::TakesAway) { bytes } else { 0 };
-                (queue.writes, queue.shows) = (queue.writes + writes, queue.shows + shows);
+                queue.writes |= matches!(does, Does::Adds | Does::TakesAway);
+                queue.shows += shows;
             }
             (_, None) => (),
         }

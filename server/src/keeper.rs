@@ -1,11 +1,10 @@
 //! When snapshots are made, and backups.
 use crate::server::Server;
-use hidewillow::store::folder::{named, Folder};
+use hidewillow::store::folder::Folder;
 use hidewillow::store::log::{Closed, Segments};
 use hidewillow::store::recovery::Made;
 use hidewillow::store::tell::{Host, Tell};
 use std::collections::VecDeque;
-use std::fs::{self, File};
 use std::io::{self, ErrorKind};
 use std::path::{Path, PathBuf};
 use std::sync::mpsc::Receiver;
@@ -46,28 +45,13 @@ impl Keeper {
         self.is_keeping = true;
         thread::spawn(move || {
             let did = match &wish.backup {
-                Some(path) => backup(&folder, &closed, path),
+                Some(path) => folder.back_up(&closed, path),
                 None => folder.write(&closed, &folder).and_then(|made| folder.remove().map(|()| made)),
             };
             drop(closed);
             tell.tell((wish, did));
         });
     }
-}
-
-/// Makes a folder with a snapshot of these segments, under its name once it is whole and on the disk.
-fn backup(folder: &Folder, closed: &Closed, path: &Path) -> io::Result<Made> {
-    let name = path.file_name().unwrap_or_default().display();
-    let (home, new) = (Folder(path.with_file_name("")), Folder(path.with_file_name(format!(".{name}"))));
-    home.make()?;
-    if path.exists() {
-        return named(path, Err(ErrorKind::AlreadyExists.into()));
-    }
-    let _ = fs::remove_dir_all(&new.0);
-    new.make()?;
-    let made = folder.write(closed, &new)?;
-    named(path, fs::rename(&new.0, path).and_then(|()| File::open(&home.0)?.sync_all()))?;
-    Ok(made)
 }
 
 impl Server {

@@ -25,12 +25,12 @@
 //!     door, and nothing else does; but a client that wishes so is sent answers ahead, each with a number, until it waits for all
 //!     (`channels.rs`, `replies.rs`).
 //!  8. What a start reads of segments, but for zeros, it writes again and syncs before it serves, since what can be read needn't be on
-//!     the disk; a snapshot has its name only once it is (`reading.rs`, `folder.rs`).
+//!     the disk; a snapshot has its name only once it is, and was read back whole (`reading.rs`, `folder.rs`, `recovery.rs`).
 //!  9. A start gives the library the newest snapshot, which is whole, the heads of all segments behind, and then of each, in order, the
 //!     frames up to the first whose envelope or checksum doesn't hold, but of the last ones nothing if they are zeros. One is removed only
-//!     when a snapshot of it is on the disk with its name and was read back, which is made only of segments in which nothing is written any
-//!     more, nor waits to be cut off, or at a stop where nothing but the head of a start was written in it; no other is made anew
-//!     (`recovery.rs`, `reading.rs`, `folder.rs`, `log.rs`).
+//!     when a snapshot of it is on the disk with its name, which is made only of segments in which nothing is written any more, nor waits
+//!     to be cut off, or at a stop where nothing but the head of a start was written in it; no other is made anew (`recovery.rs`,
+//!     `reading.rs`, `folder.rs`, `log.rs`).
 //! 10. One process has the folder, and one thread makes all calls of a store (`folder.rs`; the store is `Channels`', which is not `Send`).
 //! 11. A batch has one number and the same bytes however often it is sent, and is told as synced only where the library says that an
 //!     answer means so (`etcd/leader.rs`, `etcd/engine.rs`).

@@ -123,6 +123,12 @@ fn seconds(text: &str) -> Result<Duration, String> {
     number(text, 0..=31_536_000).map(Duration::from_secs)
 }
 
+/// An address, as far as it has the form of one.
+fn address(text: &str) -> Result<String, String> {
+    let is_one = text.rsplit_once(':').is_some_and(|(host, port)| !host.is_empty() && port.parse::<u16>().is_ok());
+    is_one.then(|| text.into()).ok_or_else(|| "expected HOST:PORT, as 127.0.0.1:7379".into())
+}
+
 /// One of two words: whether it is the second.
 fn second_of(text: &str, words: [&str; 2]) -> Result<bool, String> {
     let place = words.iter().position(|it| *it == text);
@@ -152,7 +158,7 @@ impl Options {
     /// Takes a value; an error says what was expected.
     fn set(&mut self, name: &str, value: &str) -> Result<(), String> {
         match name {
-            "address" => self.address = value.into(),
+            "address" => self.address = address(value)?,
             "password" if value.is_empty() => return Err("expected a word, and an empty one is none".into()),
             "password" => self.password = value.into(),
             "no-password" => self.is_open = second_of(value, ["no", "yes"])?,
@@ -171,7 +177,7 @@ impl Options {
                 None => return Err("expected disk, or etcd:HOST:PORT,..".into()),
             },
             "prefix" => self.prefix = value.into(),
-            "copies" => self.copies = value.into(),
+            "copies" => self.copies = address(value)?,
             "announce" => self.announce = Some(value.into()),
             "compact" => self.compacts = second_of(value, ["off", "engine"])?,
             "lease" => self.lease = number(value, 1..=3600)?,
@@ -321,6 +327,8 @@ mod tests {
     fn a_fault_names_its_option_and_value() {
         assert_eq!(fault("--segment 5q"), "--segment 5q: expected bytes from 64k to 1024g, as 65536, 64k, 64m or 1g");
         assert_eq!(fault("--batches 64"), "--batches 64: expected a number from 1 to 63");
+        assert_eq!(fault("--address 7379"), "--address 7379: expected HOST:PORT, as 127.0.0.1:7379");
+        assert_eq!(fault("--copies x:y"), "--copies x:y: expected HOST:PORT, as 127.0.0.1:7379");
         assert_eq!(fault("--clock x"), "--clock x: expected untrusted or trusted");
         assert_eq!(fault("--folder"), "--folder: expected a value behind it");
         assert_eq!(fault("--foldr x"), "--foldr x: no option is called so");

@@ -1,4 +1,5 @@
 //! The request that a client's bytes begin with: where it ends, and what it is by its name.
+use hidewillow::store::may_write;
 
 /// What the front of some bytes lacks to be a request: they are a part of one, or of none.
 #[derive(Debug, PartialEq)]
@@ -45,7 +46,6 @@ pub enum Does {
 
 /// Names by which the web asks, and none of which is a command.
 const WEB: [&str; 8] = ["POST", "PUT", "HEAD", "OPTIONS", "PATCH", "DELETE", "CONNECT", "TRACE"];
-const ADDS: [&str; 8] = ["SET", "GETSET", "MSET", "APPEND", "INCR", "DECR", "INCRBY", "DECRBY"];
 
 fn is_one_of(name: &[u8], names: &[&str]) -> bool {
     names.iter().any(|it| name.eq_ignore_ascii_case(it.as_bytes()))
@@ -64,13 +64,12 @@ impl Request<'_> {
         }
         match self.name {
             _ if is("GET") || is("MGET") => Does::Shows,
-            _ if is_one_of(self.name, &ADDS) => Does::Adds,
             _ if is("DEL") || is("FLUSHALL") => Does::TakesAway,
             _ if is("KEYS") => Does::Lists,
-            _ if self.words > 1 => Does::Else,
-            _ if is("EXEC") => Does::CarriesOut,
-            _ if is("MULTI") => Does::Queues,
-            _ if is("DISCARD") => Does::Drops,
+            _ if is("EXEC") && self.words == 1 => Does::CarriesOut,
+            _ if is("MULTI") && self.words == 1 => Does::Queues,
+            _ if is("DISCARD") && self.words == 1 => Does::Drops,
+            _ if !is("EXEC") && may_write(self.name) == Some(true) => Does::Adds,
             _ => Does::Else,
         }
     }

@@ -15,7 +15,8 @@ again, and then:
     acknowledged writes are there              refused ones are not, and no reader ever saw one
     what a reader saw is there                 INCR answers no number twice, over all restarts
     MSET is whole                              appends are there once, and in order
-    with --slow: reads of what is acknowledged were not held behind syncs, beside what any other process takes to answer meanwhile
+    with --slow: reads of what is acknowledged were not held behind syncs, beside what any other process takes to answer meanwhile, and what the
+    server waits for a processor
 
 Modes: cut (the power is lost at a head that cuts off what failed, while what failed is on the disk after all); kill (-9); power (then bytes that no sync covered are taken back, all, none, or torn at any byte; names too); fault (also writes
 that fail or are short, and syncs that fail, told once to each open file); full (the disk is full from time to time); mixed (faults, and
@@ -83,6 +84,7 @@ WRONG = {
                                ("log.rs", "                Ok(store.cut(true)?) // [5]", "                Ok(())"),
                                ("log.rs", "return Ok(store.turn()?);", "return Ok(());")]),
     "snapshot that isn't on the disk": ("a snapshot", [("folder.rs", "            file.sync_all()?;\n", "")]),
+    "snapshot that isn't read back": ("a snapshot that the disk spoils", [("folder.rs", "            finds(&new)?; // [8]\n", "            let _ = finds;\n")]),
     "segments removed before the snapshot has its name": ("a snapshot", [("folder.rs", "            disk::opened(|| File::open(&self.0))?.sync_all()?;\n            Ok(did)", "            Ok(did)"),
                                                           ("folder.rs", "        File::open(&self.0)?.sync_all()?;\n        for", "        for")]),
     "snapshot of what is written": ("a snapshot beside a write", [("log.rs", "self.under_way.iter().map(|at| at.segment).min().unwrap_or(self.at.written) - 1", "self.at.written")]),
@@ -90,6 +92,7 @@ WRONG = {
     "replies wait for all": ("a read beside a write", [("server.rs", "            self.take_output();\n            self.attend()?;",
                                                       "            if self.channels.counts().undecided == 0 {\n                self.take_output();\n"
                                                       "            }\n            self.attend()?;")]),
+    "full disk that ends it": ("a cut on a full disk", [("log.rs", "*failed += u32::from(!is_full(&error));", "*failed += 1;")]),
     "mark too early": ("a mark", [("log.rs", "self.under_way.push(at);",
                         "self.under_way.push(at);\n                    let _ = self.synced.marker.is(|mark| mark.known = at.frame);")]),
     "start that serves before its head": ("a write", [("disk.rs", "                write(folder, &mut None, at.segment, 0, &bytes)?;\n", "")]),
@@ -186,7 +189,7 @@ class Book:
         self.acknowledged, self.refused, self.seen, self.newest = {}, set(), set(), {}
         self.appended = [dict(acked=set(), longest="") for _ in range(LISTS)]
         self.counts = [dict(told=set(), most=0) for _ in range(COUNTERS)]
-        self.held, self.totals = [], dict(acknowledged=0, refused=0, undone=0, snapshots=0, backups=0)
+        self.held, self.waits, self.totals = [], [], dict(acknowledged=0, refused=0, undone=0, snapshots=0, backups=0)
 
     def frozen(self):
         """What must be in a backup that is asked for now."""
@@ -387,9 +390,10 @@ def check(book, link, mode, slow):
     both = book.seen & book.refused
     need(not both, "a reader saw what was refused:", sorted(both)[:3])
     if slow and len(book.held) > 200:
-        late, beside = (statistics.median(it) for it in zip(*book.held))
-        need(late < slow / 2 + SERVER_BY_ECHO * beside, "half of the reads that rest on nothing were held:", late, beside)
+        (late, beside), waits = (statistics.median(it) for it in zip(*book.held)), statistics.mean(book.waits)
+        need(late < slow / 2 + SERVER_BY_ECHO * beside + waits, "half of the reads that rest on nothing were held:", late, beside, waits)
         book.held.clear()
+        book.waits.clear()
 
 
 def trim(journal):
@@ -538,6 +542,14 @@ class Host:
             self.process = subprocess.Popen(self.words(self.folder, self.port), env=shim, stdout=log, stderr=log)
         return connected(self.port, self.process)
 
+    def waits(self):
+        """How long it waits for a processor each time that it wants one, in the mean; nothing where the system doesn't tell."""
+        try:
+            _, waited, times = pathlib.Path(f"/proc/{self.process.pid}/schedstat").read_text().split()
+            return int(waited) / 1e9 / max(1, int(times))
+        except (OSError, ValueError):
+            return 0.0
+
     def end(self, how):
         self.process.send_signal(how)
         return self.process.wait(300)
@@ -561,6 +573,7 @@ def one_crash(options, host, book, dice):
             host.full.touch() if dice.random() < 0.5 else host.full.unlink(missing_ok=True)
         time.sleep(0.05)
     host.full.unlink(missing_ok=True)
+    book.waits.append(host.waits())
     if host.process.poll() is None:
         host.end(signal.SIGKILL)
     for client in clients:
@@ -631,7 +644,7 @@ class Moment:
         """So many were held up, or what failed once did."""
         path, until = self.acts / "held", time.monotonic() + PATIENCE
         while (path.stat().st_size if path.exists() else 0) < count or (self.acts / "fail").exists():
-            need(time.monotonic() < until, "nothing is written")
+            need(time.monotonic() < until and self.host.process.poll() is None, "nothing is written")
             time.sleep(0.002)
 
     def early(self, link, seconds=EARLY):
@@ -655,7 +668,7 @@ class Moment:
     def kills(self):
         self.link.close()
         self.host.end(signal.SIGKILL)
-        for name in ("hold-writes", "hold-syncs", "fail", "short"):
+        for name in ("hold-writes", "hold-syncs", "fail", "short", "spoil"):
             self.lets(name)
 
     def has(self, told, key, value):
@@ -741,6 +754,18 @@ def of_a_snapshot(it):
     it.has(told, "a", "1")
 
 
+def of_a_spoilt_snapshot(it):
+    """The disk has a snapshot otherwise than it was written: then all that it was to stand for stays."""
+    told = it.ask("SET", "a", "1")
+    it.act("spoil")
+    need(is_refused(it.ask("SAVE")), "a snapshot is told as made that isn't what was written")
+    it.loses_power()
+    it.has(told, "a", "1")
+    need(it.ask("SAVE") == "OK", "no snapshot is made")
+    it.loses_power()
+    it.has(told, "a", "1")
+
+
 def of_a_snapshot_beside_a_write(it):
     it.act("hold-writes")
     writer = Link(it.host.port)
@@ -752,6 +777,27 @@ def of_a_snapshot_beside_a_write(it):
     told = writer.reply()
     it.loses_power()
     it.has(told, "a", "1")
+
+
+def of_a_cut_on_a_full_disk(it):
+    """There is no room for a write, nor for the heads that are to cut it off, each time in another segment: that is tried again until there is."""
+    it.host.over = 1000
+    it.loses_power()
+    it.act("hold-writes")
+    it.link.send(("SET", "a", "1"))
+    for count in range(1, 5):
+        it.held(count)
+        it.host.full.touch()
+        it.lets("hold-writes")
+        need(it.within(it.link, 0.1) is None, "what isn't cut off is answered")
+        it.act("hold-writes")
+        it.host.full.unlink()
+    it.lets("hold-writes")
+    told = it.link.reply()
+    need(is_refused(told) and it.ask("SET", "b", "1") == "OK", "no write goes on once there is room")
+    it.loses_power()
+    it.has(told, "a", "1")
+    it.has("OK", "b", "1")
 
 
 def of_answers_ahead(it):
@@ -817,9 +863,11 @@ DIRECTED = {
     "two writes of which one fails": of_two_writes,
     "a start on what isn't on the disk": of_a_start,
     "a snapshot": of_a_snapshot,
+    "a snapshot that the disk spoils": of_a_spoilt_snapshot,
     "a snapshot beside a write": of_a_snapshot_beside_a_write,
     "answers ahead": of_answers_ahead,
     "a read beside a write": of_a_read_beside_a_write,
+    "a cut on a full disk": of_a_cut_on_a_full_disk,
     "a mark": of_a_mark,
     "a start on a full disk": of_a_full_disk,
 }

@@ -51,7 +51,7 @@ def run(program, folder, words):
             if process.poll() is not None:
                 break
             with contextlib.suppress(OSError):
-                return process, socket.create_connection((crashes.home(), port), timeout=60)
+                return process, socket.create_connection((crashes.home(), port), timeout=300)
             time.sleep(0.005)
         else:
             process.kill()
@@ -425,6 +425,12 @@ WRONG = {
     "gap allowed": [("recovery.rs", "how.next.map_or(known, |next| next - 1)", "0"),
                     ("recovery.rs", "how.next.unwrap_or(counts.next.max(known + 1))", "counts.next")],
     "no checksum": [("envelope.rs", "frame.len() == self.len && checksum(0, frame) == self.sum", "frame.len() == self.len")],
+    "another place is told": [("damage.rs", "(folder.segment(it.segment), it.place, &it.found)", "(folder.segment(it.segment), it.place / 2, &it.found)")],
+    "frames say nothing of others": [("log.rs", "Envelope::around(segment, frame, known, ", "Envelope::around(segment, frame, 0, ")],
+    "heads say nothing of frames": [("log.rs", "identity: *identity, segment, frame, known }", "identity: *identity, segment, frame, known: 0 }")],
+    "a stop says nothing": [("log.rs", "(mark.is_stopped, mark.known) = (true, known)", "(mark.is_stopped, mark.known) = (false, known)")],
+    "whatever stands behind is torn": [("recovery.rs", "if counts.dropped > most && ", "if counts.dropped > u64::MAX - 1 && ")],
+    "a backup of its store's identity": [("recovery.rs", "match said.filter(|_| !is_backup) {", "match said {")],
 }
 
 
@@ -551,50 +557,134 @@ def with_logs_of_another(program, room):
     return len(made), wrongs
 
 
+def ends(process, link, how=signal.SIGTERM):
+    """A server ends so."""
+    link.close()
+    process.send_signal(how)
+    if process.wait(60) != (0 if how == signal.SIGTERM else -how):
+        raise Wrong(f"it ends with {process.returncode}")
+
+
+def written(program, room, name, how=signal.SIGTERM):
+    """A small store with some writes, a copy of that, and four more, each acknowledged before the next; its server ends so."""
+    store = Store(name, room / name, SMALL, how == signal.SIGTERM)
+    process, link = run(program, store.folder, SMALL)
+    if process is None:
+        raise Wrong(f"{name}: no server starts")
+    write(store, link, random.Random(name), 40)
+    keep_old(store, room)
+    write(store, link, random.Random(f"{name} behind"), 4)
+    ends(process, link, how)
+    store.whole = len(store.states) - 1
+    return store
+
+
+def last_log(folder):
+    """The last segment in which something is, with its bytes and its frames."""
+    log = max(path for path in folder.glob("log-*") if used_end(path))
+    return log, *frames_of(log)
+
+
+def comes(program, room, store, what, wanted, changes, *said):
+    """What is wrong, in words: where of a changed copy comes something else than is wanted, or where it is refused by other words than these."""
+    folder = room / "copy"
+    shutil.copytree(store.folder, folder, ignore=shutil.ignore_patterns("backups", "lock"))
+    changes(folder)
+    try:
+        came, told = judge(program, store, folder, what), pathlib.Path(f"{folder}.log").read_text(errors="replace")
+        if came != wanted:
+            raise Wrong(f"it is {came}, and is to be {wanted}")
+        for text in said:
+            if text not in told:
+                raise Wrong(f"it doesn't say '{text}', but: {told}")
+    except Wrong as wrong:
+        return [f"{what}: {wrong}"]
+    finally:
+        shutil.rmtree(folder)
+    return []
+
+
 def at_places(program, room):
     """The last frame of a store is gone, one before it, or two bytes within one changed places, or all is as it was before; how many were
     tried, and in words what was wrong."""
-    store = Store("places", room / "places", SMALL, True)
-    process, link = run(program, store.folder, SMALL)
-    if process is None:
-        return 0, ["places: no server starts"]
-    write(store, link, random.Random("places"), 40)
-    keep_old(store, room)
-    before = store.states[-1]
-    write(store, link, random.Random("behind"), 4)
-    link.close()
-    process.send_signal(signal.SIGTERM)
-    if process.wait(60):
-        return 0, ["places: no clean stop"]
-    store.whole = len(store.states) - 1
-    log = max(path for path in store.folder.glob("log-*") if used_end(path))
-    text, frames = frames_of(log)
-    at, end = max(frames, key=lambda frame: frame[1] - frame[0])
-    place = next(place for place in range((at + end) // 2, end) if text[place] != text[place + 1])
-    gone = {what: (at, bytes(end - at)) for what, (at, end) in {"the last frame": frames[-1], "the third last frame": frames[-3]}.items()}
-    wrongs = []
-    for what, (at, new) in {**gone, "two bytes": (place, text[place + 1:place + 2] + text[place:place + 1])}.items():
-        folder = room / "copy"
-        shutil.copytree(store.folder, folder, ignore=shutil.ignore_patterns("backups", "lock"))
-        change(folder / log.name, at, new)
-        try:
-            if judge(program, store, folder, what) != "refused":
-                raise Wrong("it is not refused")
-        except Wrong as wrong:
-            wrongs.append(f"{what} of {len(frames)} frames: {wrong}")
-        shutil.rmtree(folder)
+    store, wrongs = written(program, room, "places"), []
+    log, text, frames = last_log(store.folder)
+    largest = max(frames, key=lambda frame: frame[1] - frame[0])
+    place = next(place for place in range(sum(largest) // 2, largest[1]) if text[place] != text[place + 1])
+    tries = {"the last frame": (frames[-1], frames[-1][0], bytes(frames[-1][1] - frames[-1][0])),
+             "the third last frame": (frames[-3], frames[-3][0], bytes(frames[-3][1] - frames[-3][0])),
+             "two bytes": (largest, place, text[place + 1:place + 2] + text[place:place + 1])}
+    for what, ((begin, _), at, new) in tries.items():
+        number = int.from_bytes(text[begin + 16:begin + 24], "little")
+        said = [f"{log.name}, at byte {begin}, segment {int(log.name[4:])}: expected frame {number}, found", "Nothing was changed",
+                "start on a backup", f"--accept-loss-from {number}"]
+        wrongs += comes(program, room, store, what, "refused", lambda folder: change(folder / log.name, at, new), *said)
     process, link = run(program, store.olds[0], SMALL)
-    if process is None or contents(link) != before:
+    if process is None or contents(link) != store.states[40]:
         wrongs.append("all as it was before: it isn't served")
     if process:
-        link.close()
-        process.kill()
-        process.wait()
+        ends(process, link, signal.SIGKILL)
+    return len(tries) + 1, wrongs
+
+
+def by_frames(program, room):
+    """The marks are of before, so that frames alone say, or the head of a segment, up to where all was synced; and a segment is gone."""
+    store = written(program, room, "frames")
+    log, _, frames = last_log(store.folder)
+
+    def zeros(folder, path, begin, end):
+        shutil.copy(store.olds[0] / "store", folder)
+        change(folder / path.name, begin, bytes(end - begin))
+    wrongs = comes(program, room, store, "the third last frame, by frames alone", "refused", lambda folder: zeros(folder, log, *frames[-3]))
+    process, link = run(program, store.folder, SMALL)
+    if process is None:
+        raise Wrong("frames: no server starts")
+    write(store, link, random.Random("a segment more"), 1)
+    ends(process, link)
+    store.whole = len(store.states) - 1
+    behind, text, _ = last_log(store.folder)
+
+    def but_heads(folder):
+        zeros(folder, log, *frames[-1])
+        zeros(folder, behind, 64, len(text))
+    wrongs += comes(program, room, store, "the last frame, by the next segment's head alone", "refused", but_heads)
+    wrongs += comes(program, room, store, "a segment", "refused", lambda folder: (folder / log.name).unlink(),
+                    f"{log.name}: expected frame 1 in segment 1, and it isn't there")
+    return 3, wrongs
+
+
+def behind_the_end(program, room):
+    """Bytes that are no frame stand behind the end: after a clean stop nothing explains them, after a crash as many as may have been under way."""
+    wrongs = []
+    for how, wanted in ((signal.SIGTERM, {40: "right, told", 40_000: "right, told"}), (signal.SIGKILL, {40: "right", 40_000: "refused"})):
+        store = written(program, room, how.name, how)
+        log, _, frames = last_log(store.folder)
+        for count, kind in wanted.items():
+            wrongs += comes(program, room, store, f"{count} bytes behind the end after {how.name}", kind,
+                            lambda folder: change(folder / log.name, frames[-1][1], b"x" * count))
     return 4, wrongs
 
 
+def of_a_backup(program, room):
+    """The snapshot of a backup in the folder of its store."""
+    store = written(program, room, "store")
+    process, link = run(program, store.folder, SMALL)
+    if process is None or ask(link, [[b"BACKUP", b"one"]]) != [b"OK"]:
+        raise Wrong("no backup is made")
+    write(store, link, random.Random("behind the backup"), 4)
+    ends(process, link)
+    store.whole = len(store.states) - 1
+    made = next((store.folder / "backups" / "one").glob("snapshot-*"))
+    return 1, comes(program, room, store, "a backup's snapshot", "refused", lambda folder: shutil.copy(made, folder), made.name, "another store")
+
+
 # What is found by tries of its own alone.
-DIRECTED = {"no end of a snapshot": behind_pieces, "no identity": with_logs_of_another, **dict.fromkeys(["no mark", "gap allowed", "no checksum"], at_places)}
+DIRECTED = {
+    "no end of a snapshot": behind_pieces, "no identity": with_logs_of_another, "a backup of its store's identity": of_a_backup,
+    **dict.fromkeys(["no mark", "gap allowed", "no checksum", "another place is told"], at_places),
+    **dict.fromkeys(["frames say nothing of others", "heads say nothing of frames"], by_frames),
+    **dict.fromkeys(["a stop says nothing", "whatever stands behind is torn"], behind_the_end),
+}
 
 
 def stores(program, room, seed):
@@ -650,7 +740,7 @@ def find(options, name):
         program = crashes.built(pathlib.Path(room), WRONG[name])
         try:
             wrongs = DIRECTED[name](program, pathlib.Path(room))[1]
-        except Wrong as wrong:
+        except (Wrong, OSError) as wrong:
             wrongs = [str(wrong)]
     found = next((wrong for wrong in wrongs if "not by name" not in wrong), None)
     return f"{name}: {found or 'NOT FOUND'}", found is not None
@@ -679,7 +769,10 @@ def main():
     if not options.only:
         for directed in dict.fromkeys(DIRECTED.values()):
             with tempfile.TemporaryDirectory(prefix="damage-", dir=ROOMS) as room:
-                count, more = directed(options.server, pathlib.Path(room))
+                try:
+                    count, more = directed(options.server, pathlib.Path(room))
+                except (Wrong, OSError) as wrong:
+                    count, more = 0, [str(wrong)]
             counts["directed", "refused"] += count
             wrongs += more
     for wrong in wrongs:

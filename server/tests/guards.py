@@ -13,8 +13,10 @@ import contextlib
 import pathlib
 import select
 import signal
+import socket
 import sys
 import tempfile
+import threading
 import time
 
 HERE = pathlib.Path(__file__).resolve().parent
@@ -48,6 +50,9 @@ WRONG = {
     "leads on a log behind its snapshot": ("snapshots", [("leader.rs", "2.. if log.cut < first - 1 && !leadership.has(first - 1)? =>", "2.. if log.gap == 0 =>")]),
     "one host's snapshot is enough": ("majorities", [("follower.rs", "have.get(have.len() / 2)", "have.first()")]),
     "a lease that is too long": ("clocks", [("etcd/engine.rs", "Duration::from_secs(seconds) * 4 / 5", "Duration::from_secs(seconds) * 3 / 2")]),
+    "what is answered is told once all is sent": ("last_answers", [("http2.rs", "            let did = state.send(out);\n            drop(state);\n            //",
+                                                                    "            let did = Ok::<_, io::Error>(());\n            state.send(out)?;\n            drop(state);\n            //")]),
+    "copies as they come": ("copies", [("follower.rs", "place(&path, copy, |new| read_back(new, &self.said.owner.identity, (segment, next)))", "place(&path, copy, |_| Ok(()))")]),
     "compacts in any case": ("snapshots", [("etcd/engine.rs", "match did.done && compacts {", "match did.done || compacts {")]),
 }
 
@@ -81,6 +86,11 @@ def is_refusal(told):
 def is_put(call):
     """Whether a batch is to be put."""
     return any(key.startswith(PREFIX + b"log/") for key in call.puts)
+
+
+def puts(door):
+    """How many batches were to be put."""
+    return sum(is_put(call) for call, _ in door.asked)
 
 
 def waits(door, rule, count=1):
@@ -248,6 +258,46 @@ def snapshots(program, room):
     yield "is written to", log_of(engine) == []
 
 
+class Copies:
+    """Hands out a snapshot as a host does, as long as it is there."""
+
+    def __init__(self, text, name):
+        self.text, self.line = text, b"%d %d %d\n" % (*map(int, name.split("-")[1:]), len(text))
+        self.listener = socket.create_server(("127.0.0.1", 0))
+        self.address = b"127.0.0.1:%d" % self.listener.getsockname()[1]
+        self.handed = 0
+        threading.Thread(target=self.hands_out, daemon=True).start()
+
+    def hands_out(self):
+        while True:
+            link, _ = self.listener.accept()
+            with link, contextlib.suppress(OSError):
+                link.makefile("rb").readline()
+                link.sendall(self.line + self.text)
+            self.handed += 1
+
+
+def copies(program, room):
+    """What another host hands out is taken where it is whole, and of this store."""
+    engine = Engine()
+    door, folder = Door(engine), room / "two"
+    with ended(host(program, room / "one", [door], "--snapshot", "1k")) as server:
+        yield "a start", server.listens()
+        yield "writes", [linked(server).ask("SET", f"k{number}", "x" * 3000) for number in range(60)] == ["OK"] * 60
+        yield "a snapshot is made, and the log is cut", server.says("is cut off up to", LATE) and server.end() == 0
+    snapshot = max((room / "one").glob("snapshot-*"))
+    text, middle = snapshot.read_bytes(), snapshot.stat().st_size // 2
+    other = Copies(text[:middle] + bytes([text[middle] ^ 1]) + text[middle + 1:], snapshot.name)
+    engine.remove(*engine.names(PREFIX + b"have/"))
+    segment, batch = map(int, snapshot.name.split("-")[1:])
+    engine.put(PREFIX + b"have/" + b"c" * 32, b"%016d %010d %s" % (batch - 1, segment, other.address))
+    with ended(host(program, folder, [door])) as server:
+        yield "a spoilt one is handed out, again and again", until(lambda: other.handed > 2)
+        yield "and not taken", list(folder.glob("snapshot-*")) == [] and "listening" not in server.said() and server.process.poll() is None
+        other.text = text
+        yield "one that is whole is", server.listens() and linked(server).ask("GET", "k0") == "x" * 3000
+
+
 # ---- moments
 
 @contextlib.contextmanager
@@ -286,9 +336,10 @@ def clocks(program, room):
         yield "one that waits for nothing", [link.ask("GET", "a") for _ in range(3)] == ["1"] * 3
         time.sleep(max(0, since + LEASE - time.monotonic()))
         engine.expire()
-        yield "another leads", second.listens() and linked(second).ask("SET", "a", "2") == "OK"
         link.send(("GET", "a"))
-        yield "what is old isn't told", within(link) is None
+        yield "nothing is told behind it", within(link) is None
+        yield "another leads", second.listens() and linked(second).ask("SET", "a", "2") == "OK"
+        yield "and what is old isn't told", within(link) is None
 
 
 def rides(program, room):
@@ -313,11 +364,11 @@ def rides(program, room):
 def late_batches(program, room):
     """Batches of who leads no more are in no later log, though they come late."""
     with begun(program, room) as (engine, door, first, second):
-        links = [linked(first) for _ in range(2)]
+        links, before = [linked(first) for _ in range(2)], puts(door)
         door.rules("hold")
         for count, link in enumerate(links, 1):
             link.send(("SET", f"late{count}", "1"))
-            yield f"batch {count} is under way", until(lambda: sum(is_put(call) for call, _ in door.asked) >= count + 1, LATE)
+            yield f"batch {count} is under way", until(lambda: puts(door) >= before + count, LATE)
         engine.expire()
         yield "another leads", second.listens()
         door.rules("answer")
@@ -350,6 +401,35 @@ def lost_answers(program, room):
         yield "for who leads then", server.listens() and linked(server).ask("GET", "a") == "1"
 
 
+def is_stopped(server):
+    """Whether each of its threads is."""
+    return all((task / "stat").read_text().rsplit(")", 1)[1].split()[0] == "T" for task in pathlib.Path(f"/proc/{server.process.pid}/task").iterdir())
+
+
+def last_answers(program, room):
+    """An answer reaches its batch, though what the host is to send next can't be sent: here the room that it asks for behind so much."""
+    engine = Engine()
+    door = Door(engine)
+    with ended(host(program, room / "host", [door])) as server:
+        yield "a start", server.listens()
+        link = linked(server)
+        yield "a write", link.ask("SET", "a", "1") == "OK"
+        door.rules(lambda call: "last" if is_put(call) else "answer")
+        link.send(("SET", "a", "2"))
+        yield "of an answer all but the end is there", door.has_begun.wait(LATE)
+        server.process.send_signal(signal.SIGSTOP)
+        links = len(door.links)
+        yield "the host is asleep", until(lambda: is_stopped(server)) and within(link, 0.1) is None
+        door.opened.set()
+        yield "then that is, and the connection breaks", until(lambda: len(door.links) < links)
+        server.process.send_signal(signal.SIGCONT)
+        yield "its batch is acknowledged", within(link, LATE) == "OK"
+        asked = [tuple(call.puts) for call, _ in door.asked if is_put(call)]
+        yield "and wasn't asked for again", len(asked) == len(set(asked))
+        door.rules("answer")
+        yield "it goes on with another connection", link.ask("SET", "a", "3") == "OK" and link.ask("GET", "a") == "3"
+
+
 def behind_a_cut(program, room):
     """Of a batch that may have been cut off nobody says that it was lost."""
     engine = Engine()
@@ -376,7 +456,7 @@ def gaps(program, room):
     near, far = Door(engine), Door(engine)
     with ended(host(program, room / "first", [near])) as first:
         yield "a start", first.listens()
-        missing = []
+        missing, before = [], puts(near)
 
         def loses(call):
             if is_put(call) and not missing:
@@ -385,7 +465,7 @@ def gaps(program, room):
         near.rules(loses)
         for count in range(1, 3):
             linked(first).send(("SET", f"k{count}", "1"))
-            yield f"batch {count} is asked for", until(lambda: sum(is_put(call) for call, _ in near.asked) >= count + 1, LATE)
+            yield f"batch {count} is asked for", until(lambda: puts(near) >= before + count, LATE)
         yield "one of two is in the log", until(lambda: log_of(engine)[-1:] > missing) and missing[0] not in log_of(engine)
         first.end(signal.SIGKILL)
     engine.expire()
@@ -396,8 +476,8 @@ def gaps(program, room):
         yield "and it goes on", [link.ask("SET", f"n{number}", "1") for number in range(4)] == ["OK"] * 4
 
 
-PARTS = {it.__name__: it for it in (folders, clusters, announced, refusals, fronts, majorities, snapshots, reads, clocks, rides, late_batches, lost_answers,
-                                    behind_a_cut, gaps)}
+PARTS = {it.__name__: it for it in (folders, clusters, announced, refusals, fronts, majorities, snapshots, copies, reads, clocks, rides, late_batches, lost_answers,
+                                    last_answers, behind_a_cut, gaps)}
 
 
 def tried(program, name, room):

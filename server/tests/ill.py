@@ -34,11 +34,13 @@ WRONG = {
     "room of replies kept": ("output", [("channels.rs", "client.keeps_room() && client.is_done(decided)", "client.keeps_room() && decided == 0")]),
     "segments are holes": ("disk", [("folder.rs", "                file.write_all(&room[..PIECE.min((bytes - place) as usize)])?;\n",
                                      "                file.set_len(place + room[..PIECE.min((bytes - place) as usize)].len() as u64)?;\n")]),
-    "MSET is passed over": ("disk", [("request.rs", "\"GETSET\", \"MSET\", ", "\"GETSET\", \"GETSET\", ")]),
+    "MSET is passed over": ("disk", [("request.rs", "!is(\"EXEC\") && may_write", "!is(\"EXEC\") && !is(\"MSET\") && may_write")]),
     "all that may be undecided": ("held", [("house.rs", "self.options.limits.undecided as usize / 2", "self.options.limits.undecided as usize")]),
     "nothing is kept for a full disk": ("disk", [("disk.rs", "folder.use_spare(segment).map_err(|_| error)", "Err(error)")]),
     "output unbounded": ("output", [("server.rs", "match client.owes() <= most && ", "match client.owes() <= usize::MAX && ")]),
     "frames where no zeros are": ("disk", [("room.rs", "self.end + bytes <= self.here", "self.end + bytes <= self.segment")]),
+    "want of memory is waited for": ("scarce", [("server.rs", "if last.replace(channel) == Some(channel) {",
+                                                "if last.replace(channel) == Some(channel) && last.is_none() {")]),
     "lock of a file alone": ("lock", [("folder.rs", "folder.try_lock().and_then(|()| file.try_lock())", "file.try_lock()")]),
     "a lack of handles is a failure": ("gone", [("disk.rs", "            Err(error) if is_of_handles(&error) => thread::sleep(NO_HANDLES),\n",
                                                  "            Err(error) if is_of_handles(&error) && NO_HANDLES.is_zero() => (),\n")]),
@@ -273,6 +275,8 @@ def gone(program, room):
         begun, lines = server.processor(), len(server.said().splitlines())
         time.sleep(1.5)
         yield "it doesn't spin while it can accept nothing", server.processor() - begun < 0.3 and len(server.said().splitlines()) - lines < 6
+        waits = [took(lambda: link.sendall(b"PING\r\n") or link.recv(100)) for _ in range(50)]
+        yield "and nobody who is in waits for that", sorted(waits)[25] < 0.005
         sets = b"".join(bulk("SET", f"key{number}", b"x" * 1000) for number in range(200))
         link.sendall(sets)
         replies = b""
@@ -301,9 +305,13 @@ def silent(program, room):
         yield "a start with a time out", server.listens()
         silent, busy = server.link(), server.link()
         silent.sendall(b"PING\r\n")
-        timers = [line.split() for line in pathlib.Path("/proc/net/tcp").read_text().splitlines()[1:]]
-        port = f":{server.port:04X}"
-        yield "its connections are kept alive", until(lambda: any(it[1].endswith(port) and it[3] == "01" and it[5].startswith("02") for it in timers), 1)
+        port, timer = f":{server.port:04X}", re.compile("02:0000[67]...")
+
+        def is_kept():
+            lines = (line.split() for line in pathlib.Path("/proc/net/tcp").read_text().splitlines()[1:])
+            return any(it[1].endswith(port) and it[3] == "01" and timer.fullmatch(it[5]) for it in lines)
+
+        yield "its connections are kept alive", until(is_kept, 1)
         begun, is_well = time.monotonic(), True
         while time.monotonic() < begun + 2.5:
             busy.sendall(b"PING\r\n")
@@ -453,6 +461,44 @@ def heavy(program, room):
         yield "and taken once they are gone", until(lambda: server.line(b"SET a 1\r\n") == b"+OK\r\n", 5)
 
 
+def scarce(program, room):
+    """A reply that finds no memory."""
+    folder, mark = room / "scarce", room / "memory-is-scarce"
+    env = dict(SHIM_SCARCE=str(mark), SHIM_SLOW="700000", SHIM_FOLDER=str(folder), LD_PRELOAD=str(room / "shim.so"))
+    with ended(Server(program, folder, **env)) as server:
+        yield "a start on a slow disk", server.listens() and server.line(bulk("SET", "k", b"x" * 3 * MB)) == b"+OK\r\n"
+        link, other = server.link(), server.link()
+        other.sendall(b"PING\r\n")
+        yield "another is in", other.recv(100) == b"+PONG\r\n"
+        link.sendall(b"SET a 1\r\nGET k\r\n")
+        time.sleep(0.2)
+        mark.touch()
+        yield "whoever waits for one is ended", is_over(link)
+        with contextlib.suppress(OSError):
+            other.settimeout(5)
+            other.sendall(b"PING\r\n")
+            yield "and nobody waits for that", other.recv(100) == b"+PONG\r\n"
+        yield "what was written stands", server.line(b"GET a\r\n", 5) == b"$1\r\n"
+        yield "a request that finds none isn't done", server.line(b"GET k\r\n", 5).startswith(b"-IOERR")
+        mark.unlink()
+        yield "all goes on once there is some", server.line(b"GET k\r\n", 5) == b"$%d\r\n" % (3 * MB)
+
+
+def queues(program, room):
+    """What waits for an EXEC is bounded."""
+    with ended(Server(program, room / "queues", "--undecided", "64k", "--segment", "1m")) as server:
+        yield "a start", server.listens()
+        one = bulk("ECHO", b"x" * 8000)
+        told, _ = server.all(b"MULTI\r\n" + one * 20 + b"EXEC\r\nSET a 1\r\n")
+        lines = told.split(b"\r\n")
+        yield "as much as four of the largest requests is queued", lines[:9] == [b"+OK"] + [b"+QUEUED"] * 8
+        yield "what is more is told", all(line.startswith(b"-ERR the commands that wait for EXEC") for line in lines[9:21])
+        yield "and none of it is carried out", lines[21].startswith(b"-EXECABORT") and lines[22] == b"+OK"
+        base = server.status("VmHWM")
+        told, _ = server.all(b"MULTI\r\n" + one * 5000 + b"EXEC\r\n")
+        yield "however much comes", b"-EXECABORT" in told and server.status("VmHWM") - base < 32 * 1024
+
+
 def half(program, room):
     """A client that ends its half gets all its replies."""
     with ended(Server(program, room / "half")) as server:
@@ -584,7 +630,9 @@ def disk(program, room):
         yield "a start on a full disk", server.listens()
         yield "serves reads", server.line(b"GET c\r\n", 5) == b"$1\r\n" and server.line(b"DBSIZE\r\n", 5) == b":1\r\n"
         yield "refuses writes by name", server.line(b"SET d 1\r\n", 5) == no_room
-        yield "and snapshots", server.line(b"SAVE\r\n", 5).startswith(b"-IOERR no snapshot")
+        begun = time.monotonic()
+        said = server.line(b"SAVE\r\n", 5), server.line(b"BACKUP two\r\n", 5)
+        yield "and snapshots and backups, at once", all(it.startswith(b"-IOERR no snapshot") for it in said) and time.monotonic() - begun < 4
         yield "and carries DEL out", server.line(b"DEL c\r\n", 5) == b":1\r\n" and server.line(b"GET c\r\n", 5) == b"$-1\r\n"
         yield "which stays", server.end(signal.SIGKILL) == -9
     with ended(Server(program, folder, *words, **env)) as server:
@@ -647,7 +695,7 @@ def passwords(program, room):
     yield "files are their owner's alone", len(paths) > 4 and all(stat.S_IMODE(it.stat().st_mode) & 0o077 == 0 for it in paths)
 
 
-PARTS = dict(web=web, few=few, raised=raised, gone=gone, silent=silent, output=output, held=held, heavy=heavy, half=half, lock=lock,
+PARTS = dict(web=web, few=few, raised=raised, gone=gone, silent=silent, output=output, held=held, heavy=heavy, queues=queues, scarce=scarce, half=half, lock=lock,
              starts=starts, disk=disk, passwords=passwords)
 
 

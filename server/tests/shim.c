@@ -8,9 +8,11 @@
  *   SHIM_SLOW     microseconds that each sync takes longer
  *   SHIM_CUT      parts of a thousand of the heads that cut what failed, at which it waits a little, and then the power is lost
  *   SHIM_LIES     syncs answer well and do nothing, which crashes.py is to find
+ *   SHIM_SCARCE   while a file of this name is there, nobody has memory in pieces of a megabyte or more
  *   SHIM_ACTS     a folder: while it has a file `hold-writes` or `hold-syncs` all writes into segments wait, or all their syncs, each of
  *                 which adds a byte to the file `held` there; where it has a file `fail` the next such sync fails, and where it has a file
- *                 `short` the next such write is short: that file is gone then
+ *                 `short` the next such write is short: that file is gone then; so is a file `spoil`, where it has one and a bit of the next
+ *                 piece of a snapshot is written as it wasn't
  *
  * A sync that fails is told once to each open file that wrote before, and what it was to bring to the disk is not on it, nor will
  * a later sync bring it there: so Linux does.
@@ -35,17 +37,21 @@
 
 #define FDS 4096
 #define HEAD 136
+#define LARGE (1 << 20)
+#define PIECE 64 /* a piece of a snapshot is longer, and its head and end aren't */
 #define INODES 1024
 
+extern void *__libc_malloc(size_t), *__libc_realloc(void *, size_t);
+
 struct record { uint64_t kind, inode, id, offset, len; };
-static struct { int known, ours, is_folder, is_segment, inode, seen; uint64_t number; } fds[FDS];
+static struct { int known, ours, is_folder, is_segment, is_snapshot, inode, seen; uint64_t number; } fds[FDS];
 static struct { uint64_t number; int failures; } inodes[INODES];
 static pthread_mutex_t lock = PTHREAD_MUTEX_INITIALIZER;
 static int journal = -1, faults[3], over;
 static useconds_t slow;
 static int lies, cuts, has_failed;
 static uint64_t next_id = 1, state;
-static const char *folder, *full, *acts;
+static const char *folder, *full, *acts, *scarce;
 static ssize_t (*real_pwrite)(int, const void *, size_t, off_t), (*real_write)(int, const void *, size_t);
 static int (*real_fdatasync)(int), (*real_fsync)(int), (*real_close)(int), (*real_rename)(const char *, const char *), (*real_unlink)(const char *);
 
@@ -61,6 +67,7 @@ __attribute__((constructor)) static void begin(void) {
     folder = getenv("SHIM_FOLDER");
     full = getenv("SHIM_FULL");
     acts = getenv("SHIM_ACTS");
+    scarce = getenv("SHIM_SCARCE");
     if ((text = getenv("SHIM_OVER"))) over = atoi(text);
     if ((text = getenv("SHIM_FAULTS"))) sscanf(text, "%d,%d,%d", faults, faults + 1, faults + 2);
     lies = getenv("SHIM_LIES") != NULL;
@@ -124,6 +131,7 @@ static int is_ours(int fd) {
     if (strncmp(path, folder, strlen(folder)) || (path[strlen(folder)] && path[strlen(folder)] != '/')) return 0;
     fds[fd].is_folder = S_ISDIR(stat.st_mode);
     fds[fd].is_segment = !strncmp(strrchr(path, '/') + 1, "log-", 4);
+    fds[fd].is_snapshot = strstr(strrchr(path, '/'), "snapshot-") != NULL;
     fds[fd].number = stat.st_ino;
     for (i = 0; i < INODES - 1 && inodes[i].number && inodes[i].number != stat.st_ino; i++) {}
     inodes[i].number = stat.st_ino;
@@ -195,14 +203,21 @@ ssize_t write(int fd, const void *bytes, size_t len) {
     int fails = 0, is_no_room = 0;
     uint64_t id = 0;
     ssize_t did = -1;
+    char *spoilt = NULL;
     pthread_mutex_lock(&lock);
     if (is_ours(fd)) {
         is_no_room = is_full();
         fails = is_no_room || happens(faults[0] / 10);
         if (!fails) id = note_before(fd, len, lseek(fd, 0, SEEK_CUR));
+        if (fds[fd].is_snapshot && len > PIECE && act("spoil", 1)) {
+            if (!(spoilt = malloc(len))) abort();
+            memcpy(spoilt, bytes, len);
+            spoilt[len - 1] ^= 1;
+        }
     }
     pthread_mutex_unlock(&lock);
-    if (!fails) did = real_write(fd, bytes, len);
+    if (!fails) did = real_write(fd, spoilt ? spoilt : bytes, len);
+    free(spoilt);
     note_after(fd, id);
     if (fails) errno = is_no_room ? ENOSPC : EIO;
     return did;
@@ -246,6 +261,12 @@ static int sync_by(int fd, int (*real)(int)) {
     if (did < 0) errno = EIO;
     return did;
 }
+
+/* Whether there is no memory for so much. */
+static int is_scarce(size_t len) { return scarce && len >= LARGE && access(scarce, F_OK) == 0; }
+
+void *malloc(size_t len) { return is_scarce(len) ? NULL : __libc_malloc(len); }
+void *realloc(void *old, size_t len) { return is_scarce(len) ? NULL : __libc_realloc(old, len); }
 
 int fdatasync(int fd) { return sync_by(fd, real_fdatasync); }
 int fsync(int fd) { return sync_by(fd, real_fsync); }

@@ -3,10 +3,13 @@
 It has what hosts ask of etcd, over HTTP/2 by hand: reads, transactions, leases, the state of the member, and compaction, which it counts and
 doesn't do. Whatever it carries out it does at one instant; reads are as of now, whichever revision they name. Hosts come in by a door each.
 """
+import fcntl
 import itertools
 import socket
 import struct
+import termios
 import threading
+import time
 import types
 
 EQUAL, LESS = 0, 2
@@ -14,6 +17,9 @@ CREATED, CHANGED, VALUE = 1, 2, 3
 DATA, HEADERS, SETTINGS, PING, WINDOW = 0, 1, 4, 6, 8
 END_STREAM, ACK, END_HEADERS = 1, 1, 4
 GREETING, LONGEST = 24, 1 << 14
+# How many bytes of answers come to a host until it asks for room for more; a field that hosts pass over; and what a message begins with, and a field
+# that is as long as this.
+MORE, FILLER, HEAD = 1 << 24, 15, 5
 STATUS_OK = b"\x88"
 
 
@@ -167,13 +173,47 @@ def literal(name, value):
     return b"\x00" + bytes([len(name)]) + name + bytes([len(value)]) + value
 
 
+def pieces(stream, told):
+    """The frames that an answer's message goes in."""
+    text = b"\x00" + struct.pack(">I", len(told)) + told
+    return [(DATA, 0, stream, text[at:at + LONGEST]) for at in range(0, len(text), LONGEST)]
+
+
+class Way:
+    """A connection of a host, on which frames go whole; how many bytes of answers went since the host asked for room is known."""
+
+    def __init__(self, link):
+        self.link, self.lock, self.went = link, threading.Lock(), 0
+        link.setsockopt(socket.IPPROTO_TCP, socket.TCP_NODELAY, 1)
+
+    def sends(self, *frames):
+        text = b"".join(struct.pack(">I", len(load))[1:] + bytes([kind, flags]) + struct.pack(">I", stream) + load
+                        for kind, flags, stream, load in frames)
+        with self.lock:
+            for load in (load for kind, _, _, load in frames if kind == DATA):
+                self.went = (self.went + len(load)) * (self.went + len(load) < MORE)
+            self.link.sendall(text)
+
+    def arrives(self):
+        """Waits until the other side's system has all that was sent."""
+        while any(fcntl.ioctl(self.link, termios.TIOCOUTQ, bytes(4))):
+            time.sleep(0.001)
+
+    def resets(self):
+        """Whatever the other side sends from now on, it is told that it can't be sent. What it was sent it still has."""
+        self.link.setsockopt(socket.SOL_SOCKET, socket.SO_LINGER, struct.pack("ii", 1, 0))
+        self.link.shutdown(socket.SHUT_RD)
+
+
 class Door:
     """Where a host asks the engine. What comes of a call its rule says: 'answer'; 'late', it is carried out and answered once this is opened;
-    'hold', both once it is opened; 'break', it is carried out, and its connection breaks; 'lose', nothing; or a number and a text, by which it is
-    refused."""
+    'hold', both once it is opened; 'break', it is carried out, and its connection breaks; 'last', it is carried out, and answered at such length that
+    the host asks for room behind the end, which is sent once this is opened, when nothing can be sent any more; 'lose', nothing; or a number and a
+    text, by which it is refused."""
 
     def __init__(self, engine, at="127.0.0.1"):
         self.engine, self.at, self.rule, self.opened, self.asked, self.links = engine, at, lambda call: "answer", threading.Event(), [], set()
+        self.has_begun = threading.Event()
         self.listener = socket.create_server((at, 0))
         self.port = self.listener.getsockname()[1]
         self.address = f"{at}:{self.port}"
@@ -212,17 +252,10 @@ class Door:
 
     def hears(self, link):
         """Frames of a connection, until it ends."""
-        link.setsockopt(socket.IPPROTO_TCP, socket.TCP_NODELAY, 1)
-        file, lock, streams = link.makefile("rb"), threading.Lock(), {}
-
-        def sends(*frames):
-            text = b"".join(struct.pack(">I", len(load))[1:] + bytes([kind, flags]) + struct.pack(">I", stream) + load
-                            for kind, flags, stream, load in frames)
-            with lock:
-                link.sendall(text)
+        way, file, streams = Way(link), link.makefile("rb"), {}
         try:
             file.read(GREETING)
-            sends((SETTINGS, 0, 0, b""))
+            way.sends((SETTINGS, 0, 0, b""))
             while len(head := file.read(9)) == 9:
                 kind, flags, stream = head[3], head[4], int.from_bytes(head[5:], "big")
                 load = file.read(int.from_bytes(head[:3], "big"))
@@ -232,20 +265,21 @@ class Door:
                     streams[stream][1] += load
                     if load:
                         more = struct.pack(">I", len(load))
-                        sends((WINDOW, 0, 0, more), (WINDOW, 0, stream, more))
+                        way.sends((WINDOW, 0, 0, more), (WINDOW, 0, stream, more))
                     if flags & END_STREAM:
                         name, text = streams.pop(stream)
-                        threading.Thread(target=self.asks, args=(link, sends, stream, Call(name, text[5:])), daemon=True).start()
+                        threading.Thread(target=self.asks, args=(way, stream, Call(name, text[5:])), daemon=True).start()
                 elif kind == SETTINGS and not flags & ACK:
-                    sends((SETTINGS, ACK, 0, b""))
+                    way.sends((SETTINGS, ACK, 0, b""))
                 elif kind == PING and not flags & ACK:
-                    sends((PING, ACK, 0, load))
+                    way.sends((PING, ACK, 0, load))
         except OSError:
             pass
-        self.links.discard(link)
+        file.close()
         link.close()
+        self.links.discard(link)
 
-    def asks(self, link, sends, stream, call):
+    def asks(self, way, stream, call):
         """A call, as the rule has it."""
         opened, rule = self.opened, self.rule(call)
         self.asked.append((call, rule))
@@ -257,16 +291,30 @@ class Door:
             if isinstance(rule, tuple):
                 status, text = rule
                 refusal = literal(b"grpc-status", b"%d" % status) + literal(b"grpc-message", text.encode())
-                sends((HEADERS, END_HEADERS | END_STREAM, stream, STATUS_OK + refusal))
+                way.sends((HEADERS, END_HEADERS | END_STREAM, stream, STATUS_OK + refusal))
                 return
             told = self.engine.carries_out(call.name, call.message)
             if rule == "late":
                 opened.wait()
             if rule == "break":
-                link.shutdown(socket.SHUT_RDWR)
+                way.link.shutdown(socket.SHUT_RDWR)
                 return
-            told = b"\x00" + struct.pack(">I", len(told)) + told
-            pieces = [(DATA, 0, stream, told[at:at + LONGEST]) for at in range(0, len(told), LONGEST)]
-            sends((HEADERS, END_HEADERS, stream, STATUS_OK), *pieces, (HEADERS, END_HEADERS | END_STREAM, stream, literal(b"grpc-status", b"0")))
+            if rule == "last":
+                self.answers_last(way, stream, told, opened)
+                return
+            way.sends((HEADERS, END_HEADERS, stream, STATUS_OK), *pieces(stream, told),
+                      (HEADERS, END_HEADERS | END_STREAM, stream, literal(b"grpc-status", b"0")))
         except OSError:
             pass
+
+    def answers_last(self, way, stream, told, opened):
+        """An answer, as 'last' has it: its last piece comes once this is opened, and with it, that nothing can be sent any more."""
+        told += field(FILLER, bytes(MORE - way.went - len(told) - 2 * HEAD))
+        *front, end = pieces(stream, told)
+        way.sends((HEADERS, END_HEADERS, stream, STATUS_OK), *front)
+        way.arrives()
+        self.has_begun.set()
+        opened.wait()
+        way.sends(end)
+        way.arrives()
+        way.resets()

@@ -259,6 +259,12 @@ def older(program, folder):
     (folder / "store").unlink()
     told = subprocess.run([program, "--check", folder], capture_output=True, text=True)
     yield "--check reads it", told.returncode == 0 and "41 keys" in told.stdout
+    snapshot = next(folder.glob("snapshot-*"))
+    text = snapshot.read_bytes()
+    snapshot.write_bytes(b"")
+    told = subprocess.run([program, "--check", folder], capture_output=True, text=True)
+    yield "but no snapshot without a piece", told.returncode == 1 and snapshot.name in told.stderr and "no piece at all" in told.stderr
+    snapshot.write_bytes(text)
     for turn in range(2):
         server = Server(program, folder, "--segment", "64k", "--undecided", "16k")
         yield f"start {turn} on it", server.says("listening on") and server.ask(b"GET a\r\nDBSIZE\r\nSET a 1\r\n", b"$1\r\n1\r\n:41\r\n+OK\r\n")

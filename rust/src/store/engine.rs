@@ -1,12 +1,13 @@
 //! A store and its log, as the calls of a program and one thread beside have them in turn.
 use super::file::Transaction;
 use super::folder::Folder;
-use super::log::{DiskLog, Room, Segments};
+use super::log::{Closed, DiskLog, Room, Segments};
 use super::recovery::Made;
 use super::reply::{request, take, Reply};
 use super::tell::{Host, Tell};
 use super::{Decision, Fed, Refusal, Request, Store, StoreLimits};
-use std::collections::BTreeMap;
+use std::collections::{BTreeMap, VecDeque};
+use std::path::PathBuf;
 use std::sync::mpsc::Receiver;
 use std::sync::{Arc, Condvar, Mutex, MutexGuard, PoisonError};
 use std::time::{Duration, Instant};
@@ -50,19 +51,61 @@ impl Bell {
     }
 }
 
+/// A snapshot of the segments up to one, in their place or as a backup, and who is told what came of it.
+struct Wish {
+    up_to: u64,
+    backup: Option<PathBuf>,
+    caller: Option<u64>,
+}
+
 /// When snapshots are made.
 struct Snapshots {
     folder: Folder,
-    /// One is made once the log has so many bytes, and as many as the last one.
+    /// One is made once the log has so many bytes, and as many as the last one; the segments that one was to stand for.
     every: u64,
     bytes: u64,
-    /// The segments that one was to stand for, and those that one is wished for; whether one is being made, and what came of the last.
     tried: u64,
-    wished: Option<u64>,
+    /// What is wished for, whether one is being made, and what came of those that a caller waits for.
+    wishes: VecDeque<Wish>,
     is_making: bool,
-    made: Option<io::Result<()>>,
-    tell: Tell<io::Result<Made>>,
-    words: Receiver<io::Result<Made>>,
+    callers: u64,
+    made: BTreeMap<u64, io::Result<()>>,
+    tell: Tell<(Wish, io::Result<Made>)>,
+    words: Receiver<(Wish, io::Result<Made>)>,
+}
+
+impl Snapshots {
+    fn new(folder: Folder, every: u64, kept: u64, host: Host) -> Snapshots {
+        let ((tell, words), wishes, made) = (Tell::new(host), VecDeque::new(), BTreeMap::new());
+        Snapshots { folder, every, bytes: 0, tried: kept, wishes, is_making: false, callers: 0, made, tell, words }
+    }
+
+    /// Makes one on a thread of its own.
+    fn begin(&mut self, wish: Wish, closed: Closed) -> io::Result<()> {
+        let (folder, tell) = (Folder(self.folder.0.clone()), self.tell.clone());
+        self.is_making = true;
+        let work = move || {
+            let did = match &wish.backup {
+                Some(path) => folder.back_up(&closed, path),
+                None => folder.write(&closed, &folder).and_then(|made| folder.remove().map(|()| made)),
+            };
+            drop(closed);
+            tell.tell((wish, did));
+        };
+        thread::Builder::new().spawn(work).map(drop)
+    }
+
+    /// What came of one.
+    fn is_made(&mut self, wish: Wish, did: io::Result<Made>, host: &Host) {
+        match (&did, &wish.backup) {
+            (Ok(made), None) => self.bytes = made.bytes,
+            (Err(error), None) => host.say(format_args!("no snapshot: {error}")),
+            _ => (),
+        }
+        if let Some(caller) = wish.caller {
+            self.made.insert(caller, did.map(drop));
+        }
+    }
 }
 
 /// A store and its log.
@@ -96,10 +139,7 @@ impl Engine {
     pub fn new(
         store: Store, log: DiskLog, folder: Folder, limits: StoreLimits, every: u64, kept: u64, host: Host,
     ) -> Engine {
-        let (tell, words) = Tell::new(host.clone());
-        let snapshots = Snapshots {
-            folder, every, bytes: 0, tried: kept, wished: None, is_making: false, made: None, tell, words,
-        };
+        let snapshots = Snapshots::new(folder, every, kept, host.clone());
         Engine {
             store, log, limits, idle: Vec::new(), came: BTreeMap::new(), room: vec![0; 1 << 16], snapshots, host,
             cut_off: 0, stops: None, fault: None, is_over: false,
@@ -147,30 +187,25 @@ impl Engine {
         Ok(())
     }
 
-    /// Has the snapshot made that is due, or wished for.
+    /// Has the next snapshot made that is wished for, or due; one is due too where it may make room.
     fn keep(&mut self) -> io::Result<()> {
         let (Segments { closed, lacks_room, .. }, it) = (self.log.segments(), &mut self.snapshots);
-        if let Ok(did) = it.words.try_recv() {
+        if let Ok((wish, did)) = it.words.try_recv() {
             it.is_making = false;
-            match &did {
-                Ok(made) => it.bytes = made.bytes,
-                Err(error) => self.host.say(format_args!("no snapshot: {error}")),
-            }
-            it.made = Some(did.map(drop));
+            it.is_made(wish, did, &self.host);
         }
         let news = closed.saturating_sub(it.tried).saturating_mul(self.limits.segment);
-        if it.wished.is_none() && (news >= it.every.max(it.bytes) || lacks_room && news > 0) {
-            it.wished = Some(closed);
+        if news >= it.every.max(it.bytes) || lacks_room && news > 0 {
+            it.tried = closed;
+            it.wishes.push_front(Wish { up_to: closed, backup: None, caller: None });
         }
-        let Some(up_to) = it.wished.filter(|_| !it.is_making) else { return Ok(()) };
-        if let Some(closed) = self.log.close(&mut self.store, up_to)? {
-            (it.tried, it.wished, it.is_making) = (up_to, None, true);
-            let (folder, tell) = (Folder(it.folder.0.clone()), it.tell.clone());
-            thread::Builder::new().spawn(move || {
-                let did = folder.write(&closed, &folder).and_then(|made| folder.remove().map(|()| made));
-                drop(closed);
-                tell.tell(did);
-            })?;
+        let Some(wish) = it.wishes.pop_front() else { return Ok(()) };
+        match self.log.close(&mut self.store, wish.up_to)? {
+            None if lacks_room && !it.is_making && wish.caller.is_some() => {
+                it.is_made(wish, Err(io::ErrorKind::StorageFull.into()), &self.host);
+            }
+            None => it.wishes.push_front(wish),
+            Some(closed) => it.begin(wish, closed)?,
         }
         Ok(())
     }
@@ -238,7 +273,9 @@ impl Engine {
         let Some(since) = self.stops else { return false };
         let counts = self.store.counts();
         let is_late = since.elapsed() > PATIENCE;
-        let waits = counts.undecided > 0 || counts.in_flight > 0 || self.snapshots.is_making;
+        let is_wished = self.snapshots.wishes.iter().any(|wish| wish.caller.is_some());
+        let is_keeping = self.snapshots.is_making || is_wished;
+        let waits = counts.undecided > 0 || counts.in_flight > 0 || is_keeping;
         if self.fault.is_none() && waits && !is_late {
             return false;
         }
@@ -431,21 +468,24 @@ impl Shared {
         }
     }
 
-    /// Makes a snapshot of all that is there now.
-    pub fn snapshot(&self) -> io::Result<()> {
+    /// Makes a snapshot of all that is there now, in the place of the log or as a backup.
+    pub fn snapshot(&self, backup: Option<PathBuf>) -> io::Result<()> {
         let mut engine = self.lock();
         engine.is_open()?;
-        while engine.snapshots.is_making || engine.snapshots.wished.is_some() {
-            engine = self.wait(engine);
-            engine.is_open()?;
-        }
-        (engine.snapshots.wished, engine.snapshots.made) = (Some(engine.log.segments().written), None);
+        let (up_to, it) = (engine.log.segments().written, &mut engine.snapshots);
+        it.callers += 1;
+        let caller = it.callers;
+        it.tried = if backup.is_none() { up_to } else { it.tried };
+        it.wishes.push_back(Wish { up_to, backup, caller: Some(caller) });
         engine.go_on();
         loop {
-            if let Some(did) = engine.snapshots.made.take() {
+            if let Some(did) = engine.snapshots.made.remove(&caller) {
                 return did;
             }
             engine.well()?;
+            if engine.is_over {
+                return engine.is_open();
+            }
             self.bell.ring();
             engine = self.wait(engine);
         }

@@ -3,10 +3,10 @@
 use super::disk;
 use super::reading::is_zeros;
 use super::room::Growth;
-use std::fs::{self, File, OpenOptions};
+use std::fs::{self, DirBuilder, File, OpenOptions};
 use std::io::{self, Read, Seek, SeekFrom, Write};
 use std::ops::RangeInclusive;
-use std::os::unix::fs::FileExt;
+use std::os::unix::fs::{DirBuilderExt, FileExt};
 use std::path::{Path, PathBuf};
 use std::time::{Duration, Instant};
 use std::{process, thread};
@@ -59,12 +59,13 @@ impl Folder {
         Ok(files)
     }
 
-    /// Makes the folder, if it isn't there.
+    /// Makes the folder for its owner alone, if it isn't there.
     pub fn make(&self) -> io::Result<()> {
         if self.0.is_dir() {
             return Ok(());
         }
-        named(&self.0, fs::create_dir(&self.0).and_then(|()| File::open(self.0.join(".."))?.sync_all()))
+        let made = DirBuilder::new().mode(0o700).create(&self.0);
+        named(&self.0, made.and_then(|()| File::open(self.0.join(".."))?.sync_all()))
     }
 
     /// Has the folder, a lock on it that keeps others out while it is open, and no file that a crash left in the making. Where another
@@ -116,13 +117,20 @@ impl Folder {
         File::open(&self.0)?.sync_all()
     }
 
-    /// Makes a file, under its name once it is on the disk, in the place of one of this name; and has that on the disk too.
-    pub fn place<T>(&self, path: &Path, writes: impl FnOnce(&mut File) -> io::Result<T>) -> io::Result<T> {
+    /// Makes a file, under its name once it is on the disk and is found there as it should be, in the place of one of this name; and has
+    /// that on the disk too.
+    pub fn place<T>(
+        &self,
+        path: &Path,
+        writes: impl FnOnce(&mut File) -> io::Result<T>,
+        finds: impl FnOnce(&Path) -> io::Result<()>,
+    ) -> io::Result<T> {
         let new = self.0.join(format!("new-0-{}", path.file_name().unwrap_or_default().display()));
         let make = || {
             let mut file = disk::opened(|| File::create(&new))?;
             let did = writes(&mut file)?;
             file.sync_all()?;
+            finds(&new)?; // [8]
             fs::rename(&new, path)?;
             disk::opened(|| File::open(&self.0))?.sync_all()?;
             Ok(did)
@@ -173,7 +181,7 @@ impl Folder {
             }
             Ok(())
         };
-        self.place(path, zeros) // [3]
+        self.place(path, zeros, |_| Ok(())) // [3]
     }
 
     /// The segments that the newest snapshot stands for, the next frame, and its file, where there is one.

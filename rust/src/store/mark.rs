@@ -154,7 +154,7 @@ pub fn make(folder: &Folder, owner: Owner, mark: Mark) -> io::Result<Said> {
     let mut page = vec![0; PAGE];
     page[..HEAD].copy_from_slice(&owner.bytes());
     page[SYNCED[0]..][..MARK].copy_from_slice(&mark.bytes(&owner.identity));
-    folder.place(&path(folder), |file| file.write_all(&page))?;
+    folder.place(&path(folder), |file| file.write_all(&page), |_| Ok(()))?;
     Ok(Said { owner, mark, next: 1 })
 }
 

@@ -168,7 +168,7 @@ impl Folder {
         Ok(found)
     }
 
-    /// Writes a snapshot that stands for these segments, into this folder or, as a backup, another, and reads it back.
+    /// Writes a snapshot that stands for these segments, into this folder or, as a backup, another.
     pub fn write(&self, closed: &Closed, into: &Folder) -> io::Result<Made> {
         let (up_to, next) = (closed.up_to(), Some(closed.next()));
         let how = How { up_to, again: false, undecided: u32::MAX, accept: None, next };
@@ -179,8 +179,6 @@ impl Folder {
             None => Owner::new()?,
         };
         let bytes = into.write_of(&mut log, &owner.identity, (up_to, next, keys))?;
-        drop(log);
-        into.read_back(&owner.identity, (up_to, next))?;
         if is_backup {
             mark::make(into, owner, Mark { is_stopped: true, known: next - 1, segment: up_to, ..Mark::default() })?;
         }
@@ -192,8 +190,8 @@ impl Folder {
         self.0.join(format!("snapshot-{up_to:010}-{next}"))
     }
 
-    /// Writes a snapshot of a log that was read up to the end of a segment, behind which this frame is the next, and that has so many keys:
-    /// its bytes.
+    /// Writes a snapshot of a log that was read up to the end of a segment, behind which this frame is the next, and that has so many keys,
+    /// and reads it back before it has its name: its bytes.
     pub fn write_of(
         &self,
         log: &mut Recovery,
@@ -201,7 +199,7 @@ impl Folder {
         (up_to, next, keys): (u64, u64, u64),
     ) -> io::Result<u64> {
         let (mut room, identity) = (vec![0; ROOM_BEFORE + ENTRIES], *identity);
-        self.place(&self.snapshot_of(up_to, next), |file| {
+        let writes = |file: &mut File| {
             let head = FileHead { of_snapshot: true, identity, segment: up_to, frame: next, known: next - 1 };
             file.write_all(&head.bytes())?;
             let mut ending = Ending { entries: keys, ..Ending::default() };
@@ -216,15 +214,15 @@ impl Folder {
                 let from = wrap(&mut room, None, &envelope, &identity);
                 file.write_all(&room[from..end])?;
             }
-        })
+        };
+        self.place(&self.snapshot_of(up_to, next), writes, |new| read_back(new, &identity, (up_to, next)))
     }
+}
 
-    /// Reads a snapshot whole, as the disk has it.
-    pub fn read_back(&self, identity: &Identity, (up_to, next): (u64, u64)) -> io::Result<()> {
-        let path = self.snapshot_of(up_to, next);
-        named(&path, File::open(&path).map(|file| system::forget(&file)))?;
-        damage::of_file(&path, reading::snapshot(&path, identity, (up_to, next), |_| Ok(())).map(drop))
-    }
+/// Reads a snapshot whole, as the disk has it, that stands for all up to a segment, with the next frame.
+pub fn read_back(path: &Path, identity: &Identity, of: (u64, u64)) -> io::Result<()> {
+    system::forget(&File::open(path)?);
+    reading::snapshot(path, identity, of, |_| Ok(())).map(drop)
 }
 
 /// A snapshot of an older server, which has no head and no end: one of nothing but zeros, or of nothing, can't be told from one that was lost.

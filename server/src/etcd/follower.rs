@@ -7,9 +7,9 @@ use crate::door::is_password;
 use crate::options::Options;
 use hidewillow::store::folder::{named, Folder};
 use hidewillow::store::mark::Said;
-use hidewillow::store::recovery::Begun;
+use hidewillow::store::recovery::{read_back, Begun};
 use hidewillow::store::Recovery;
-use std::fs::{self, File};
+use std::fs::File;
 use std::io::{self, BufRead, BufReader, Read, Write};
 use std::net::{SocketAddr, TcpListener, TcpStream, ToSocketAddrs};
 use std::sync::{Arc, Mutex, MutexGuard, Weak};
@@ -190,8 +190,6 @@ impl Reader {
         let (segment, next) = (batches[last].segment, batches[last].number + 1);
         let keys = recovered(&mut recovery, &batches[..=last], next)?.keys;
         let bytes = self.folder.write_of(&mut recovery, &self.said.owner.identity, (segment, next, keys))?;
-        drop(recovery);
-        self.folder.read_back(&self.said.owner.identity, (segment, next))?;
         self.folder.remove()?;
         say!("a snapshot up to batch {} has {bytes} bytes", next - 1);
         Ok(())
@@ -207,12 +205,11 @@ impl Reader {
         let numbers: Vec<u64> = line.split_whitespace().flat_map(str::parse).collect();
         let &[segment, next, bytes] = &numbers[..] else { return Err(io::Error::other("no copy is handed out")) };
         let path = self.folder.snapshot_of(segment, next);
-        self.folder.place(&path, |file| match io::copy(&mut socket.take(bytes), file)? {
+        let copy = |file: &mut File| match io::copy(&mut socket.take(bytes), file)? {
             copied if copied == bytes => Ok(()),
             _ => Err(io::ErrorKind::UnexpectedEof.into()),
-        })?;
-        let whole = self.folder.read_back(&self.said.owner.identity, (segment, next));
-        whole.inspect_err(|_| _ = fs::remove_file(&path))?;
+        };
+        self.folder.place(&path, copy, |new| read_back(new, &self.said.owner.identity, (segment, next)))?;
         self.folder.remove()?;
         say!("a snapshot up to batch {} is copied from {}", next - 1, have.copies);
         Ok(())

@@ -336,12 +336,12 @@ impl Channels {
         let (is_queued, is_pressed) = (guest.queue.is_some(), house.is_pressed(counts));
         let writes = match next.does {
             Does::Adds | Does::TakesAway => Some(next.len),
-            Does::CarriesOut if is_queued => Some(0),
+            Does::CarriesOut if guest.queue.is_some_and(|queue| queue.writes) => Some(0),
             Does::Unknown if is_pressed => return Err(Fed::Full),
             _ => None,
         };
         let room = writes.map_or(Room::Is, |bytes| {
-            let all = (bytes + guest.queue.map_or(0, |queue| queue.writes)).min(house.half());
+            let all = (bytes + self.store.queued(channel)).min(house.half());
             self.log.room(&mut self.store, all, next.does == Does::TakesAway)
         });
         let instead = guest.instead(next.does, room, house.is_heavy(self.waiting.get()));
@@ -387,7 +387,7 @@ impl Channels {
         client.has_fed(if instead.is_some() { next.len } else { bytes });
         client.had = if request == Request::Part && next.words > 0 { Had::Part } else { Had::Whole };
         if request == Request::Done {
-            client.guest.has_queued(next.does, next.len, next.shows);
+            client.guest.has_queued(next.does, next.shows);
         }
         match request {
             Request::Part => return Ok(Fed::Part),

@@ -20,6 +20,7 @@ const PATIENCE: Duration = Duration::from_secs(60);
 
 /// A file that is open for writing.
 pub struct Draft {
+    name: Name,
     /// What the server has of it, or was sent last.
     sent: Pieces,
     /// All that is written goes to its end.
@@ -62,7 +63,20 @@ impl Supervisor {
             Some(d) => d.sent.clone(),
             None => self.undo.contents(&self.names.local(name)),
         };
-        self.drafts.insert(file_of(m), Rc::new(Draft { sent, appends }));
+        self.drafts.insert(file_of(m), Rc::new(Draft { name: name.clone(), sent, appends }));
+    }
+    /// All went back, and what was open for writing was opened once more.
+    pub fn reopen_drafts(&mut self) {
+        self.reopened = self.drafts.values().map(|d| d.name.clone()).collect();
+    }
+    /// Takes in what was closed so far. The kernel doesn't tell each close of what was opened once more: that is looked at.
+    pub fn take_closed(&mut self) {
+        self.stored.drain(&self.paths);
+        let is_closed = |n: &Name| sys::is_nowhere_open(&self.names.local(n));
+        let (closed, open): (Vec<Name>, Vec<Name>) =
+            std::mem::take(&mut self.reopened).into_iter().partition(is_closed);
+        self.reopened = open;
+        closed.iter().for_each(|n| self.stored.is_due(n));
     }
     /// It was stored so, or need not be stored.
     pub fn end_draft(&mut self, name: &Name, contents: Option<&[u8]>) {
@@ -73,7 +87,7 @@ impl Supervisor {
             self.drafts.remove(&file);
         } else if let Some(sent) = contents {
             let (sent, appends) = (pieces(sent, &old.sent), old.appends);
-            self.drafts.insert(file, Rc::new(Draft { sent, appends }));
+            self.drafts.insert(file, Rc::new(Draft { name: name.clone(), sent, appends }));
         }
     }
     /// The same of a store that waited for its reply.
@@ -114,7 +128,7 @@ impl Supervisor {
             if merged != ours {
                 write_over(&path, &merged).map_err(|e| Failure::Broken(format!("{}: {e}", path.display())))?;
             }
-            self.drafts.insert(file, Rc::new(Draft { sent, appends: draft.appends }));
+            self.drafts.insert(file, Rc::new(Draft { name: name.clone(), sent, appends: draft.appends }));
         }
         self.stats.merged += 1;
         for n in self.names.names_of_file(name) {
@@ -169,7 +183,7 @@ mod tests {
     #[test]
     fn both_have_written() {
         let over = |appends, sent: &str, ours: &str, theirs: &str| {
-            let draft = Draft { sent: pieces(sent.as_bytes(), &[]), appends };
+            let draft = Draft { name: Name::root(), sent: pieces(sent.as_bytes(), &[]), appends };
             String::from_utf8(draft.over(theirs.into(), ours.as_bytes())).unwrap()
         };
         assert_eq!(over(true, "1\n", "1\n2\n", "1\na\nb\n"), "1\na\nb\n2\n");

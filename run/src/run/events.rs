@@ -203,7 +203,7 @@ impl Supervisor {
     }
     fn store_if_possible(&mut self) -> Done {
         if self.stopping {
-            self.stored.drain(&self.paths);
+            self.take_closed();
             return Ok(());
         }
         self.store_closed(None).map(drop)

@@ -210,8 +210,10 @@ impl Supervisor {
         if old.version == e.version && old.kind == e.kind && old.kind != Kind::Absent {
             return;
         }
-        let is_due = self.names.names_of_file(&e.name).iter().any(|n| self.stored.due.contains(n));
-        if is_due || self.is_open_for_writing(&e.name) {
+        // What isn't open any more was closed before the next line takes that in.
+        let is_open = self.is_open_for_writing(&e.name);
+        self.take_closed();
+        if is_open || self.names.names_of_file(&e.name).iter().any(|n| self.stored.due.contains(n)) {
             let kind = if e.kind == Kind::Absent { Kind::Absent } else { old.kind };
             self.set_told(&e.name, Known { version: e.version, kind, have: true, looked: 0, ..old });
             if e.kind == Kind::File && old.kind == Kind::File {
@@ -258,7 +260,7 @@ impl Supervisor {
 
     /// Stores what was closed; false: the process has to wait, or makes its call once more.
     pub fn store_closed(&mut self, pid: Option<Pid>) -> Done<bool> {
-        self.stored.drain(&self.paths);
+        self.take_closed();
         while let Some(name) = self.stored.due.first().cloned() {
             if self.stored.changed(&self.names, &name).is_none() {
                 self.stored.due.remove(0);

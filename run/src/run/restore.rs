@@ -29,6 +29,7 @@ impl Supervisor {
         let begin = Instant::now();
         self.stats.rollbacks += 1;
         self.kill_all();
+        self.reopened.clear();
         self.forget_undecided(snapshot.said.clone());
         self.undo.take_back_all();
         self.stored.discard(&self.paths, snapshot.due.clone());
@@ -50,6 +51,7 @@ impl Supervisor {
         self.merge_drafts()?;
         self.read_on(&snapshot, &opened)?;
         drop((pipes, opened));
+        self.reopen_drafts();
         self.stats.rollback_time += begin.elapsed();
         self.trace.note("rolled back", &[("processes", snapshot.processes.len() as u64)]);
         self.go_all(None)

@@ -264,6 +264,7 @@ fn prepare(mut options: Options, (link, session): (Link, Vec<u8>), entries: &[En
         fetching: Fetching::default(),
         drafts: Drafts::default(),
         changed_drafts: Vec::new(),
+        reopened: Vec::new(),
         later: VecDeque::new(),
         tree: Tree::default(),
         stats: Stats::default(),

@@ -76,6 +76,8 @@ pub struct Supervisor {
     pub drafts: Drafts,
     /// Those that others have changed, until what was written here is written over that.
     pub changed_drafts: Vec<Name>,
+    /// Those that were opened once more.
+    pub reopened: Vec<Name>,
     /// Replies that came while another was waited for.
     pub later: VecDeque<Reply>,
     pub streams: Streams,
@@ -182,7 +184,7 @@ impl Supervisor {
     /// Takes in what was said. What was closed before it was said is stored first, so that it is not shown before that.
     pub fn take_output(&mut self) -> Done {
         self.streams.read();
-        self.stored.drain(&self.paths);
+        self.take_closed();
         self.book_stores()?;
         if !self.streams.pending.is_empty() && !self.stored.due.is_empty() && !self.stopping {
             self.store_closed(None)?;

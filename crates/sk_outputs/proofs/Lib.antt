@@ -6,3 +6,4 @@ mod Ready
 mod Counted
 mod Taken
 mod Waiting
+mod Resting

@@ -17,6 +17,8 @@ pub use Rattle.std.specs.declared.cmp.Ordering.TheVariants.{Less}
 pub use Rattle.sk_ids.proofs.Newest.{without_none}
 pub use Rattle.sk_ids.proofs.Searches.{taken_at, tells}
 pub use Rattle.sk_outputs.specs.Ready.{AreCounted, AreReady, ChannelsView, is_ready}
+pub use Rattle.sk_outputs.specs.Resting.{some_rest, NoneAbove}
+pub use Rattle.sk_ids.proofs.Newest.{none_above}
 pub use Rattle.sk_outputs.specs.Said.{said_at, first_of, is_empty, Said, waiting_of, SaidView}
 pub use Rattle.sk_record.proofs.Machine.{has_filter}
 pub use Rattle.sk_record.proofs.Sound.{eqb_turned}

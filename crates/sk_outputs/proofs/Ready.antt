@@ -85,14 +85,14 @@ module _ {O : Type 0} where
   decided xs p x lt at old new ready decides t = decides t ∙ ap (λ b. cond (x.0.0 == t) (is_empty x.1) b) (ready t) ∙ sym (step xs p t x lt at)
 
   module _ (x : Tagged (ℕ × O)) (a : ℕ) (old new : List ℕ) (same : a ≡ x.0.0) where
-    -- one that rests on nothing puts its channel on
+    -- one that depends on nothing puts its channel on
     pub put_on : not (is_empty x.1) ≡ false → ((t : ℕ) → has t new ≡ ((a == t) || has t old)) → (t : ℕ) → has t new ≡ cond (x.0.0 == t) (is_empty x.1) (has t old)
     put_on bare put t = put t ∙ (λ i. (same i == t) || has t old) ∙ on (x.0.0 == t) where
       on : (b : Bool) → (b || has t old) ≡ cond b (is_empty x.1) (has t old)
       on true = sym (not-false (is_empty x.1) bare)
       on false = refl
 
-    -- and one that rests on a guess takes it off
+    -- and one that depends on a guess takes it off
     pub taken_off : not (is_empty x.1) ≡ true → new ≡ without a old → (t : ℕ) → has t new ≡ cond (x.0.0 == t) (is_empty x.1) (has t old)
     taken_off rests taken t =
         ap (has t) (taken ∙ ap (λ n. without n old) same) ∙ has_filter (λ n. not (n == x.0.0)) t old ∙ ap (λ c. not c && has t old) (eqb_turned t x.0.0)
@@ -141,7 +141,7 @@ module _ {O : Type 0} where
   pub same_ready : (xs ys : Said O) (t : ℕ) → said_at ys t ≡ said_at xs t → is_ready xs t ≡ is_ready ys t
   same_ready xs ys t same = ready_is xs t ∙ ap (λ zs. not (is_empty (released zs))) (sym same) ∙ sym (ready_is ys t)
 
-  -- the first of a channel that has one to take is near, and rests on nothing
+  -- the first of a channel that has one to take is near, and depends on nothing
   pub first_near : (to i : ℕ) (xs : Said O) → i ≡ prefix_len (other to) xs → is_ready xs to ≡ true → i < length xs
   first_near to i [] is ready = absurd (true≢false (sym ready))
   first_near to i (x ∷ xs) is ready =

@@ -8,12 +8,12 @@ pub record ChannelsView : Type 0 where
   pub channels : List ℕ
   pub places : ℕ
 
--- whether the first output of a channel is there and rests on nothing
+-- whether the first output of a channel is there and depends on nothing
 abbrev pub is_ready : {O : Type 0} → Said O → ℕ → Bool
 is_ready [] t = false
 is_ready (x ∷ xs) t = cond (x.0.0 == t) (is_empty x.1) (is_ready xs t)
 
--- these are just the channels whose first output rests on nothing
+-- these are just the channels whose first output depends on nothing
 abbrev pub AreReady : {O : Type 0} → Said O → List ℕ → Type 0
 AreReady xs channels = (t : ℕ) → has t channels ≡ is_ready xs t
 

@@ -1,4 +1,4 @@
--- Outputs that were said, each with its channel and the guesses that it rests on.
+-- Outputs that were said, each with its channel and the guesses that it depends on.
 use Rattle.std.specs.Prelude.{ℕ, ◌==◌, ◌-◌, ◌<◌, Bool, true, false, List, [], ◌∷◌, length, Option, Some, None, refl}
 use Rattle.std.specs.List.{filter}
 use Rattle.std.specs.Coded.{Coded, code_by, coded×, coded_ℕ, coded_list}
@@ -34,7 +34,7 @@ abbrev pub first_of : {O : Type 0} → List (Tagged (ℕ × O)) → Option O
 first_of [] = None
 first_of (x ∷ xs) = Some x.0.1
 
--- how many of a channel wait: the first that rests on a guess, and all behind it
+-- how many of a channel wait: the first that depends on a guess, and all behind it
 abbrev pub waiting_of : {W : Type 0} → List (Tagged W) → ℕ
 waiting_of xs = length xs - length (released xs)
 

@@ -1,8 +1,9 @@
-//! Outputs that wait until what they rest on is decided.
+//! Outputs that wait until what they depend on is decided.
 ghost use Rattle.std.specs.Prelude.{◌≡◌, ◌<◌, ◌≤◌, ◌==◌, ◌&&◌, ◌||◌, ◌∷◌, ◌++◌, ◌+◌, cond, nat_lt, ℕ, [], true, false, not, drop, get_or, length, None, OnOk, IfSome};
 ghost use Rattle.std.specs.List.{prefix_len, slice_get};
 ghost use Rattle.std.specs.Option.{option_copied, option_map};
 ghost use Rattle.sk_outputs.specs.Ready.{is_ready, AreCounted, AreReady};
+ghost use Rattle.sk_outputs.specs.Resting.{some_rest};
 ghost use Rattle.sk_outputs.specs.Said.{said_at, first_of, waiting_of, is_empty, HasRoom, Said};
 ghost use Rattle.sk_record.specs.Notes.{has, without};
 ghost use Rattle.sk_record.specs.Machine.{lightened, not_dropped, released};
@@ -14,7 +15,7 @@ use std::alloc::{AllocError, Global};
 use std::collections::VecDeque;
 use std::marker::Model;
 
-/// An output, its channel, and the guesses that it rests on.
+/// An output, its channel, and the guesses that it depends on.
 #[derive(Drop)]
 struct Output<O> {
     to: u16,
@@ -46,7 +47,7 @@ impl<O> Output<O> {
         self.to
     }
 
-    /// Whether it rests on a guess.
+    /// Whether it depends on a guess.
     fn rests(&self) -> bool
         ensures { result ≡ not (is_empty self.now.1) }
     {
@@ -93,12 +94,15 @@ pub struct Outputs<O> {
     said: VecDeque<Output<O>>,
     counts: Vec<usize>,
     ready: Channels,
+    /// No output depends on a guess of a greater number.
+    newest: u64,
 }
 
 impl<O> Model for Outputs<O> {
     ghost use Rattle.std.specs.Prelude.{◌≤◌, ◌-◌, max, min, length, vec_len};
     ghost use Rattle.std.specs.VecDeque.{deque_len, deque_capacity};
     ghost use Rattle.sk_outputs.specs.Ready.{AreCounted, AreReady};
+    ghost use Rattle.sk_outputs.specs.Resting.{NoneAbove};
     ghost use Rattle.sk_outputs.specs.Said.{SaidView, said_code};
 
     ghost Value = { SaidView O };
@@ -114,7 +118,26 @@ impl<O> Model for Outputs<O> {
 
     ghost invariant = { λ a. AreReady a.said.items a.ready.channels
         × (length a.said.items ≤ a.ready.places)
-        × AreCounted a.said.items a.counts.items };
+        × AreCounted a.said.items a.counts.items
+        × NoneAbove a.said.items a.newest };
+}
+
+/// The number of the newest guess of a set; 0 where it has none.
+fn newest_of(tags: &TagSet) -> u64
+    ensures { (g : ℕ) → result < g → has g tags.now ≡ false }
+{
+    match tags.ids() {
+        [.., newest] => newest.number(),
+        [] => 0,
+    }
+}
+
+/// The greater of two numbers of guesses.
+fn newest_with(newest: u64, other: u64) -> u64
+    ensures newest { newest ≤ result }
+    ensures other { other ≤ result }
+{
+    if other > newest { other } else { newest }
 }
 
 fn lighten_all<O: Drop>(said: &mut VecDeque<Output<O>>, id: GuessId)
@@ -129,7 +152,7 @@ fn drop_resting<O: Drop>(said: &mut VecDeque<Output<O>>, id: GuessId)
     said.retain(|output: &Output<O>| !output.rests_on(id));
 }
 
-/// Counts no more what rests on a guess.
+/// Counts no more what depends on a guess.
 fn count_without<O>(counts: &mut Vec<usize>, said: &VecDeque<Output<O>>, id: GuessId)
     requires { AreCounted said.now.items counts.old.items }
     ensures { AreCounted (not_dropped id said.now.items) counts.new.items }
@@ -154,7 +177,7 @@ fn others_before<O>(said: &VecDeque<Output<O>>, to: u16) -> usize
     said.len()
 }
 
-/// How many outputs of a channel wait: the first that rests on a guess, and all behind it.
+/// How many outputs of a channel wait: the first that depends on a guess, and all behind it.
 fn waiting_in<O>(said: &VecDeque<Output<O>>, to: u16) -> usize
     ensures { result ≡ waiting_of (said_at said.now.items to) }
 {
@@ -175,14 +198,14 @@ fn waits<O>(output: &Output<O>, to: u16, held: usize) -> bool
     output.to() == to && (held > 0 || output.rests())
 }
 
-/// Whether an output rests on nothing, and its channel has no other.
+/// Whether an output depends on nothing, and its channel has no other.
 fn is_next<O>(counts: &[usize], output: &Output<O>) -> bool
     ensures { result ≡ (is_empty output.now.1 && (get_or counts.now output.now.0.0 0 == 0)) }
 {
     !output.rests() && count_of(counts, output.to()) == 0
 }
 
-/// Whether the first output of a channel from a place on rests on nothing.
+/// Whether the first output of a channel from a place on depends on nothing.
 fn is_free<O>(said: &VecDeque<Output<O>>, from: usize, to: u16) -> bool
     ensures { result ≡ is_ready (drop from said.now.items) to }
 {
@@ -204,7 +227,7 @@ fn has_next<O>(counts: &[usize], said: &VecDeque<Output<O>>, from: usize, to: u1
     count_of(counts, to) > 0 && is_free(said, from, to)
 }
 
-/// An output decides whether its channel has one to take, as it rests on nothing or on a guess.
+/// An output decides whether its channel has one to take, as it depends on nothing or on a guess.
 fn decide<O>(ready: &mut Channels, output: &Output<O>)
     requires { length ready.old.channels < ready.old.places }
     ensures has { (t : ℕ) → has t ready.new.channels
@@ -274,6 +297,7 @@ impl<O> Outputs<O> {
             said: VecDeque::new(alloc),
             counts: Vec::new(alloc),
             ready: Channels::new(alloc),
+            newest: 0,
         }
     }
 }
@@ -286,10 +310,13 @@ impl<O> Outputs<O> {
         self.said.len()
     }
 
-    /// How many outputs of a channel wait: the first that rests on a guess, and all behind it.
+    /// How many outputs of a channel wait: the first that depends on a guess, and all behind it.
     pub fn waiting(&self, to: u16) -> usize
         ensures { result ≡ waiting_of (said_at self.now.said to) }
     {
+        if count_of(self.counts.as_slice(), to) == 0 {
+            return 0;
+        }
         waiting_in(&self.said, to)
     }
 
@@ -297,6 +324,9 @@ impl<O> Outputs<O> {
     pub fn first(&self, to: u16) -> Option<&O>
         ensures { option_copied result ≡ first_of (said_at self.now.said to) }
     {
+        if count_of(self.counts.as_slice(), to) == 0 {
+            return None;
+        }
         match self.said.get(others_before(&self.said, to)) {
             Some(output) => Some(output.text()),
             None => None,
@@ -343,30 +373,45 @@ impl<O: Drop> Outputs<O> {
         requires { HasRoom self.old to }
         ensures { self.new.said ≡ self.old.said ++ ((to, output), tags) ∷ [] }
     {
+        self.newest = newest_with(self.newest, newest_of(&tags));
         let output = Output::new(to, output, tags);
         put_next(&mut self.ready, self.counts.as_slice(), &output);
         count_up(&mut self.counts, to);
         self.said.push_back_reserved(output);
     }
 
-    /// A guess is committed. It takes no memory.
+    /// Whether an output may depend on a guess.
+    fn may_rest_on(&self, id: GuessId) -> bool
+        ensures { result ≡ false → some_rest self.now.said id ≡ false }
+    {
+        id.number() <= self.newest
+    }
+
+    /// A guess is committed. It takes no memory, and goes over no output where the guess is newer than each on which one rests.
     pub fn commit(&mut self, id: GuessId)
         ensures { self.new.said ≡ lightened id self.old.said }
     {
+        if !self.may_rest_on(id) {
+            return;
+        }
         lighten_all(&mut self.said, id);
         find_ready(&mut self.ready, &self.said);
     }
 
-    /// Throws away what rests on a guess. It takes no memory.
+    /// Throws away what depends on a guess. It takes no memory, and goes over no output where the guess is newer than each on which
+    /// one rests.
     pub fn drop_of(&mut self, id: GuessId)
         ensures { self.new.said ≡ not_dropped id self.old.said }
     {
+        if !self.may_rest_on(id) {
+            return;
+        }
         count_without(&mut self.counts, &self.said, id);
         drop_resting(&mut self.said, id);
         find_ready(&mut self.ready, &self.said);
     }
 
-    /// Takes out the first output of a channel, if it rests on nothing. It takes no memory.
+    /// Takes out the first output of a channel, if it depends on nothing. It takes no memory.
     pub fn take_out(&mut self, to: u16) -> Option<O>
         ensures some { IfSome result
             (λ output. said_at self.old.said to ≡ ((to, output), []) ∷ said_at self.new.said to) }

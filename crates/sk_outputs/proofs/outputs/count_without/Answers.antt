@@ -1,4 +1,4 @@
--- What rests on the guess is counted still.
+-- What depends on the guess is counted still.
 use Rattle.std.proofs.Common.{◌<◌, ◌+◌, length, drop, sym, ◌∙◌, subst, arith}
 use Rattle.sk_outputs.proofs.Counted.{drop_is, left_to_count, some_left}
 use Rattle.sk_outputs.proofs.outputs.count_without.Goals as goal

@@ -1,7 +1,8 @@
 -- There is room for the output, for its channel, and for its count.
-use Rattle.sk_outputs.proofs.Names.{shorter, sym, ap, subst, arith, SaidView, AreCounted, AreReady}
+use Rattle.sk_outputs.proofs.Names.{shorter, sym, ◌∙◌, ap, has, subst, arith, SaidView, AreCounted, AreReady}
 use Rattle.std.proofs.Common.{◌==◌}
 use Rattle.sk_outputs.proofs.Counted.{counted_more}
+use Rattle.sk_outputs.proofs.Resting.{above_more}
 use Rattle.sk_outputs.proofs.outputs.Outputs.say.Goals as goal
 
 pub put_next-requires : goal.put_next-requires
@@ -26,4 +27,5 @@ invariant_of-self g c =
       omega (arith, room, c.requires.0, c.put_next.ensures.places, c.push_back_reserved.ensures.len, c.self.inside.said.ok.0, c.push_back_reserved.new.self.ok.0),
       subst (λ zs. AreCounted zs c.count_up.new.counts.items) behind
           (counted_more xs c.new-output.result c.args.to (ap (λ o. o.0.0) (sym c.new-output.ensures)) c.self.inside.counts.items c.count_up.new.counts.items c.self.invariant.2 c.count_up.ensures),
+      above_more c.new-output.result c.self.inside.newest c.newest_with-self-inside.result c.newest_of.result xs c.push_back_reserved.new.self.items c.push_back_reserved.ensures.items c.self.invariant.3 (λ n above. ap (λ o. has n o.1) c.new-output.ensures ∙ c.newest_of.ensures n above) (λ n above. omega (above, c.newest_with-self-inside.ensures.newest, arith)) (λ n above. omega (above, c.newest_with-self-inside.ensures.other, arith)),
     )

@@ -2,6 +2,7 @@
 use Rattle.sk_outputs.proofs.Names.{◌<◌, [], ◌∷◌, length, sym, ◌∙◌, ap, subst, arith, true≢false, released, AreCounted}
 use Rattle.sk_outputs.proofs.Names.{SaidView, said_at}
 use Rattle.sk_outputs.proofs.Ready.{first_near, none_released}
+use Rattle.sk_outputs.proofs.Resting.{above_removed}
 use Rattle.sk_outputs.proofs.Taken.{taken_counted, taken_first, taken_later, taken_others, taken_ready, taken_some}
 use Rattle.sk_outputs.proofs.outputs.Outputs.take_out.Goals as goal
 
@@ -56,6 +57,7 @@ invariant_of-self g c =
       omega (arith, c.in-Some.ensures.len, c.self.inside.said.ok.0, c.remove.new.self.ok.0, c.self.invariant.1, c.take_off_last.ensures.places),
       taken_counted xs c.remove.new.self.items c.args.to c.others_before-place.result c.in-Some.first ready c.others_before-place.ensures c.in-Some.ensures.value c.in-Some.ensures.items
           c.self.inside.counts.items c.count_down.new.counts.items c.self.invariant.2 c.count_down.ensures,
+      above_removed c.others_before-place.result c.self.inside.newest xs c.remove.new.self.items c.in-Some.ensures.items c.self.invariant.3,
     )
 
 pub returns-clause-some : goal.returns-clause-some

@@ -64,7 +64,7 @@ rests_itself : {E : Type 0} (g : ℕ) (os : List (OpenGuess E)) → AllByRecursi
 rests_itself g [] own here = absurd (true≢false (sym here))
 rests_itself g (o ∷ os) own here = grind (arith, nat_tests, rests_itself g os own.1)
 
--- a struck one rests on the failed one, and is another
+-- a struck one depends on the failed one, and is another
 struck_rests : (g h : ℕ) (os : List Open) → has h (struck_with g os) ≡ true → (rests_on g os h ≡ true) × ((h == g) ≡ false)
 struck_rests g h [] here = absurd (true≢false (sym here))
 struck_rests g h (o ∷ os) here = grind (arith, nat_tests, struck_rests g h os)

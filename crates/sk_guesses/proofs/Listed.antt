@@ -6,7 +6,7 @@ use Rattle.sk_guesses.proofs.Names.{append-nil, list_any-append, is_in, Merges, 
 use Rattle.sk_guesses.proofs.Names.{committed, noted, last_tags, IsGrowing, numbers, has_filter, same_last, and_both}
 use Rattle.sk_guesses.proofs.Names.{tags_by, with_tags, AllExact, IsAlmostExact, AllAlmostExact, Covers, Depends}
 use Rattle.sk_guesses.proofs.Names.{with_entities, without_entity, OpenGuess, opens_of, dependents_of, depending}
-use Rattle.sk_guesses.proofs.Names.{left_to, not_resting, after_commit, without_list}
+use Rattle.sk_guesses.proofs.Names.{left_to, relieved_beyond, not_resting, after_commit, without_list}
 use Rattle.sk_guesses.proofs.Opens.{all_kept, depending_keeps, same_opens}
 use Rattle.sk_guesses.proofs.Places.{with_in, with_all_in, without_in, tied_is}
 use Rattle.std.proofs.lemmas.Bool.Decides.{nat_tests}
@@ -26,7 +26,7 @@ module _ {K : Type 0} {R : K → K → Ordering} (total : IsTotalOrder R) (exact
   exact_at tags g [] all here k = absurd (true≢false (sym here))
   exact_at tags g (o ∷ os) all here k = grind (arith, nat_tests, all.0 k, exact_at tags g os all.1)
 
-  -- ---- one key more rests on the tags of a step
+  -- ---- one key more depends on the tags of a step
   module _ (tags : List ℕ) (ks : List K) (x : K) (base : K → List ℕ) where
     after : (h : ℕ) (k : K) → has h (with_tags R tags (ks ++ x ∷ []) base k) ≡ cond (is_in R ks k || (eq_by_cmp R k x || false)) (has h tags) (has h (base k))
     after h k =
@@ -86,9 +86,19 @@ module _ {K : Type 0} {R : K → K → Ordering} (total : IsTotalOrder R) (exact
     goes_one o is almost =
         grind (arith, nat_tests, without_in total exact o.dependents x, λ (k : K). tied_is total exact k x)
 
+    rightly_one : (o : OpenGuess K) → is_in R o.dependents x ≡ has o.id (base x) → IsAlmostExact R base (x ∷ ks) o → IsAlmostExact R base ks o
+    rightly_one o right almost = grind (arith, nat_tests, λ (k : K). tied_is total exact k x)
+
     pub left_more : (tags : List ℕ) → tags ≡ base x → (os : List (OpenGuess K)) → AllAlmostExact R base (x ∷ ks) os → AllAlmostExact R base ks (map (left_to R tags x) os)
     left_more tags same [] all = tt
     left_more tags same (o ∷ os) all = grind (arith, nat_tests, stays_one o, goes_one o, left_more tags same os all.1)
+
+    -- the same, where only those are visited outside of which its lists are right
+    pub left_beyond : (tags own : List ℕ) → own ≡ base x → (os : List (OpenGuess K)) → AllByRecursion (λ o. has o.id tags ≡ false → is_in R o.dependents x ≡ has o.id (base x)) os
+        → AllAlmostExact R base (x ∷ ks) os → AllAlmostExact R base ks (map (relieved_beyond R tags own x) os)
+    left_beyond tags own same [] right all = tt
+    left_beyond tags own same (o ∷ os) right all =
+        grind (arith, nat_tests, stays_one o, goes_one o, rightly_one o, right.0, left_beyond tags own same os right.1 all.1)
 
   pub none_left : (base : K → List ℕ) (os : List (OpenGuess K)) → AllAlmostExact R base [] os → AllExact R base os
   none_left base [] all = tt
@@ -114,7 +124,7 @@ module _ {K : Type 0} {R : K → K → Ordering} (total : IsTotalOrder R) (exact
   noted_last true [] v log clean = ap (last_tags []) (append-nil log ∙ clean refl refl)
   noted_last true (t ∷ tags) v log clean = last_more [] log (record { tags = t ∷ tags; before = v })
 
-  -- what is written rests on what the step rests on
+  -- what is written depends on what the step depends on
   pub tags_written : {V : Type 0} (old new : K → List (Note V)) (look : K → Option V) (tags : List ℕ) (ks : List K) → ((k : K) → is_in R ks k ≡ true → tags ≡ [] → old k ≡ [])
       → ((k : K) → Merges [] (old k ++ noted (is_in R ks k) tags (look k) []) (new k)) → (k : K) → with_tags R tags ks (tags_by old) k ≡ tags_by new k
   tags_written old new look tags ks clean did k =
@@ -147,7 +157,7 @@ module _ {V : Type 0} where
   all_last g tags [] all here = here
   all_last g tags (n ∷ ns) all here = let both = and_both _ _ all in all_last g n.tags ns both.1 both.0
 
-  -- where some note rests on a guess, the last does
+  -- where some note depends on a guess, the last does
   pub rests_last : (g : ℕ) (tags : List ℕ) (ns : List (Note V)) → AllSeen g (carried g ns) → carries g ns ≡ true → has g (last_tags tags ns) ≡ true
   rests_last g tags [] all here = absurd (false≢true here)
   rests_last g tags (n ∷ ns) all here = grind (arith, nat_tests, rests_last g n.tags ns, all_last g n.tags ns)
@@ -180,7 +190,7 @@ module _ {V : Type 0} where
   uncut g [] none = refl
   uncut g (n ∷ ns) none = grind (arith, nat_tests, uncut g ns)
 
-  -- where the last note does not rest on a guess, none does
+  -- where the last note does not depend on a guess, none does
   pub none_carried : (g : ℕ) (log : List (Note V)) → IsGrowing log → has g (last_tags [] log) ≡ false → carries g log ≡ false
   none_carried g log grows none = grind (arith, nat_tests, rests_last g [] log (grows g))
 

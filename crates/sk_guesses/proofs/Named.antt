@@ -1,14 +1,14 @@
 -- Passes over the guesses of a set alone, where numbers rise.
 use Rattle.sk_guesses.proofs.Names.{◌≡◌, ◌≢◌, ℕ, zero, suc, ◌+◌, ◌-◌, ◌<◌, ◌≤◌, length, Bool, true, false, cond, List}
 use Rattle.sk_guesses.proofs.Names.{[], ◌∷◌, map, inl, inr, refl, sym, ◌∙◌, ap, subst, arith, slice_index_or, slice_set}
-use Rattle.sk_guesses.proofs.Names.{nat_cmp, true≢false, eq-eqb, or_left, or_right, has, above, OpenGuess, Listing, AllZip}
+use Rattle.sk_guesses.proofs.Names.{nat_cmp, not, true≢false, eq-eqb, or_left, or_right, has, above, OpenGuess, Listing, AllByRecursion, AllZip, remove, ◌++◌}
 use Rattle.std.specs.List.Sorted.{IsStrictlySortedBy}
-use Rattle.std.proofs.lemmas.Bool.{cases_lt}
+use Rattle.std.proofs.lemmas.Bool.{cases_Bool, cases_lt}
 use Rattle.std.proofs.lemmas.List.{get_or_default}
 use Rattle.std.proofs.Math.Seq.{map-set_same}
-use Rattle.sk_guesses.specs.Shared.{Sharing, AreRising, seen, Agrees, IsPlaced, IsRoomier, IsChanged}
+use Rattle.sk_guesses.specs.Shared.{Sharing, AreRising, seen, is_beyond, AreReady, IsReady, AreWithin, IsWithin, Agrees, IsPlaced, IsRelieved, IsRoomier, IsChanged}
 use Rattle.sk_guesses.proofs.Opens.{guess_of, named}
-use Rattle.sk_guesses.proofs.Shared.{IsPassed, none_passed, one_passed, pairs_map}
+use Rattle.sk_guesses.proofs.Shared.{IsPassed, all_at, all_from, all_pairs, none_passed, one_passed, pairs_all, pairs_map}
 use Rattle.std.proofs.lemmas.Bool.Decides.{nat_tests}
 
 -- ---- numbers that rise
@@ -61,7 +61,7 @@ module _ {E : Type 0} where
   row_earlier (o ∷ os) zero (suc j) d e rises less lt = above o.guess.id (map id_of os) (slice_index_or os j e).guess.id rises.0 (row_there os j e (omega arith))
   row_earlier (o ∷ os) (suc i) (suc j) d e rises less lt = row_earlier os i j d e rises.1 (omega arith) (omega arith)
 
-  row_no_later : (os : List (Sharing E)) (i j : ℕ) (d e : Sharing E) → AreRising os → i ≤ j → j < length os → (slice_index_or os i d).guess.id ≤ (slice_index_or os j e).guess.id
+  pub row_no_later : (os : List (Sharing E)) (i j : ℕ) (d e : Sharing E) → AreRising os → i ≤ j → j < length os → (slice_index_or os i d).guess.id ≤ (slice_index_or os j e).guess.id
   row_no_later os i j d e rises le lt = grind (arith, nat_tests, row_earlier os i j d e rises, get_or_default os j d e lt)
 
   -- from a place on all before another are below a number
@@ -130,7 +130,7 @@ module _ {E : Type 0} where
   pub placed_id : (c : ℕ → Bool) (n : ℕ) (o new : Sharing E) → IsPlaced c n o new → new.guess.id ≡ o.guess.id
   placed_id c n o new is = ap (λ (g : OpenGuess E). g.id) is.same.guess
 
-  agreed_id : (es : List E) (c : ℕ → Bool) (b : Bool) (o new : Sharing E) → Agrees es c b o new → new.guess.id ≡ o.guess.id
+  pub agreed_id : (es : List E) (c : ℕ → Bool) (b : Bool) (o new : Sharing E) → Agrees es c b o new → new.guess.id ≡ o.guess.id
   agreed_id es c b o new (inl is) = ap id_of is.0
   agreed_id es c b o new (inr is) = ap (λ (g : OpenGuess E). g.id) is.0.guess
 
@@ -148,6 +148,17 @@ module _ {E : Type 0} where
   pub unchanged : (f : List E → List E) (c : ℕ → Bool) (o : Sharing E) → c o.guess.id ≡ false → IsChanged f c o o
   unchanged f c o none = record { sharing = λ _. refl; alone = λ _. ap (λ b. cond b (record o.guess { dependents = f o.guess.dependents }) o.guess) (sym none); shares = refl }
 
+  pub unrelieved : (es : List E) (f : List E → List E) (tags own : List ℕ) (o : Sharing E) → has o.guess.id tags ≡ false → IsRelieved es f (is_beyond tags own) o o
+  unrelieved es f tags own o none =
+      let apart : is_beyond tags own o.guess.id ≡ false = ap (λ b. cond b (not (has o.guess.id own)) false) none in
+      record { others = λ _. refl; guess = λ is. absurd (true≢false (sym is ∙ apart)); shares = λ is. absurd (true≢false (sym is ∙ apart)) }
+
+  pub relieved_id : (es : List E) (f : List E → List E) (tags own : List ℕ) (o new : Sharing E) → IsRelieved es f (is_beyond tags own) o new → new.guess.id ≡ o.guess.id
+  relieved_id es f tags own o new is = elim (cases_Bool (is_beyond tags own o.guess.id)) [
+    | inl here ↦ ap (λ (g : OpenGuess E). g.id) (is.guess here)
+    | inr none ↦ ap id_of (is.others none)
+  ]
+
   -- ---- a pass that leaves out what is not among some
   module _ (P : Sharing E → Sharing E → Type 0) where
     pub record IsVisited (os ls : List (Sharing E)) (i : ℕ) : Type 0 where
@@ -163,6 +174,9 @@ module _ {E : Type 0} where
       ];
       left = λ k d low. so.left k d (omega (arith, low, le));
     }
+
+    pub rising_so_far : (os ls : List (Sharing E)) (i : ℕ) → IsVisited os ls i → AreRising os → AreRising ls
+    rising_so_far os ls i so rises = subst (IsStrictlySortedBy nat_cmp) (sym so.ids) rises
 
     pub still_rising : (os ls : List (Sharing E)) (i : ℕ) (l new : Sharing E) → IsVisited os ls i → l ≡ slice_index_or ls i l → new.guess.id ≡ l.guess.id → AreRising os → AreRising (slice_set ls i new)
     still_rising os ls i l new so at is rises = subst (IsStrictlySortedBy nat_cmp) (sym (same_ids ls i l new at is ∙ so.ids)) rises
@@ -184,6 +198,132 @@ module _ {E : Type 0} where
         passed = jumped os (slice_set ls i new) (i + 1) j (one_passed so.passed l new lt at is) le (λ k d low less. stays (slice_index_or (slice_set ls i new) k d) (none k d low less));
         ids = same_ids ls i l new at (keeps l new is) ∙ so.ids;
       }
+
+  -- ---- those of a span alone share
+  pub below_shares : (first last : ℕ) (o : Sharing E) → IsWithin first last o → o.guess.id < first → o.shares ≡ false
+  below_shares first last o so lt = elim (cases_Bool o.shares) [
+    | inl shares ↦ (let low = (so shares).0 in absurd (omega (arith, low, lt)))
+    | inr own ↦ own
+  ]
+
+  pub above_shares : (first last : ℕ) (o : Sharing E) → IsWithin first last o → last < o.guess.id → o.shares ≡ false
+  above_shares first last o so lt = elim (cases_Bool o.shares) [
+    | inl shares ↦ (let high = (so shares).1 in absurd (omega (arith, high, lt)))
+    | inr own ↦ own
+  ]
+
+  pub none_behind : (first last : ℕ) (os : List (Sharing E)) → AreWithin first last os → (i : ℕ) → ((k : ℕ) (d : Sharing E) → k < i → (slice_index_or os k d).shares ≡ false)
+      → ((k : ℕ) (d : Sharing E) → i ≤ k → k < length os → last < (slice_index_or os k d).guess.id) → AllByRecursion (λ o. o.shares ≡ false) os
+  none_behind first last os within i none past = all_from (λ (o : Sharing E). o.shares ≡ false) os (λ k d lt. elim (cases_lt k i) [
+    | inl less ↦ none k d less
+    | inr low ↦ above_shares first last (slice_index_or os k d) (all_at (IsWithin first last) os k d within lt) (past k d low lt)
+  ])
+
+  own_agrees : (es : List E) (c : ℕ → Bool) (b : Bool) (o : Sharing E) → o.shares ≡ false → Agrees es c b o o
+  own_agrees es c b o own = inl (refl, λ shares. absurd (true≢false (sym shares ∙ own)))
+
+  -- behind one that is above a number all are
+  pub all_past : (os : List (Sharing E)) (i last : ℕ) (l : Sharing E) → AreRising os → l ≡ slice_index_or os i l → last < l.guess.id → (k : ℕ) (d : Sharing E) → i ≤ k → k < length os → last < (slice_index_or os k d).guess.id
+  all_past os i last l rises at past k d low lt =
+      let later = row_no_later os i k l d rises low lt in
+      let here = ap id_of at in
+      omega (arith, later, here, past)
+
+  -- a pass over these
+  module _ (first last : ℕ) (es : List E) (c : ℕ → Bool) (b : Bool) (os : List (Sharing E)) (within : AreWithin first last os) where
+    pub from_first : (r : ℕ) → r ≤ length os → ((k : ℕ) (d : Sharing E) → 0 ≤ k → k < r → (slice_index_or os k d).guess.id < first) → IsVisited (Agrees es c b) os os r
+    from_first r bound below = record {
+      passed = jumped (Agrees es c b) os os 0 r (none_passed (Agrees es c b) os) (omega arith) (λ k d low lt.
+          own_agrees es c b (slice_index_or os k d)
+          (below_shares first last (slice_index_or os k d) (all_at (IsWithin first last) os k d within (omega (arith, lt, bound))) (below k d low lt)));
+      ids = refl;
+    }
+
+    pub to_last : (ls : List (Sharing E)) (i : ℕ) → IsVisited (Agrees es c b) os ls i → ((k : ℕ) (d : Sharing E) → i ≤ k → k < length ls → last < (slice_index_or ls k d).guess.id) → AllZip (Agrees es c b) os ls
+    to_last ls i so past = all_pairs (Agrees es c b) os ls so.passed.as_many (λ k d near. elim (cases_lt k i) [
+      | inl less ↦ so.passed.done k d less near
+      | inr low ↦
+          (let same = so.passed.left k d low in
+          let many = so.passed.as_many in
+          subst (λ x. Agrees es c b (slice_index_or os k d) x) (sym same)
+          (own_agrees es c b (slice_index_or os k d)
+          (above_shares first last (slice_index_or os k d) (all_at (IsWithin first last) os k d within near)
+          (subst (λ (x : Sharing E). last < x.guess.id) same (past k d low (omega (arith, near, many)))))))
+    ])
+
+  pub one_more : (P : Sharing E → Sharing E → Type 0) (os ls : List (Sharing E)) (i : ℕ) (l new : Sharing E) → IsVisited P os ls i → i < length os → l ≡ slice_index_or ls i l → P l new → new.guess.id ≡ l.guess.id
+      → IsVisited P os (slice_set ls i new) (i + 1)
+  one_more P os ls i l new so lt at is same = record { passed = one_passed so.passed l new lt at is; ids = same_ids ls i l new at same ∙ so.ids }
+
+  -- they stay so
+  module _ (first last : ℕ) where
+    same_within : (o l : Sharing E) → l.guess.id ≡ o.guess.id → (l.shares ≡ true → o.shares ≡ true) → IsWithin first last o → IsWithin first last l
+    same_within o l id shares so = λ here. subst (λ n. (first ≤ n) × (n ≤ last)) (sym id) (so (shares here))
+
+    pub roomier_within : (n : ℕ) (os ls : List (Sharing E)) → AllZip (IsRoomier n) os ls → AreWithin first last os → AreWithin first last ls
+    roomier_within n os ls more all =
+        pairs_all (IsRoomier n) (IsWithin first last) (IsWithin first last) os ls
+        (λ o l so is. same_within o l (ap (λ (g : OpenGuess E). g.id) is.guess) (λ here. sym is.shares ∙ here) so) all more
+
+    agreed_shares : (es : List E) (c : ℕ → Bool) (b : Bool) (o l : Sharing E) → Agrees es c b o l → l.shares ≡ true → o.shares ≡ true
+    agreed_shares es c b o l (inl is) here = sym (ap (λ (x : Sharing E). x.shares) is.0) ∙ here
+    agreed_shares es c b o l (inr is) here = is.0.shared
+
+    pub agreed_within : (es : List E) (c : ℕ → Bool) (b : Bool) (os ls : List (Sharing E)) → AllZip (Agrees es c b) os ls → AreWithin first last os → AreWithin first last ls
+    agreed_within es c b os ls agree all =
+        pairs_all (Agrees es c b) (IsWithin first last) (IsWithin first last) os ls
+        (λ o l so is. same_within o l (agreed_id es c b o l is) (agreed_shares es c b o l is) so) all agree
+
+    pub changed_within : (f : List E → List E) (c : ℕ → Bool) (os ls : List (Sharing E)) → AllZip (IsChanged f c) os ls → AreWithin first last os → AreWithin first last ls
+    changed_within f c os ls change all =
+        pairs_all (IsChanged f c) (IsWithin first last) (IsWithin first last) os ls
+        (λ o l so is. same_within o l (changed_id f c o l is) (λ here. sym is.shares ∙ here) so) all change
+
+    pub relieved_within : (es : List E) (f : List E → List E) (tags own : List ℕ) (os ls : List (Sharing E)) → AllZip (IsRelieved es f (is_beyond tags own)) os ls → AreWithin first last os → AreWithin first last ls
+    relieved_within es f tags own os ls relief all =
+        pairs_all (IsRelieved es f (is_beyond tags own)) (IsWithin first last) (IsWithin first last) os ls
+        (λ o l so is. same_within o l (relieved_id es f tags own o l is)
+        (λ here. elim (cases_Bool (is_beyond tags own o.guess.id)) [
+          | inl there ↦ absurd (true≢false (sym here ∙ is.shares there))
+          | inr none ↦ sym (ap (λ (x : Sharing E). x.shares) (is.others none)) ∙ here
+        ]) so) all relief
+
+    pub within_more : (os : List (Sharing E)) (o : Sharing E) → AreWithin first last os → IsWithin first last o → AreWithin first last (os ++ o ∷ [])
+    within_more [] o all is = (is, tt)
+    within_more (x ∷ os) o all is = (all.0, within_more os o all.1 is)
+
+    pub within_remove : (os : List (Sharing E)) (i : ℕ) → i < length os → AreWithin first last os → AreWithin first last (remove os i)
+    within_remove [] i lt all = absurd (omega arith)
+    within_remove (o ∷ os) zero lt all = all.1
+    within_remove (o ∷ os) (suc i) lt all = (all.0, within_remove os i (omega arith) all.1)
+
+    pub within_set : (os : List (Sharing E)) (i : ℕ) (new : Sharing E) → AreWithin first last os → IsWithin first last new → AreWithin first last (slice_set os i new)
+    within_set [] i new all is = tt
+    within_set (o ∷ os) zero new all is = (is, all.1)
+    within_set (o ∷ os) (suc i) new all is = (all.0, within_set os i new all.1 is)
+
+  pub wider : (first last low high : ℕ) (os : List (Sharing E)) → low ≤ first → last ≤ high → AreWithin first last os → AreWithin low high os
+  wider first last low high [] le ge all = tt
+  wider first last low high (o ∷ os) le ge all =
+      ((λ here. let low_is = (all.0 here).0 in let high_is = (all.0 here).1 in (omega (arith, le, low_is), omega (arith, ge, high_is))), wider first last low high os le ge all.1)
+
+  -- where none shares
+  pub none_within : (first last : ℕ) (os : List (Sharing E)) → AllByRecursion (λ o. o.shares ≡ false) os → AreWithin first last os
+  none_within first last [] all = tt
+  none_within first last (o ∷ os) all = ((λ here. absurd (true≢false (sym here ∙ all.0))), none_within first last os all.1)
+
+  -- and one begins to
+  pub one_shares : (n id : ℕ) (os : List (Sharing E)) (i : ℕ) (new : Sharing E) → AllByRecursion (λ o. o.shares ≡ false) os → IsReady n new → IsWithin id id new
+      → AreReady n (slice_set os i new) × AreWithin id id (slice_set os i new)
+  one_shares n id [] i new all ready within = (tt, tt)
+  one_shares n id (o ∷ os) zero new all ready within =
+      ((ready, none_ready os all.1), (within, none_within id id os all.1)) where
+        none_ready : (xs : List (Sharing E)) → AllByRecursion (λ o. o.shares ≡ false) xs → AreReady n xs
+        none_ready [] none = tt
+        none_ready (x ∷ xs) none = ((λ here. absurd (true≢false (sym here ∙ none.0))), none_ready xs none.1)
+  one_shares n id (o ∷ os) (suc i) new all ready within =
+      let rest = one_shares n id os i new all.1 ready within in
+      (((λ here. absurd (true≢false (sym here ∙ all.0))), rest.0), ((λ here. absurd (true≢false (sym here ∙ all.0))), rest.1))
 
   -- still none
   pub more_none : (P : Sharing E → Type 0) (c : ℕ → Bool) (os : List (Sharing E)) (i j : ℕ) → ((k : ℕ) (d : Sharing E) → k < i → P (slice_index_or os k d)) → ((o : Sharing E) → c o.guess.id ≡ false → P o)

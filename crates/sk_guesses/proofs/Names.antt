@@ -34,7 +34,7 @@ pub use Rattle.sk_guesses.specs.Guesses.{is_undecided, decided, status_of, drawn
 pub use Rattle.sk_guesses.specs.Guesses.{GuessesView, undecided_of, settled}
 pub use Rattle.sk_guesses.specs.Kept.{struck_with, forgotten, Kept, AreKept, with_struck, AreBelow, AreStatuses}
 pub use Rattle.sk_guesses.specs.Kept.{one_drawn, known, keys_of, KeptView}
-pub use Rattle.sk_guesses.specs.Opens.{open_in, left_to, but, relieved, struck_by, without_list, depending}
+pub use Rattle.sk_guesses.specs.Opens.{open_in, left_to, but, relieved, relieved_beyond, struck_by, without_list, depending}
 pub use Rattle.sk_guesses.specs.Opens.{dependents_of, guess_tags, opens_of, AreOpen, OpenGuess, not_resting, after_commit}
 pub use Rattle.sk_guesses.specs.Opens.{without_tag}
 pub use Rattle.sk_guesses.specs.Room.{Listing, Roomy, Settlement}

@@ -1,4 +1,4 @@
--- Where all were drawn before a guess, and no tag is above its own guess, no step rests on it.
+-- Where all were drawn before a guess, and no tag is above its own guess, no step depends on it.
 use Rattle.sk_guesses.proofs.Names.{◌≡◌, ℕ, suc, ◌-◌, ◌<◌, false, List, [], ◌∷◌, length, map, refl, arith}
 use Rattle.sk_guesses.proofs.Names.{slice_index_or, list_any, IsStrictlySortedBy, nat_cmp, has, AreBelow, opens_of}
 use Rattle.sk_guesses.proofs.Names.{Listing}

@@ -1,7 +1,7 @@
 -- The undecided guesses after a draw, a decision and a strike.
 use Rattle.sk_guesses.proofs.Names.{◌≡◌, ◌≢◌, ℕ, zero, suc, ◌<◌, ◌≤◌, ◌-◌, length, length-set, Bool, true, false}
 use Rattle.sk_guesses.proofs.Names.{cond, not, ◌||◌, ◌&&◌, List, [], ◌∷◌, ◌++◌, map, Option, Some, None, refl, sym, ◌∙◌}
-use Rattle.sk_guesses.proofs.Names.{ap, subst, arith, ◌==◌, slice_set, slice_index_or, is_some, nat_cmp, Less}
+use Rattle.sk_guesses.proofs.Names.{ap, subst, arith, ◌==◌, slice_get, slice_set, slice_index_or, is_some, nat_cmp, Less}
 use Rattle.sk_guesses.proofs.Names.{nat_cmp_is, AllByRecursion, filter, prefix_len, nat_le, nat_lt, true≢false}
 use Rattle.sk_guesses.proofs.Names.{eqb-true, eq-eqb, or_left, or_right, leb-false, ltb-false, LAST_GUESS, GUESS_LIMIT}
 use Rattle.sk_guesses.proofs.Names.{list_any-append, IsStrictlySortedBy-filter, slice_get_within, has, without}
@@ -9,7 +9,7 @@ use Rattle.sk_guesses.proofs.Names.{rests_on, with_failure, numbers, not_struck,
 use Rattle.sk_guesses.proofs.Names.{Struck, has_filter, above, status_in, GuessesView, is_full, is_undecided}
 use Rattle.sk_guesses.proofs.Names.{undecided_of, status_since, decided, drawn, next_of, OpenGuess, AreOpen, opens_of}
 use Rattle.sk_guesses.proofs.Names.{dependents_of, guess_tags, but, not_resting, after_commit, without_tag, struck_by, open_in}
-use Rattle.sk_guesses.proofs.Names.{without_list, depending, relieved, left_to, with_entity, without_entity, Ordering}
+use Rattle.sk_guesses.proofs.Names.{without_list, depending, relieved, relieved_beyond, left_to, with_entity, without_entity, Ordering}
 use Rattle.sk_guesses.proofs.Names.{Listing, length-map, ltb-true}
 use Rattle.std.specs.List.Sorted.{IsStrictlySortedBy}
 use Rattle.sk_guesses.proofs.Count.{count_of}
@@ -94,7 +94,7 @@ open_committed v os id are was =
     let left = open_but v os id Committed are was refl in
     grind (arith, nat_tests, left, same_named id (but id os), own_left id os are.own)
 
--- ---- all go whose own steps rest on one
+-- ---- all go whose own steps depend on one
 pub none_named : {E : Type 0} → (g h : ℕ) (os : List (OpenGuess E)) → has h (named os) ≡ false → rests_on g (opens_of os) h ≡ false
 none_named g h [] none = refl
 none_named g h (o ∷ os) none = grind (arith, nat_tests, none_named g h os)
@@ -311,6 +311,14 @@ relieved_keeps R tags e o = elim (has o.id tags) as (λ b. (cond b (record o { d
 
 pub left_to_keeps : {E : Type 0} → (R : E → E → Ordering) → (tags : List ℕ) (e : E) (o : (OpenGuess E)) → (left_to R tags e o).id ≡ o.id × (left_to R tags e o).tags ≡ o.tags
 left_to_keeps R tags e o = elim (has o.id tags) as (λ b. (cond b o (record o { dependents = without_entity R o.dependents e })).id ≡ o.id × (cond b o (record o { dependents = without_entity R o.dependents e })).tags ≡ o.tags) [ true ↦ (refl, refl) | false ↦ (refl, refl) ]
+
+pub number_at : {E : Type 0} → (ls : List (Listing E)) (k : ℕ) (l : Listing E) → k < length ls → l ≡ slice_index_or ls k l → slice_get (numbers (opens_of (map guess_of ls))) k ≡ Some l.guess.id
+number_at [] k l lt at = absurd (omega arith)
+number_at (x ∷ ls) zero l lt at = ap (λ (y : Listing _). Some y.guess.id) (sym at)
+number_at (x ∷ ls) (suc k) l lt at = number_at ls k l (omega arith) at
+
+pub relieved_beyond_keeps : {E : Type 0} → (R : E → E → Ordering) → (tags own : List ℕ) (e : E) (o : (OpenGuess E)) → (relieved_beyond R tags own e o).id ≡ o.id × (relieved_beyond R tags own e o).tags ≡ o.tags
+relieved_beyond_keeps R tags own e o = elim (has o.id tags) as (λ b. (cond b (left_to R own e o) o).id ≡ o.id × (cond b (left_to R own e o) o).tags ≡ o.tags) [ true ↦ left_to_keeps R own e o | false ↦ (refl, refl) ]
 
 -- where none is drawn
 no_numbers : IsStrictlySortedBy nat_cmp []

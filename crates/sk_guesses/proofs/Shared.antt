@@ -1,14 +1,14 @@
 -- Passes over the guesses, many of which share a list, and what is seen of them.
 use Rattle.sk_guesses.proofs.Names.{◌≡◌, ℕ, suc, ◌<◌, ◌≤◌, ◌+◌, length, length-set, Bool, true, false, cond, List}
 use Rattle.sk_guesses.proofs.Names.{[], ◌∷◌, ◌++◌, map, inl, inr, refl, sym, ◌∙◌, ap, subst, arith, slice_set}
-use Rattle.sk_guesses.proofs.Names.{slice_index_or, AllByRecursion, AllZip, true≢false, remove, OpenGuess, Listing, left_to}
+use Rattle.sk_guesses.proofs.Names.{slice_index_or, AllByRecursion, AllZip, true≢false, relieved_beyond, remove, OpenGuess, Listing, left_to}
 use Rattle.sk_guesses.proofs.Names.{zero, Ordering, without_entity, with_entity, without_tag, get_or-set_same}
-use Rattle.std.proofs.lemmas.Bool.{cases_lt}
+use Rattle.std.proofs.lemmas.Bool.{cases_Bool, cases_lt}
 use Rattle.std.proofs.lemmas.List.{get_or_default, get_or-map, get_or-set_other, map-set}
 use Rattle.std.proofs.Math.Seq.{map-set_same}
 use Rattle.std.specs.Prelude.{Result, Ok, Err, OnErr}
 use Rattle.sk_guesses.specs.Shared.{Sharing, seen, IsReady, AreReady, is_named, changing, HasPlace, IsRoomier}
-use Rattle.sk_guesses.specs.Shared.{IsPlaced, IsParted, Agrees, IsChanged, WillChange}
+use Rattle.sk_guesses.specs.Shared.{IsPlaced, IsParted, Agrees, IsChanged, IsRelieved, WillChange, is_beyond}
 use Rattle.sk_guesses.proofs.Opens.{guess_of}
 use Rattle.std.proofs.lemmas.Bool.Decides.{nat_tests}
 
@@ -31,7 +31,7 @@ module _ {A : Type 0} (P : A → A → Type 0) where
       (is 0 x (omega arith), all_pairs xs ys (omega (arith, many)) (λ k d lt. is (suc k) d (omega arith)))
 
 -- a statement of all holds at each
-all_at : {A : Type 0} (P : A → Type 0) (xs : List A) (k : ℕ) (d : A) → AllByRecursion P xs → k < length xs → P (slice_index_or xs k d)
+pub all_at : {A : Type 0} (P : A → Type 0) (xs : List A) (k : ℕ) (d : A) → AllByRecursion P xs → k < length xs → P (slice_index_or xs k d)
 all_at P [] k d all lt = absurd (omega arith)
 all_at P (x ∷ xs) zero d all lt = all.0
 all_at P (x ∷ xs) (suc k) d all lt = all_at P xs k d all.1 (omega arith)
@@ -276,6 +276,25 @@ module _ {E : Type 0} where
   less_ready R e {c} {b} {es} is =
       turned_ready is (length (shared_after (λ xs. without_entity R xs e) b es)) (IsAgreed c b (length es)) (all_agreed is)
       (λ o was _ shares. less_fits R e es b o.room (was.ready shares).1)
+
+  -- ---- where each that changes has a list of its own
+  pub relieved_ready : (es : List E) (f : List E → List E) (c : ℕ → Bool) (n : ℕ) (os ls : List (Sharing E)) → AreReady n os → AllZip (IsRelieved es f c) os ls → AreReady n ls
+  relieved_ready es f c n os ls = pairs_all (IsRelieved es f c) (IsReady n) (IsReady n) os ls (λ o l ready is. elim (cases_Bool (c o.guess.id)) [
+    | inl here ↦ λ shares. absurd (true≢false (sym shares ∙ is.shares here))
+    | inr none ↦ subst (IsReady n) (sym (is.others none)) ready
+  ])
+
+  relieved_one : (R : E → E → Ordering) (e : E) (es : List E) (tags own : List ℕ) (o l : Sharing E) → IsRelieved es (λ xs. without_entity R xs e) (is_beyond tags own) o l
+      → (seen es l).guess ≡ relieved_beyond R tags own e (seen es o).guess
+  relieved_one R e es tags own o l is = grind (arith, nat_tests, is.others, is.guess, is.shares)
+
+  pub relieved_seen : (R : E → E → Ordering) (e : E) (es : List E) (tags own : List ℕ) (os ls : List (Sharing E)) → AllZip (IsRelieved es (λ xs. without_entity R xs e) (is_beyond tags own)) os ls
+      → map guess_of (map (seen es) ls) ≡ map (relieved_beyond R tags own e) (map guess_of (map (seen es) os))
+  relieved_seen R e es tags own [] [] ps = refl
+  relieved_seen R e es tags own [] (l ∷ ls) ps = absurd ps
+  relieved_seen R e es tags own (o ∷ os) [] ps = absurd ps
+  relieved_seen R e es tags own (o ∷ os) (l ∷ ls) ps =
+      let first = relieved_one R e es tags own o l ps.0 in let rest = relieved_seen R e es tags own os ls ps.1 in λ j. first j ∷ rest j
 
   -- ---- where all share and change
   pub will_turn : (f : List E → List E) (c : ℕ → Bool) (n : ℕ) (es : List E) (os : List (Sharing E)) → AllByRecursion (WillChange c n) os → AreReady (length es) os → IsTurned f c true es os os os

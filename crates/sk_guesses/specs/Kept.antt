@@ -19,7 +19,7 @@ pub record KeptView : Type 0 where
 abbrev pub none_drawn : ℕ → ℕ → KeptView
 none_drawn kernel limit = record { kernel = kernel; limit = limit; drawn = 0; struck = [] }
 
--- the same with what is known of the undecided ones, and for how many of them, of struck ones, and of entities that rest on the next
+-- the same with what is known of the undecided ones, and for how many of them, of struck ones, and of entities that depend on the next
 -- one there is memory
 pub record Kept (E : Type 0) : Type 0 where
   pub view : KeptView
@@ -92,5 +92,5 @@ pub record AreKept {E : Type 0} (v : KeptView) (ls : List (Listing E)) (next : L
   pub numbered : v.drawn ≤ LAST_GUESS
   -- each undecided guess can be struck without memory
   pub places : length v.struck + length ls ≤ strikes
-  -- no entity rests on the next guess yet
+  -- no entity depends on the next guess yet
   pub empty : next ≡ []

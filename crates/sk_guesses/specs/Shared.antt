@@ -1,4 +1,4 @@
--- Undecided guesses, many of which share one list of what rests on them.
+-- Undecided guesses, many of which share one list of what depends on them.
 use Rattle.std.specs.Prelude.{◌≡◌, ◌≤◌, ◌<◌, ◌+◌, ℕ, Bool, true, false, not, List, [], length, map, if◌then◌else◌, ◌⊎◌}
 use Rattle.sk_guesses.specs.Base.{AllByRecursion, IsStrictlySortedBy, nat_cmp, has}
 use Rattle.sk_guesses.specs.Opens.{OpenGuess}
@@ -24,6 +24,13 @@ AreReady n os = AllByRecursion (IsReady n) os
 -- their numbers rise
 abbrev pub AreRising : {E : Type 0} → List (Sharing E) → Type 0
 AreRising os = IsStrictlySortedBy nat_cmp (map (λ o. o.guess.id) os)
+
+-- those that share have numbers from one to another
+abbrev pub IsWithin : {E : Type 0} → ℕ → ℕ → Sharing E → Type 0
+IsWithin first last o = o.shares ≡ true → (first ≤ o.guess.id) × (o.guess.id ≤ last)
+
+abbrev pub AreWithin : {E : Type 0} → ℕ → ℕ → List (Sharing E) → Type 0
+AreWithin first last os = AllByRecursion (IsWithin first last) os
 
 -- a guess is among some, or it is not
 abbrev pub is_named : Bool → List ℕ → ℕ → Bool
@@ -65,6 +72,16 @@ pub record IsChanged {E : Type 0} (f : List E → List E) (c : ℕ → Bool) (o 
   pub sharing : o.shares ≡ true → new ≡ o
   pub alone : o.shares ≡ false → new.guess ≡ changing f c o.guess
   pub shares : new.shares ≡ o.shares
+
+-- the list that is seen of it is changed, where it is among some; that is its own then
+pub record IsRelieved {E : Type 0} (es : List E) (f : List E → List E) (c : ℕ → Bool) (o new : Sharing E) : Type 0 where
+  pub others : c o.guess.id ≡ false → new ≡ o
+  pub guess : c o.guess.id ≡ true → new.guess ≡ record o.guess { dependents = f (seen es o).guess.dependents }
+  pub shares : c o.guess.id ≡ true → new.shares ≡ false
+
+-- a guess is among some, and not among others
+abbrev pub is_beyond : List ℕ → List ℕ → ℕ → Bool
+is_beyond tags own g = if has g tags then not (has g own) else false
 
 -- one shares, is among some, and has room for more than so many entities
 abbrev pub WillChange : {E : Type 0} → (ℕ → Bool) → ℕ → Sharing E → Type 0

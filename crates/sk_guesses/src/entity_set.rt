@@ -69,6 +69,9 @@ fn extend<E: Key>(list: &mut Vec<E>, entities: &[E])
     };
 }
 
+/// No more entities than these are added in the order in which a step writes them.
+pub(crate) const FEW: usize = 8;
+
 /// So many entities are copied at once. A longer run is copied byte by byte.
 const PART: usize = 56;
 
@@ -259,6 +262,22 @@ impl<E: Key> EntitySet<E> {
         entities.sort_unstable();
         entities.dedup();
         EntitySet { entities }
+    }
+
+    /// The set of these, in the room of an empty one. Many are sorted where they stand.
+    pub(crate) fn set_of(self, entities: &[E]) -> EntitySet<E>
+        requires empty { self.entities ≡ [] }
+        requires room { length entities.now ≤ self.room }
+        ensures { result.entities ≡ with_entities E.order [] entities.now }
+    {
+        if entities.len() <= FEW {
+            let mut few = self;
+            few.add_all(entities);
+            return few;
+        }
+        let mut list = self.into_vec();
+        extend_by_parts(&mut list, entities);
+        EntitySet::of(list)
     }
 
     /// The entities as a list.

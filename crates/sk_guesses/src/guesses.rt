@@ -87,7 +87,7 @@ fn place_after(before: usize, id: GuessId) -> usize
     number.saturating_sub(1) as usize
 }
 
-/// Strikes an undecided guess, if its own step rests on a guess. So many were drawn before these.
+/// Strikes an undecided guess, if its own step depends on a guess. So many were drawn before these.
 fn strike_one<E: Key>(statuses: &mut Vec<Status>, before: usize, open: &Seen<'_, E>, id: GuessId)
     requires { open.now.guess.id - before - 1 < length statuses.old.items }
     ensures statuses { statuses.new.items
@@ -100,7 +100,7 @@ fn strike_one<E: Key>(statuses: &mut Vec<Status>, before: usize, open: &Seen<'_,
     }
 }
 
-/// The undecided guesses whose own steps rest on a guess are struck.
+/// The undecided guesses whose own steps depend on a guess are struck.
 fn strike_all<E: Key>(statuses: &mut Vec<Status>, before: usize, opens: &Opens<E>, id: GuessId)
     requires { (k : ℕ) (d : Listing E) → k < length opens.now.items
         → (slice_index_or opens.now.items k d).guess.id - before - 1 < length statuses.old.items }
@@ -160,7 +160,7 @@ impl<E: Key> Guesses<E> {
         oldest(&self.opens)
     }
 
-    /// The entities that rest on a guess, by rising order; none where it is not undecided.
+    /// The entities that depend on a guess, by rising order; none where it is not undecided.
     #[inline(always)]
     pub fn dependents(&self, id: GuessId) -> &[E]
         ensures value { result.now ≡ dependents_of id self.now.opens }
@@ -176,7 +176,7 @@ impl<E: Key> Guesses<E> {
         self.opens.at(place).dependents()
     }
 
-    /// Moves out the list of the entities that rest on a guess, for its decision.
+    /// Moves out the list of the entities that depend on a guess, for its decision.
     #[inline(always)]
     pub fn take_dependents(&mut self, id: GuessId) -> EntitySet<E>
         ensures list { result.entities ≡ dependents_of id self.old.opens }
@@ -250,8 +250,8 @@ impl<E: Key> Guesses<E> {
         self.next.reserve(count)
     }
 
-    /// Draws the next number, whose guess is undecided. Its own step rests on these guesses, itself among
-    /// them, and the entities rest on it. After a refusal everything is as it was.
+    /// Draws the next number, whose guess is undecided. Its own step depends on these guesses, itself among
+    /// them, and the entities depend on it. After a refusal everything is as it was.
     pub fn draw(&mut self, tags: TagSet, entities: &[E]) -> Result<Guess, DrawRefusal>
         requires { is_full self.old.view ≡ false → has (next_of self.old.view) tags ≡ true }
         ensures draws { Draws self.old.view self.new.view result }
@@ -296,8 +296,8 @@ impl<E: Key> Guesses<E> {
             unreachable!();
         };
         self.below = stays_below(self.below, &tags, id);
-        let mut dependents = std::mem::replace(&mut self.next, EntitySet::new(self.alloc));
-        dependents.add_all(entities);
+        let next = std::mem::replace(&mut self.next, EntitySet::new(self.alloc));
+        let dependents = next.set_of(entities);
         self.opens.push_reserved(id, tags, dependents);
         self.statuses.push_reserved(Status::Undecided);
         Guess::new(self.kernel, id)
@@ -376,7 +376,7 @@ impl<E: Key> Guesses<E> {
         self.status_since(id) == Some(Status::Undecided)
     }
 
-    /// Commits a guess, and takes it out of what the steps of undecided ones rest on; one that is not
+    /// Commits a guess, and takes it out of what the steps of undecided ones depend on; one that is not
     /// undecided stays as it is.
     pub fn commit(&mut self, id: GuessId)
         ensures undecided { status_since self.old.view id ≡ Some Undecided
@@ -431,7 +431,7 @@ impl<E: Key> Guesses<E> {
         self.statuses[place_after(self.earlier.len(), id)] = to;
     }
 
-    /// Strikes the undecided guesses whose own steps rest on a guess.
+    /// Strikes the undecided guesses whose own steps depend on a guess.
     pub fn strike_resting(&mut self, id: GuessId)
         ensures statuses { (g : ℕ) → status_since self.new.view g
             ≡ (if rests_on id (opens_of self.old.opens) g then Some Struck else status_since

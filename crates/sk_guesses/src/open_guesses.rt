@@ -1,16 +1,17 @@
 //! The guesses of a kernel that keeps nothing of decided ones.
-ghost use Rattle.std.specs.Prelude.{◌≡◌, ◌≢◌, ◌<◌, ◌≤◌, ◌+◌, ◌==◌, ◌&&◌, ◌∷◌, ◌++◌, ℕ, [], true, false, not, slice_index_or, if◌then◌else◌, length, map, nat_le, get_or, Option, Some, OnOk, OnErr, MatchOption};
+ghost use Rattle.std.specs.Prelude.{◌≡◌, ◌≢◌, ◌<◌, ◌≤◌, ◌+◌, ◌==◌, ◌&&◌, ◌∷◌, ◌++◌, ℕ, [], true, false, not, slice_get, slice_index_or, if◌then◌else◌, length, map, nat_le, get_or, Option, Some, OnOk, OnErr, MatchOption};
 ghost use Rattle.sk_guesses.specs.Base.{IsStrictlySortedBy, option_copied, unwrap_or, vec_capacity, LAST_GUESS, with_drawn};
 ghost use Rattle.sk_guesses.specs.Base.{with_failure, with_status, has, without, not_struck, numbers, still_open};
 ghost use Rattle.sk_guesses.specs.Base.{Status, Committed, Undecided};
 ghost use Rattle.sk_guesses.specs.EntitySet.{with_entities};
 ghost use Rattle.sk_guesses.specs.Kept.{known, none_drawn, one_drawn, keys_of, forgotten, redeemed_kept, struck_with, with_struck, AreStatuses, HasKeptRoom};
 ghost use Rattle.sk_guesses.specs.Room.{Listing};
-ghost use Rattle.sk_guesses.specs.Opens.{after_commit, depending, dependents_of, left_to, not_resting, opens_of, guess_tags, without_list};
+ghost use Rattle.sk_guesses.specs.Opens.{after_commit, depending, dependents_of, left_to, not_resting, opens_of, relieved_beyond, guess_tags, without_list};
 
+use crate::entity_set::FEW;
 use crate::open_list::{
-    are_earlier, close_committed, close_resting, first_resting, leave_to, oldest, place_of,
-    take_list,
+    are_earlier, close_committed, close_resting, first_resting, id_at, leave_to, oldest, place_of,
+    relieve_beyond, take_list,
 };
 use crate::open_row::{Opens, Seen};
 use crate::{EntitySet, Guess, Redeemed, Status};
@@ -137,9 +138,6 @@ fn add_written<E: Key, V>(list: &mut EntitySet<E>, written: &[(E, V)])
     }
 }
 
-/// No more entities than these are added in the order in which a step writes them.
-const FEW: usize = 8;
-
 /// The entities of what was written, in its order, in a list with room for them.
 fn written_in<E: Key, V>(list: Vec<E>, written: &[(E, V)]) -> Vec<E>
     requires empty { list.items ≡ [] }
@@ -222,6 +220,13 @@ impl<E: Key> OpenGuesses<E> {
         oldest(&self.opens)
     }
 
+    /// The undecided guess at a place; they stand by rising number.
+    pub fn open_at(&self, place: usize) -> Option<GuessId>
+        ensures { result ≡ slice_get (numbers (opens_of self.now.opens)) place }
+    {
+        id_at(&self.opens, place)
+    }
+
     /// The struck guesses whose tokens have not come back, in the order in which they were struck.
     pub fn struck(&self) -> &[GuessId]
         ensures { result.now ≡ self.now.view.struck }
@@ -264,7 +269,7 @@ impl<E: Key> OpenGuesses<E> {
         None
     }
 
-    /// The entities that rest on a guess, by rising order; none where it is not undecided.
+    /// The entities that depend on a guess, by rising order; none where it is not undecided.
     pub fn dependents(&self, id: GuessId) -> &[E]
         ensures value { result.now ≡ dependents_of id self.now.opens }
         ensures rising { IsStrictlySortedBy E.order result.now }
@@ -278,7 +283,7 @@ impl<E: Key> OpenGuesses<E> {
         self.opens.at(place).dependents()
     }
 
-    /// The guesses that an undecided guess's own step rests on, itself among them: where it is alone, its commit is firm.
+    /// The guesses that an undecided guess's own step depends on, itself among them: where it is alone, its commit is firm.
     pub fn tags(&self, id: GuessId) -> Option<&TagSet>
         ensures { option_copied result ≡ guess_tags id (opens_of self.now.opens) }
     {
@@ -289,7 +294,7 @@ impl<E: Key> OpenGuesses<E> {
         Some(self.opens.at(place).tags())
     }
 
-    /// Moves out the list of the entities that rest on a guess, for its decision.
+    /// Moves out the list of the entities that depend on a guess, for its decision.
     pub fn take_dependents(&mut self, id: GuessId) -> EntitySet<E>
         ensures list { result.entities ≡ dependents_of id self.old.opens }
         ensures view { self.new.view ≡ self.old.view }
@@ -311,8 +316,8 @@ impl<E: Key> OpenGuesses<E> {
         self.next.reserve(count)
     }
 
-    /// Draws the next number, whose guess is undecided. Its own step rests on these guesses, itself among them, and what was
-    /// written rests on it.
+    /// Draws the next number, whose guess is undecided. Its own step depends on these guesses, itself among them, and what was
+    /// written depends on it.
     pub fn draw<V>(&mut self, id: GuessId, tags: TagSet, written: &[(E, V)]) -> Guess
         requires number { id ≡ self.old.view.drawn + 1 }
         requires few { length self.old.opens < self.old.view.limit }
@@ -362,6 +367,15 @@ impl<E: Key> OpenGuesses<E> {
         leave_to(&mut self.opens, tags, entity);
     }
 
+    /// Takes an entity out of the lists of the guesses in a set that are not in another, and visits no others.
+    pub fn relieve_beyond(&mut self, tags: &TagSet, own: &TagSet, entity: &E)
+        ensures view { self.new.view ≡ self.old.view }
+        ensures opens { self.new.opens
+            ≡ map (relieved_beyond E.order tags.now own.now entity.now) self.old.opens }
+    {
+        relieve_beyond(&mut self.opens, tags, own, entity);
+    }
+
     /// Takes a token in, or hands it back where it is another kernel's, or its guess is neither undecided nor struck. A
     /// struck guess is forgotten then.
     pub fn redeem(&mut self, guess: Guess) -> Result<Redeemed, Guess>
@@ -387,7 +401,7 @@ impl<E: Key> OpenGuesses<E> {
         }
     }
 
-    /// Commits a guess: it is undecided no more, and no step of the others rests on it.
+    /// Commits a guess: it is undecided no more, and no step of the others depends on it.
     pub fn commit(&mut self, id: GuessId)
         ensures view { self.new.view ≡ self.old.view }
         ensures opens { self.new.opens ≡ after_commit id self.old.opens }
@@ -402,7 +416,7 @@ impl<E: Key> OpenGuesses<E> {
         close_committed(&mut self.opens, from, id);
     }
 
-    /// Fails a guess: it is undecided no more, and those whose own steps rest on it are struck. Answers how many these are.
+    /// Fails a guess: it is undecided no more, and those whose own steps depend on it are struck. Answers how many these are.
     pub fn fail(&mut self, id: GuessId) -> usize
         ensures count { result ≡ length (struck_with id (opens_of self.old.opens)) }
         ensures view { self.new.view ≡ with_struck id (opens_of self.old.opens) self.old.view }

@@ -1,7 +1,7 @@
 //! The open guesses of a list, by rising number, and what calls make of all of them.
-ghost use Rattle.std.specs.Prelude.{◌≡◌, ◌<◌, ◌≤◌, ◌==◌, ℕ, true, false, length, map, not, slice_index_or, get_or, OnOk};
+ghost use Rattle.std.specs.Prelude.{◌≡◌, ◌<◌, ◌≤◌, ◌==◌, ℕ, true, false, length, map, not, slice_get, slice_index_or, get_or, OnOk};
 ghost use Rattle.sk_guesses.specs.Base.{list_any, prefix_len, IsStrictlySortedBy, unwrap_or, nat_cmp, has, numbers};
-ghost use Rattle.sk_guesses.specs.Opens.{opens_of, dependents_of, depending, relieved, left_to, without_tag, but, not_resting, after_commit, without_list};
+ghost use Rattle.sk_guesses.specs.Opens.{opens_of, dependents_of, depending, relieved, relieved_beyond, left_to, without_tag, but, not_resting, after_commit, without_list};
 ghost use Rattle.sk_guesses.specs.Room.{Listing};
 ghost use Rattle.sk_guesses.specs.Kept.{AreBelow};
 
@@ -66,7 +66,7 @@ pub(crate) fn place_of<E: Key>(opens: &Opens<E>, id: GuessId) -> usize
     search(opens, id)
 }
 
-/// Where the guesses begin whose own steps may rest on one, if no tag of theirs is above their own number.
+/// Where the guesses begin whose own steps may depend on one, if no tag of theirs is above their own number.
 pub(crate) fn first_resting<E: Key>(opens: &Opens<E>, below: bool, id: GuessId) -> usize
     requires rising { IsStrictlySortedBy nat_cmp
         (numbers (opens_of (map (λ l. l.guess) opens.now.items))) }
@@ -112,7 +112,7 @@ pub(crate) fn close<E: Key>(opens: &mut Opens<E>, id: GuessId)
     }
 }
 
-/// Takes a guess out of what the own steps of these rest on.
+/// Takes a guess out of what the own steps of these depend on.
 fn withdraw<E: Key>(opens: &mut Opens<E>, from: usize, id: GuessId)
     requires none_before { (k : ℕ) (d : Listing E) → k < from
         → has id (slice_index_or opens.old.items k d).guess.tags ≡ false }
@@ -126,7 +126,7 @@ fn withdraw<E: Key>(opens: &mut Opens<E>, from: usize, id: GuessId)
     }
 }
 
-/// Takes a guess out of the undecided ones, and out of what the steps of the others rest on.
+/// Takes a guess out of the undecided ones, and out of what the steps of the others depend on.
 pub(crate) fn close_committed<E: Key>(opens: &mut Opens<E>, from: usize, id: GuessId)
     requires rising { IsStrictlySortedBy nat_cmp
         (numbers (opens_of (map (λ l. l.guess) opens.old.items))) }
@@ -141,7 +141,7 @@ pub(crate) fn close_committed<E: Key>(opens: &mut Opens<E>, from: usize, id: Gue
     close(opens, id);
 }
 
-/// Takes the guesses out of the undecided ones whose own steps rest on a guess.
+/// Takes the guesses out of the undecided ones whose own steps depend on a guess.
 pub(crate) fn close_resting<E: Key>(opens: &mut Opens<E>, from: usize, id: GuessId)
     requires none_before { (k : ℕ) (d : Listing E) → k < from
         → has id (slice_index_or opens.old.items k d).guess.tags ≡ false }
@@ -157,7 +157,7 @@ pub(crate) fn close_resting<E: Key>(opens: &mut Opens<E>, from: usize, id: Guess
     }
 }
 
-/// Whether all of these guesses were drawn before one and, if no tag of theirs is above their own number, none rests on it.
+/// Whether all of these guesses were drawn before one and, if no tag of theirs is above their own number, none depends on it.
 fn are_older<E: Key>(opens: &Opens<E>, below: bool, id: GuessId) -> bool
     requires rising { IsStrictlySortedBy nat_cmp
         (numbers (opens_of (map (λ l. l.guess) opens.now.items))) }
@@ -173,7 +173,7 @@ fn are_older<E: Key>(opens: &Opens<E>, below: bool, id: GuessId) -> bool
     opens.at(opens.len() - 1).id().number() < id.number()
 }
 
-/// Whether the own step of one of these guesses rests on a guess.
+/// Whether the own step of one of these guesses depends on a guess.
 fn any_rests_on<E: Key>(opens: &Opens<E>, id: GuessId) -> bool
     ensures { result ≡ list_any (λ l. has id l.guess.tags) opens.now.items }
 {
@@ -209,6 +209,16 @@ pub(crate) fn oldest<E: Key>(opens: &Opens<E>) -> Option<GuessId>
     Some(opens.at(0).id())
 }
 
+/// The guess at a place.
+pub(crate) fn id_at<E: Key>(opens: &Opens<E>, place: usize) -> Option<GuessId>
+    ensures { result ≡ slice_get (numbers (opens_of (map (λ l. l.guess) opens.now.items))) place }
+{
+    if place >= opens.len() {
+        return None;
+    }
+    Some(opens.at(place).id())
+}
+
 /// Takes an entity out of the lists of the guesses in a set.
 pub(crate) fn relieve<E: Key>(opens: &mut Opens<E>, tags: &TagSet, entity: &E)
     requires { IsStrictlySortedBy nat_cmp
@@ -218,6 +228,18 @@ pub(crate) fn relieve<E: Key>(opens: &mut Opens<E>, tags: &TagSet, entity: &E)
     ensures as_many { length opens.new.items ≡ length opens.old.items }
 {
     opens.leave(tags, true, entity);
+}
+
+/// Takes an entity out of the lists of the guesses in a set that are not in another.
+pub(crate) fn relieve_beyond<E: Key>(opens: &mut Opens<E>, tags: &TagSet, own: &TagSet, entity: &E)
+    requires { IsStrictlySortedBy nat_cmp
+        (numbers (opens_of (map (λ l. l.guess) opens.old.items))) }
+    ensures opens { map (λ l. l.guess) opens.new.items
+        ≡ map (relieved_beyond E.order tags.now own.now entity.now)
+        (map (λ l. l.guess) opens.old.items) }
+    ensures as_many { length opens.new.items ≡ length opens.old.items }
+{
+    opens.relieve_beyond(tags, own, entity);
 }
 
 /// Leaves an entity to the lists of the guesses in a set alone.

@@ -1,10 +1,10 @@
-//! The undecided guesses, many of which share one list of what rests on them.
+//! The undecided guesses, many of which share one list of what depends on them.
 ghost use Rattle.std.specs.Prelude.{◌≡◌, ◌<◌, ◌≤◌, ◌+◌, ◌∷◌, ◌++◌, ℕ, List, [], true, false, length, map, slice_index_or, slice_set, OnOk, OnErr, IsOk, if◌then◌else◌};
 ghost use Rattle.sk_guesses.specs.Base.{remove, AllByRecursion, AllZip, IsStrictlySortedBy, nat_cmp, has, numbers};
 ghost use Rattle.sk_guesses.specs.EntitySet.{with_entity, without_entity};
-ghost use Rattle.sk_guesses.specs.Opens.{depending, opens_of, without_tag};
+ghost use Rattle.sk_guesses.specs.Opens.{depending, opens_of, relieved_beyond, without_tag};
 ghost use Rattle.sk_guesses.specs.Room.{Listing};
-ghost use Rattle.sk_guesses.specs.Shared.{seen, is_named, changing, IsReady, AreReady, HasPlace, IsRoomier, IsPlaced, Agrees, IsChanged, WillChange, Sharing, AreRising};
+ghost use Rattle.sk_guesses.specs.Shared.{seen, is_beyond, is_named, changing, IsRelieved, IsReady, AreReady, HasPlace, IsRoomier, IsPlaced, Agrees, IsChanged, WillChange, Sharing, AreRising, AreWithin};
 
 use crate::EntitySet;
 use crate::open_guess::OpenGuess;
@@ -44,21 +44,21 @@ impl<'a, E: Key> Seen<'a, E> {
         self.id
     }
 
-    /// Whether its own step rests on a guess.
+    /// Whether its own step depends on a guess.
     pub(crate) fn rests_on(&self, id: GuessId) -> bool
         ensures { result ≡ has id self.now.guess.tags }
     {
         self.tags.contains(id)
     }
 
-    /// The guesses that its own step rests on.
+    /// The guesses that its own step depends on.
     pub(crate) fn tags(&self) -> &'a TagSet
         ensures { result.now ≡ self.now.guess.tags }
     {
         self.tags
     }
 
-    /// The entities that rest on it, by rising order.
+    /// The entities that depend on it, by rising order.
     pub(crate) fn dependents(&self) -> &'a [E]
         ensures value { result.now ≡ self.now.guess.dependents }
         ensures rising { IsStrictlySortedBy E.order result.now }
@@ -67,11 +67,42 @@ impl<'a, E: Key> Seen<'a, E> {
     }
 }
 
+/// The guesses from one number to another.
+#[derive(Clone, Copy)]
+pub(crate) struct Span {
+    oldest: GuessId,
+    newest: GuessId,
+}
+
+/// Guesses that span these, and one more where it is wanted.
+fn spanning(span: Span, id: GuessId, wanted: bool) -> Span
+    ensures wider { (result.oldest ≤ span.oldest) × (span.newest ≤ result.newest) }
+    ensures one { wanted ≡ true → (result.oldest ≤ id) × (id ≤ result.newest) }
+{
+    if !wanted {
+        return span;
+    }
+    Span {
+        oldest: if id.number() < span.oldest.number() {
+            id
+        } else {
+            span.oldest
+        },
+        newest: if id.number() > span.newest.number() {
+            id
+        } else {
+            span.newest
+        },
+    }
+}
+
 /// Undecided guesses in their order. Guesses of which the same entities rest share one list.
 #[derive(Drop)]
 pub(crate) struct Opens<E: Key> {
     row: Row<OpenGuess<E>>,
     shared: EntitySet<E>,
+    /// No others share the list, so that a change of it visits these alone.
+    sharers: Span,
     /// Room for another list as long as the shared one, as far as there is memory, and no entity.
     spare: EntitySet<E>,
 }
@@ -80,7 +111,7 @@ impl<E: Key> Model for Opens<E> {
     ghost use Rattle.std.specs.Prelude.{◌≡◌, [], map, length};
     ghost use Rattle.sk_guesses.specs.Room.{Listing};
     ghost use Rattle.sk_guesses.specs.Row.{InOrder};
-    ghost use Rattle.sk_guesses.specs.Shared.{seen, AreReady};
+    ghost use Rattle.sk_guesses.specs.Shared.{seen, AreReady, AreWithin};
 
     ghost Value = { InOrder (Listing E) };
 
@@ -88,19 +119,8 @@ impl<E: Key> Model for Opens<E> {
         { items = map (seen a.shared.entities) a.row.items; places = a.row.places } };
 
     ghost invariant = { λ a. AreReady (length a.shared.entities) a.row.items
-        × (a.spare.entities ≡ []) };
-}
-
-/// Whether one of these guesses shares the list.
-fn any_shares<E: Key>(row: &Row<OpenGuess<E>>) -> bool
-    ensures { result ≡ false → AllByRecursion (λ o. o.shares ≡ false) row.now.items }
-{
-    for place in 0..row.len() {
-        if row.at(place).shares() {
-            return true;
-        }
-    }
-    false
+        × (a.spare.entities ≡ [])
+        × AreWithin a.sharers.oldest a.sharers.newest a.row.items };
 }
 
 /// How many of a list that rises are below a guess, by halves.
@@ -148,6 +168,24 @@ fn first_from<E: Key>(row: &Row<OpenGuess<E>>, from: usize, id: GuessId) -> usiz
     low
 }
 
+/// Whether one of these guesses shares the list, where no others do but those of a span.
+fn any_shares<E: Key>(row: &Row<OpenGuess<E>>, sharers: Span) -> bool
+    requires ids { AreRising row.now.items }
+    requires sharers { AreWithin sharers.oldest sharers.newest row.now.items }
+    ensures { result ≡ false → AllByRecursion (λ o. o.shares ≡ false) row.now.items }
+{
+    for place in first_from(row, 0, sharers.oldest)..row.len() {
+        let open = row.at(place);
+        if open.is_after(sharers.newest) {
+            return false;
+        }
+        if open.shares() {
+            return true;
+        }
+    }
+    false
+}
+
 /// The first place from one on whose guess may be among some; where those that are not among them are asked for, that place.
 fn next_named<E: Key>(row: &Row<OpenGuess<E>>, tags: &TagSet, within: bool, from: usize) -> usize
     requires rising { AreRising row.now.items }
@@ -188,13 +226,24 @@ fn any_named<E: Key>(row: &Row<OpenGuess<E>>, tags: &TagSet, within: bool) -> bo
 }
 
 /// Of those that share the list, all that are not named have a list of their own from then on.
-fn part_others<E: Key>(row: &mut Row<OpenGuess<E>>, shared: &[E], tags: &TagSet, within: bool)
+fn part_others<E: Key>(
+    row: &mut Row<OpenGuess<E>>,
+    shared: &[E],
+    sharers: Span,
+    tags: &TagSet,
+    within: bool,
+)
     requires rising { IsStrictlySortedBy E.order shared.now }
     requires ready { AreReady (length shared.now) row.old.items }
+    requires ids { AreRising row.old.items }
+    requires sharers { AreWithin sharers.oldest sharers.newest row.old.items }
     ensures { AllZip (Agrees shared.now (is_named within tags.now) true) row.old.items
         row.new.items }
 {
-    for place in 0..row.len() {
+    for place in first_from(row, 0, sharers.oldest)..row.len() {
+        if row.at(place).is_after(sharers.newest) {
+            return;
+        }
         part_other(row.at_mut(place), shared, tags, within);
     }
 }
@@ -215,15 +264,22 @@ fn part_other<E: Key>(open: &mut OpenGuess<E>, shared: &[E], tags: &TagSet, with
 }
 
 /// Makes those that share the list change with it, or not change at all, and answers whether they change.
-fn agree<E: Key>(row: &mut Row<OpenGuess<E>>, shared: &[E], tags: &TagSet, within: bool) -> bool
+fn agree<E: Key>(
+    row: &mut Row<OpenGuess<E>>,
+    shared: &[E],
+    sharers: Span,
+    tags: &TagSet,
+    within: bool,
+) -> bool
     requires rising { IsStrictlySortedBy E.order shared.now }
     requires ready { AreReady (length shared.now) row.old.items }
     requires ids { AreRising row.old.items }
+    requires sharers { AreWithin sharers.oldest sharers.newest row.old.items }
     ensures { AllZip (Agrees shared.now (is_named within tags.now) result) row.old.items
         row.new.items }
 {
     if any_named(row, tags, within) {
-        part_others(row, shared, tags, within);
+        part_others(row, shared, sharers, tags, within);
         return true;
     }
     false
@@ -254,6 +310,28 @@ fn leave_own<E: Key>(row: &mut Row<OpenGuess<E>>, tags: &TagSet, within: bool, e
     while place < row.len() {
         row.at_mut(place).leave(tags, within, entity);
         place = next_named(row, tags, within, place + 1);
+    }
+}
+
+/// Takes an entity out of the lists of those of some guesses that are not among others. Each that shared the list has its own
+/// from then on.
+fn relieve_seen<E: Key>(
+    row: &mut Row<OpenGuess<E>>,
+    shared: &[E],
+    tags: &TagSet,
+    own: &TagSet,
+    entity: &E,
+)
+    requires rising { IsStrictlySortedBy E.order shared.now }
+    requires ready { AreReady (length shared.now) row.old.items }
+    requires ids { AreRising row.old.items }
+    ensures { AllZip (IsRelieved shared.now (λ es. without_entity E.order es entity.now)
+        (is_beyond tags.now own.now)) row.old.items row.new.items }
+{
+    let mut place = next_named(row, tags, true, 0);
+    while place < row.len() {
+        row.at_mut(place).relieve(shared, tags, own, entity);
+        place = next_named(row, tags, true, place + 1);
     }
 }
 
@@ -299,6 +377,8 @@ fn begun<E: Key>(id: GuessId, tags: TagSet, dependents: EntitySet<E>, shares: bo
         ≡ record { guess = record { id = id; tags = tags; dependents = dependents.entities } } }
     ensures ready { (es : List E) → (shares ≡ true → es ≡ dependents.entities)
         → IsReady (length es) result }
+    ensures id { result.guess.id ≡ id }
+    ensures shares { result.shares ≡ shares }
 {
     let mut open = OpenGuess::new(id, tags, dependents);
     if !shares {
@@ -376,6 +456,10 @@ impl<E: Key> Opens<E> {
         Opens {
             row: Row::new(alloc),
             shared: EntitySet::new(alloc),
+            sharers: Span {
+                oldest: GuessId::default(),
+                newest: GuessId::default(),
+            },
             spare: EntitySet::new(alloc),
         }
     }
@@ -423,7 +507,9 @@ impl<E: Key> Opens<E> {
 
     /// The last shares its list from then on, if it has just these entities and no other shares one.
     fn found(&mut self, entities: &[E])
-        requires { IsStrictlySortedBy E.order entities.now }
+        requires rising { IsStrictlySortedBy E.order entities.now }
+        requires ids { IsStrictlySortedBy nat_cmp
+            (numbers (opens_of (map (λ l. l.guess) self.old.items))) }
         ensures { self.new ≡ self.old }
     {
         if self.row.len() == 0 {
@@ -436,17 +522,24 @@ impl<E: Key> Opens<E> {
         if !self.row.at(last).has_just(entities) {
             return;
         }
-        if any_shares(&self.row) {
+        if any_shares(&self.row, self.sharers) {
             return;
         }
         self.shared.clear();
         self.shared.fill(entities);
+        let id = self.row.at(last).id();
+        self.sharers = Span {
+            oldest: id,
+            newest: id,
+        };
         self.row.at_mut(last).share();
     }
 
     /// Puts a guess behind the others, for which there is room. It shares the list of the last, where that is the same.
     pub(crate) fn push_reserved(&mut self, id: GuessId, tags: TagSet, dependents: EntitySet<E>)
-        requires { length self.old.items < self.old.places }
+        requires room { length self.old.items < self.old.places }
+        requires ids { IsStrictlySortedBy nat_cmp
+            (numbers (opens_of (map (λ l. l.guess) self.old.items))) }
         ensures items { self.new.items
             ≡ self.old.items
             ++ record { guess = record { id = id; tags = tags; dependents = dependents.entities } }
@@ -455,6 +548,7 @@ impl<E: Key> Opens<E> {
     {
         self.found(dependents.as_slice());
         let shares = is_shared(&self.row, &self.shared, dependents.as_slice());
+        self.sharers = spanning(self.sharers, id, shares);
         self.row.push_reserved(begun(id, tags, dependents, shares));
     }
 
@@ -482,7 +576,7 @@ impl<E: Key> Opens<E> {
         take_seen(self.row.at_mut(place), self.shared.as_slice(), alloc)
     }
 
-    /// Takes a guess out of what the own step of the one at a place rests on.
+    /// Takes a guess out of what the own step of the one at a place depends on.
     pub(crate) fn without(&mut self, place: usize, id: GuessId)
         requires { place < length self.old.items }
         ensures { (d : Listing E) → self.new.items ≡ slice_set self.old.items place
@@ -507,7 +601,13 @@ impl<E: Key> Opens<E> {
             return Ok(());
         }
         reserve_own(&mut self.row, tags, count, self.shared.places())?;
-        let changes = agree(&mut self.row, self.shared.as_slice(), tags, true);
+        let changes = agree(
+            &mut self.row,
+            self.shared.as_slice(),
+            self.sharers,
+            tags,
+            true,
+        );
         add_if(&mut self.shared, &mut self.spare, changes, entity);
         depend_own(&mut self.row, tags, entity);
         Ok(())
@@ -521,8 +621,25 @@ impl<E: Key> Opens<E> {
             ≡ map (changing (λ es. without_entity E.order es entity.now)
             (is_named within tags.now)) (map (λ l. l.guess) self.old.items) }
     {
-        let changes = agree(&mut self.row, self.shared.as_slice(), tags, within);
+        let changes = agree(
+            &mut self.row,
+            self.shared.as_slice(),
+            self.sharers,
+            tags,
+            within,
+        );
         remove_if(&mut self.shared, changes, entity);
         leave_own(&mut self.row, tags, within, entity);
+    }
+
+    /// Takes an entity out of the lists of those of some guesses that are not among others, and visits no more than the former.
+    pub(crate) fn relieve_beyond(&mut self, tags: &TagSet, own: &TagSet, entity: &E)
+        requires { IsStrictlySortedBy nat_cmp
+            (numbers (opens_of (map (λ l. l.guess) self.old.items))) }
+        ensures { map (λ l. l.guess) self.new.items
+            ≡ map (relieved_beyond E.order tags.now own.now entity.now)
+            (map (λ l. l.guess) self.old.items) }
+    {
+        relieve_seen(&mut self.row, self.shared.as_slice(), tags, own, entity);
     }
 }

@@ -1,3 +1,4 @@
+-- None that was passed shares the list.
 use Rattle.sk_guesses.proofs.Names.{◌≡◌, ◌<◌, ℕ, false, slice_index_or}
 use Rattle.sk_guesses.specs.Shared.{Sharing}
 use Rattle.sk_guesses.proofs.open_row.any_shares.Given as goal

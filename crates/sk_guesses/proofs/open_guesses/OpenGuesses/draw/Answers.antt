@@ -46,3 +46,6 @@ returns-clause-statuses g c = λ status are.
     subst (λ n. AreStatuses (record v { drawn = n }) (opens_of new) (with_drawn (Some c.args.id) status)) (sym drawn)
     (subst (λ n. AreStatuses (record v { drawn = v.drawn + 1 }) (opens_of new) (with_drawn (Some n) status)) id
     (subst (λ xs. AreStatuses (record v { drawn = v.drawn + 1 }) (opens_of xs) (with_drawn (Some l.guess.id) status)) (sym is) after))
+
+pub push_reserved-requires-clause-ids : goal.push_reserved-requires-clause-ids
+push_reserved-requires-clause-ids g c = c.self.invariant.0.rising

@@ -1,4 +1,4 @@
--- It is undecided no more, and so are those whose own steps rest on it.
+-- It is undecided no more, and so are those whose own steps depend on it.
 use Rattle.sk_guesses.proofs.Names.{◌≡◌, ◌++◌, map, sym, ◌∙◌, ap, subst, with_failure, has, not_struck, numbers, Kept}
 use Rattle.sk_guesses.proofs.Names.{KeptView, AreStatuses, struck_with, with_struck, opens_of}
 use Rattle.sk_guesses.proofs.Kept.{fail_opens, kept_failed, statuses_failed}

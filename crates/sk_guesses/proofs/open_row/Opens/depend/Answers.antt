@@ -5,14 +5,17 @@ use Rattle.sk_guesses.specs.Shared.{changing, seen, AreReady, Agrees, HasPlace, 
 use Rattle.sk_guesses.proofs.Opens.{guess_of}
 use Rattle.sk_guesses.proofs.Shared.{on_err, all_of, IsReserved, reserved_ready, reserved_seen, places_stay, IsTurned}
 use Rattle.sk_guesses.proofs.Shared.{turned_seen, more_ready, will_turn, will_fit}
-use Rattle.sk_guesses.proofs.Named.{seen_rising, roomier_rising, agreed_rising}
+use Rattle.sk_guesses.proofs.Named.{seen_rising, roomier_rising, agreed_rising, roomier_within, agreed_within, changed_within}
 use Rattle.sk_guesses.proofs.open_row.Opens.depend.Goals as goal
 
 pub invariant_of-self-in_err-reserve_own : goal.invariant_of-self-in_err-reserve_own
 invariant_of-self-in_err-reserve_own g c =
     let room : IsReserved c.self.inside.shared.entities c.as_slice-count.result.now c.reserve.new.self.entities c.self.inside.row.items c.reserve_own.new.row.items =
-    record { same = c.reserve.ensures.entities; count = c.as_slice-count.ensures.entities; ready = c.self.invariant.0; roomier = c.reserve_own.ensures.same } in
-    (reserved_ready room, c.reserve_spare.ensures)
+    record { same = c.reserve.ensures.entities; count = c.as_slice-count.ensures.entities; ready = c.self.invariant.0; roomier = c.reserve_own.ensures.same } in (
+      reserved_ready room,
+      c.reserve_spare.ensures,
+      roomier_within c.self.inside.sharers.oldest c.self.inside.sharers.newest (length c.as_slice-count.result.now) c.self.inside.row.items c.reserve_own.new.row.items c.reserve_own.ensures.same c.self.invariant.2,
+    )
 
 pub returns-in_err-reserve_own-clause-err : goal.returns-in_err-reserve_own-clause-err
 returns-in_err-reserve_own-clause-err g c =
@@ -52,6 +55,8 @@ depend_own-requires-clause-room g c =
 
 pub invariant_of-self-2 : goal.invariant_of-self-2
 invariant_of-self-2 g c =
+    let first = c.self.inside.sharers.oldest in
+    let last = c.self.inside.sharers.newest in
     let ls = c.reserve_own.new.row.items in
     let ms = c.agree-changes.new.row.items in
     let c2 = λ (h : ℕ). has h c.args.tags.now in
@@ -67,6 +72,8 @@ invariant_of-self-2 g c =
     subst (λ ys. AllByRecursion (HasPlace c2 (length ys)) ms) c.as_slice-count.ensures.entities (places_stay c2 b (length xs) es c.self.inside.row.items ls ms c.in_ok-reserve_own.ensures.ok agree) in (
       subst (λ ys. AreReady (length ys) c.depend_own.new.row.items) (sym c.add_if.ensures.entities) (more_ready g.E.Key.order c.args.entity.now turned stay),
       c.add_if.ensures.empty,
+      changed_within first last (λ (ys : List _). with_entity g.E.Key.order ys c.args.entity.now) c2 ms c.depend_own.new.row.items c.depend_own.ensures
+          (agreed_within first last es c2 b ls ms agree (roomier_within first last (length xs) c.self.inside.row.items ls c.reserve_own.ensures.same c.self.invariant.2)),
     )
 
 pub returns-clause-ok : goal.returns-clause-ok
@@ -95,7 +102,7 @@ invariant_of-self-then-all_change g c =
     let turned = will_turn (λ (ys : List _). with_entity g.E.Key.order ys c.args.entity.now) c2 (length xs) es os will ready in
     let fit : AllByRecursion (HasPlace c2 (length es)) os = subst (λ ys. AllByRecursion (HasPlace c2 (length ys)) os) c.as_slice-count.ensures.entities
     (will_fit c2 (length xs) os will (subst (λ ys. AreReady (length ys) os) (sym c.as_slice-count.ensures.entities) ready)) in
-    (subst (λ ys. AreReady (length ys) os) (sym c.add_over.ensures.entities) (more_ready g.E.Key.order c.args.entity.now turned fit), c.add_over.ensures.empty)
+    (subst (λ ys. AreReady (length ys) os) (sym c.add_over.ensures.entities) (more_ready g.E.Key.order c.args.entity.now turned fit), c.add_over.ensures.empty, c.self.invariant.2)
 
 pub returns-then-all_change-clause-ok : goal.returns-then-all_change-clause-ok
 returns-then-all_change-clause-ok g c =
@@ -107,3 +114,7 @@ returns-then-all_change-clause-ok g c =
     ap (λ xs. map guess_of (map (seen xs) os)) c.add_over.ensures.entities
     ∙ turned_seen (will_turn f c2 (length c.as_slice-count.result.now) es os (c.all_change.ensures c.if-all_change.true) ready)
     ∙ ap (λ xs. map (changing f c2) (map guess_of xs)) (ap (λ xs. map (seen xs) os) c.reserve.ensures.entities ∙ ap (λ (r : InOrder _). r.items) c.self.view_is)
+
+pub agree-changes-requires-clause-sharers : goal.agree-changes-requires-clause-sharers
+agree-changes-requires-clause-sharers g c =
+    roomier_within c.self.inside.sharers.oldest c.self.inside.sharers.newest (length c.as_slice-count.result.now) c.self.inside.row.items c.reserve_own.new.row.items c.reserve_own.ensures.same c.self.invariant.2

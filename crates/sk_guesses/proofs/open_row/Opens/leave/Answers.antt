@@ -3,7 +3,7 @@ use Rattle.sk_guesses.proofs.Names.{AllZip, ◌∙◌, List, length, map, ap, sy
 use Rattle.sk_guesses.specs.Shared.{is_named, changing, seen, AreReady, Agrees}
 use Rattle.sk_guesses.proofs.Opens.{guess_of}
 use Rattle.sk_guesses.proofs.Shared.{IsTurned, turned_seen, less_ready}
-use Rattle.sk_guesses.proofs.Named.{seen_rising, agreed_rising}
+use Rattle.sk_guesses.proofs.Named.{seen_rising, agreed_rising, agreed_within, changed_within}
 use Rattle.sk_guesses.proofs.open_row.Opens.leave.Goals as goal
 
 pub agree-changes-requires-clause-ready : goal.agree-changes-requires-clause-ready
@@ -28,8 +28,12 @@ invariant_of-self g c =
     let b = c.agree-changes.result in
     let agree : AllZip (Agrees es c2 b) os ms = subst (λ xs. AllZip (Agrees xs c2 b) os ms) c.as_slice.ensures.entities c.agree-changes.ensures in
     let turned : IsTurned (λ (xs : List _). without_entity g.E.Key.order xs c.args.entity.now) c2 b es os ms ns =
-    record { ready = c.self.invariant.0; agree = agree; change = c.leave_own.ensures } in
-    (subst (λ xs. AreReady (length xs) ns) (sym c.remove_if.ensures) (less_ready g.E.Key.order c.args.entity.now turned), c.self.invariant.1)
+    record { ready = c.self.invariant.0; agree = agree; change = c.leave_own.ensures } in (
+      subst (λ xs. AreReady (length xs) ns) (sym c.remove_if.ensures) (less_ready g.E.Key.order c.args.entity.now turned),
+      c.self.invariant.1,
+      changed_within c.self.inside.sharers.oldest c.self.inside.sharers.newest (λ (xs : List _). without_entity g.E.Key.order xs c.args.entity.now) c2 ms ns c.leave_own.ensures
+          (agreed_within c.self.inside.sharers.oldest c.self.inside.sharers.newest es c2 b os ms agree c.self.invariant.2),
+    )
 
 pub returns : goal.returns
 returns g c =

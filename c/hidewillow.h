@@ -679,6 +679,12 @@ hidewillow_told hidewillow_store_turn(hidewillow_store *store);
 hidewillow_told hidewillow_store_synced(hidewillow_store *store, uint64_t frame);
 hidewillow_told hidewillow_store_failed(hidewillow_store *store, uint64_t frame);
 
+/* Drops what decisions left of the old values of at most so many keys. A decision of 64 keys or more, as of a
+ * FLUSHALL, leaves them, so that it does not take the time of dropping all at once: to be called between
+ * other calls until none are left. Nothing that is seen changes. Told: DONE, with of how many keys there
+ * are still some in `bytes`. */
+hidewillow_told hidewillow_store_let_go(hidewillow_store *store, size_t most);
+
 /* Tells the cut that is to be made, once a frame failed and all that were sent were told of. Told: DONE or
  * ABSENT. */
 hidewillow_told hidewillow_store_cut_due(hidewillow_store *store, hidewillow_cut_off *cut);

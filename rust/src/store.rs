@@ -52,10 +52,10 @@ use calls::{
     hidewillow_store_asked, hidewillow_store_close, hidewillow_store_connect, hidewillow_store_counts,
     hidewillow_store_cut, hidewillow_store_cut_due, hidewillow_store_cut_frame, hidewillow_store_decide,
     hidewillow_store_failed, hidewillow_store_feed, hidewillow_store_feed_ahead, hidewillow_store_hang_up,
-    hidewillow_store_is_closed, hidewillow_store_lost, hidewillow_store_next_ready, hidewillow_store_open,
-    hidewillow_store_output, hidewillow_store_queued, hidewillow_store_rests_on, hidewillow_store_synced,
-    hidewillow_store_take_frame, hidewillow_store_tell, hidewillow_store_tell_unknown, hidewillow_store_turn,
-    hidewillow_store_value, Durable, Recovering,
+    hidewillow_store_is_closed, hidewillow_store_let_go, hidewillow_store_lost, hidewillow_store_next_ready,
+    hidewillow_store_open, hidewillow_store_output, hidewillow_store_queued, hidewillow_store_rests_on,
+    hidewillow_store_synced, hidewillow_store_take_frame, hidewillow_store_tell, hidewillow_store_tell_unknown,
+    hidewillow_store_turn, hidewillow_store_value, Durable, Recovering,
 };
 use std::hash::{BuildHasher, RandomState};
 use std::{fmt, io, ptr};
@@ -436,6 +436,13 @@ impl Store {
     pub fn queued(&mut self, channel: u16) -> usize {
         // SAFETY: as above.
         unsafe { hidewillow_store_queued(&raw mut self.0, channel) }.bytes
+    }
+
+    /// Drops what decisions of 64 keys or more, as of a FLUSHALL, left of old values, of at most so many keys: of how many there are
+    /// still some. To be called between other calls while there are; nothing that is seen changes.
+    pub fn let_go(&mut self, most: usize) -> usize {
+        // SAFETY: as above.
+        unsafe { hidewillow_store_let_go(&raw mut self.0, most) }.bytes
     }
 
     /// Moves bytes that may go out on a channel into the room: how many. To be called until it moves none.

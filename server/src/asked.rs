@@ -33,6 +33,12 @@ fn of_client(what: &[u8], id: u64) -> Vec<u8> {
     }
 }
 
+/// That nobody knows a command of this name, of which as much is told as is plain text.
+fn unknown(name: &[u8]) -> Vec<u8> {
+    let plain = |byte: &u8| if byte.is_ascii_graphic() { char::from(*byte) } else { '?' };
+    format!("-ERR unknown command '{}'\r\n", name.iter().take(64).map(plain).collect::<String>()).into()
+}
+
 impl Server {
     /// Answers what a channel asks, if that can be told now.
     pub fn answer(&mut self, channel: u16) {
@@ -81,7 +87,7 @@ impl Server {
                     self.end(channel);
                 }
                 let (told, _) = door::greet(&self.house.options, words, true);
-                return Some(told.unwrap_or(b"-ERR unknown command\r\n".into()));
+                return Some(told.unwrap_or_else(|| unknown(word)));
             }
         };
         Some(told.into())

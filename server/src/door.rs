@@ -11,6 +11,8 @@ use std::time::Instant;
 pub const LONGEST: usize = 1 << 14;
 pub const OK: &[u8] = b"+OK\r\n";
 const WRONG: &[u8] = b"-WRONGPASS invalid username-password pair or user is disabled.\r\n";
+const NO_PASSWORD: &[u8] = b"-ERR AUTH <password> called without any password configured for the default user. \
+Are you sure your configuration is correct?\r\n";
 
 /// What was queued since MULTI: whether some of it may write, and the bytes of what all of it is to be told.
 #[derive(Clone, Copy, Default)]
@@ -111,6 +113,7 @@ pub fn greet(options: &Options, words: &[&[u8]], mut is_in: bool) -> (Option<Vec
     let told: &[u8] = match (word.to_ascii_uppercase().as_slice(), rest) {
         (b"AUTH", [word]) if pass(b"default", word) => OK,
         (b"AUTH", [user, word]) if pass(user, word) => OK,
+        (b"AUTH", [_] | [_, _]) if options.password.is_empty() => NO_PASSWORD,
         (b"AUTH", [_] | [_, _]) => WRONG,
         (b"AUTH", _) => b"-ERR wrong number of arguments for 'auth' command\r\n",
         (b"QUIT", _) => OK,

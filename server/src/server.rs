@@ -54,6 +54,8 @@ pub struct Server {
     ending: Vec<u16>,
     /// Whether there is one for which the store keeps much room.
     pub is_roomy: bool,
+    /// Decisions left old values that are to be dropped.
+    has_old: bool,
     /// Whether the store was told an answer since its output was taken.
     has_told: bool,
     /// Until when what came waits for more to go with it.
@@ -78,7 +80,7 @@ impl Server {
         let (came, later, full, touched, ending) = (Vec::new(), Vec::new(), Vec::new(), Vec::new(), Vec::new());
         let gathering = Gathering::new(channels.log().gathers());
         let (doorway, gathers) = (Doorway::new(listener), None);
-        let (has_told, is_roomy) = (false, false);
+        let (has_told, is_roomy, has_old) = (false, false, false);
         Ok(Server {
             house,
             channels,
@@ -91,6 +93,7 @@ impl Server {
             touched,
             ending,
             is_roomy,
+            has_old,
             has_told,
             gathering,
             gathers,
@@ -103,6 +106,7 @@ impl Server {
             self.poll()?;
             self.channels.hear()?;
             self.decide();
+            self.has_old = self.channels.let_go_of_old();
             self.go_on();
             self.feed_all();
             self.gathers = self.gathering.until().filter(|_| self.full.is_empty());
@@ -138,7 +142,7 @@ impl Server {
         let watched = is_watched.then_some(PATIENCE).filter(|_| self.gathers.is_none());
         let swept = self.house.options.timeout.map(|timeout| timeout.min(SWEPT));
         let roomy = self.is_roomy.then_some(SWEPT);
-        let now = (!self.later.is_empty()).then_some(Duration::ZERO);
+        let now = (!self.later.is_empty() || self.has_old).then_some(Duration::ZERO);
         waits.chain(watched).chain(swept).chain(roomy).chain(now).min()
     }
 

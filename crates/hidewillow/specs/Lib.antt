@@ -53,6 +53,7 @@ pub use Rattle.sk_deeds.specs.Told as OwnTold
 pub use Rattle.sk_inversion.specs.Undone as OwnUndone
 pub use Rattle.sk_slots.specs.Slot as OwnSlot
 pub use Rattle.sk_slots.specs.Slots as OwnSlots
+pub use Rattle.sk_slots.specs.Counted as OwnCounted
 pub use Rattle.sk_outputs.specs.Said as OwnSaid
 pub use Rattle.sk_speculator.specs.Parts as OwnParts
 pub use Rattle.sk_speculator.specs.Calls as OwnCalls

@@ -25,7 +25,7 @@ ghost use Rattle.sk_commands.specs.Names.{name_of};
 ghost use Rattle.sk_commands.specs.declared.fault.Fault.TheVariants.{Unknown};
 ghost use Rattle.sk_handles.specs.RoundCalls.{SaysStill, TakesRound};
 ghost use Rattle.sk_handles.specs.StoreCalls as durable;
-ghost use Rattle.sk_handles.specs.StoreCalls.{may_write_told, Connects, CountsStore, CutsOff, Decides, Feeds, FeedsAhead, HangsUp, NextReady, OutputsTo, SendsHead, ShowsAhead, ShowsAsked, Syncs, TakesFrame, TellsClosed, TellsCut, TellsQueued, TellsReply, Turns, WindsUp};
+ghost use Rattle.sk_handles.specs.StoreCalls.{may_write_told, Connects, CountsStore, CutsOff, Decides, Feeds, FeedsAhead, HangsUp, NextReady, OutputsTo, SendsHead, ShowsAhead, ShowsAsked, Syncs, TakesFrame, TellsClosed, TellsCut, TellsLeft, TellsQueued, TellsReply, Turns, WindsUp};
 ghost use Rattle.sk_durable.specs.Store.{rests_on_at};
 ghost use Rattle.sk_handles.specs.OwnCalls.{key_at, tag_at, undone_at, value_of, Clears, Commits, CountsOwn, Fails, Guesses, Looks, OwnOpens, Puts, Releases, Removes, Says, ShowsDependent, ShowsKept, Steps, TellsChannel, TellsPlaces, TellsStatus, TellsTag, TellsWaiting};
 
@@ -125,7 +125,7 @@ pub extern "C" fn hidewillow_value(
     with!(handle, alloc, play => tell_value(&play, alloc, name, room))
 }
 
-/// Shows in the room the undecided guesses that an entity rests on, which the report names so.
+/// Shows in the room the undecided guesses that an entity depends on, which the report names so.
 #[unsafe(no_mangle)]
 pub extern "C" fn hidewillow_tags(
     alloc: Global,
@@ -358,7 +358,7 @@ pub extern "C" fn hidewillow_own_value(
     with!(own, alloc, held => own_calls::tell_value(&held, key, room))
 }
 
-/// Tells one of the undecided guesses that a key rests on, by its place among them.
+/// Tells one of the undecided guesses that a key depends on, by its place among them.
 #[unsafe(no_mangle)]
 pub extern "C" fn hidewillow_own_tag(alloc: Global, own: &mut Own, key: &[u8], place: usize) -> Told
     ensures { Tells (TellsTag (tag_at key.now place)) (Unit {0}) result own.old.held own.new.held }
@@ -366,7 +366,7 @@ pub extern "C" fn hidewillow_own_tag(alloc: Global, own: &mut Own, key: &[u8], p
     with!(own, alloc, held => tell_tag(&held, key, place))
 }
 
-/// Shows the next output of a channel that rests on nothing, which is gone then if the room has all of it.
+/// Shows the next output of a channel that depends on nothing, which is gone then if the room has all of it.
 #[unsafe(no_mangle)]
 pub extern "C" fn hidewillow_own_released(
     alloc: Global,
@@ -415,7 +415,7 @@ pub extern "C" fn hidewillow_own_key(
     with!(own, alloc, held => tell_key(&held, place, room))
 }
 
-/// Shows one of the keys that rest on a guess, by its place among them.
+/// Shows one of the keys that depend on a guess, by its place among them.
 #[unsafe(no_mangle)]
 pub extern "C" fn hidewillow_own_dependent(
     alloc: Global,
@@ -747,6 +747,14 @@ pub extern "C" fn hidewillow_store_turn(alloc: Global, store: &mut Durable) -> T
     with!(store, alloc, held => store_calls::turn(&mut held))
 }
 
+/// Drops what decisions of many keys left of old values, of at most so many keys, and tells of how many there are still some.
+#[unsafe(no_mangle)]
+pub extern "C" fn hidewillow_store_let_go(alloc: Global, store: &mut Durable, most: usize) -> Told
+    ensures { Tells TellsLeft (Unit {0}) result store.old.held store.new.held }
+{
+    with!(store, alloc, held => store_calls::let_go(&mut held, most))
+}
+
 /// The host says that a frame is synced.
 #[unsafe(no_mangle)]
 pub extern "C" fn hidewillow_store_synced(alloc: Global, store: &mut Durable, frame: u64) -> Told
@@ -815,7 +823,7 @@ pub extern "C" fn hidewillow_store_decide(alloc: Global, store: &mut Durable) ->
     with!(store, alloc, held => store_calls::decide(&mut held))
 }
 
-/// Shows what a key has, whatever it rests on.
+/// Shows what a key has, whatever it depends on.
 #[unsafe(no_mangle)]
 pub extern "C" fn hidewillow_store_value(
     alloc: Global,
@@ -829,7 +837,7 @@ pub extern "C" fn hidewillow_store_value(
     with!(store, alloc, held => store_calls::tell_value(&held, key, room))
 }
 
-/// Tells one of the undecided batches that a key rests on, by its place among them.
+/// Tells one of the undecided batches that a key depends on, by its place among them.
 #[unsafe(no_mangle)]
 pub extern "C" fn hidewillow_store_rests_on(
     alloc: Global,
@@ -992,7 +1000,7 @@ pub extern "C" fn hidewillow_desk_value(
     with!(desk, alloc, client => client.tell_value(alloc, name, room))
 }
 
-/// Shows the undecided guesses that an entity rests on, which the report names so.
+/// Shows the undecided guesses that an entity depends on, which the report names so.
 #[unsafe(no_mangle)]
 pub extern "C" fn hidewillow_desk_tags(
     alloc: Global,

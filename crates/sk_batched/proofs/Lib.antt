@@ -3,6 +3,8 @@ pub mod Rows
 pub mod Moves
 pub mod Queues
 pub mod Spared
+pub mod Barred
+pub mod Standing
 pub mod Touched
 pub mod Same
 pub mod Answering

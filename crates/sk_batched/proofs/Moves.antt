@@ -11,7 +11,7 @@ use Rattle.sk_batched.proofs.Names.{log_at, bytes_cmp, same_bytes, Commits, Fail
 use Rattle.sk_batched.proofs.Names.{undo_state_of, IsSame, batch_key, opening, notes_by, AreInRow, IsRow, or-false}
 use Rattle.sk_batched.proofs.Rows.{alone_more, first_committed, first_failed, longer, never_there, none_before, none_left_out, not_again, not_beyond, notes_committed, notes_cut, notes_more, numbers_alone, only_new, strikes_none}
 
-abbrev ok_or : {A B : Type 0} → A → Result A B → A
+abbrev pub ok_or : {A B : Type 0} → A → Result A B → A
 ok_or d (Ok x) = x
 ok_or d (Err y) = d
 
@@ -44,7 +44,7 @@ abbrev pub Spares : {V O : Type 0} → Deed (List ℕ) V O → Type 0
 Spares d = (n : ℕ) → is_in bytes_cmp (map (λ w. w.0) d.written) (batch_key n) ≡ false
 
 -- the statuses that are known
-abbrev status_in : List ℕ → ℕ → Option Status
+abbrev pub status_in : List ℕ → ℕ → Option Status
 status_in ns g = cond (has g ns) (Some Undecided) None
 
 module _ {V O : Type 0} (a : Parts (List ℕ) V O) (ns : List ℕ) (r : IsRow a ns) where

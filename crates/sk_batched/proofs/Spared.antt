@@ -27,7 +27,7 @@ module _ {V O : Type 0} (step : WholeStep (Vec ℕ) V O) (free : step_refused st
   pub short : has_long_key step ≡ false
   short = (neither (has_long_key step) (has_reserved_key step) free).0
 
-  unreserved : has_reserved_key step ≡ false
+  pub unreserved : has_reserved_key step ≡ false
   unreserved = (neither (has_long_key step) (has_reserved_key step) free).1
 
   pub spared : Spares (byte_deed step)

@@ -1,4 +1,4 @@
--- The guesses that keys rest on, one key after another.
+-- The guesses that keys depend on, one key after another.
 use Rattle.sk_batched.proofs.Names.{◌≡◌, ℕ, zero, suc, Bool, true, false, ◌||◌, ◌&&◌, List, [], ◌∷◌, ◌++◌, length, drop}
 use Rattle.sk_batched.proofs.Names.{take, arith, ◌+◌, ◌<◌, map, Option, refl, sym, ◌∙◌, ap, slice_index_or}
 use Rattle.sk_batched.proofs.Names.{suc-eq-add-one, drop-cons, list_any, Vec, vec_items, list_any-append, or_from}

@@ -17,6 +17,7 @@ pub use Rattle.sk_batches.specs.declared.refusal.Refusal.{Refusal as Queued}
 pub use Rattle.sk_bytes.specs.Calls.{TellsUndone, Unchanged, has_long_key}
 pub use Rattle.sk_bytes.specs.Steps.{byte_deed}
 pub use Rattle.sk_bytes.specs.Told.{ByteView}
+pub use Rattle.sk_bytes.specs.declared.bytes.TheConstants.{KEY_LIMIT}
 pub use Rattle.sk_deeds.specs.Deed.{Deed, effect_of}
 pub use Rattle.sk_deeds.specs.Told.{Told, told_more, with_told}
 pub use Rattle.sk_guesses.specs.Kept.{AreStatuses, none_drawn, struck_with}
@@ -42,3 +43,4 @@ pub use Rattle.std.specs.Global.{Vec}
 pub use Rattle.std.specs.Int.NonZero.{non_zero_u16_get}
 pub use Rattle.std.specs.List.{Contains, list_any}
 pub use Rattle.std.specs.Option.{option_map, option_or}
+pub use Rattle.std.specs.Vec.{vec_items}

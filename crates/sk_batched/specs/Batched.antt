@@ -40,7 +40,7 @@ opening number = record { looked = []; written = (batch_key number, None) ∷ []
 abbrev pub in_batch : {V O : Type 0} → ℕ → Deed (List ℕ) V O → Deed (List ℕ) V O
 in_batch number d = record d { looked = d.looked ++ batch_key number ∷ [] }
 
--- whether something that it looks at or writes rests on a guess
+-- whether something that it looks at or writes depends on a guess
 abbrev pub is_touched : {V O : Type 0} → Parts (List ℕ) V O → Deed (List ℕ) V O → ℕ → Bool
 is_touched m d g = list_any (λ k. has g (tags_at (undo_state_of bytes_cmp m) k)) (d.looked ++ map (λ w. w.0) d.written)
 
@@ -110,13 +110,13 @@ module _ {V O : Type 0} where
     pub queue : new.queue ≡ old.queue
     pub begun : new.begun ≡ true
 
-  -- a record is added that rests on just the guesses, beside the open batch's, that the step touches
+  -- a record is added that depends on just the guesses, beside the open batch's, that the step touches
   pub record Appends (old : BatchedView V O) (d : Deed (List ℕ) V O) (bytes : List ℕ) (new : BatchedView V O) : Type 0 where
     pub rests : List ℕ
     pub exact : (g : ℕ) → has g rests ≡ (is_touched old.kernel.parts d g && not (g == old.queue.number))
     pub left : new ≡ record old { queue = record old.queue { records = old.queue.records ++ record { rests = rests; bytes = bytes } ∷ [] } }
 
-  -- the step is taken in the open batch, whose guess is drawn before, and its record rests on just the guesses beside the batch's own that
+  -- the step is taken in the open batch, whose guess is drawn before, and its record depends on just the guesses beside the batch's own that
   -- it touched before anything was done
   pub record Logs (old : BatchedView V O) (d : Deed (List ℕ) V O) (bytes : List ℕ) (new : BatchedView V O) : Type 0 where
     pub drawn : ByteView V O

@@ -11,7 +11,7 @@ open_if false number = []
 abbrev pub open_numbers : QueueView → Bool → List ℕ
 open_numbers q begun = map (λ b. b.number) q.batches ++ open_if begun q.number
 
--- these guesses, each of whose own steps rests on it alone
+-- these guesses, each of whose own steps depends on it alone
 abbrev pub alone : List ℕ → List Open
 alone ns = map (λ n. (n, n ∷ [])) ns
 
@@ -34,7 +34,7 @@ abbrev pub not_yet : Bool → ℕ
 not_yet true = 0
 not_yet false = 1
 
--- just these guesses are undecided, each of whose own steps rests on it alone; no key of a batch is there, and each rests on just the
+-- just these guesses are undecided, each of whose own steps depends on it alone; no key of a batch is there, and each depends on just the
 -- guess among these that has it
 pub record IsRow {V O : Type 0} (m : Parts (List ℕ) V O) (ns : List ℕ) : Type 0 where
   pub row : AreInRow ns m.guesses.drawn

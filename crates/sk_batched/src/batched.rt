@@ -1,16 +1,18 @@
 //! A kernel whose guesses are batches of a queue.
-ghost use Rattle.std.specs.Prelude.{◌≡◌, ◌+◌, ◌*◌, ◌≤◌, [], ◌∷◌, ◌++◌, ◌==◌, ◌&&◌, not, ℕ, true, false, is_err, None, Some, IfErr, IfOk, IfSome, OnErr, OnOk, length};
+ghost use Rattle.std.specs.Prelude.{◌≡◌, ◌+◌, ◌*◌, ◌≤◌, [], ◌∷◌, ◌++◌, ◌==◌, ◌&&◌, not, ℕ, true, false, is_err, None, Some, IfErr, IfOk, IfSome, OnErr, OnOk, length, map};
 ghost use Rattle.sk_batched.specs.Base.{non_zero_u16_get, has, released, numbers, struck_with, said_at, bytes_cmp};
 ghost use Rattle.sk_batched.specs.Base.{Commits, FailsIn, Takes, TakesOut, TellsUndone, byte_deed, CutPost, WordPost};
 ghost use Rattle.sk_batched.specs.Base.{FramePost, cut_due, Synced};
 ghost use Rattle.sk_batches.specs.declared.batch.Stage.TheVariants.{Failed};
+ghost use Rattle.sk_batched.specs.Base.{vec_items};
+ghost use Rattle.sk_batched.specs.Barred.{HasNoneBarred, StandForAll};
 ghost use Rattle.sk_batched.specs.Keys.{has_reserved_key};
 ghost use Rattle.sk_batched.specs.Refused.{cause_of, step_refused};
 ghost use Rattle.sk_batched.specs.Batched.{capped, in_batch, is_full, is_touched, log_refused, Appends, Begins, DecidePost, IsEmpty, IsKept, IsNew, IsStill, LogPost, MayBegin, NextPost, RunsInBatch, Stays, TakePost};
 
 use crate::checks;
 use crate::refusal::{Refusal, named};
-use crate::rests::rests_of;
+use crate::rests::{keys_on, rests_of};
 use sk_batches::{Cut, Decision, Places, Queue, Sealed, may_take_frame, take_frame};
 use sk_bytes::{ByteStep, Bytes, Unmade};
 use sk_guesses::Guess;
@@ -47,6 +49,7 @@ pub struct Batched<V, O> {
 impl<V, O> Model for Batched<V, O> {
     ghost use Rattle.sk_batched.specs.Batched.{BatchedView};
     ghost use Rattle.sk_batched.specs.InStep.{IsInStep};
+    ghost use Rattle.sk_batched.specs.Barred.{HasNoneBarred};
 
     ghost Value = { BatchedView V O };
 
@@ -56,7 +59,8 @@ impl<V, O> Model for Batched<V, O> {
       begun = b.begun;
     } };
 
-    ghost invariant = { λ b. IsInStep b.kernel.parts b.queue b.begun b.tokens.items };
+    ghost invariant = { λ b. IsInStep b.kernel.parts b.queue b.begun b.tokens.items
+        × HasNoneBarred b.kernel.parts };
 }
 
 /// No more than may be in flight.
@@ -157,6 +161,16 @@ impl<V, O> Batched<V, O> {
         self.queue.cut_due()
     }
 
+    /// For each undecided batch a key that depends on it, where one does that is no batch's. They stand for all keys: none but those of
+    /// batches depends on more, and no key is there that is a batch's, or too long.
+    pub fn resting(&self) -> Result<Vec<Vec<u8>>, AllocError>
+        ensures keys { IfOk result
+            (λ keys. StandForAll self.now.kernel.parts (map vec_items keys.items)) }
+        ensures none { HasNoneBarred self.now.kernel.parts }
+    {
+        keys_on(self.alloc, &self.kernel, self.tokens.as_slice())
+    }
+
     /// Whether the open batch has no guess and none may be drawn, since as many batches are undecided as may be.
     fn is_full(&self) -> bool
         ensures { result ≡ is_full self.now }
@@ -194,7 +208,7 @@ impl<V: Drop, O: Drop> Batched<V, O> {
         }
     }
 
-    /// Takes a step in the open batch, and logs it with these bytes: answers the batch's number. The step rests on the guess of the
+    /// Takes a step in the open batch, and logs it with these bytes: answers the batch's number. The step depends on the guess of the
     /// batch, which is drawn before, and its record on what it touches. After a refusal the step is as it was, and nothing has
     /// changed but that, without memory, the guess of the open batch may be drawn.
     pub fn log(&mut self, step: &mut ByteStep<V, O>, bytes: &[u8]) -> Result<u64, Refusal>
@@ -273,7 +287,15 @@ impl<V: Drop, O: Drop> Batched<V, O> {
         }
     }
 
-    /// The next output of a channel that rests on nothing, taken out; `None` where there is none. This takes no memory.
+    /// Drops what commits of many keys left of old values, of at most so many keys, and answers of how many there are still
+    /// some. Nothing that is seen changes.
+    pub fn let_go(&mut self, most: usize) -> usize
+        ensures { self.new ≡ self.old }
+    {
+        self.kernel.let_go(most)
+    }
+
+    /// The next output of a channel that depends on nothing, taken out; `None` where there is none. This takes no memory.
     pub fn released(&mut self, channel: u16) -> Option<O>
         ensures some { IfSome result
             (λ output. TakesOut self.old.kernel.parts channel output self.new.kernel.parts) }
@@ -285,7 +307,7 @@ impl<V: Drop, O: Drop> Batched<V, O> {
         self.kernel.released(channel)
     }
 
-    /// Adds a record to the open batch, which rests on what the step touches.
+    /// Adds a record to the open batch, which depends on what the step touches.
     fn append(&mut self, step: &ByteStep<V, O>, bytes: &[u8]) -> Result<(), AllocError>
         ensures ok { OnOk result (Appends self.old (byte_deed step.now) bytes.now self.new) }
         ensures err { OnErr result (self.new ≡ self.old) }

@@ -30,7 +30,7 @@ module _ {V O : Type 0} (es : Numbered) (m : Parts ℕ V O) (undone : List ℕ) 
     strings_in es told.fits.two_way k undone None none,
   )
 
-  -- a key with one that is absent and rests on nothing was taken back
+  -- a key with one that is absent and depends on nothing was taken back
   taken_back : (k : List ℕ) (n : ℕ) → number_of es k ≡ Some n → look_at bytes_cmp (told_of es m).slots k ≡ None
       → log_at bytes_cmp (told_of es m).slots k ≡ [] → (b : Bool) → is_in nat_cmp undone n ≡ b → is_in nat_cmp undone n ≡ true
   taken_back k n here absent rests true is = is

@@ -7,4 +7,5 @@ pub mod Moves
 pub mod Steps
 pub mod Undone
 pub mod Counted
+pub mod Present
 mod Resting

@@ -1,4 +1,4 @@
--- The strings of the numbers that rest on a guess.
+-- The strings of the numbers that depend on a guess.
 use Rattle.sk_bytes.proofs.Names.{or_right, ◌≡◌, ℕ, ◌<◌, true, false, List, [], ◌∷◌, length, Option, Some, None, cond}
 use Rattle.sk_bytes.proofs.Names.{refl, sym, ◌∙◌, ap, arith, ◌==◌, ◌||◌, Bool, is_some, slice_get, unsigned_tied}
 use Rattle.sk_bytes.proofs.Names.{AllByRecursion, filter, nat_cmp, Less, eq-eqb, ne_eqb, true≢false}
@@ -71,7 +71,7 @@ module _ {V O : Type 0} (es : Numbered) (m : Parts ℕ V O) (fits : Fits es m) (
     held : AllHeld es ns
     held n here none = true≢false (sym here ∙ exact n ∙ ap (λ log. has g (last_tags [] log)) (bare es m m fits n none).1)
 
-    -- what rests on it has a string
+    -- what depends on it has a string
     with_strings : (n : ℕ) (o : Option (List ℕ)) → string_of es n ≡ o → rests n ≡ (rests n && is_some o)
     with_strings n (Some s) is = always (rests n) where
       always : (b : Bool) → b ≡ (b && true)

@@ -1,4 +1,4 @@
--- Each note of a log rests on something, whatever a step, a commit or a failure makes of it.
+-- Each note of a log depends on something, whatever a step, a commit or a failure makes of it.
 use Rattle.sk_bytes.proofs.Names.{◌≡◌, ℕ, true, false, List, [], ◌∷◌, ◌++◌, Option, cond, refl, sym, ap, ◌∙◌, inl, inr}
 use Rattle.sk_bytes.proofs.Names.{Bool, Note, has, without, noted, last_tags, cut, committed, Merges, AllRest}
 

@@ -46,7 +46,7 @@ module _ {V : Type 0} where
   log_shown None (n ∷ ns) = refl
   log_shown (Some v) log = refl
 
-  -- a key that is absent and rests on nothing has no slot
+  -- a key that is absent and depends on nothing has no slot
   pub none_shown : (slots : List (ℕ × SlotView V)) (n : ℕ) → look_at nat_cmp slots n ≡ None → log_at nat_cmp slots n ≡ [] → slot_shown slots n ≡ None
   none_shown slots n absent rests = ap (λ v. shown v (log_at nat_cmp slots n)) absent ∙ ap (shown None) rests
 

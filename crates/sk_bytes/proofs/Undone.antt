@@ -11,7 +11,7 @@ use Rattle.sk_speculator.specs.declared.decided.Failed.TheVariants as failure
 use Rattle.sk_bytes.proofs.Told.{commits_told, fails_told, forgets_told, keeps_apart, log_told}
 use Rattle.sk_bytes.proofs.Fitting.{bare, fits_committed, fits_forgot}
 
-first_in : (n : ℕ) (ns : List ℕ) → is_in nat_cmp (n ∷ ns) n ≡ true
+pub first_in : (n : ℕ) (ns : List ℕ) → is_in nat_cmp (n ∷ ns) n ≡ true
 first_in n ns = or_left _ _ (unsigned_tied n n ∙ eq-eqb n n refl)
 
 -- each of these has a string
@@ -21,7 +21,7 @@ AllHeld es ns = (n : ℕ) → is_in nat_cmp ns n ≡ true → string_of es n ≡
 -- ---- the strings of numbers
 
 module _ (es : Numbered) where
-  held_later : (n : ℕ) (ns : List ℕ) → AllHeld es (n ∷ ns) → AllHeld es ns
+  pub held_later : (n : ℕ) (ns : List ℕ) → AllHeld es (n ∷ ns) → AllHeld es ns
   held_later n ns held m here none = held m (or_right _ _ here) none
 
   pub strings_length : (ns : List ℕ) → AllHeld es ns → length ns ≡ length (strings_of es ns)

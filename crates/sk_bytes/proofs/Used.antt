@@ -61,7 +61,7 @@ module _ {V : Type 0} where
   unnoted_rest [] v rest none = none
   unnoted_rest (t ∷ tags) v rest none = absurd (cc)
 
-  -- a log that does not rest on a guess in the end is not empty after its commit
+  -- a log that does not depend on a guess in the end is not empty after its commit
   some_left : (g : ℕ) (n : Note V) (ns : List (Note V)) → AllRest (n ∷ ns) → has g (last_tags n.tags ns) ≡ false → committed g (n ∷ ns) ≡ [] → ⊥
   some_left g n [] rests out none = rests.0 (sym (without_none g n.tags out) ∙ unnoted_tags (without g n.tags) n.before [] none)
   some_left g n (m ∷ ns) rests out none = some_left g m ns rests.1 out (unnoted_rest (without g n.tags) n.before (committed g (m ∷ ns)) none)

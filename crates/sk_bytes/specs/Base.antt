@@ -15,6 +15,7 @@ pub use Rattle.sk_record.specs.Notes.{Note, has, last_tags}
 pub use Rattle.sk_record.specs.Run.{System, put}
 pub use Rattle.sk_record.specs.UndoState.{numbers, tags_at}
 pub use Rattle.sk_renamed.specs.Renamed.{IsDeed, at_key, keys_of}
+pub use Rattle.sk_slots.specs.Counted.{HasPresent}
 pub use Rattle.sk_slots.specs.Slot.{SlotView}
 pub use Rattle.sk_slots.specs.Slots.{log_at, look_at}
 pub use Rattle.sk_speculator.specs.Calls.{CommitPost, FailsIn, Forgets, IsStranger, Refuses, Takes, next_of}

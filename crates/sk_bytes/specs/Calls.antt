@@ -13,7 +13,7 @@ abbrev pub AreOnce : List (List ℕ) → Type 0
 AreOnce [] = Unit {0}
 AreOnce (k ∷ ks) = (is_in bytes_cmp ks k ≡ false) × AreOnce ks
 
--- so many keys are there, rest on a guess, or were taken back by the last failure: just these, each once
+-- so many keys are there, depend on a guess, or were taken back by the last failure: just these, each once
 pub record Counts {V O : Type 0} (b : ByteView V O) (many : ℕ) : Type 0 where
   pub keys : List (List ℕ)
   pub count : many ≡ length keys
@@ -21,13 +21,13 @@ pub record Counts {V O : Type 0} (b : ByteView V O) (many : ℕ) : Type 0 where
   pub all : (k : List ℕ) → is_in bytes_cmp keys k ≡ false → (look_at bytes_cmp b.parts.slots k ≡ None) × (log_at bytes_cmp b.parts.slots k ≡ []) × (is_in bytes_cmp b.undone k ≡ false)
   pub some : (k : List ℕ) → is_in bytes_cmp keys k ≡ true → look_at bytes_cmp b.parts.slots k ≡ None → log_at bytes_cmp b.parts.slots k ≡ [] → is_in bytes_cmp b.undone k ≡ true
 
--- each key that is there, rests on a guess, or was taken back by the last failure has one place, and no other key has any
+-- each key that is there, depends on a guess, or was taken back by the last failure has one place, and no other key has any
 pub record HasPlaces {V O : Type 0} (b : ByteView V O) : Type 0 where
   pub two_way : IsTwoWay b.keys
   pub all : (k : List ℕ) → number_of b.keys k ≡ None → (look_at bytes_cmp b.parts.slots k ≡ None) × (log_at bytes_cmp b.parts.slots k ≡ []) × (is_in bytes_cmp b.undone k ≡ false)
   pub some : (k : List ℕ) (place : ℕ) → number_of b.keys k ≡ Some place → look_at bytes_cmp b.parts.slots k ≡ None → log_at bytes_cmp b.parts.slots k ≡ [] → is_in bytes_cmp b.undone k ≡ true
 
--- the keys that rest on a guess, by their places
+-- the keys that depend on a guess, by their places
 abbrev pub resting_on : {V O : Type 0} → ByteView V O → ℕ → List (List ℕ)
 resting_on b g = names (filter (λ e. has g (tags_at (undo_state_of bytes_cmp b.parts) e.0)) b.keys)
 
@@ -71,7 +71,7 @@ module _ {V O : Type 0} where
     pub parts : IsSame bytes_cmp old.parts new.parts
     pub undone : new.undone ≡ []
 
-  -- just the keys that rested on the guess are told, each once, in the order of their numbers inside
+  -- just the keys that depended on the guess are told, each once, in the order of their numbers inside
   pub record TellsUndone (old : Parts (List ℕ) V O) (g : ℕ) (many more : ℕ) (undone : List (List ℕ)) : Type 0 where
     pub keys : (s : List ℕ) → is_in bytes_cmp undone s ≡ has g (tags_at (undo_state_of bytes_cmp old) s)
     pub count : many ≡ length undone

@@ -13,7 +13,7 @@ abbrev pub listed : {E : Type 0} → Result (Vec ℕ) E → ℕ → Bool
 listed (Ok ns) n = is_in nat_cmp ns.items n
 listed (Err why) n = true
 
--- each absent key that rests on the guess is among these
+-- each absent key that depends on the guess is among these
 abbrev pub ListsAbsent : {V : Type 0} → List (ℕ × SlotView V) → ℕ → List ℕ → Type 0
 ListsAbsent slots g ns = (n : ℕ) → has g (last_tags [] (log_at nat_cmp slots n)) ≡ true → look_at nat_cmp slots n ≡ None → is_in nat_cmp ns n ≡ true
 

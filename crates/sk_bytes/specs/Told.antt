@@ -19,7 +19,7 @@ module _ {V : Type 0} where
   slots_told [] slots = empty
   slots_told (e ∷ es) slots = put (slots_told es slots) e.0 (slot_shown slots e.1)
 
-  -- each note rests on something
+  -- each note depends on something
   abbrev pub AllRest : List (Note V) → Type 0
   AllRest [] = Unit {0}
   AllRest (n ∷ ns) = (n.tags ≡ [] → ⊥) × AllRest ns
@@ -54,14 +54,14 @@ abbrev pub strings_of : Numbered → List ℕ → List (List ℕ)
 strings_of es [] = []
 strings_of es (n ∷ ns) = with_string (string_of es n) (strings_of es ns)
 
--- each key that is there or rests on something has a number, each note rests on something, and some calls lead here
+-- each key that is there or depends on something has a number, each note depends on something, and some calls lead here
 pub record Fits {V O : Type 0} (es : Numbered) (m : Parts ℕ V O) : Type 0 where
   pub two_way : IsTwoWay es
   pub rests : (n : ℕ) → AllRest (log_at nat_cmp m.slots n)
   pub used : (n : ℕ) → string_of es n ≡ None → slot_shown m.slots n ≡ None
   pub whole : IsWhole nat_cmp m
 
--- no number is kept for nothing: but for these, each is that of a key that is there or rests on something
+-- no number is kept for nothing: but for these, each is that of a key that is there or depends on something
 abbrev pub UsedBut : {V : Type 0} → Numbered → List (ℕ × SlotView V) → List ℕ → Type 0
 UsedBut es slots some = (n : ℕ) → is_in nat_cmp some n ≡ false → slot_shown slots n ≡ None → string_of es n ≡ None
 

@@ -3,7 +3,7 @@ ghost use Rattle.std.specs.Prelude.{◌≡◌, ◌==◌, ◌≤◌, ◌∷◌, �
 ghost use Rattle.sk_bytes.specs.Base.{non_zero_u16_get, slice_get, option_copied, option_map, guess_tags, known, none_drawn};
 ghost use Rattle.sk_bytes.specs.Base.{released, numbers, tags_at, said_at, first_of, waiting_of, look_at, log_at};
 ghost use Rattle.sk_bytes.specs.Base.{next_of, Refuses, Takes, IsEmptied, undo_state_of, bytes_cmp, string_of, at_key};
-ghost use Rattle.sk_bytes.specs.Base.{CommitPost, LongKey, vec_capacity};
+ghost use Rattle.sk_bytes.specs.Base.{CommitPost, HasPresent, LongKey, vec_capacity};
 ghost use Rattle.sk_speculator.specs.declared.refusal.Refusal.TheVariants as inner;
 ghost use Rattle.sk_bytes.specs.Calls.{Counts, FailPost, has_long_key, is_long, resting_on, HasPlaces, RefusesGuess, RefusesNext, RefusesStep, Unchanged};
 ghost use Rattle.sk_bytes.specs.Steps.{byte_deed, IsAsItWas};
@@ -92,7 +92,7 @@ impl<V, O> Bytes<V, O> {
         }
     }
 
-    /// The undecided guesses that a key rests on.
+    /// The undecided guesses that a key depends on.
     pub fn tags_of(&self, key: &[u8]) -> &TagSet
         ensures { result.now ≡ tags_at (undo_state_of bytes_cmp self.now.parts) key.now }
     {
@@ -102,14 +102,14 @@ impl<V, O> Bytes<V, O> {
         }
     }
 
-    /// How many keys rest on a guess.
+    /// How many keys depend on a guess.
     pub fn dependents(&self, id: GuessId) -> usize
         ensures { result ≡ length (resting_on self.now id) }
     {
         self.numbers_on(id).len()
     }
 
-    /// One of the keys that rest on a guess, by its place among them.
+    /// One of the keys that depend on a guess, by its place among them.
     pub fn dependent(&self, id: GuessId, place: usize) -> Option<&[u8]>
         ensures { option_map (λ s. s.now) result ≡ slice_get (resting_on self.now id) place }
     {
@@ -119,7 +119,7 @@ impl<V, O> Bytes<V, O> {
         }
     }
 
-    /// The numbers of the keys that rest on a guess.
+    /// The numbers of the keys that depend on a guess.
     fn numbers_on(&self, id: GuessId) -> &[Number]
         ensures count { length result.now ≡ length (resting_on self.now id) }
         ensures keys { (place : ℕ) → at_key None (string_of self.now.keys) (slice_get result.now place)
@@ -139,14 +139,21 @@ impl<V, O> Bytes<V, O> {
         }
     }
 
-    /// How many keys are there, rest on a guess, or were taken back by the last failure.
+    /// How many keys are there, depend on a guess, or were taken back by the last failure.
     pub fn len(&self) -> usize
         ensures { Counts self.now result }
     {
         self.keys.index.len()
     }
 
-    /// A place behind all that keys have. Each key that is there, rests on a guess, or was taken back by the last failure has one
+    /// How many keys are there.
+    pub fn present(&self) -> usize
+        ensures { HasPresent bytes_cmp (look_at bytes_cmp self.now.parts.slots) result }
+    {
+        self.kernel.present()
+    }
+
+    /// A place behind all that keys have. Each key that is there, depends on a guess, or was taken back by the last failure has one
     /// place before it, and no other key has any.
     pub fn places(&self) -> usize
         ensures behind { (place : ℕ) → result ≤ place → string_of self.now.keys place ≡ None }
@@ -229,7 +236,7 @@ impl<V, O> Bytes<V, O> {
         self.kernel.outputs()
     }
 
-    /// How many outputs of a channel wait: the first that rests on a guess, and all behind it.
+    /// How many outputs of a channel wait: the first that depends on a guess, and all behind it.
     pub fn waiting(&self, channel: u16) -> usize
         ensures { result ≡ waiting_of (said_at self.now.parts.said channel) }
     {
@@ -290,7 +297,7 @@ impl<V: Drop, O: Drop> Bytes<V, O> {
         Ok(())
     }
 
-    /// Draws the next guess and takes its step, which rests on it. Its buffers are empty then, with their room. After a refusal
+    /// Draws the next guess and takes its step, which depends on it. Its buffers are empty then, with their room. After a refusal
     /// it is as it was, and nothing has changed.
     pub fn guess(&mut self, step: &mut ByteStep<V, O>) -> Result<Guess, Refusal>
         ensures token { IfOk result
@@ -325,7 +332,7 @@ impl<V: Drop, O: Drop> Bytes<V, O> {
         }
     }
 
-    /// The next output of a channel that rests on nothing, taken out; `None` where there is none. This takes no memory.
+    /// The next output of a channel that depends on nothing, taken out; `None` where there is none. This takes no memory.
     pub fn released(&mut self, channel: u16) -> Option<O>
         ensures first { IfSome result
             (λ output. said_at self.old.parts.said channel
@@ -339,7 +346,15 @@ impl<V: Drop, O: Drop> Bytes<V, O> {
         self.kernel.released(channel)
     }
 
-    /// Commits a guess: nothing rests on it any more. It is never refused for want of memory.
+    /// Drops what commits of many keys left of old values, of at most so many keys, and answers of how many there are still
+    /// some. Nothing that is seen changes.
+    pub fn let_go(&mut self, most: usize) -> usize
+        ensures { self.new ≡ self.old }
+    {
+        self.kernel.let_go(most)
+    }
+
+    /// Commits a guess: nothing depends on it any more. It is never refused for want of memory.
     pub fn commit(&mut self, guess: Guess) -> Result<Committed, Guess>
         ensures { CommitPost bytes_cmp self.old.parts guess result self.new.parts }
     {
@@ -353,7 +368,7 @@ impl<V: Drop, O: Drop> Bytes<V, O> {
         Ok(committed)
     }
 
-    /// Fails a guess: what rests on it is taken back. This takes no memory.
+    /// Fails a guess: what depends on it is taken back. This takes no memory.
     pub fn fail(&mut self, guess: Guess) -> Result<Unmade, Guess>
         ensures { FailPost self.old guess result self.new }
     {

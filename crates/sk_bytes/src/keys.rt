@@ -81,7 +81,7 @@ impl<V: Drop, O: Drop> Keys<V, O> {
         swap_steps(step, &mut self.numbered);
     }
 
-    /// Gives the loose numbers back whose keys are absent and rest on nothing, and lets go of the step.
+    /// Gives the loose numbers back whose keys are absent and depend on nothing, and lets go of the step.
     pub(crate) fn let_go(&mut self, kernel: &Speculator<Number, V, O>)
         requires two_way { IsTwoWay self.old.index }
         requires rests { (n : ℕ) → AllRest (log_at nat_cmp kernel.now.slots n) }

@@ -12,7 +12,7 @@ use sk_speculator::{Speculator, Step};
 use std::alloc::{AllocError, Global};
 use std::mem;
 
-/// Whether a key is absent and rests on nothing.
+/// Whether a key is absent and depends on nothing.
 fn is_bare<V, O>(kernel: &Speculator<Number, V, O>, number: Number) -> bool
     requires { AllRest (log_at nat_cmp kernel.now.slots number) }
     ensures { result ≡ is_none (slot_shown kernel.now.slots number) }
@@ -20,7 +20,7 @@ fn is_bare<V, O>(kernel: &Speculator<Number, V, O>, number: Number) -> bool
     kernel.value(&number).is_none() && kernel.tags_of(&number).ids().is_empty()
 }
 
-/// Gives a number back whose key is absent and rests on nothing. This takes no memory.
+/// Gives a number back whose key is absent and depends on nothing. This takes no memory.
 fn give_back<V, O>(index: &mut Index, kernel: &Speculator<Number, V, O>, number: Number)
     requires two_way { IsTwoWay index.old }
     requires rests { AllRest (log_at nat_cmp kernel.now.slots number) }
@@ -31,7 +31,7 @@ fn give_back<V, O>(index: &mut Index, kernel: &Speculator<Number, V, O>, number:
     }
 }
 
-/// Gives those of these numbers back whose keys are absent and rest on nothing.
+/// Gives those of these numbers back whose keys are absent and depend on nothing.
 pub(crate) fn give_back_all<V, O>(
     index: &mut Index,
     kernel: &Speculator<Number, V, O>,
@@ -46,7 +46,7 @@ pub(crate) fn give_back_all<V, O>(
     }
 }
 
-/// Gives each number back whose key is absent and rests on nothing, where there is no memory for a list of them.
+/// Gives each number back whose key is absent and depends on nothing, where there is no memory for a list of them.
 fn give_back_unused<V, O>(index: &mut Index, kernel: &Speculator<Number, V, O>)
     requires two_way { IsTwoWay index.old }
     requires rests { (n : ℕ) → AllRest (log_at nat_cmp kernel.now.slots n) }
@@ -57,7 +57,7 @@ fn give_back_unused<V, O>(index: &mut Index, kernel: &Speculator<Number, V, O>)
     }
 }
 
-/// Gives numbers back whose keys are absent and rest on nothing: these, or where there was no memory for them, all.
+/// Gives numbers back whose keys are absent and depend on nothing: these, or where there was no memory for them, all.
 pub(crate) fn give_back_any<V, O>(
     index: &mut Index,
     kernel: &Speculator<Number, V, O>,
@@ -90,7 +90,7 @@ fn push_absent<V, O>(
     Ok(())
 }
 
-/// The absent keys that rest on a guess: those whose numbers its commit may set free.
+/// The absent keys that depend on a guess: those whose numbers its commit may set free.
 pub(crate) fn absent_dependents<V, O>(
     kernel: &Speculator<Number, V, O>,
     alloc: Global,
@@ -154,7 +154,7 @@ fn push_found(numbered: &mut Vec<Number>, found: Option<Number>)
     }
 }
 
-/// The numbers of the keys that a step looked at. One that has none is absent and rests on nothing.
+/// The numbers of the keys that a step looked at. One that has none is absent and depends on nothing.
 fn number_looked(
     index: &Index,
     looked: &[Vec<u8>],

@@ -78,7 +78,7 @@ has_mark : (g : ℕ) (batch : Option ℕ) → has g (marks batch) ≡ is_marked 
 has_mark g None = refl
 has_mark g (Some n) = or-false (n == g)
 
--- what it is asked with, its answer and what it rests on
+-- what it is asked with, its answer and what it depends on
 abbrev pub now_asked : Batches → Asker → List (List ℕ) → Work → Asked
 now_asked b asker known work = record (asked_by asker known work) { batch = batch_for b work }
 

@@ -37,7 +37,7 @@ proper kernel status asked free knows = grind (arith, nat_tests)
 apart_from : (n : ℕ) (k : List ℕ) → is_reserved k ≡ false → eq_by_cmp bytes_cmp k (batch_key n) ≡ false
 apart_from n k plain = grind (arith, nat_tests, same_bytes k (batch_key n))
 
--- what some keys rest on is what they rested on before
+-- what some keys depend on is what they depended on before
 any_same : (p q : List ℕ → Bool) (ks : List (List ℕ)) → ((k : List ℕ) → is_reserved k ≡ false → p k ≡ q k)
     → list_any is_reserved ks ≡ false
     → list_any p ks ≡ list_any q ks
@@ -64,7 +64,7 @@ look_drawn b known m true same k = ap (λ (e : Kernel). has_now e k) same
 look_drawn b known m false takes k =
     looks_as_before b.kernel.parts m.parts (open_numbers b.queue b.begun) b.queue.number known.1.row takes k
 
--- and nothing that they rest on, but for the batch's
+-- and nothing that they depend on, but for the batch's
 tags_as_before : (b : Batches) (status : ℕ → Option Status) → Agree b.kernel status
     → (m : Kernel) (begun : Bool) → Draws begun b.kernel b.queue.number m → (k : List ℕ)
     → eq_by_cmp bytes_cmp k (batch_key b.queue.number) ≡ false

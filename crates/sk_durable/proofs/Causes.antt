@@ -14,7 +14,6 @@ use Rattle.sk_batched.specs.declared.refusal.Refusal.TheVariants.{LongKey, TooMa
 use Rattle.sk_batched.specs.Batched.{TakePost}
 use Rattle.sk_durable.specs.declared.refusal.NotDone.TheVariants as undone
 use Rattle.sk_durable.specs.Refused as told
-use Rattle.sk_durable.specs.Works as works
 use Rattle.sk_durable.specs.Works.{RestorePost}
 
 abbrev Done : Type 0
@@ -29,11 +28,11 @@ mixed false true false d = refl
 mixed false false c d = refl
 
 module _ (p q : List ℕ → Bool) where
-  either : (keys : List (List ℕ)) → list_any (λ k. p k || q k) keys ≡ (list_any p keys || list_any q keys)
+  pub either : (keys : List (List ℕ)) → list_any (λ k. p k || q k) keys ≡ (list_any p keys || list_any q keys)
   either [] = refl
   either (k ∷ keys) = ap (λ b. (p k || q k) || b) (either keys) ∙ mixed (p k) (q k) (list_any p keys) (list_any q keys)
 
-abbrev too_long : List ℕ → Bool
+abbrev pub too_long : List ℕ → Bool
 too_long k = nat_lt KEY_LIMIT (length k)
 
 long_is : (step : WorkStep) → list_any too_long (touched (byte_deed step)) ≡ has_long_key step
@@ -42,7 +41,7 @@ long_is step = any_touched too_long step.looked.items step.written.items
 reserved_is : (step : WorkStep) → list_any is_reserved (touched (byte_deed step)) ≡ has_reserved_key step
 reserved_is step = any_touched is_reserved step.looked.items step.written.items
 
-wrong_is : (step : WorkStep) → names_wrong (byte_deed step) ≡ (has_long_key step || has_reserved_key step)
+pub wrong_is : (step : WorkStep) → names_wrong (byte_deed step) ≡ (has_long_key step || has_reserved_key step)
 wrong_is step =
     either too_long is_reserved (touched (byte_deed step)) ∙ (λ i. long_is step i || reserved_is step i)
 

@@ -17,7 +17,7 @@ use Rattle.sk_durable.proofs.Since.{last_machine, said_since, Since}
 use Rattle.sk_durable.proofs.Tickets.{it_says, resting, says_it, ticket_of, Output}
 use Rattle.sk_durable.proofs.Channels.{connected, waits_at, IsOnAfter}
 
--- what does not go out rests on something
+-- what does not go out depends on something
 rests_on : (tags : List ℕ) (w : Said) (ws : List Said) → released_if tags w ws ≡ [] → (g : ℕ) × (has g tags ≡ true)
 rests_on [] w ws is = absurd (cc)
 rests_on (g ∷ tags) w ws is = (g, or_left (g == g) (has g tags) (eq-eqb g g refl))
@@ -105,7 +105,7 @@ module _ (limits : Limits) (next : Next) (start : Entries) (cs : List Call) (s :
   waiting_is : (ys : List Output) → said.waiting ≡ ys → waits_at s t ≡ resting_among opens ys
   waiting_is ys is = said.texts ∙ ap (resting_among opens) is
 
-  -- the first that waits rests on something undecided
+  -- the first that waits depends on something undecided
   first_rests : (y : Output) (ys : List Output) → said.waiting ≡ y ∷ ys → HasNoneReady t s
       → (g : ℕ) × (has g y.1 ≡ true) × (has g opens ≡ true)
   first_rests y ys is ready = grind (arith, nat_tests, rests_on, waiting_is (y ∷ ys) is, has_filter (λ g. has g y.1))

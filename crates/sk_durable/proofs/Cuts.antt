@@ -1,4 +1,4 @@
--- What a cut leaves of the log: the frames before it, and for the next frame what doesn't rest on what it takes away.
+-- What a cut leaves of the log: the frames before it, and for the next frame what doesn't depend on what it takes away.
 use Rattle.std.proofs.lemmas.Bool.Decides.{nat_tests}
 use Rattle.sk_durable.proofs.Names.{◌≡◌, ℕ, zero, suc, ◌+◌, ◌-◌, ◌<◌, ◌≤◌, Bool, true, false, cond, not, ◌||◌, ◌&&◌}
 use Rattle.sk_durable.proofs.Names.{List, [], ◌∷◌, ◌++◌, length, map, take, inl, inr, refl, sym, ◌∙◌, ap, subst}
@@ -123,7 +123,7 @@ in_range c n = nat_le c.first n && nat_le n c.last
 abbrev stays : Cut → Marked → Bool
 stays c x = not (in_range c x.0 || is_struck c.first c.last x.1)
 
--- it rests on none behind its batch
+-- it depends on none behind its batch
 abbrev IsLow : Marked → Type 0
 IsLow x = (g : ℕ) → has g x.1.rests ≡ true → g ≤ x.0
 
@@ -180,7 +180,7 @@ module _ (c : Cut) where
       let up = low r.0 r.1 in
       let from = leb-true c.first r.0 (and_parts (nat_le c.first r.0) (nat_le r.0 c.last) r.2).0 in omega arith)))
 
-  -- a batch outside of the range loses just what rests on it
+  -- a batch outside of the range loses just what depends on it
   marked_outside : (n : ℕ) (rs : List RecordView) → in_range c n ≡ false
       → filter (stays c) (marked n rs) ≡ marked n (kept c.first c.last rs)
   marked_outside n [] out = refl

@@ -37,7 +37,7 @@ next_marked q = flat_map unsent q.batches ++ marked q.number q.records
 
 -- ---- commands and their records
 
--- the record of a command: it rests on just what the command does, beside its batch, and on none behind that
+-- the record of a command: it depends on just what the command does, beside its batch, and on none behind that
 pub record IsOf (r : Command) (x : Marked) : Type 0 where
   pub asked : Asked
   pub entry : r.entry ≡ Runs asked
@@ -52,7 +52,7 @@ AreOf [] (x ∷ xs) = ⊥
 AreOf (r ∷ rs) [] = ⊥
 AreOf (r ∷ rs) (x ∷ xs) = IsOf r x × AreOf rs xs
 
--- a command rests on no guess behind the batch that logs it
+-- a command depends on no guess behind the batch that logs it
 abbrev pub IsBelow : Command → Type 0
 IsBelow r = (asked : Asked) (n g : ℕ) → r.entry ≡ Runs asked → asked.batch ≡ Some n → has g r.rests ≡ true → g ≤ n
 
@@ -60,7 +60,7 @@ IsBelow r = (asked : Asked) (n g : ℕ) → r.entry ≡ Runs asked → asked.bat
 abbrev pub off : List Batch → List ℕ
 off bs = map (λ b. b.number) (filter (λ b. is_refused b.stage) bs)
 
--- the logged commands, without those that rest on a batch that failed or was cut off
+-- the logged commands, without those that depend on a batch that failed or was cut off
 abbrev pub living : List Command → List ℕ → List Command
 living commands gone = filter (λ r. is_logged r.entry) (kept gone commands)
 

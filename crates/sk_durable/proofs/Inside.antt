@@ -168,7 +168,7 @@ module _ (told : Out) (a : StoreView) (status : ℕ → Option Status)
       → Led told told x [] [] (drawn_store a m)
   drawn m room draws = drawn_by m a.batched.begun refl room draws
 
-  -- a command is carried out, with a step that rests on this
+  -- a command is carried out, with a step that depends on this
   pub stepped : (s : StoreView) (asked : Asked) (answer : Answer) (rests : List ℕ)
       (d : Deed (List ℕ) (List ℕ) (ℕ × Answer))
       → d ≡ deed (Runs asked) (has_now a.batched.kernel)

@@ -8,6 +8,7 @@ pub mod Causes
 pub mod Restored
 pub mod Machines
 pub mod Tagged
+pub mod Sizes
 pub mod Inside
 pub mod Decided
 pub mod Carried

@@ -49,7 +49,7 @@ said_all t fails (r ∷ log) quiet =
       runs_work r.entry,
     )
 
--- the same outputs, whatever they rest on
+-- the same outputs, whatever they depend on
 firsts : (guesses : List ℕ) (xs : List (Tagged (ℕ × (ℕ × Answer))))
     → map (λ x. x.0) (resting_among guesses xs) ≡ map (λ x. x.0) xs
 firsts guesses [] = refl

@@ -86,7 +86,7 @@ beside false b = refl
 abbrev pub ran : ℕ → Asked → Answer → List ℕ → Command
 ran t asked answer rests = record { entry = Runs asked; said = Some (t, (asked.ticket, answer)); rests = rests }
 
--- what rests on a batch beside others
+-- what depends on a batch beside others
 own_beside : (t : Bool) (n g : ℕ) → (t || (n == g)) ≡ ((t && not (g == n)) || (n == g))
 own_beside t n g = beside t (n == g) ∙ ap (λ b. (t && not b) || (n == g)) (eqb_turned n g)
 

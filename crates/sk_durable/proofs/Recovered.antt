@@ -184,7 +184,7 @@ module _ (first : ℕ) (cm : List Command) (ds : List (Event Entry)) (log : List
       let logs = from_filter (λ (c : Command). is_logged c.entry) (kept (fails ++ off q.batches) cm) r at in
       ((from_filter (λ (c : Command). not (is_struck (fails ++ off q.batches) c)) cm r logs.0).0, logs.1)
 
-  -- a command of a batch that was told as logged rests on none that was cut off and is not decided
+  -- a command of a batch that was told as logged depends on none that was cut off and is not decided
   pub stays_alive : (r : Command) (a : Asked) (batch : ℕ) → Contains (kept fails cm) r → r.entry ≡ Runs a
       → a.batch ≡ Some batch → Contains ds (Commit batch) → Contains alive r
   stays_alive r a batch at runs is logged =

@@ -205,7 +205,7 @@ module _ (limits : Limits) (next : Next) (start : Entries) (a : StoreView) (new 
           places = new.places;
         }
 
-      -- the answer rests on nothing, so it was taken out
+      -- the answer depends on nothing, so it was taken out
       let_out : (c : Batches) (dropped : Option Told) → LetsOut asker.channel dropped b c
           → IsNew limits next (after_work work start) (record a { batched = c })
       let_out c None lets = nothing answer [] (ap released (sym said_there) ∙ lets.0)

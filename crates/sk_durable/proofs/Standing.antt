@@ -1,4 +1,4 @@
--- A command that is carried out rests on nothing that failed, and on guesses that were drawn alone.
+-- A command that is carried out depends on nothing that failed, and on guesses that were drawn alone.
 use Rattle.std.proofs.lemmas.Bool.Decides.{nat_tests}
 use Rattle.sk_durable.proofs.Names.{◌≡◌, ℕ, ◌<◌, ◌≤◌, true, false, not, List, [], ◌∷◌, ◌++◌, length, map, Option}
 use Rattle.sk_durable.proofs.Names.{Some, None, inl, inr, refl, sym, ◌∙◌, ap, subst, append_assoc, arith, filter}
@@ -111,7 +111,7 @@ module _ (limits : Limits) (next : Next) (start : Entries) (cs : List Call) (m :
       ∙ length-map two.log (λ (q : Command). q.entry) in
       (there, none_lost (λ (q : Command). not (is_struck fails q)) two.log r sizes there)
 
-  -- no guess failed that it rests on
+  -- no guess failed that it depends on
   pub unstruck : (r : Command) → Contains (carried_by c) r → is_struck (failed cs) r ≡ false
   unstruck r at = grind (arith, nat_tests, fails_are limits next start cs m done, stands r at)
 

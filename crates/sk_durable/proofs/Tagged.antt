@@ -1,4 +1,4 @@
--- What keys rest on once the guess of a batch is drawn.
+-- What keys depend on once the guess of a batch is drawn.
 use Rattle.sk_durable.proofs.Names.{arith, ◌≡◌, ℕ, false, ◌||◌, List, [], ◌∷◌, ◌++◌, map, Option, Some, None, Result}
 use Rattle.sk_durable.proofs.Names.{Ok, Err, sym, ◌∙◌, ap, eq_by_cmp, append-nil, is_in, MergedTakes, last_tags}
 use Rattle.sk_durable.proofs.Names.{noted, Note, marked_effect, Effect, step_tags, tags_at, with_drawn, Status}
@@ -6,7 +6,7 @@ use Rattle.sk_durable.proofs.Names.{same_last, AreStatuses, again, effect_of, lo
 use Rattle.sk_durable.proofs.Names.{machine_of, undo_state_of, Parts, batch_key, opening, notes_by, IsRow}
 use Rattle.std.proofs.lemmas.Bool.Decides.{nat_tests}
 
--- a note that rests on one guess
+-- a note that depends on one guess
 abbrev one_note : {V : Type 0} → ℕ → Note V
 one_note g = record { tags = g ∷ []; before = None }
 
@@ -15,7 +15,7 @@ last_noted : (V : Type 0) (t : List ℕ) (n : ℕ) (gs : List ℕ) → last_tags
 last_noted V t n [] = grind (arith, nat_tests)
 last_noted V t n (g ∷ gs) = grind (arith, nat_tests, last_noted V (g ∷ []) n gs, last_noted V t n gs)
 
--- it rests on that guess alone
+-- it depends on that guess alone
 pub tags_of_batch : {V O : Type 0} (m : Parts (List ℕ) V O) (gs : List ℕ) (n : ℕ) → IsRow m (gs ++ n ∷ [])
     → tags_at (undo_state_of bytes_cmp m) (batch_key n) ≡ n ∷ []
 tags_of_batch {V} m gs n row = ap (last_tags []) (row.log n) ∙ last_noted V [] n gs
@@ -24,7 +24,7 @@ abbrev pub ok_or : {A B : Type 0} → A → Result A B → A
 ok_or d (Ok x) = x
 ok_or d (Err y) = d
 
--- all other keys rest on what they rested on
+-- all other keys depend on what they depended on
 module _ {V O : Type 0} (a b : Parts (List ℕ) V O) (n : ℕ)
     (status : ℕ → Option Status) (are : AreStatuses a.guesses a.opens status)
     (takes : Takes bytes_cmp a (opening n) (Some n) b) where

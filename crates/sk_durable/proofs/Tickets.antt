@@ -10,7 +10,7 @@ use Rattle.sk_durable.proofs.Names.{Contains-append_left, Contains-append_right,
 use Rattle.sk_durable.proofs.Names.{slice_get_within, Tagged, has, said_by, is_struck, kept, resting_among, said_to}
 use Rattle.sk_durable.proofs.Names.{refused, refused_up_to, Told, Answer, answer_text, served, Command}
 
--- what a command says: a ticket with its answer, to a channel; and what it rests on
+-- what a command says: a ticket with its answer, to a channel; and what it depends on
 abbrev pub Output : Type 0
 Output = Tagged (ℕ × (ℕ × Answer))
 
@@ -217,7 +217,7 @@ module _ (t : ℕ) where
   rises_kept gs (r ∷ log) n m rises =
       grind (arith, nat_tests, rises_thin n m, rises_kept gs log, rises_kept gs log n m, rises_behind n m)
 
-  -- where what was said rests on none of some guesses, all of it is left once these fail
+  -- where what was said depends on none of some guesses, all of it is left once these fail
   pub settled_kept : (gs : List ℕ) (log : List Command)
       → ((x : Output) (g : ℕ) → Contains (said_to served t log) x → has g x.1 ≡ true → has g gs ≡ false)
       → said_to served t (kept gs log) ≡ said_to served t log

@@ -29,14 +29,15 @@ pub use Rattle.sk_channels.specs.declared.inlet.Ask.TheVariants.{Do, Reject}
 pub use Rattle.sk_channels.specs.declared.refusal.Refusal.{Refusal as Channels}
 pub use Rattle.sk_commands.specs.Faults.{words_of}
 pub use Rattle.sk_commands.specs.Requests.{log_text}
-pub use Rattle.sk_commands.specs.Table.{Have}
+pub use Rattle.sk_commands.specs.Table.{Have, counts}
 pub use Rattle.sk_commands.specs.Texts.{answer_text}
 pub use Rattle.sk_commands.specs.Work.{comes_to, may_write_some, wants_all, with_known}
+pub use Rattle.sk_commands.specs.declared.command.Command.TheVariants.{DbSize}
 pub use Rattle.sk_commands.specs.declared.fault.Fault.TheVariants.{Unknown}
 pub use Rattle.sk_commands.specs.declared.reply.Reply.TheVariants.{Rejected, Text}
 pub use Rattle.sk_commands.specs.declared.work.Answer.{Answer}
 pub use Rattle.sk_commands.specs.declared.work.Work.{Work}
-pub use Rattle.sk_commands.specs.declared.work.Work.TheVariants.{Say}
+pub use Rattle.sk_commands.specs.declared.work.Work.TheVariants.{One, Say}
 pub use Rattle.sk_deeds.specs.Deed.{Deed}
 pub use Rattle.sk_durable.specs.declared.limits.Limits.{Limits}
 pub use Rattle.sk_durable.specs.declared.refusal.NotDone.{NotDone}
@@ -56,7 +57,7 @@ pub use Rattle.sk_record.specs.Effects.{is_marked}
 pub use Rattle.sk_record.specs.Machine.{released}
 pub use Rattle.sk_record.specs.Notes.{has}
 pub use Rattle.sk_record.specs.Trace.{Commit, Event, Fail}
-pub use Rattle.sk_record.specs.UndoState.{tags_at}
+pub use Rattle.sk_record.specs.UndoState.{numbers, tags_at}
 pub use Rattle.sk_replay.specs.Frames.{SayAll}
 pub use Rattle.sk_replay.specs.Snapshot.{after_work, after_works}
 pub use Rattle.sk_requests.specs.Replies.{error_text}

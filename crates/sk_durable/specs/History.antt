@@ -5,7 +5,7 @@ use Rattle.sk_durable.specs.Base.{Fail, failed_in, kept, Logged, Answer, answer_
 use Rattle.sk_durable.specs.Store.{asked_for, came, no_past, was_handed, was_refused, was_told, Past, StoreView}
 use Rattle.sk_durable.specs.Calls.{Call, Connects, Hears, Carries, Declines, Tells, Refuses, Hands, Sends, Learns, Cuts, Decides}
 
--- a command that was carried out: its work, its answer and what it rested on
+-- a command that was carried out: its work, its answer and what it depended on
 abbrev pub Command : Type 0
 Command = Logged Entry (ℕ × Answer)
 
@@ -30,7 +30,7 @@ decided cs = flat_map decided_by cs
 abbrev pub failed : List Call → List ℕ
 failed cs = failed_in (decided cs)
 
--- the commands that came, in order, without those that rest on a failed batch
+-- the commands that came, in order, without those that depend on a failed batch
 abbrev pub stands : List Call → List Command
 stands cs = kept (failed cs) (carried cs)
 
@@ -108,6 +108,6 @@ abbrev pub is_logged : Entry → Bool
 is_logged (Opens batch) = false
 is_logged (Runs asked) = is_some asked.batch
 
--- the commands that are logged, without those that rest on a batch that failed or was cut off
+-- the commands that are logged, without those that depend on a batch that failed or was cut off
 abbrev pub logged : List Call → StoreView → List Entry
 logged cs s = filter is_logged (entries (kept (failed cs ++ cut_off s) (carried cs)))

@@ -63,18 +63,18 @@ abbrev pub TicketsAreToldRight : Type 0
 TicketsAreToldRight = (limits : Limits) (next : Next) (start : Entries) (cs : List Call) (s : StoreView) → HasDone limits next start cs s
     → (t : ℕ) (channel : Channel) → channel_at s.channels t ≡ Some channel → IsToldRight t cs channel limits
 
--- ---- 2. A channel has let go of the longest front part of its replies whose commands rest on nothing undecided.
+-- ---- 2. A channel has let go of the longest front part of its replies whose commands depend on nothing undecided.
 
 -- A batch was told as logged.
 abbrev pub IsLogged : List Call → ℕ → Type 0
 IsLogged cs batch = Contains cs (Decides (Logged batch))
 
--- A command that stands has this ticket, and rests on a batch that was not.
+-- A command that stands has this ticket, and depends on a batch that was not.
 abbrev pub Waits : ℕ → List Call → ℕ → Type 0
 Waits t cs ticket = (r : Command) × (answer : Answer) × (batch : ℕ) × Contains (stands_on t cs) r × (r.said ≡ Some (t, (ticket, answer)))
     × (has batch r.rests ≡ true) × (IsLogged cs batch → ⊥)
 
--- All batches that a command which was answered rests on were told as logged. Where all was told that may be, each ticket was
+-- All batches that a command which was answered depends on were told as logged. Where all was told that may be, each ticket was
 -- told, or the next waits.
 pub record LetsGoJustWhatMay (t : ℕ) (cs : List Call) (channel : Channel) (s : StoreView) : Type 0 where
   pub out : (r : Command) (ticket batch : ℕ) (answer : Answer) → Contains (stands_on t cs) r → r.said ≡ Some (t, (ticket, answer))
@@ -86,7 +86,7 @@ abbrev pub ChannelsLetGoJustWhatMay : Type 0
 ChannelsLetGoJustWhatMay = (limits : Limits) (next : Next) (start : Entries) (cs : List Call) (s : StoreView) → HasDone limits next start cs s
     → (t : ℕ) (channel : Channel) → channel_at s.channels t ≡ Some channel → LetsGoJustWhatMay t cs channel s
 
--- ---- 3. What a reply rests on that went out lies in frames that were told as synced, with all before them.
+-- ---- 3. What a reply depends on that went out lies in frames that were told as synced, with all before them.
 
 -- The frame has all that the batch logs.
 abbrev pub HasAll : ℕ → List Call → ℕ → ℕ → Type 0

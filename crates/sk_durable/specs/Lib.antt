@@ -3,6 +3,7 @@ pub mod Limits
 pub mod Refused
 pub mod Asked
 pub mod Works
+pub mod Sizes
 pub mod Store
 pub mod Calls
 pub mod Posts

@@ -20,7 +20,7 @@ pub record StoreView : Type 0 where
 abbrev pub first_answer : StoreView → ℕ → Option (ℕ × Answer)
 first_answer s t = first_of (said_at s.batched.kernel.parts.said t)
 
--- the batch at a place among those that a key rests on
+-- the batch at a place among those that a key depends on
 abbrev pub rests_on_at : List ℕ → ℕ → StoreView → Option ℕ
 rests_on_at key place s = slice_get (tags_at (undo_state_of bytes_cmp s.batched.kernel.parts) key) place
 

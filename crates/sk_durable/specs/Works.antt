@@ -24,7 +24,7 @@ has_now kernel = look_at bytes_cmp kernel.parts.slots
 
 -- ---- all keys, for work that is told of them
 
--- The keys rise by their bytes, and each that is not among them is absent and rests on nothing, but for reserved ones.
+-- The keys rise by their bytes, and each that is not among them is absent and depends on nothing, but for reserved ones.
 abbrev pub LacksNone : Kernel → List (List ℕ) → Type 0
 LacksNone kernel known = LeavesOut (λ key. (has_now kernel key ≡ None) × (log_at bytes_cmp kernel.parts.slots key ≡ [])) known
 
@@ -117,7 +117,7 @@ CarryPost looks asker work (Err why) b c = IsNotDone why b asker work c
 abbrev pub batch_for : Batches → Work → Option ℕ
 batch_for b work = if may_write_some work then Some b.queue.number else None
 
--- its answer, and the guesses that it rests on: those of what it looks at or writes, and its batch's
+-- its answer, and the guesses that it depends on: those of what it looks at or writes, and its batch's
 pub record IsTold (b : Batches) (asked : Asked) (answer : Answer) (rests : List ℕ) : Type 0 where
   pub batch : asked.batch ≡ batch_for b asked.work
   pub answer_is : answer ≡ (comes_to asked.known asked.work (has_now b.kernel)).reply
@@ -126,7 +126,7 @@ pub record IsTold (b : Batches) (asked : Asked) (answer : Answer) (rests : List 
 
 -- ---- answers are taken out
 
--- the first answer of a channel, where it rests on nothing
+-- the first answer of a channel, where it depends on nothing
 abbrev pub LetsOut : ℕ → Option (ℕ × Answer) → Batches → Batches → Type 0
 LetsOut t None b c = (released (said_at b.kernel.parts.said t) ≡ []) × (c ≡ b)
 LetsOut t (Some told) b c = TakesOut b.kernel.parts t told c.kernel.parts × (c.queue ≡ b.queue) × (c.begun ≡ b.begun)

@@ -21,7 +21,7 @@ fn add_key(alloc: Global, key: &[u8], keys: &mut Vec<Vec<u8>>) -> Result<(), All
     Ok(())
 }
 
-/// Copies of all keys that are there or rest on a guess, but for those of batches, each once, by rising bytes; some that are
+/// Copies of all keys that are there or depend on a guess, but for those of batches, each once, by rising bytes; some that are
 /// absent may be among them.
 pub(crate) fn known_keys(
     alloc: Global,

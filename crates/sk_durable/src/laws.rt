@@ -8,7 +8,7 @@ ghost use Rattle.sk_durable.specs.Laws.{
   TicketsAreToldRight,
 };
 
-/// All is as in a plain store that carries out the commands that came, in order, without those that rest on a failed batch: what
+/// All is as in a plain store that carries out the commands that came, in order, without those that depend on a failed batch: what
 /// keys have, and each answer at its place.
 pub fn plain_law()
     ensures map { MapIsPlain }
@@ -21,18 +21,18 @@ pub fn tickets_law()
     ensures { TicketsAreToldRight }
 {}
 
-/// A channel lets go of just the longest front part of its replies whose commands rest on nothing undecided.
+/// A channel lets go of just the longest front part of its replies whose commands depend on nothing undecided.
 pub fn output_law()
     ensures { ChannelsLetGoJustWhatMay }
 {}
 
-/// What a batch logged that a reply rests on which went out lies in frames that the host said are synced, with all before them.
+/// What a batch logged that a reply depends on which went out lies in frames that the host said are synced, with all before them.
 pub fn synced_law()
     ensures { LoggedIsOnDisk }
 {}
 
 /// Whatever a crash leaves, what is read again is the plain store after the first of the logged commands, with all that a reply
-/// rests on which went out, and none that was refused.
+/// depends on which went out, and none that was refused.
 pub fn crash_law()
     ensures { CrashesAreRecovered }
 {}

@@ -1,4 +1,4 @@
-//! A store whose replies wait for exactly what they rest on: commands run at once in memory under the guess that their batch
+//! A store whose replies wait for exactly what they depend on: commands run at once in memory under the guess that their batch
 //! reaches the disk.
 #![tactic(auto)]
 
@@ -8,6 +8,7 @@ pub mod laws;
 pub mod limits;
 mod look;
 pub mod refusal;
+mod size;
 pub mod store;
 pub mod told;
 mod works;

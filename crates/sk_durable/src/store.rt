@@ -67,7 +67,7 @@ fn moved(brought: Result<(), Refusal>, count: usize) -> Result<usize, Refusal>
     }
 }
 
-/// A store whose replies wait for exactly what they rest on.
+/// A store whose replies wait for exactly what they depend on.
 #[derive(Drop)]
 pub struct Store {
     alloc: Global,
@@ -192,7 +192,7 @@ impl Store {
     // ---- the way in
 
     /// Takes bytes that came on a channel, from the front, up to the end of a request, which is carried out, or all. `DecisionDue`
-    /// where a batch was cut off and `decide` has not told so yet: what rests on it must not be logged. `Full` where as many bytes
+    /// where a batch was cut off and `decide` has not told so yet: what depends on it must not be logged. `Full` where as many bytes
     /// are undecided as may be, or as many commands wait for their answers. After a refusal nothing has changed.
     pub fn feed(&mut self, channel: u16, bytes: &[u8]) -> Result<Fed, Refusal>
         ensures { FeedPost channel bytes.now result self.old self.new }
@@ -200,7 +200,7 @@ impl Store {
         self.take(channel, bytes, false)
     }
 
-    /// As `feed`; and where a request was carried out, `ahead` has its answer, as it is under the guesses that it rests on.
+    /// As `feed`; and where a request was carried out, `ahead` has its answer, as it is under the guesses that it depends on.
     pub fn feed_ahead(&mut self, channel: u16, bytes: &[u8]) -> Result<Fed, Refusal>
         ensures { FeedAheadPost channel bytes.now result self.old self.new }
     {
@@ -410,7 +410,7 @@ impl Store {
         }
     }
 
-    /// Moves bytes that may go out on a channel into the front of the room, and says how many: answers that rest on nothing, and
+    /// Moves bytes that may go out on a channel into the front of the room, and says how many: answers that depend on nothing, and
     /// refusals of what was not done, in the order of their tickets. It is to be called until it says 0. Nothing is lost without
     /// memory, which is told where no byte was moved.
     pub fn output(&mut self, channel: u16, room: &mut [u8]) -> Result<usize, Refusal>
@@ -467,6 +467,14 @@ impl Store {
         ensures { TurnPost result self.old self.new }
     {
         self.places.turn(false)
+    }
+
+    /// Drops what decisions of many keys left of old values, of at most so many keys, and answers of how many there are still
+    /// some. Nothing that is seen changes.
+    pub fn free(&mut self, most: usize) -> usize
+        ensures { self.new ≡ self.old }
+    {
+        self.batched.let_go(most)
     }
 
     /// The host says that a frame is synced. It is decided once all before it are.
@@ -527,7 +535,7 @@ impl Store {
         Ok(())
     }
 
-    /// The oldest batch, if it is decided: it is let go of, and what rests on it may go out, or is taken back. This takes no memory,
+    /// The oldest batch, if it is decided: it is let go of, and what depends on it may go out, or is taken back. This takes no memory,
     /// and is to be called until it says `None`.
     pub fn decide(&mut self) -> Option<Outcome>
         ensures { DecidePost result self.old self.new }
@@ -576,7 +584,7 @@ impl Store {
         self.batched.kernel().outputs()
     }
 
-    /// What a key has now, whatever it rests on; `None` where it is absent.
+    /// What a key has now, whatever it depends on; `None` where it is absent.
     pub fn value(&self, key: &[u8]) -> Option<&ByteString>
         ensures { option_copied result
             ≡ look_at bytes_cmp self.now.batched.kernel.parts.slots key.now }
@@ -584,7 +592,7 @@ impl Store {
         self.batched.kernel().value(key)
     }
 
-    /// The batch at a place among the undecided ones that a key rests on, by rising number; `None` past the last.
+    /// The batch at a place among the undecided ones that a key depends on, by rising number; `None` past the last.
     pub fn rests_on(&self, key: &[u8], place: usize) -> Option<u64>
         ensures { result ≡ rests_on_at key.now place self.now }
     {

@@ -5,10 +5,11 @@ ghost use Rattle.sk_durable.specs.Works.{ahead_in, CarryPost, IsHanded, KnowsIfT
 
 use crate::known::known_keys;
 use crate::look::Keys;
+use crate::size::take_size;
 use crate::{NotDone, Told};
 use sk_batched::Batched;
 use sk_bytes::{ByteStep, Bytes};
-use sk_commands::{ByteString, Work};
+use sk_commands::{ByteString, Command, Work};
 use std::alloc::{AllocError, Global};
 
 /// A kernel of byte strings, with a queue of batches of what is logged.
@@ -74,7 +75,11 @@ fn hand_in(
 }
 
 /// The text of what a step answers, where it is looked at ahead.
-fn look_ahead(alloc: Global, step: &WorkStep, looks: bool) -> Result<Option<ByteString>, AllocError>
+pub(crate) fn look_ahead(
+    alloc: Global,
+    step: &WorkStep,
+    looks: bool,
+) -> Result<Option<ByteString>, AllocError>
     ensures { IfOk result (λ ahead. ahead ≡ ahead_in looks step.now.said) }
 {
     match &step.said {
@@ -130,7 +135,10 @@ pub(crate) fn carry_out(
     ensures post { CarryPost looks asker work result batched.old batched.new }
     ensures empty { IsEmpty step.new }
 {
-    let done = take_in(alloc, batched, step, asker, work, looks);
+    let done = match work {
+        Work::One(Command::DbSize) => take_size(alloc, batched, step, asker, looks),
+        work => take_in(alloc, batched, step, asker, work, looks),
+    };
     if done.is_err() {
         clear(step);
     }

@@ -12,7 +12,7 @@ use Rattle.sk_handles.specs.Told.{just, texted, put}
 abbrev pub value_text : KernelView → Entity → Option (List ℕ)
 value_text k e = option_map (gathered (map.get (state_at k)) (map.keys (state_at k)) e) (map.get (state_at k) e)
 
--- the undecided guesses that it rests on
+-- the undecided guesses that it depends on
 abbrev pub tags_text_of : KernelView → Entity → Option (List ℕ)
 tags_text_of k e = Some (tags_text (tags_at k e))
 

@@ -99,7 +99,7 @@ Releases t room_old room_new told old new =
     ((h : HeldView) × MayBring old t h × Shown t told (first_of t h.out) h new room_old room_new)
     ⊎ ((told ≡ just MEMORY 0) × (new ≡ old) × (room_new ≡ room_old))
 
--- the keys that are there, rest on a guess, or were taken back by the last failure; the undecided guesses, the struck ones whose tokens
+-- the keys that are there, depend on a guess, or were taken back by the last failure; the undecided guesses, the struck ones whose tokens
 -- have not come back, and below which number each is decided
 pub record AreOwnCounts (h : HeldView) (counts : OwnCounts) : Type 0 where
   pub keys : KeyCounts h.kernel counts.keys
@@ -109,7 +109,7 @@ pub record AreOwnCounts (h : HeldView) (counts : OwnCounts) : Type 0 where
 
 -- ---- what else is seen
 
--- a place behind all that keys have: those that are there, rest on a guess, or were taken back by the last failure
+-- a place behind all that keys have: those that are there, depend on a guess, or were taken back by the last failure
 pub record TellsPlaces (told : Told) (h : HeldView) : Type 0 where
   pub count : ℕ
   pub is_told : told ≡ just SHOWN count
@@ -120,7 +120,7 @@ pub record TellsPlaces (told : Told) (h : HeldView) : Type 0 where
 abbrev pub key_at : ℕ → HeldView → Option (List ℕ)
 key_at place h = string_of h.kernel.keys place
 
--- one of the keys that rest on a guess, by its place among them; a number that no guess can have is told as absent
+-- one of the keys that depend on a guess, by its place among them; a number that no guess can have is told as absent
 abbrev pub dependent_at : ℕ → ℕ → HeldView → Option (List ℕ)
 dependent_at g place h = slice_get (resting_on h.kernel g) place
 
@@ -147,7 +147,7 @@ TellsStatus g told h =
     (IsGuessNumber g × (told ≡ option_map_or (λ s. record { answer = SHOWN; number = status_number s; bytes = depends_on g h }) (known h.kernel.parts.guesses h.kernel.parts.opens g) (just ABSENT 0)))
     ⊎ ((IsGuessNumber g → ⊥) × (told ≡ just ABSENT 0))
 
--- how many outputs of a channel wait: the first that rests on a guess, and all behind it
+-- how many outputs of a channel wait: the first that depends on a guess, and all behind it
 abbrev pub TellsWaiting : ℕ → Told → HeldView → Type 0
 TellsWaiting t told h = told ≡ just SHOWN (waiting_of (said_at h.kernel.parts.said t))
 

@@ -164,5 +164,9 @@ TellsClosed channel told a = told ≡ just DONE (if is_closed (channel_at a.chan
 abbrev pub TellsQueued : ℕ → Told → StoreView → Type 0
 TellsQueued channel told a = told ≡ record { answer = DONE; number = 0; bytes = queued_bytes (channel_at a.channels channel) }
 
+-- of how many keys there are old values that can be dropped
+abbrev pub TellsLeft : Told → StoreView → Type 0
+TellsLeft told a = told ≡ record { answer = DONE; number = 0; bytes = told.bytes }
+
 abbrev pub CountsStore : StoreCounts → Told → StoreView → Type 0
 CountsStore counts told a = (told ≡ just SHOWN 0) × AreStoreCounts a counts

@@ -36,7 +36,7 @@ pub fn tell_value(play: &Play, alloc: Global, name: &[u8], room: &mut [u8]) -> T
     shown(value(alloc, play.kernel(), name), room)
 }
 
-/// Shows the undecided guesses that an entity rests on, which the report names so.
+/// Shows the undecided guesses that an entity depends on, which the report names so.
 pub fn tell_tags(play: &Play, alloc: Global, name: &[u8], room: &mut [u8]) -> Told
     ensures { ShowsText result (tags_shown name.now (kernel_of play.now)) room.old room.new }
 {
@@ -106,7 +106,7 @@ pub(crate) fn tags(alloc: Global, kernel: &Kernel, name: &[u8]) -> Result<Option
     }
 }
 
-/// The undecided guesses that an entity rests on.
+/// The undecided guesses that an entity depends on.
 fn tags_of(alloc: Global, kernel: &Kernel, entity: Entity) -> Result<Option<Vec<u8>>, Stop>
     ensures { Reads result (tags_text_of kernel.now entity) }
 {

@@ -307,7 +307,7 @@ impl Client {
         shown(value(alloc, self.desk.kernel(), name), room)
     }
 
-    /// Shows the undecided guesses that an entity rests on, which the report names so.
+    /// Shows the undecided guesses that an entity depends on, which the report names so.
     pub fn tell_tags(&self, alloc: Global, name: &[u8], room: &mut [u8]) -> Told
         ensures { ShowsText result (tags_shown name.now self.now.desk.kernel) room.old room.new }
     {

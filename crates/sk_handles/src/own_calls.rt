@@ -154,7 +154,7 @@ pub fn tell_value(held: &Held, key: &[u8], room: &mut [u8]) -> Told
     }
 }
 
-/// The guess at a place among those that a key rests on.
+/// The guess at a place among those that a key depends on.
 pub fn tell_tag(held: &Held, key: &[u8], place: usize) -> Told
     ensures { TellsTag (own.tag_at key.now place) result held.now }
 {
@@ -218,7 +218,7 @@ pub fn tell_key(held: &Held, place: usize, room: &mut [u8]) -> Told
     shown(held.kernel().key_at(place), room)
 }
 
-/// Shows one of the keys that rest on a guess.
+/// Shows one of the keys that depend on a guess.
 pub fn tell_dependent(held: &Held, guess: u64, place: usize, room: &mut [u8]) -> Told
     ensures { ShowsDependent guess place room.old room.new result held.now }
 {

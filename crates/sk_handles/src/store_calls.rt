@@ -2,7 +2,7 @@
 ghost use Rattle.std.specs.Prelude.{◌≡◌, if◌then◌else◌};
 ghost use Rattle.sk_handles.specs.Base.{option_map_or, error_text, name_of, rests_on_at, words_of};
 ghost use Rattle.sk_commands.specs.declared.fault.Fault.TheVariants.{Unknown};
-ghost use Rattle.sk_handles.specs.StoreCalls.{done_told, end_number, fed_told, may_write_told, output_told, outcome_told, place_of, queue_refused, store_refused, value_at, AreStoreCounts, Connects, CutsOff, Decides, Feeds, FeedsAhead, HangsUp, Fails, IsDone, NextReady, OutputsTo, SendsHead, ShowsAhead, ShowsAsked, Syncs, TakesFrame, TellsClosed, TellsCut, TellsQueued, TellsReply, Turns, WindsUp};
+ghost use Rattle.sk_handles.specs.StoreCalls.{done_told, end_number, fed_told, may_write_told, output_told, outcome_told, place_of, queue_refused, store_refused, value_at, AreStoreCounts, Connects, CutsOff, Decides, Feeds, FeedsAhead, HangsUp, Fails, IsDone, NextReady, OutputsTo, SendsHead, ShowsAhead, ShowsAsked, Syncs, TakesFrame, TellsClosed, TellsCut, TellsLeft, TellsQueued, TellsReply, Turns, WindsUp};
 ghost use Rattle.sk_handles.specs.OwnCalls.{ShowsBytes, TellsTag};
 ghost use Rattle.sk_handles.specs.Told.{just, told_by};
 
@@ -275,6 +275,14 @@ pub fn tell_may_write(word: &[u8]) -> Told
     }
 }
 
+/// Drops what decisions of many keys left of old values, of at most so many keys, and tells of how many there are still some.
+pub fn let_go(store: &mut Store, most: usize) -> Told
+    ensures told { TellsLeft result store.old }
+    ensures same { store.new ≡ store.old }
+{
+    Told::of(DONE, 0).with_text(store.free(most))
+}
+
 pub fn output(store: &mut Store, channel: u16, room: &mut [u8]) -> Told
     ensures { OutputsTo channel room.old room.new result store.old store.new }
 {
@@ -368,7 +376,7 @@ pub fn tell_value(store: &Store, key: &[u8], room: &mut [u8]) -> Told
     }
 }
 
-/// The batch at a place among those that a key rests on.
+/// The batch at a place among those that a key depends on.
 pub fn tell_rests_on(store: &Store, key: &[u8], place: usize) -> Told
     ensures { TellsTag (rests_on_at key.now place) result store.now }
 {

@@ -65,7 +65,7 @@ module _ {V : Type 0} where
   joined_more t (suc i) (x ∷ ns) n lt at apart all = (all.0, joined_more x.tags i ns n (omega arith) at apart all.1)
 
   -- ---- a commit done twice
-  -- each note rests on something, and not on the guess
+  -- each note depends on something, and not on the guess
   abbrev pub AllFree : ℕ → List (Note V) → Type 0
   AllFree g [] = Unit {0}
   AllFree g (n ∷ ns) = (without g n.tags ≡ n.tags) × HasTags n.tags × AllFree g ns

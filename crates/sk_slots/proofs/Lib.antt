@@ -5,3 +5,4 @@ pub mod Ready
 pub mod Logs
 pub mod Maps
 pub mod Tables
+pub mod Counts

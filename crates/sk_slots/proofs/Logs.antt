@@ -1,4 +1,4 @@
--- Notes: the newest, the first that rests on a guess, and those that a commit leaves.
+-- Notes: the newest, the first that depends on a guess, and those that a commit leaves.
 use Rattle.sk_slots.proofs.Names.{◌≡◌, ℕ, zero, suc, ◌+◌, ◌-◌, ◌<◌, length, take, Bool, true, false, not, cond, List}
 use Rattle.sk_slots.proofs.Names.{[], ◌∷◌, ◌++◌, refl, ◌∙◌, ap, arith, slice_index_or, prefix_len, exact_bytes, Note}
 use Rattle.sk_slots.proofs.Names.{has, last_tags, cut, same_tags, goes_unnoted}

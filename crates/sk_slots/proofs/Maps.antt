@@ -15,7 +15,7 @@ none_is : {A : Type 0} (o : Option A) → is_none o ≡ true → o ≡ None
 none_is None is = refl
 none_is (Some x) is = absurd (true≢false (sym is))
 
-same_by : {K : Type 0} {R : K → K → Ordering} → IsAntisymmetric R → (q k : K) → eq_by_cmp R q k ≡ true → q ≡ k
+pub same_by : {K : Type 0} {R : K → K → Ordering} → IsAntisymmetric R → (q k : K) → eq_by_cmp R q k ≡ true → q ≡ k
 same_by {R = R} exact q k is = exact q k ((Equal-is (R q k)).0 is)
 
 module _ {K V : Type 0} {R : K → K → Ordering} (total : IsTotalOrder R) (exact : IsAntisymmetric R) where
@@ -147,7 +147,7 @@ both_more g false false v w x y is log = (is, log)
 pub next_of : {K : Type 0} (es : List K) (i : ℕ) (e : K) → i < length es → e ≡ get_or es i e → drop i es ≡ e ∷ drop (i + 1) es
 next_of es i e within is = drop-cons es i e within ∙ (λ k. sym is k ∷ drop (suc-eq-add-one i k) es)
 
--- a key that is left, or the next, rests on no other guess
+-- a key that is left, or the next, depends on no other guess
 pub alone_more : {K V : Type 0} {R : K → K → Ordering} → IsAntisymmetric R → (g : ℕ) (rest : List K) (q k : K)
     (log : K → List (Note V)) (new : List (Note V)) → is_in R (k ∷ rest) q ≡ true → are_of g (last_tags [] (log k)) ≡ true
     → new ≡ cond (eq_by_cmp R q k) (cut g (log q)) (log q) → (is_in R rest q ≡ true → are_of g (last_tags [] new) ≡ true)

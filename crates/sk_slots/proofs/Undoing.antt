@@ -5,8 +5,8 @@ use Rattle.sk_slots.proofs.Names.{List, [], ◌∷◌, ◌++◌, Option, Some, N
 use Rattle.sk_slots.proofs.Names.{is_none, is_some, slice_index_or, slice_set, prefix_len, true≢false, Note, has}
 use Rattle.sk_slots.proofs.Names.{without, noted, last_tags, unwound, committed, same_tags, value_before, CanJoin}
 use Rattle.sk_slots.proofs.Names.{FitsBefore, Before, Was, Changed, Kept, newest_tags, rewound, seen, CanGoBack}
-use Rattle.sk_slots.proofs.Names.{is_empty, noted_on}
-use Rattle.std.specs.List.{remove}
+use Rattle.sk_slots.proofs.Names.{is_empty, noted_on, are_of, and_both}
+use Rattle.std.specs.List.{list_all, remove}
 use Rattle.sk_slots.proofs.Joins.{AllFree, HasTags, without_twice}
 
 module _ {V U : Type 0} (undone : U → V → V) where
@@ -71,7 +71,7 @@ module _ {V U : Type 0} (undone : U → V → V) where
   seen_front now zero (k ∷ ks) = refl
   seen_front now (suc i) (k ∷ ks) = λ j. record { tags = k.tags; before = value_before undone k.before (rewound_front now i ks j) } ∷ seen_front now i ks j
 
-  -- what was there before the first that rests on the guess
+  -- what was there before the first that depends on the guess
   pub rewound_first : (g : ℕ) (now : Option V) (ks : List (Kept V U)) (i : ℕ) → i ≡ prefix_len (λ n. not (has g n.tags)) ks → rewound undone now (drop i ks) ≡ unwound g (seen undone now ks) now
   rewound_first g now [] zero is = refl
   rewound_first g now [] (suc i) is = refl
@@ -167,14 +167,14 @@ module _ {V U : Type 0} (undone : U → V → V) (fits : U → V → Type 0) whe
       grind (arith, nat_tests, lighter g now i ks n one (omega arith) is of can.1)
 
 module _ {V U : Type 0} (undone : U → V → V) where
-  -- it still rests on something
+  -- it still depends on something
   pub more_free : (g : ℕ) (now : Option V) (i : ℕ) (ks : List (Kept V U)) (one : Kept V U) → i < length ks → without g one.tags ≡ one.tags → HasTags one.tags
       → AllFree g (take i (seen undone now (slice_set ks i one))) → AllFree g (take (suc i) (seen undone now (slice_set ks i one)))
   more_free g now i [] one lt free some all = absurd (omega arith)
   more_free g now zero (x ∷ ks) one lt free some all = (free, some, tt)
   more_free g now (suc i) (x ∷ ks) one lt free some all = (all.0, all.1, more_free g now i ks one (omega arith) free some all.2)
 
-  -- it rests on nothing
+  -- it depends on nothing
   pub bare_out : (g : ℕ) (now : Option V) (i : ℕ) (ks : List (Kept V U)) (one : Kept V U) → i < length ks → without g one.tags ≡ []
       → committed g (remove (seen undone now (slice_set ks i one)) i) ≡ committed g (seen undone now (slice_set ks i one))
   bare_out g now i [] one lt none = absurd (omega arith)
@@ -256,3 +256,15 @@ empty_len (x ∷ xs) n is = grind (arith, nat_tests)
 pub none_of : {A : Type 0} (o : Option A) → is_some o ≡ false → true ≡ is_none o
 none_of None is = refl
 none_of (Some x) is = absurd (true≢false is)
+
+without_of : (g : ℕ) (tags : List ℕ) → are_of g tags ≡ true → without g tags ≡ []
+without_of g [] of = refl
+without_of g (t ∷ tags) of = grind (arith, nat_tests, without_of g tags)
+
+-- of notes that depend on no guess but one its commit leaves none
+pub none_left : {V U : Type 0} (undone : U → V → V) (g : ℕ) (now : Option V) (ks : List (Kept V U)) → list_all (λ n. are_of g n.tags) ks ≡ true → committed g (seen undone now ks) ≡ []
+none_left undone g now [] of = refl
+none_left undone g now (k ∷ ks) of =
+    let both = and_both _ _ of in
+    ap (λ ts. noted true ts (value_before undone k.before (rewound undone now ks)) (committed g (seen undone now ks))) (without_of g k.tags both.0)
+    ∙ none_left undone g now ks both.1

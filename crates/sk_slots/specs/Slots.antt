@@ -43,6 +43,6 @@ module _ {K V : Type 0} (R : K → K → Ordering) where
   abbrev pub SettledBut : List K → List (K × SlotView V) → Type 0
   SettledBut ks m = (k : K) (s : SlotView V) → found m k ≡ Some s → is_in R ks k ≡ false → is_settled s ≡ true
 
-  -- each slot has: an absent key that rests on nothing has no slot
+  -- each slot has: an absent key that depends on nothing has no slot
   abbrev pub AllSettled : List (K × SlotView V) → Type 0
   AllSettled m = SettledBut [] m

@@ -1,22 +1,25 @@
 //! The notes of what a key has, the newest last.
 ghost use Rattle.std.specs.Prelude.{◌≡◌, false, ◌<◌, ◌≤◌, ◌+◌, [], Option, not, length, take, drop, vec_len, vec_capacity};
-ghost use Rattle.std.specs.List.{prefix_len, remove};
+ghost use Rattle.std.specs.List.{list_all, prefix_len, remove};
 ghost use Rattle.sk_record.specs.Notes.{has, without, committed};
 ghost use Rattle.sk_record.specs.Merged.{merged, same_tags};
 ghost use Rattle.sk_inversion.specs.Undone.{value_before, CanJoin, FitsBefore};
 ghost use Rattle.sk_slots.specs.Kept.{newest_tags, seen, rewound, without_ready, CanGoBack, CanTakeIn, IsLog};
-ghost use Rattle.sk_slots.specs.Slot.{is_empty};
+ghost use Rattle.sk_slots.specs.Slot.{are_of, is_empty};
 
 use sk_ids::{GuessId, TagSet};
 use sk_inversion::{Before, Inversion, join, put_back};
 use std::mem;
 
-/// A write: the guesses that it rests on, and what puts it back.
+/// A write: the guesses that it depends on, and what puts it back.
 #[derive(Drop)]
 pub struct Kept<V, U> {
     pub(crate) tags: TagSet,
     pub(crate) before: Before<V, U>,
 }
+
+/// Room for so many notes stays where none is left.
+const FEW: usize = 4;
 
 /// The notes of the writes of one value.
 pub(crate) type Notes<V, I> = Vec<Kept<V, <I as Inversion<V>>::Undo>>;
@@ -93,7 +96,7 @@ pub(crate) fn goes_unnoted<V, U>(log: &[Kept<V, U>], tags: &TagSet) -> bool
     }
 }
 
-/// How many notes stand before the first that rests on a guess.
+/// How many notes stand before the first that depends on a guess.
 pub(crate) fn before_first<V, U>(log: &[Kept<V, U>], id: GuessId) -> usize
     ensures { result ≡ prefix_len (λ n. not (has id n.tags)) log.now }
 {
@@ -104,6 +107,20 @@ fn is_apart<V, U>(note: &Kept<V, U>, id: GuessId) -> bool
     ensures { result ≡ not (has id note.now.tags) }
 {
     !note.tags.contains(id)
+}
+
+/// Whether a note depends on no guess but one.
+fn rests_on_no_other<V, U>(note: &Kept<V, U>, id: GuessId) -> bool
+    ensures { result ≡ are_of id note.now.tags }
+{
+    note.tags.ids().iter().all(|tag| *tag == id)
+}
+
+/// Whether each of these notes depends on no guess but one.
+pub(crate) fn rest_on_no_other<V, U>(log: &[Kept<V, U>], id: GuessId) -> bool
+    ensures { result ≡ list_all (λ n. are_of id n.tags) log.now }
+{
+    log.iter().all(|note| rests_on_no_other(note, id))
 }
 
 /// The newest note, where there is one, puts back a later write, too.
@@ -145,7 +162,7 @@ fn leave_out<V: Drop, I: Inversion<V>>(log: &mut Notes<V, I>, place: usize)
     }
 }
 
-/// Takes a guess out of the notes, and leaves out those that then rest on nothing.
+/// Takes a guess out of the notes, and leaves out those that then depend on nothing.
 pub(crate) fn lighten<V: Drop, I: Inversion<V>>(log: &mut Notes<V, I>, id: GuessId)
     requires { IsLog I.undone I.fits log.old.items }
     ensures seen { (now : Option V) → CanGoBack I.undone I.fits now log.old.items
@@ -182,6 +199,16 @@ pub(crate) fn merge<V: Drop, I: Inversion<V>>(log: &mut Notes<V, I>)
         } else {
             place += 1;
         }
+    }
+}
+
+/// Lets go of the room of notes, where none is left and it is for more than a few.
+pub(crate) fn trim<V: Drop, I: Inversion<V>>(log: &mut Notes<V, I>)
+    ensures items { log.new.items ≡ log.old.items }
+    ensures room { log.new.items ≡ [] → vec_capacity log.new ≤ 4 }
+{
+    if log.is_empty() && log.capacity() > FEW {
+        log.shrink_to_fit();
     }
 }
 

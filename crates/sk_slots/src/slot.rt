@@ -1,5 +1,5 @@
 //! What a key has, with its undo log.
-ghost use Rattle.std.specs.Prelude.{◌≡◌, [], OnOk, IfOk, IsOk, Option, None, Some, true, false, not};
+ghost use Rattle.std.specs.Prelude.{◌≡◌, [], OnOk, IfOk, IsOk, Option, None, Some, true, false, not, is_some};
 ghost use Rattle.std.specs.Option.{option_copied, unwrap_or};
 ghost use Rattle.sk_record.specs.Notes.{last_tags, unwound, cut, committed};
 ghost use Rattle.sk_record.specs.Merged.{merged, same_tags};
@@ -9,12 +9,13 @@ ghost use Rattle.sk_slots.specs.Slot.{are_of, goes_unnoted, noted_on, is_bare, i
 
 use crate::notes::{
     Kept, Notes, before_first, fill, go_back, goes_unnoted, let_go, lighten, merge, noted,
-    take_in_newest,
+    rest_on_no_other, take_in_newest, trim,
 };
 use sk_ids::{GuessId, TagSet};
 use sk_inversion::{Before, Inversion, Whole};
 use std::alloc::{AllocError, Global};
 use std::marker::Model;
+use std::mem;
 
 /// What a key has, and the writes that can be undone.
 #[derive(Drop)]
@@ -99,6 +100,13 @@ impl<V, I: Inversion<V>> Slot<V, I> {
         }
     }
 
+    /// Whether a value is there.
+    pub fn is_present(&self) -> bool
+        ensures { result ≡ is_some self.now.value }
+    {
+        self.value.is_some()
+    }
+
     /// The tags of the newest note.
     pub fn tags(&self) -> Option<&TagSet>
         ensures { unwrap_or (option_copied result) [] ≡ last_tags [] self.now.log }
@@ -109,7 +117,7 @@ impl<V, I: Inversion<V>> Slot<V, I> {
         }
     }
 
-    /// Whether the newest note rests on no guess but one.
+    /// Whether the newest note depends on no guess but one.
     pub fn rests_on_no_other(&self, id: GuessId) -> bool
         ensures { result ≡ are_of id (last_tags [] self.now.log) }
     {
@@ -181,8 +189,22 @@ impl<V: Drop, I: Inversion<V>> Slot<V, I> {
         self.is_settled()
     }
 
-    /// Takes a guess out of all notes, and drops those that then rest on nothing, or on just what the note before
-    /// them rests on. It takes no memory. Answers as `write` does.
+    /// Moves out the notes, where each depends on no guess but one: its commit leaves none of them.
+    pub(crate) fn take_notes(&mut self, alloc: Global, id: GuessId) -> Notes<V, I>
+        ensures value { self.new.value ≡ self.old.value }
+        ensures log { committed id self.new.log ≡ committed id self.old.log }
+    {
+        if self.has_ready {
+            return Vec::new(alloc);
+        }
+        if !rest_on_no_other(self.log.as_slice(), id) {
+            return Vec::new(alloc);
+        }
+        mem::replace(&mut self.log, Vec::new(alloc))
+    }
+
+    /// Takes a guess out of all notes, and drops those that then depend on nothing, or on just what the note before
+    /// them depends on. It takes no memory. Answers as `write` does.
     pub fn commit(&mut self, id: GuessId) -> bool
         ensures value { self.new.value ≡ self.old.value }
         ensures log { self.new.log ≡ merged [] (committed id self.old.log) }
@@ -191,10 +213,11 @@ impl<V: Drop, I: Inversion<V>> Slot<V, I> {
         let_go::<V, I>(&mut self.log, &mut self.has_ready);
         lighten::<V, I>(&mut self.log, id);
         merge::<V, I>(&mut self.log);
+        trim::<V, I>(&mut self.log);
         self.is_settled()
     }
 
-    /// Puts back what was there before the first write that rests on the guess. It takes no memory. Answers as `write` does.
+    /// Puts back what was there before the first write that depends on the guess. It takes no memory. Answers as `write` does.
     pub fn unwind(&mut self, id: GuessId) -> bool
         ensures value { self.new.value ≡ unwound id self.old.log self.old.value }
         ensures log { self.new.log ≡ cut id self.old.log }
@@ -203,6 +226,7 @@ impl<V: Drop, I: Inversion<V>> Slot<V, I> {
         let_go::<V, I>(&mut self.log, &mut self.has_ready);
         let place = before_first(self.log.as_slice(), id);
         go_back::<V, I>(&mut self.value, &mut self.log, place);
+        trim::<V, I>(&mut self.log);
         self.is_settled()
     }
 }

@@ -1,5 +1,5 @@
 //! All keys with their slots.
-ghost use Rattle.std.specs.Prelude.{◌≡◌, ◌∷◌, [], List, Some, length, true, is_some, position, OnOk, IfOk, IsOk, if◌then◌else◌};
+ghost use Rattle.std.specs.Prelude.{◌≡◌, ◌<◌, ◌+◌, ◌-◌, ◌∷◌, [], List, Some, length, true, false, is_some, position, OnOk, IfOk, IsOk, if◌then◌else◌};
 ghost use Rattle.std.specs.Option.{option_copied, unwrap_or};
 ghost use Rattle.std.specs.Ordering.{eq_by_cmp};
 ghost use Rattle.sk_record.specs.Effects.{is_in};
@@ -8,10 +8,12 @@ ghost use Rattle.std.specs.Map.{keys_of};
 ghost use Rattle.std.specs.Map.Iter.{ShowsInOrder, deref};
 ghost use Rattle.sk_record.specs.Merged.{merged};
 ghost use Rattle.sk_record.specs.Notes.{last_tags, unwound, cut, committed};
+ghost use Rattle.sk_slots.specs.Counted.{HasPresent};
 ghost use Rattle.sk_slots.specs.Slot.{SlotView, are_of, goes_unnoted, noted_on};
 ghost use Rattle.sk_slots.specs.Slots.{found, look_at, log_at, AllSettled, IsReady, SettledBut};
 
 use crate::Slot;
+use crate::left::Left;
 use crate::table::Table;
 use indexmap::map::Keys;
 use sk_ids::{GuessId, TagSet};
@@ -25,27 +27,84 @@ use std::marker::Model;
 #[derive(Drop)]
 pub struct Slots<K: Key + Hash, V, I: Inversion<V> = Whole> {
     slots: Table<K, Slot<V, I>>,
+    /// How many keys have a value.
+    present: usize,
+    /// What commits of many keys left.
+    left: Left<V, I::Undo>,
 }
+
+/// A commit of so many keys does not drop what it leaves of their notes.
+const MANY: usize = 64;
 
 /// What a failure left at a key.
 #[derive(Clone, Copy)]
 struct Unwound {
     /// Nothing is left to be settled.
     is_settled: bool,
-    /// The key rested on no other guess.
+    /// The key depended on no other guess.
     is_alone: bool,
 }
 
 impl<K: Key + Hash, V, I: Inversion<V>> Model for Slots<K, V, I> {
     ghost use Rattle.std.specs.Prelude.{List};
     ghost use Rattle.std.specs.Coded.{coded_list, coded×};
+    ghost use Rattle.sk_slots.specs.Counted.{HasPresent};
     ghost use Rattle.sk_slots.specs.Slot.{SlotView, slot_code};
+    ghost use Rattle.sk_slots.specs.Slots.{look_at};
 
     ghost Value = { List (K × SlotView V) };
 
     ghost coded = { coded_list (coded× K.code (slot_code V.code)) };
 
     ghost view = { λ a. a.slots };
+
+    ghost invariant = { λ a. HasPresent K.order (look_at K.order a.slots) a.present };
+}
+
+/// A count of the keys that have a value, where one had a value or not, and has one or not now.
+fn recounted<K: Key + Hash, V, I: Inversion<V>>(
+    slots: &Table<K, Slot<V, I>>,
+    count: usize,
+    had: bool,
+    has: bool,
+) -> usize
+    requires come { had ≡ false → has ≡ true → count < length slots.now }
+    requires gone { had ≡ true → has ≡ false → 0 < count }
+    ensures { result ≡ (if had then (if has then count else (count - 1)) else (if has then
+        (count + 1) else count)) }
+{
+    if had == has {
+        return count;
+    }
+    if had {
+        return count - 1;
+    }
+    let _most = slots.len();
+    count + 1
+}
+
+/// Keeps the notes of a slot of which the commit of a guess leaves none, where many keys are committed.
+fn spare<V: Drop, I: Inversion<V>>(
+    slot: &mut Slot<V, I>,
+    left: &mut Left<V, I::Undo>,
+    alloc: Global,
+    id: GuessId,
+    many: bool,
+)
+    ensures value { slot.new.value ≡ slot.old.value }
+    ensures log { committed id slot.new.log ≡ committed id slot.old.log }
+{
+    if many {
+        left.keep(slot.take_notes(alloc, id));
+    }
+}
+
+/// Drops as much of what earlier commits left as a commit of so many keys may leave, where they are many: so what is left is at
+/// most what one commit left.
+fn make_way<V: Drop, U: Drop>(left: &mut Left<V, U>, keys: usize, many: bool) {
+    if many {
+        left.let_go(keys);
+    }
 }
 
 impl<K: Key + Hash, V, I: Inversion<V>> Slots<K, V, I> {
@@ -56,6 +115,8 @@ impl<K: Key + Hash, V, I: Inversion<V>> Slots<K, V, I> {
     {
         Slots {
             slots: Table::new(alloc),
+            present: 0,
+            left: Left::new(alloc),
         }
     }
 
@@ -73,6 +134,13 @@ impl<K: Key + Hash, V, I: Inversion<V>> Slots<K, V, I> {
         ensures { result ≡ position (eq_by_cmp K.order key.now) (keys_of self.now) }
     {
         self.slots.find(key)
+    }
+
+    /// How many keys have a value.
+    pub fn present(&self) -> usize
+        ensures { HasPresent K.order (look_at K.order self.now) result }
+    {
+        self.present
     }
 
     /// How many keys have slots. A new one comes to this place.
@@ -164,10 +232,14 @@ impl<K: Key + Hash, V: Drop, I: Inversion<V>> Slots<K, V, I> {
             → (keys : List K) → SettledBut K.order (key.now ∷ keys) self.old
             → SettledBut K.order keys self.new }
     {
-        match self.slots.get_mut_near(place, key) {
-            Some(slot) => slot.write(tags, write),
-            None => unreachable!(),
-        }
+        let Some(slot) = self.slots.get_mut_near(place, key) else {
+            unreachable!()
+        };
+        let had = slot.is_present();
+        let is_settled = slot.write(tags, write);
+        let has = slot.is_present();
+        self.present = recounted(&self.slots, self.present, had, has);
+        is_settled
     }
 
     /// Lets go of the room that was made for a note of a key, and of its slot where nothing is there and nothing is noted.
@@ -187,8 +259,9 @@ impl<K: Key + Hash, V: Drop, I: Inversion<V>> Slots<K, V, I> {
         self.slots.remove(key);
     }
 
-    /// Takes a guess out of the notes of one key, and answers whether nothing is left to be settled of it.
-    fn commit_at(&mut self, key: &K, id: GuessId) -> bool
+    /// Takes a guess out of the notes of one key, and answers whether nothing is left to be settled of it. Where many keys are
+    /// committed what is left of their notes is kept.
+    fn commit_at(&mut self, key: &K, id: GuessId, many: bool) -> bool
         ensures look { (q : K) → look_at K.order self.new q ≡ look_at K.order self.old q }
         ensures log { (q : K) → log_at K.order self.new q
             ≡ (if eq_by_cmp K.order q key.now then merged [] (committed id
@@ -199,27 +272,29 @@ impl<K: Key + Hash, V: Drop, I: Inversion<V>> Slots<K, V, I> {
             → (keys : List K) → SettledBut K.order (key.now ∷ keys) self.old
             → SettledBut K.order keys self.new }
     {
+        let alloc = self.slots.alloc();
         let Some(slot) = self.slots.get_mut(key) else {
             return false;
         };
+        spare(slot, &mut self.left, alloc, id, many);
         slot.commit(id)
     }
 
     /// The same, and lets go of the slot where nothing is there and nothing is noted.
-    fn commit_one(&mut self, key: &K, id: GuessId)
+    fn commit_one(&mut self, key: &K, id: GuessId, many: bool)
         ensures look { (q : K) → look_at K.order self.new q ≡ look_at K.order self.old q }
         ensures log { (q : K) → log_at K.order self.new q
             ≡ (if eq_by_cmp K.order q key.now then merged [] (committed id
             (log_at K.order self.old q)) else log_at K.order self.old q) }
         ensures settled { AllSettled K.order self.old → AllSettled K.order self.new }
     {
-        if self.commit_at(key, id) {
+        if self.commit_at(key, id, many) {
             return;
         }
         self.settle(key);
     }
 
-    /// Takes back what rests on a guess at one key.
+    /// Takes back what depends on a guess at one key.
     fn unwind_at(&mut self, key: &K, id: GuessId) -> Unwound
         ensures look { (q : K) → look_at K.order self.new q
             ≡ (if eq_by_cmp K.order q key.now then unwound id (log_at K.order self.old q)
@@ -241,14 +316,17 @@ impl<K: Key + Hash, V: Drop, I: Inversion<V>> Slots<K, V, I> {
             };
         };
         let is_alone = slot.rests_on_no_other(id);
+        let had = slot.is_present();
         let is_settled = slot.unwind(id);
+        let has = slot.is_present();
+        self.present = recounted(&self.slots, self.present, had, has);
         Unwound {
             is_settled,
             is_alone,
         }
     }
 
-    /// The same, and lets go of the slot where nothing is there and nothing is noted. Answers whether the key rested on no
+    /// The same, and lets go of the slot where nothing is there and nothing is noted. Answers whether the key depended on no
     /// other guess.
     fn unwind_one(&mut self, key: &K, id: GuessId) -> bool
         ensures look { (q : K) → look_at K.order self.new q
@@ -268,8 +346,8 @@ impl<K: Key + Hash, V: Drop, I: Inversion<V>> Slots<K, V, I> {
         unwound.is_alone
     }
 
-    /// Takes a guess out of the notes of these keys, and leaves out those that then rest on just what the note before them
-    /// rests on. It takes no memory.
+    /// Takes a guess out of the notes of these keys, and leaves out those that then depend on just what the note before them
+    /// depends on. It wants no memory. What is left of the notes of many keys is kept for `let_go`, where there is memory for it.
     pub fn commit(&mut self, id: GuessId, keys: &[K])
         ensures look { (q : K) → look_at K.order self.new q ≡ look_at K.order self.old q }
         ensures log { (q : K) → log_at K.order self.new q
@@ -277,12 +355,22 @@ impl<K: Key + Hash, V: Drop, I: Inversion<V>> Slots<K, V, I> {
             (log_at K.order self.old q)) else log_at K.order self.old q) }
         ensures settled { AllSettled K.order self.old → AllSettled K.order self.new }
     {
+        let many = keys.len() >= MANY;
+        make_way(&mut self.left, keys.len(), many);
         for key in keys {
-            self.commit_one(key, id);
+            self.commit_one(key, id, many);
         }
     }
 
-    /// Takes back what rests on a guess at these keys. It takes no memory. Answers whether they rested on no other guess.
+    /// Drops what commits of many keys left of the notes of so many of them, and answers of how many there are still some.
+    /// Nothing that is seen changes.
+    pub fn let_go(&mut self, most: usize) -> usize
+        ensures { self.new ≡ self.old }
+    {
+        self.left.let_go(most)
+    }
+
+    /// Takes back what depends on a guess at these keys. It takes no memory. Answers whether they depended on no other guess.
     pub fn unwind(&mut self, id: GuessId, keys: &[K]) -> bool
         ensures look { (q : K) → look_at K.order self.new q
             ≡ (if is_in K.order keys.now q then unwound id (log_at K.order self.old q)

@@ -32,7 +32,7 @@ asked look [] = refl
 asked look (k ∷ ks) = ap (λ xs. k ∷ xs) (asked look ks)
 
 module _ {K V : Type 0} (R : K → K → Ordering) (exact : IsAntisymmetric R) where
-  -- one of these keys rests on what it rests on
+  -- one of these keys depends on what it depends on
   pub any_of : (m : List (K × SlotView V)) (g : ℕ) (ks : List K) (q : K) → is_in R ks q ≡ true → has g (last_tags [] (log_at R m q)) ≡ true → any_rests R m g ks ≡ true
   any_of m g [] q here rests = absurd (true≢false (sym here))
   any_of m g (k ∷ ks) q here rests =
@@ -41,7 +41,7 @@ module _ {K V : Type 0} (R : K → K → Ordering) (exact : IsAntisymmetric R) w
         | inr later ↦ or_right _ _ (any_of m g ks q later rests)
       ]
 
--- ---- logs that do not rest on a guess
+-- ---- logs that do not depend on a guess
 noted_there : {V : Type 0} (tags : List ℕ) (v : Option V) (rest : List (Note V)) → (tags ≡ [] → ⊥) → noted true tags v rest ≡ record { tags = tags; before = v } ∷ rest
 noted_there [] v rest some = absurd (some refl)
 noted_there (t ∷ tags) v rest some = refl
@@ -130,7 +130,7 @@ module _ {K V O : Type 0} {R : K → K → Ordering} (total : IsTotalOrder R) (e
     status_is : (g : ℕ) → has g (numbers a.opens) ≡ true → StatusIs (again R) whole.start whole.events g Undecided
     status_is g here = ((merged.merged_run (again R) total exact whole.start whole.events machine whole.stands).statuses g Undecided).0 (open_is (whole.status g) (sym (whole.agrees.undecided g) ∙ here))
 
-    -- nothing rests on a guess that is not undecided
+    -- nothing depends on a guess that is not undecided
     pub not_known : (g : ℕ) → has g (numbers a.opens) ≡ false → (k : K) → has g (tags_at (undo_state_of R a) k) ≡ false
     not_known g closed k =
         elim (has g (tags_at (undo_state_of R a) k)) as (λ b. has g (tags_at (undo_state_of R a) k) ≡ b → b ≡ false) [

@@ -1,4 +1,4 @@
--- What a failure leaves on the lists of the other guesses, where its keys rested on none of them.
+-- What a failure leaves on the lists of the other guesses, where its keys depended on none of them.
 use Rattle.sk_speculator.proofs.Names.{◌≡◌, refl, ◌==◌, ℕ, Bool, true, false, List, [], ◌∷◌, sym, ◌∙◌, ap, eq-eqb, Ordering}
 use Rattle.sk_speculator.proofs.Names.{Option, or_parts, true≢false, is_in, has, numbers, not_resting, OpenGuess, opens_of, open_in}
 use Rattle.sk_speculator.proofs.Names.{arith, cond, Some, Struck, Open, AllExact, AllAlmostExact, AreStatuses, KeptView, Status, with_failure}
@@ -26,7 +26,7 @@ module _ {K : Type 0} (R : K → K → Ordering) (old new : K → List ℕ) (g :
   none_more o apart exactly almost k =
       grind (arith, nat_tests, alone k, only_of g o.id (old k), exactly k, almost.kept k, almost.others k)
 
-  -- the lists of the others have no key that rested on the one alone
+  -- the lists of the others have no key that depended on the one alone
   pub failed_exact : (os : List (OpenGuess K)) → has g (numbers (opens_of os)) ≡ false → AllExact R old os
       → AllAlmostExact R new ks os → AllExact R new os
   failed_exact [] none exactly almost = tt

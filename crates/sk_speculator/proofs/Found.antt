@@ -1,4 +1,4 @@
--- A key that has no slot is absent and rests on nothing, and one that has a slot is there or rests on something.
+-- A key that has no slot is absent and depends on nothing, and one that has a slot is there or depends on something.
 use Rattle.sk_speculator.proofs.Names.{◌≡◌, true, false, not, ◌&&◌, [], Option, Some, None, refl, sym, ◌∙◌, ap, is_none}
 use Rattle.sk_speculator.proofs.Names.{is_some, true≢false, false≢true, and_both, SlotView, is_bare, is_empty}
 use Rattle.sk_speculator.proofs.Names.{is_settled, slot_in}

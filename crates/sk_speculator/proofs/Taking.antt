@@ -139,7 +139,7 @@ no_lists : {E : Type 0} (os : List (OpenGuess E)) → opens_of os ≡ [] → os 
 no_lists os none = nil_from_length os (sym (opens_length os) ∙ ap length none)
 
 module _ {K V O : Type 0} {R : K → K → Ordering} (total : IsTotalOrder R) (exact : IsAntisymmetric R) (a : Parts K V O) (lists : List (OpenGuess K)) (sound : IsSound R a lists) (kept : a.opens ≡ opens_of lists) (none : a.opens ≡ []) where
-  -- its keys rest on nothing
+  -- its keys depend on nothing
   alone_members : (d : Deed K V O) (g : ℕ) → has g [] ≡ ((is_marked None g || any_rests R a.slots g d.looked) || any_rests R a.slots g (keys_of d.written))
   alone_members d g =
       let free : (k : K) → has g (last_tags [] (log_at R a.slots k)) ≡ false = not_known total exact a sound.whole g (ap (λ os. has g (numbers os)) none) in

@@ -195,7 +195,7 @@ or_known true b known = refl
 or_known false true known = known refl
 or_known false false known = refl
 
--- where keys have just these tags they rest on what they did
+-- where keys have just these tags they depend on what they did
 pub tags_same : {K V : Type 0} (R : K → K → Ordering) (logs : K → List (Note V)) (tags : List ℕ) (ks : List K)
     → ((q : K) → is_in R ks q ≡ true → goes_unnoted tags (logs q) ≡ true) → (k : K)
     → tags_by logs k ≡ with_tags R tags ks (tags_by logs) k

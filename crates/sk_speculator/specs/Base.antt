@@ -18,6 +18,7 @@ pub use Rattle.sk_record.specs.Step.{perform}
 pub use Rattle.sk_record.specs.Trace.{Commit, Event, Fail, Taken, marks}
 pub use Rattle.sk_record.specs.UndoState.{Open, UndoState, not_struck, numbers, still_open, tags_at}
 pub use Rattle.sk_record.specs.declared.status.Status.{Status}
+pub use Rattle.sk_slots.specs.Counted.{HasPresent}
 pub use Rattle.sk_slots.specs.Slot.{SlotView, are_of, goes_unnoted, slot_code}
 pub use Rattle.sk_slots.specs.Slots.{AllSettled, IsReady, SettledBut, log_at, look_at}
 pub use Rattle.sk_speculator.specs.declared.decided.Committed.{Committed}

@@ -45,7 +45,7 @@ module _ {K V O : Type 0} (R : K → K → Ordering) where
     pub struck : has g a.guesses.struck ≡ true
     pub left : b ≡ record a { guesses = record a.guesses { struck = without g a.guesses.struck } }
 
-  -- what a failure took back: just the keys that rested on the guess, and so many guesses
+  -- what a failure took back: just the keys that depended on the guess, and so many guesses
   pub record TookBack (a : Parts K V O) (g : ℕ) (undone : Undone K) : Type 0 where
     pub keys : (k : K) → is_in R undone.keys.items k ≡ has g (tags_at (undo_state_of R a) k)
     pub rising : IsStrictlySortedBy R undone.keys.items

@@ -6,7 +6,7 @@ use Rattle.sk_speculator.specs.Base.{Machine, Merges, MergedStands, Status, tags
 use Rattle.sk_speculator.specs.Base.{keys_of, OpenGuess, Deed, Entry, again, Told, with_told, SlotView, slot_code}
 use Rattle.sk_speculator.specs.Base.{look_at, log_at, AllSettled, Said, one_code, said_at}
 
--- what each key has with its notes, what is kept of guesses, the undecided ones with the guesses that their own steps rest on, and the
+-- what each key has with its notes, what is kept of guesses, the undecided ones with the guesses that their own steps depend on, and the
 -- outputs that were not taken out
 pub record Parts (K V O : Type 0) : Type 0 where
   pub slots : List (K × SlotView V)
@@ -45,7 +45,7 @@ module _ {K V O : Type 0} (R : K → K → Ordering) where
     pub agrees : AreStatuses m.guesses m.opens status
     pub stands : MergedStands (again R) start events (with_told told (machine_of m status))
 
-  -- between calls: no slot is kept for nothing, each undecided guess has the list of just the keys that rest on it, and some calls lead here
+  -- between calls: no slot is kept for nothing, each undecided guess has the list of just the keys that depend on it, and some calls lead here
   pub record IsSound (m : Parts K V O) (lists : List (OpenGuess K)) : Type 0 where
     pub settled : AllSettled R m.slots
     pub exact : AllExact R (tags_by (log_at R m.slots)) lists
@@ -56,7 +56,7 @@ abbrev pub deed : {K V O : Type 0} → List K → List (K × Option V) → Optio
 deed looked written said = record { looked = looked; written = written; said = said }
 
 module _ {K V : Type 0} (R : K → K → Ordering) where
-  -- whether one of these keys rests on a guess
+  -- whether one of these keys depends on a guess
   abbrev pub any_rests : List (K × SlotView V) → ℕ → List K → Bool
   any_rests m g ks = list_any (λ k. has g (last_tags [] (log_at R m k))) ks
 

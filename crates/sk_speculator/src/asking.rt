@@ -21,7 +21,7 @@ use std::alloc::{AllocError, Global};
 use std::hash::Hash;
 use std::mem;
 
-/// The guesses that a step rests on, and the same again for the guess that it draws; none where it draws none.
+/// The guesses that a step depends on, and the same again for the guess that it draws; none where it draws none.
 #[derive(Drop)]
 pub(crate) struct StepTags {
     pub tags: TagSet,
@@ -48,7 +48,7 @@ impl StepTags {
     }
 }
 
-/// The guesses that a step rests on: those of all keys that it touches, and its own.
+/// The guesses that a step depends on: those of all keys that it touches, and its own.
 fn tags_of_step<K: Key + Hash, V, O, I: Inversion<V>>(
     alloc: Global,
     slots: &Slots<K, V, I>,
@@ -110,7 +110,7 @@ fn reserve_guess<K: Key>(
     Ok(())
 }
 
-/// Makes room for the notes of writes, adds their keys to the lists of the guesses that they come to rest on, if they are not
+/// Makes room for the notes of writes, adds their keys to the lists of the guesses that they come to depend on, if they are not
 /// all there already, and makes room for the guess of the step. Without memory the lists have what they had.
 fn make_ready<K: Key + Hash, V: Drop, I: Inversion<V>>(
     alloc: Global,
@@ -152,7 +152,7 @@ fn make_ready<K: Key + Hash, V: Drop, I: Inversion<V>>(
     Ok(())
 }
 
-/// Finds the guesses that a step rests on, and makes all room that it wants. Nothing that is seen changes. Without memory no
+/// Finds the guesses that a step depends on, and makes all room that it wants. Nothing that is seen changes. Without memory no
 /// room stays but what is free for all.
 pub(crate) fn ask<K: Key + Hash, V: Drop, O: Drop, I: Inversion<V>>(
     alloc: Global,
@@ -242,7 +242,7 @@ where
     }
 }
 
-/// Makes all room that a step wants whose keys rest on nothing. Nothing that is seen changes.
+/// Makes all room that a step wants whose keys depend on nothing. Nothing that is seen changes.
 fn ask_alone<K: Key + Hash, V: Drop, O: Drop, I: Inversion<V>>(
     slots: &mut Slots<K, V, I>,
     said: &mut Outputs<O>,
@@ -267,7 +267,7 @@ fn ask_alone<K: Key + Hash, V: Drop, O: Drop, I: Inversion<V>>(
     Ok(())
 }
 
-/// Takes a step whose keys rest on nothing: it wants no tags and no notes. Without memory nothing that is seen has changed.
+/// Takes a step whose keys depend on nothing: it wants no tags and no notes. Without memory nothing that is seen has changed.
 pub(crate) fn perform_alone<K: Key + Hash, V: Drop, O: Drop, I: Inversion<V>>(
     alloc: Global,
     slots: &mut Slots<K, V, I>,

@@ -1,4 +1,4 @@
-//! The lists of what rests on each undecided guess, as steps and failures change them.
+//! The lists of what depends on each undecided guess, as steps and failures change them.
 ghost use Rattle.std.specs.Prelude.{◌≡◌, ℕ, [], true, IfOk, OnErr, OnOk, IsSorted};
 ghost use Rattle.sk_speculator.specs.Base.{tags_by, with_tags, AllAlmostExact, AllExact, Covers, Depends, keys_of};
 ghost use Rattle.sk_speculator.specs.Base.{is_in, opens_of, goes_unnoted, has, last_tags, log_at};
@@ -15,7 +15,7 @@ use std::hash::Hash;
 /// No more keys than these are added to lists in the order in which a step writes them.
 const FEW: usize = 8;
 
-/// The guesses that a key rests on, where this is the set of none.
+/// The guesses that a key depends on, where this is the set of none.
 pub(crate) fn tags_of<'a, K: Key + Hash, V, I: Inversion<V>>(
     slots: &'a Slots<K, V, I>,
     no_tags: &'a TagSet,
@@ -88,7 +88,7 @@ fn depend<K: Key + Hash, V, I: Inversion<V>>(
     guesses.depend(tags, key)
 }
 
-/// Adds what a step writes to the lists of the guesses that the step rests on, in the order of its writes. Without memory the
+/// Adds what a step writes to the lists of the guesses that the step depends on, in the order of its writes. Without memory the
 /// lists have what they had.
 fn depend_few<K: Key + Hash, V, I: Inversion<V>>(
     guesses: &mut OpenGuesses<K>,
@@ -171,7 +171,7 @@ fn depend_each<K: Key + Hash, V, I: Inversion<V>>(
     Ok(())
 }
 
-/// Adds what a step writes to the lists of the guesses that the step rests on, if it is not there, as all keys have just these
+/// Adds what a step writes to the lists of the guesses that the step depends on, if it is not there, as all keys have just these
 /// tags. Where it writes many keys these are added by rising order: then each stands behind those that were added, and none
 /// has to move. Without memory the lists have what they had.
 pub(crate) fn depend_all<K: Key + Hash, V, I: Inversion<V>>(
@@ -213,7 +213,7 @@ pub(crate) fn depend_all<K: Key + Hash, V, I: Inversion<V>>(
     Ok(())
 }
 
-/// Takes the keys of writes out of the lists of the guesses that they do not rest on.
+/// Takes the keys of writes out of the lists of the guesses that they do not depend on.
 pub(crate) fn relieve_written<K: Key + Hash, V, I: Inversion<V>>(
     guesses: &mut OpenGuesses<K>,
     slots: &Slots<K, V, I>,
@@ -232,7 +232,7 @@ pub(crate) fn relieve_written<K: Key + Hash, V, I: Inversion<V>>(
     }
 }
 
-/// Takes keys out of the lists of the guesses that they do not rest on, the last first: where they rise, each then stands behind
+/// Takes keys out of the lists of the guesses that they do not depend on, the last first: where they rise, each then stands behind
 /// those that are left, and none of these has to move.
 fn relieve_all<K: Key + Hash, V, I: Inversion<V>>(
     guesses: &mut OpenGuesses<K>,
@@ -253,7 +253,7 @@ fn relieve_all<K: Key + Hash, V, I: Inversion<V>>(
     }
 }
 
-/// The same behind a failure. Keys that rested on no other guess are in no list.
+/// The same behind a failure. Keys that depended on no other guess are in no list.
 pub(crate) fn relieve_rest<K: Key + Hash, V, I: Inversion<V>>(
     guesses: &mut OpenGuesses<K>,
     slots: &Slots<K, V, I>,

@@ -3,7 +3,7 @@ ghost use Rattle.std.specs.Prelude.{◌≡◌, ◌≢◌, ◌==◌, ◌<◌, ◌
 ghost use Rattle.sk_speculator.specs.Base.{IsStrictlySortedBy, non_zero_u16_get, ShowsInOrder, deref, slice_get};
 ghost use Rattle.sk_speculator.specs.Base.{option_copied, option_map, guess_tags, known, none_drawn, AreStatuses, is_in, released};
 ghost use Rattle.sk_speculator.specs.Base.{has, numbers, tags_at, Status, said_at, first_of, waiting_of, look_at};
-ghost use Rattle.sk_speculator.specs.Base.{log_at, IsDistinct, eq_by_cmp, Memory};
+ghost use Rattle.sk_speculator.specs.Base.{log_at, IsDistinct, eq_by_cmp, Memory, HasPresent};
 ghost use Rattle.sk_speculator.specs.Calls.{next_of, Commits, CommitPost, FailsIn, FailPost, Refuses, Takes, TookBack};
 ghost use Rattle.sk_speculator.specs.Emptied.{IsEmptied};
 ghost use Rattle.sk_speculator.specs.Parts.{deed, machine_of, made_by, undo_state_of, IsSame};
@@ -33,7 +33,7 @@ pub struct Speculator<K: Key + Hash, V, O, I: Inversion<V> = Whole> {
     said: Outputs<O>,
     /// The places of the keys that a step writes; it is room that is used again.
     places: Vec<usize>,
-    /// What `tags_of` lends where a key rests on nothing.
+    /// What `tags_of` lends where a key depends on nothing.
     no_tags: TagSet,
 }
 
@@ -92,14 +92,14 @@ impl<K: Key + Hash, V, O, I: Inversion<V>> Speculator<K, V, O, I> {
         self.slots.value(key)
     }
 
-    /// The undecided guesses that a key rests on.
+    /// The undecided guesses that a key depends on.
     pub fn tags_of(&self, key: &K) -> &TagSet
         ensures { result.now ≡ tags_at (undo_state_of K.order self.now) key.now }
     {
         tags_of(&self.slots, &self.no_tags, key)
     }
 
-    /// The keys that are there or rest on a guess, each once.
+    /// The keys that are there or depend on a guess, each once.
     pub fn keys(&self) -> Keys<'_, K, Slot<V, I>>
         ensures present { (k : K) → is_in K.order result k ≡ false
             → look_at K.order self.now.slots k ≡ None }
@@ -114,7 +114,14 @@ impl<K: Key + Hash, V, O, I: Inversion<V>> Speculator<K, V, O, I> {
         self.slots.keys()
     }
 
-    /// The keys that rest on a guess, by their order, each once: just those that its failure takes back.
+    /// How many keys are there, without a look at any.
+    pub fn present(&self) -> usize
+        ensures { HasPresent K.order (look_at K.order self.now.slots) result }
+    {
+        self.slots.present()
+    }
+
+    /// The keys that depend on a guess, by their order, each once: just those that its failure takes back.
     pub fn dependents(&self, id: GuessId) -> &[K]
         ensures exact { (k : K) → is_in K.order result.now k
             ≡ has id (tags_at (undo_state_of K.order self.now) k) }
@@ -139,6 +146,13 @@ impl<K: Key + Hash, V, O, I: Inversion<V>> Speculator<K, V, O, I> {
         ensures { option_copied result ≡ guess_tags id self.now.opens }
     {
         self.guesses.tags(id)
+    }
+
+    /// The undecided guess at a place; they stand by rising number.
+    pub fn open_at(&self, place: usize) -> Option<GuessId>
+        ensures { result ≡ slice_get (numbers self.now.opens) place }
+    {
+        self.guesses.open_at(place)
     }
 
     /// How many guesses are undecided.
@@ -200,7 +214,7 @@ impl<K: Key + Hash, V, O, I: Inversion<V>> Speculator<K, V, O, I> {
         self.said.len()
     }
 
-    /// How many outputs of a channel wait: the first that rests on a guess, and all behind it.
+    /// How many outputs of a channel wait: the first that depends on a guess, and all behind it.
     pub fn waiting(&self, channel: u16) -> usize
         ensures { result ≡ waiting_of (said_at self.now.said channel) }
     {
@@ -273,7 +287,7 @@ impl<K: Key + Hash, V: Drop, O: Drop, I: Inversion<V>> Speculator<K, V, O, I> {
         Ok(())
     }
 
-    /// Takes a step where no guess is undecided, so that nothing rests on one.
+    /// Takes a step where no guess is undecided, so that nothing depends on one.
     fn take_alone(&mut self, step: &mut Step<K, V, O, I>) -> Result<(), AllocError>
     where
         I::Write: Drop,
@@ -297,7 +311,7 @@ impl<K: Key + Hash, V: Drop, O: Drop, I: Inversion<V>> Speculator<K, V, O, I> {
         )
     }
 
-    /// Draws the next guess and takes its step, which rests on it. The step's buffers are empty then, with their room. After a
+    /// Draws the next guess and takes its step, which depends on it. The step's buffers are empty then, with their room. After a
     /// refusal the step is as it was, and nothing has changed.
     pub fn guess(&mut self, step: &mut Step<K, V, O, I>) -> Result<Guess, Refusal>
     where
@@ -349,7 +363,7 @@ impl<K: Key + Hash, V: Drop, O: Drop, I: Inversion<V>> Speculator<K, V, O, I> {
         Ok(guess)
     }
 
-    /// The next output of a channel that rests on nothing, taken out; `None` where there is none. This takes no memory.
+    /// The next output of a channel that depends on nothing, taken out; `None` where there is none. This takes no memory.
     pub fn released(&mut self, channel: u16) -> Option<O>
         ensures first { IfSome result
             (λ output. said_at self.old.said channel
@@ -363,7 +377,7 @@ impl<K: Key + Hash, V: Drop, O: Drop, I: Inversion<V>> Speculator<K, V, O, I> {
         self.said.take_out(channel)
     }
 
-    /// Commits a guess: nothing rests on it any more. This takes no memory.
+    /// Commits a guess: nothing depends on it any more. This takes no memory.
     pub fn commit(&mut self, guess: Guess) -> Result<Committed, Guess>
         ensures { CommitPost K.order self.old guess result self.new }
     {
@@ -380,7 +394,7 @@ impl<K: Key + Hash, V: Drop, O: Drop, I: Inversion<V>> Speculator<K, V, O, I> {
         }
     }
 
-    /// Fails a guess: what rests on it is taken back, in place and without memory, and the guesses whose own steps rest on it are
+    /// Fails a guess: what depends on it is taken back, in place and without memory, and the guesses whose own steps depend on it are
     /// struck.
     pub fn fail(&mut self, guess: Guess) -> Result<Failed<K>, Guess>
         ensures { FailPost K.order self.old guess result self.new }
@@ -426,6 +440,14 @@ impl<K: Key + Hash, V: Drop, O: Drop, I: Inversion<V>> Speculator<K, V, O, I> {
             keys: keys.into_vec(),
             struck,
         }
+    }
+
+    /// Drops what commits of many keys left of old values, of at most so many keys, and answers of how many there are still
+    /// some. Nothing that is seen changes.
+    pub fn let_go(&mut self, most: usize) -> usize
+        ensures { self.new ≡ self.old }
+    {
+        self.slots.let_go(most)
     }
 
     /// Ends the kernel, if no guess is undecided: hands out what keys have, and the outputs that were not taken out.

@@ -1,4 +1,4 @@
-//! The writes of a step: the guesses that their keys rest on, the room for their notes, and the writes themselves.
+//! The writes of a step: the guesses that their keys depend on, the room for their notes, and the writes themselves.
 ghost use Rattle.std.specs.Prelude.{◌≡◌, ◌||◌, ◌∷◌, ℕ, Option, true, [], None, IfOk, OnOk};
 ghost use Rattle.sk_speculator.specs.Base.{keys_of, is_in, has, goes_unnoted, look_at, log_at, AllSettled, IsReady, SettledBut};
 ghost use Rattle.sk_speculator.specs.Parts.{any_rests, made_by, Performed};
@@ -62,7 +62,7 @@ fn with_tags(all: &mut TagSet, more: &TagSet) -> Result<(), AllocError>
     Ok(())
 }
 
-/// Adds to a set the guesses that a key rests on.
+/// Adds to a set the guesses that a key depends on.
 fn add_tags_at<K: Key + Hash, V, I: Inversion<V>>(
     slots: &Slots<K, V, I>,
     all: &mut TagSet,
@@ -78,7 +78,7 @@ fn add_tags_at<K: Key + Hash, V, I: Inversion<V>>(
     }
 }
 
-/// Adds to a set the guesses that these keys rest on.
+/// Adds to a set the guesses that these keys depend on.
 pub(crate) fn add_tags<K: Key + Hash, V, I: Inversion<V>>(
     slots: &Slots<K, V, I>,
     all: &mut TagSet,
@@ -105,7 +105,7 @@ fn is_looked<K: Key>(looked: &[K], turn: usize, key: &K) -> bool
     }
 }
 
-/// Adds to a set the guesses that a key rests on which is written. Mostly it was looked at in its turn, and they are there.
+/// Adds to a set the guesses that a key depends on which is written. Mostly it was looked at in its turn, and they are there.
 fn add_written_tags_at<K: Key + Hash, V, I: Inversion<V>>(
     slots: &Slots<K, V, I>,
     all: &mut TagSet,
@@ -124,7 +124,7 @@ fn add_written_tags_at<K: Key + Hash, V, I: Inversion<V>>(
     add_tags_at(slots, all, place, key)
 }
 
-/// Adds to a set the guesses that the keys of writes rest on. Those of the keys that were looked at are in it.
+/// Adds to a set the guesses that the keys of writes depend on. Those of the keys that were looked at are in it.
 pub(crate) fn add_written_tags<K: Key + Hash, V, I: Inversion<V>>(
     slots: &Slots<K, V, I>,
     all: &mut TagSet,

@@ -14,7 +14,7 @@ fn places(path: &Path) -> io::Result<(Folder, Folder)> {
     };
     let home = Folder(home.into());
     home.make()?;
-    let new = Folder(home.0.join(format!(".{}.new-backup", name.display())));
+    let new = Folder(home.0.join(format!(".{}.new-backup", name.to_string_lossy())));
     Ok((home, new))
 }
 

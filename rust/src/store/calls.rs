@@ -191,6 +191,9 @@ unsafe extern "C" {
     /// Tells how many bytes the commands take that wait for EXEC on a channel; none where no queue is open.
     pub fn hidewillow_store_queued(store: *mut Durable, channel: u16) -> Told;
 
+    /// Drops what decisions of many keys left of old values, of at most so many keys, and tells of how many there are still some.
+    pub fn hidewillow_store_let_go(store: *mut Durable, most: usize) -> Told;
+
     /// Tells whether a request may write whose first word this is: as a command, or by carrying out a queue.
     pub fn hidewillow_may_write(word: *const u8, word_count: usize) -> Told;
 

@@ -35,11 +35,14 @@ fn by_table(before: u32, bytes: &[u8]) -> u32 {
 
 #[cfg(target_arch = "x86_64")]
 #[target_feature(enable = "sse4.2")]
-fn by_processor(before: u32, bytes: &[u8]) -> u32 {
+unsafe fn by_processor(before: u32, bytes: &[u8]) -> u32 {
     use std::arch::x86_64::{_mm_crc32_u64, _mm_crc32_u8};
-    let (words, bytes) = bytes.as_chunks::<8>();
-    let rest = words.iter().fold(u64::from(!before), |rest, word| _mm_crc32_u64(rest, u64::from_le_bytes(*word)));
-    !bytes.iter().fold(rest as u32, |rest, byte| _mm_crc32_u8(rest, *byte))
+    let mut rest = u64::from(!before);
+    let mut words = bytes.chunks_exact(8);
+    for word in &mut words {
+        rest = _mm_crc32_u64(rest, u64::from_le_bytes(word.try_into().unwrap_or_default()));
+    }
+    !words.remainder().iter().fold(rest as u32, |rest, byte| _mm_crc32_u8(rest, *byte))
 }
 
 #[cfg(test)]

@@ -17,6 +17,9 @@ use std::{io, thread};
 const SMALL: usize = 1 << 18;
 /// How long is waited for room where nobody else may use the store meanwhile.
 const MOMENT: Duration = Duration::from_millis(1);
+/// Old values of so many keys are dropped a turn, and how long is waited for something to do where none are left.
+const OLD: usize = 1000;
+const IDLE: Duration = Duration::from_millis(200);
 /// How long a stop waits for the disk.
 const PATIENCE: Duration = Duration::from_secs(10);
 /// Commands that write nothing, and that only take away.
@@ -121,6 +124,8 @@ pub struct Engine {
     host: Host,
     /// How many batches were cut off, whose writes are taken back.
     cut_off: u64,
+    /// Whether decisions left old values that are to be dropped.
+    has_old: bool,
     /// Since when it is to stop; and why nothing more is answered.
     stops: Option<Instant>,
     fault: Option<(io::ErrorKind, String)>,
@@ -142,7 +147,7 @@ impl Engine {
         let snapshots = Snapshots::new(folder, every, kept, host.clone());
         Engine {
             store, log, limits, idle: Vec::new(), came: BTreeMap::new(), room: vec![0; 1 << 16], snapshots, host,
-            cut_off: 0, stops: None, fault: None, is_over: false,
+            cut_off: 0, has_old: false, stops: None, fault: None, is_over: false,
         }
     }
 
@@ -153,6 +158,7 @@ impl Engine {
 
     /// Tells the store what the disk did, decides what can be, and gives on what is to be written. After a fault nothing more is done.
     fn go_on(&mut self) {
+        self.has_old = false;
         if self.fault.is_none() {
             self.fault = self.turn().err().map(|error| (error.kind(), error.to_string()));
         }
@@ -163,6 +169,7 @@ impl Engine {
         while let Some(decision) = self.store.decide() {
             self.cut_off += u64::from(matches!(decision, Decision::CutOff { .. }));
         }
+        self.has_old = self.store.let_go(OLD) > 0;
         self.log.send(&mut self.store)?;
         self.take_out()?;
         self.keep()
@@ -315,10 +322,12 @@ impl Shared {
 
     /// Goes on whenever the disk has done something, until a stop is over.
     pub fn serve(&self) {
+        let mut patience = IDLE;
         loop {
-            self.bell.wait(Duration::from_millis(200));
+            self.bell.wait(patience);
             let mut engine = self.lock();
             engine.go_on();
+            patience = if engine.has_old { Duration::ZERO } else { IDLE };
             let is_over = engine.stop();
             drop(engine);
             self.changed.notify_all();

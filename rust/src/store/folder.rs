@@ -1,8 +1,8 @@
 //! What a store has in its folder: `store`, which says whose it is; `log-N`, segments of zeros with frames over them, each behind its
 //! envelope; and `snapshot-N-F`, which stands for all segments up to N, so that the log goes on behind it with frame F.
-use super::disk;
 use super::reading::is_zeros;
 use super::room::Growth;
+use super::{disk, system};
 use std::fs::{self, DirBuilder, File, OpenOptions};
 use std::io::{self, Read, Seek, SeekFrom, Write};
 use std::ops::RangeInclusive;
@@ -75,7 +75,7 @@ impl Folder {
         let (folder, path) = (named(&self.0, File::open(&self.0))?, self.0.join("lock"));
         let file = named(&path, OpenOptions::new().read(true).write(true).create(true).truncate(false).open(&path))?;
         let until = Instant::now() + wait;
-        while folder.try_lock().and_then(|()| file.try_lock()).is_err() {
+        while system::lock(&folder).and_then(|()| system::lock(&file)).is_err() {
             if Instant::now() >= until {
                 return named(&self.0, Err(io::Error::other(another(&file)))); // [10]
             }
@@ -125,7 +125,7 @@ impl Folder {
         writes: impl FnOnce(&mut File) -> io::Result<T>,
         finds: impl FnOnce(&Path) -> io::Result<()>,
     ) -> io::Result<T> {
-        let new = self.0.join(format!("new-0-{}", path.file_name().unwrap_or_default().display()));
+        let new = self.0.join(format!("new-0-{}", path.file_name().unwrap_or_default().to_string_lossy()));
         let make = || {
             let mut file = disk::opened(|| File::create(&new))?;
             let did = writes(&mut file)?;

@@ -224,9 +224,9 @@ impl DiskLog {
             Ok(()) => self.counts.synced(len as u64, job.begun.elapsed().as_micros() as u64),
             Err(error) => {
                 self.counts.failures += 1;
-                let words =
-                    format_args!("frame {frame} of {len} bytes is not on the disk, in segment {segment}: {error}");
-                self.host.say(words);
+                self.host.say(format_args!(
+                    "frame {frame} of {len} bytes is not on the disk, in segment {segment}: {error}"
+                ));
             }
         }
     }

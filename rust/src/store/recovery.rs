@@ -153,7 +153,9 @@ impl Folder {
         let mut segments: Vec<Segment> =
             self.files("log-")?.into_iter().map(|(number, _, path)| (number, path)).collect();
         segments.retain(|(number, _)| *number > kept);
-        while segments.pop_if(|(_, path)| reading::is_unused(path)).is_some() {}
+        while segments.last().is_some_and(|(_, path)| reading::is_unused(path)) {
+            segments.pop();
+        }
         for (number, path) in &segments {
             let head = named(path, front(path, *number, said.as_ref()))?;
             log.head(*number, &head)?;

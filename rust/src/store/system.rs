@@ -6,6 +6,7 @@ use std::os::fd::AsRawFd;
 
 extern "C" {
     fn posix_fadvise64(fd: c_int, from: i64, len: i64, advice: c_int) -> c_int;
+    fn flock(fd: c_int, how: c_int) -> c_int;
 }
 
 /// Those errors that tell of too many handles, in the process and in the system.
@@ -16,6 +17,17 @@ pub fn forget(file: &File) {
     const DONTNEED: c_int = 4;
     // SAFETY: no pointer is given.
     unsafe { posix_fadvise64(file.as_raw_fd(), 0, 0, DONTNEED) };
+}
+
+/// Keeps others out of a file while it is open, unless one of them does so (`File::try_lock`, which Rust has since 1.89).
+pub fn lock(file: &File) -> io::Result<()> {
+    const EXCLUSIVE: c_int = 2;
+    const AT_ONCE: c_int = 4;
+    // SAFETY: no pointer is given.
+    match unsafe { flock(file.as_raw_fd(), EXCLUSIVE | AT_ONCE) } {
+        0 => Ok(()),
+        _ => Err(io::Error::last_os_error()),
+    }
 }
 
 /// Whether there were too many handles for what failed.

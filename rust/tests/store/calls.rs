@@ -283,6 +283,11 @@ impl Store {
         must(unsafe { c::hidewillow_store_queued(&mut self.0, channel) }, DONE, "store_queued").bytes
     }
 
+    /// Drops what decisions of many keys left: of how many there are still some.
+    pub fn let_go(&mut self, most: usize) -> usize {
+        must(unsafe { c::hidewillow_store_let_go(&mut self.0, most) }, DONE, "store_let_go").bytes
+    }
+
     pub fn counts(&mut self) -> StoreCounts {
         let mut counts = StoreCounts::default();
         must(unsafe { c::hidewillow_store_counts(&mut self.0, &mut counts) }, SHOWN, "store_counts");

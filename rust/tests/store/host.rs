@@ -117,6 +117,7 @@ impl Host {
             33 | 34 => self.cut(),
             35..=37 => self.pump_any(),
             38 => self.drain(),
+            39 if self.dice.once_in(2) => drop(self.store.let_go(self.dice.roll(80))),
             _ if self.dice.once_in(3) => self.crash(),
             _ => {}
         }

@@ -19,6 +19,7 @@ mod model;
 mod plain;
 mod requests;
 
+use calls::{End, Recovery, Store, StoreLimits};
 use dice::{runs, Named};
 use host::Host;
 
@@ -52,6 +53,50 @@ fn a_store_is_what_the_plain_one_is_3() {
 #[test]
 fn a_store_is_what_the_plain_one_is_4() {
     make(3);
+}
+
+/// What a request says on a channel of its own, once what it writes is on the disk and decided.
+fn asked(store: &mut Store, request: &[u8]) -> Vec<u8> {
+    let channel = store.connect();
+    assert_eq!(store.feed(channel, request).expect("a request is fed").end, End::Done);
+    if let Ok(frame) = store.take_frame() {
+        store.synced(frame.place.frame);
+        while store.decide().is_some() {}
+    }
+    let said = store.output(channel);
+    store.hang_up(channel);
+    said
+}
+
+#[test]
+fn what_many_keys_leave_is_let_go_in_pieces() {
+    let mut recovery = Recovery::open(1);
+    recovery.end(0, 0);
+    let limits = StoreLimits {
+        words: 200,
+        bytes: 10_000,
+        line: 10_000,
+        waiting: 10_000,
+        segment: 1 << 20,
+        undecided: 10_000,
+        commands: 10,
+        in_flight: 4,
+    };
+    let mut store = Store::open(recovery, &limits, 1).0;
+    let pairs: String = (10..80).map(|it| format!(" k{it} {it}")).collect();
+    assert_eq!(asked(&mut store, format!("MSET{pairs}\r\n").as_bytes()), b"+OK\r\n");
+    assert_eq!(asked(&mut store, b"DBSIZE\r\n"), b":70\r\n");
+    // Those of the keys, and that of the batch, whatever they had before.
+    assert_eq!([50, 0, 50, 50].map(|most| store.let_go(most)), [21, 21, 0, 0]);
+    assert_eq!(asked(&mut store, b"SET k10 1\r\n"), b"+OK\r\n");
+    assert_eq!(store.let_go(0), 0, "few keys leave nothing");
+    assert_eq!(asked(&mut store, b"FLUSHALL\r\n"), b"+OK\r\n");
+    assert_eq!(asked(&mut store, b"DBSIZE\r\n"), b":0\r\n");
+    assert_eq!(store.let_go(1), 70);
+    // What one decision leaves is the most that stays.
+    assert_eq!(asked(&mut store, format!("MSET{pairs}\r\n").as_bytes()), b"+OK\r\n");
+    assert_eq!(store.let_go(0), 71);
+    assert_eq!((store.value(b"k11"), store.let_go(71)), (Some(b"11".to_vec()), 0));
 }
 
 #[test]

@@ -20,6 +20,9 @@ const ROOM: usize = 1 << 12;
 const SHORT: usize = 1 << 12;
 const TOLD: usize = 32;
 
+/// Old values of so many keys are dropped a turn: what comes waits for no more.
+const OLD: usize = 1000;
+
 /// A channel that had so many bytes to show at once keeps room for them: it is given up for another once the store has nothing of it.
 const MUCH: usize = 1 << 16;
 
@@ -458,6 +461,11 @@ impl Channels {
     /// What became of the oldest batch, if it is decided.
     pub fn decide(&mut self) -> Option<Decision> {
         self.store.decide()
+    }
+
+    /// Drops what decisions left of the old values of some keys; whether there is more.
+    pub fn let_go_of_old(&mut self) -> bool {
+        self.store.let_go(OLD) > 0
     }
 
     /// Whether a fault was told on a channel, of which nothing more is taken.

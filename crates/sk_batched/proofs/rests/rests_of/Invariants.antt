@@ -1,4 +1,4 @@
--- What the keys so far rest on is there, with what those rest on that are left.
+-- What the keys so far depend on is there, with what those depend on that are left.
 use Rattle.sk_batched.proofs.Names.{◌≡◌, ℕ, ◌||◌, ◌&&◌, not, drop, ◌==◌, list_any, Vec, has, tags_at, bytes_cmp}
 use Rattle.sk_batched.proofs.Names.{undo_state_of}
 use Rattle.sk_batched.proofs.rests.rests_of.Given as goal

@@ -1,4 +1,4 @@
--- A note that rests on the guess alone is left out, and any other stays without it.
+-- A note that depends on the guess alone is left out, and any other stays without it.
 use Rattle.sk_slots.proofs.Names.{take_all, ◌≡◌, ◌<◌, ◌≤◌, ◌+◌, [], not, length, suc, take, sym, ◌∙◌, ap}
 use Rattle.sk_slots.proofs.Names.{subst, arith, slice_set, without, committed, seen, is_empty}
 use Rattle.sk_slots.proofs.Joins.{AllFree, free_same, front_left, without_twice}

@@ -1,4 +1,4 @@
--- The notes up to the place rest on something, and on the guess no more; the rest is lightened to the same.
+-- The notes up to the place depend on something, and on the guess no more; the rest is lightened to the same.
 use Rattle.sk_slots.proofs.Names.{◌≡◌, ◌≤◌, ◌-◌, take, vec_len, vec_capacity, committed, seen, CanGoBack}
 use Rattle.sk_slots.proofs.Joins.{AllFree}
 use Rattle.sk_slots.proofs.notes.lighten.Given as goal

@@ -1,4 +1,4 @@
--- What a key rests on that was looked at is in the set.
+-- What a key depends on that was looked at is in the set.
 use Rattle.sk_speculator.proofs.Names.{◌≡◌, true, ◌∷◌, [], subst, has, IsAntisymmetric, any_rests}
 use Rattle.sk_speculator.proofs.Writing.{only_one, or_known}
 use Rattle.sk_speculator.proofs.Afterwards.{any_of}

@@ -1,4 +1,4 @@
--- A key rests on what its number rests on.
+-- A key depends on what its number depends on.
 use Rattle.sk_bytes.proofs.Names.{[], sym, ap, ◌∙◌, nat_cmp, last_tags, at_key, log_at, bytes_cmp, ByteView}
 use Rattle.sk_bytes.proofs.Told.{log_told}
 use Rattle.sk_bytes.proofs.bytes.Bytes.tags_of.Goals as goal

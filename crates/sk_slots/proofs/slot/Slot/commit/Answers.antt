@@ -15,14 +15,15 @@ invariant_of-self g c =
     let undone = g.I.Inversion.undone in
     let fits = g.I.Inversion.fits in
     let v = c.self.inside.value in
-    subst (λ b. CanGoBack undone fits v (without_ready b c.merge.new.log.items)) (sym c.let_go.ensures.none)
-    (c.merge.ensures.can v (c.lighten.ensures.can v (subst (CanGoBack undone fits v) (sym c.let_go.ensures.log) c.self.invariant)))
+    subst (λ b. CanGoBack undone fits v (without_ready b c.trim.new.log.items)) (sym c.let_go.ensures.none)
+    (subst (CanGoBack undone fits v) (sym c.trim.ensures.items)
+    (c.merge.ensures.can v (c.lighten.ensures.can v (subst (CanGoBack undone fits v) (sym c.let_go.ensures.log) c.self.invariant))))
 
 pub returns-clause-log : goal.returns-clause-log
 returns-clause-log g c =
     let undone = g.I.Inversion.undone in
     let v = c.self.inside.value in
     let can = subst (CanGoBack undone g.I.Inversion.fits v) (sym c.let_go.ensures.log) c.self.invariant in
-    ap (λ b. seen undone v (without_ready b c.merge.new.log.items)) c.let_go.ensures.none
-    ∙ c.merge.ensures.seen v (c.lighten.ensures.can v can) ∙ ap (merged []) (c.lighten.ensures.seen v can) ∙ ap (λ ks. merged [] (committed c.args.id (seen undone v ks))) c.let_go.ensures.log
+    ap (λ b. seen undone v (without_ready b c.trim.new.log.items)) c.let_go.ensures.none
+    ∙ ap (seen undone v) c.trim.ensures.items ∙ c.merge.ensures.seen v (c.lighten.ensures.can v can) ∙ ap (merged []) (c.lighten.ensures.seen v can) ∙ ap (λ ks. merged [] (committed c.args.id (seen undone v ks))) c.let_go.ensures.log
     ∙ ap (λ (s : SlotView _). merged [] (committed c.args.id s.log)) c.self.view_is

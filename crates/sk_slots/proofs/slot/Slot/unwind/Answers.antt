@@ -1,4 +1,4 @@
--- What was there before the first note that rests on the guess is put back.
+-- What was there before the first note that depends on the guess is put back.
 use Rattle.sk_slots.proofs.Names.{prefix_len-le-length, not, has, ◌≤◌, length, sym, ◌∙◌, ap, subst, prefix_len}
 use Rattle.sk_slots.proofs.Names.{unwound, cut, seen, without_ready, CanGoBack, SlotView}
 use Rattle.sk_slots.proofs.Logs.{cut_at}
@@ -21,9 +21,10 @@ invariant_of-self g c =
     let ks = c.let_go.new.log.items in
     let place = c.before_first-place.result in
     let can = subst (CanGoBack undone fits c.self.inside.value) (sym c.let_go.ensures.log) c.self.invariant in
-    subst (λ b. CanGoBack undone fits c.go_back.new.value (without_ready b c.go_back.new.log.items)) (sym c.let_go.ensures.none)
+    subst (λ b. CanGoBack undone fits c.go_back.new.value (without_ready b c.trim.new.log.items)) (sym c.let_go.ensures.none)
+    (subst (CanGoBack undone fits c.go_back.new.value) (sym c.trim.ensures.items)
     (subst (λ v. CanGoBack undone fits v c.go_back.new.log.items) (sym c.go_back.ensures.value)
-    (subst (CanGoBack undone fits _) (sym c.go_back.ensures.log) (can_front undone fits c.self.inside.value place ks can)))
+    (subst (CanGoBack undone fits _) (sym c.go_back.ensures.log) (can_front undone fits c.self.inside.value place ks can))))
 
 pub returns-clause-value : goal.returns-clause-value
 returns-clause-value g c =
@@ -39,7 +40,7 @@ returns-clause-log g c =
     let v = c.self.inside.value in
     let place = c.before_first-place.result in
     let at = c.before_first-place.ensures ∙ ap (prefix_len (λ n. not (has c.args.id n.tags))) c.as_slice.ensures.value in
-    ap (λ b. seen undone c.go_back.new.value (without_ready b c.go_back.new.log.items)) c.let_go.ensures.none
-    ∙ (λ i. seen undone (c.go_back.ensures.value i) (c.go_back.ensures.log i)) ∙ seen_front undone v place ks
+    ap (λ b. seen undone c.go_back.new.value (without_ready b c.trim.new.log.items)) c.let_go.ensures.none
+    ∙ ap (seen undone c.go_back.new.value) c.trim.ensures.items ∙ (λ i. seen undone (c.go_back.ensures.value i) (c.go_back.ensures.log i)) ∙ seen_front undone v place ks
     ∙ cut_at c.args.id (seen undone v ks) place (at ∙ sym (seen_prefix undone c.args.id v ks)) ∙ ap (λ ns. cut c.args.id (seen undone v ns)) c.let_go.ensures.log
     ∙ ap (λ (s : SlotView _). cut c.args.id s.log) c.self.view_is

@@ -1,4 +1,4 @@
--- The keys that are left give the same from here, and if they rest on no other guess, all did.
+-- The keys that are left give the same from here, and if they depend on no other guess, all did.
 use Rattle.sk_slots.proofs.Names.{◌≡◌, [], true, drop, cond, is_in, unwound, cut, last_tags, look_at, log_at, are_of}
 use Rattle.sk_slots.proofs.Names.{AllSettled}
 use Rattle.sk_slots.proofs.slots.Slots.unwind.Given as goal

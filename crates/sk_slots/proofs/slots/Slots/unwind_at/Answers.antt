@@ -1,4 +1,6 @@
-use Rattle.sk_slots.proofs.Names.{[], ◌∷◌, are_of, last_tags, slot_in, cond, refl, sym, ◌∙◌, ap, subst, option_copied_mut, eq_by_cmp, IsTotalOrder, rules}
+use Rattle.sk_slots.specs.Counted.{HasPresent}
+use Rattle.sk_slots.proofs.Counts.{slot_recounted, slot_counts, present_within}
+use Rattle.sk_slots.proofs.Names.{true, false, [], ◌∷◌, are_of, last_tags, slot_in, cond, refl, sym, ◌∙◌, ap, subst, option_copied_mut, eq_by_cmp, IsTotalOrder, rules}
 use Rattle.sk_slots.proofs.Names.{IsAntisymmetric, unwound, cut, SlotView, look_at, log_at, SettledBut}
 use Rattle.sk_map.specs.Seen.{seen}
 use Rattle.sk_slots.proofs.Maps.{one_changed, none_changed, settled_kept, settled_set}
@@ -40,3 +42,29 @@ returns-in_default g c =
       alone = sym (ap (λ o. are_of c.args.id (last_tags [] (slot_in o).log)) none)
           ∙ ap (λ es. are_of c.args.id (last_tags [] (log_at R es k))) c.self.view_is;
     }
+
+pub recounted-self-inside-requires-clause-come : goal.recounted-self-inside-requires-clause-come
+recounted-self-inside-requires-clause-come g c = λ had has.
+    let R = g.K.Key.order in
+    let total = subst IsTotalOrder g.met.K.Key.same g.met.K.Ord.total in
+    let exact = subst IsAntisymmetric g.met.K.Key.same g.met.K.Key.exact in
+    let all = rw c.in-Some.is at (c.get_mut.follows.holds c.unwind-is_settled.new.self) in
+    present_within g.met.K.Ord.matches_eq g.met.K.Key.same total _ c.self.inside.present
+    (slot_recounted total exact c.self.inside.slots _ c.args.key.now _ c.unwind-is_settled.new.self c.self.inside.present (sym c.in-Some.ensures.value) all
+    false true (sym had ∙ c.is_present-had.ensures) (sym has ∙ c.is_present-has.ensures) c.self.invariant)
+
+pub recounted-self-inside-requires-clause-gone : goal.recounted-self-inside-requires-clause-gone
+recounted-self-inside-requires-clause-gone g c = λ had has.
+    let total = subst IsTotalOrder g.met.K.Key.same g.met.K.Ord.total in
+    let exact = subst IsAntisymmetric g.met.K.Key.same g.met.K.Key.exact in
+    slot_counts total exact c.self.inside.slots c.args.key.now _ c.self.inside.present (sym c.in-Some.ensures.value) (sym c.is_present-had.ensures ∙ had) c.self.invariant
+
+pub invariant_of-self-2 : goal.invariant_of-self-2
+invariant_of-self-2 g c =
+    let R = g.K.Key.order in
+    let total = subst IsTotalOrder g.met.K.Key.same g.met.K.Ord.total in
+    let exact = subst IsAntisymmetric g.met.K.Key.same g.met.K.Key.exact in
+    let all = rw c.in-Some.is at (c.get_mut.follows.holds c.unwind-is_settled.new.self) in
+    subst (HasPresent R _) (sym c.recounted-self-inside.ensures)
+    (slot_recounted total exact c.self.inside.slots _ c.args.key.now _ c.unwind-is_settled.new.self c.self.inside.present (sym c.in-Some.ensures.value) all
+    c.is_present-had.result c.is_present-has.result c.is_present-had.ensures c.is_present-has.ensures c.self.invariant)

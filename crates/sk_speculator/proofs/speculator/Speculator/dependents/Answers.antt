@@ -1,4 +1,4 @@
--- The list of an undecided guess has just the keys that rest on it, and nothing rests on another.
+-- The list of an undecided guess has just the keys that depend on it, and nothing depends on another.
 use Rattle.sk_speculator.proofs.Names.{◌≡◌, true, false, sym, ◌∙◌, ap, subst, refl, IsTotalOrder, IsAntisymmetric}
 use Rattle.sk_speculator.proofs.Names.{tags_by, dependents_of, opens_of, exact_at, none_there, is_in, has, numbers}
 use Rattle.sk_speculator.proofs.Names.{tags_at, log_at, Parts, undo_state_of}

@@ -33,7 +33,7 @@ relieve_rest-requires-clause-almost g c =
     (subst (AllAlmostExact R (tags_by (log_at R new)) l) (sym left)
     (failed_almost total exact id (log_at R a.slots) (log_at R new) (grows total exact a whole) (cuts_so total exact a whole id l just new log) l just os sound.exact))
 
--- where the keys rested on no other guess
+-- where the keys depended on no other guess
 pub relieve_rest-requires-clause-alone : goal.relieve_rest-requires-clause-alone
 relieve_rest-requires-clause-alone g c = λ alone.
     let R = g.K.Key.order in

@@ -40,6 +40,9 @@ impl Version {
     pub const ABSENT: Version = Version(0);
     const OWN: u64 = 1 << 63;
 
+    /// Of what is not known any more: no name has it, so the server refuses what rests on it.
+    pub const UNKNOWN: Version = Version(Version::OWN - 1);
+
     /// A client's own number for a state that one of its steps makes.
     pub fn own(number: u64) -> Version {
         Version(Version::OWN | number)

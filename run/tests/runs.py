@@ -4,7 +4,7 @@
     run/tests/runs.py [--build FOLDER] [--wrong FOLDER] [--rounds N] [--seed N] [PART..]
 
 FOLDER of --build has hidewillow-run and hidewillow-files (build/ where it isn't named); that of --wrong has a hidewillow-run that was
-built with the feature `wrong`, for the part of that name. Parts: ways, same, foreign, copy, held, deaths, resume, wrong, appends; all but `wrong` and `appends`
+built with the feature `wrong`, for the part of that name. Parts: ways, same, foreign, copy, held, deaths, resume, wrong, appends; all but `wrong`
 where none is named. The last line is 'N passed, M failed'.
 
 ways     over ssh, and over a server that is started here; by another user than root
@@ -14,7 +14,7 @@ copy     clients that count under a lock folder, and clients that append to one 
 held     with a long way nothing is shown, and no outside file appears, before the server has answered
 resume   a server that is killed and comes back: status, output and files are as of a local run
 deaths   either side is killed at random moments: what was shown is on the server, and the rest is as if it never began
-appends  two processes of each client append to one file: fails now and then, a fault that is known
+appends  two processes of each client append to one file, which each opens for each line, or which both keep open: nothing is lost
 wrong    supervisors and servers that are wrong on purpose: each is found by one of the others
 """
 import argparse
@@ -229,6 +229,54 @@ git init -q -b main . && git add . && git commit -qm one && echo '/* more */' >>
 git checkout -q -b side HEAD~1 && echo side > side && git add side && git commit -qm three && git checkout -q main && git merge -q side -m m &&
 git log --format=%H && git status --short && git fsck 2>&1 | head -3
 """
+# One file, open in many ways at once: duplicates, forks, by two names, under another name, cut, without a name, mapped.
+SHARED = """
+import ctypes, fcntl, mmap, os
+def child(work):
+    pid = os.fork()
+    if not pid:
+        work()
+        os._exit(0)
+    os.waitpid(pid, 0)
+def both(n):
+    os.write(b, b'child %d\\n' % n); os.mkdir('x'); os.rmdir('x'); os.write(a, b'behind %d\\n' % n)
+a = os.open('log', os.O_RDWR | os.O_CREAT | os.O_APPEND)
+b = os.dup(a)
+for n in range(8):
+    os.write(a, b'first %d\\n' % n)
+    child(lambda: both(n))
+    with open('log', 'a') as other: other.write(f'other {n}\\n')
+    os.stat('log')
+    if n % 4 == 0: os.rename('log', 'moved'); os.write(b, b'moved\\n'); os.rename('moved', 'log')
+    if n % 4 == 1: os.link('log', 'hard'); os.write(a, b'hard\\n'); os.unlink('log'); os.stat('hard'); os.rename('hard', 'log')
+    if n % 4 == 2: os.truncate('log', 60); os.write(a, b'cut\\n'); os.stat('log'); os.ftruncate(b, 50)
+    if n % 4 == 3: open('over', 'w').close(); os.rename('over', 'kept'); os.write(a, b'kept\\n')
+print(os.pread(a, 9999, 0).decode(), os.fstat(b).st_nlink)
+os.close(b)
+old = os.open('log', os.O_WRONLY | os.O_APPEND)
+with open('new', 'w') as new: new.write('taken\\n')
+os.rename('new', 'log'); os.write(old, b'nowhere\\n'); os.write(a, b'nowhere\\n'); os.close(old); os.close(a); os.stat('log')
+nameless = os.open('.', os.O_TMPFILE | os.O_RDWR, 0o600)
+os.write(nameless, b'one\\n'); ctypes.CDLL(None).linkat(-100, b'/proc/self/fd/%d' % nameless, -100, b'named', 0x400)
+os.stat('named'); os.write(nameless, b'two\\n'); os.stat('named'); os.close(nameless)
+late = os.open('late', os.O_WRONLY | os.O_CREAT); fcntl.fcntl(late, fcntl.F_SETFL, os.O_APPEND)
+for n in range(6): os.write(late, b'late\\n'); os.stat('late'); open('late', 'r+').close()
+with open('late', 'r+') as f: f.write('LATE')
+os.write(late, b'end\\n'); os.close(late)
+for n in range(4):
+    fd = os.open('record', os.O_RDWR | os.O_CREAT)
+    child(lambda: (os.pwrite(fd, b'%d' % n, n * 5), os.mkdir('y'), os.rmdir('y'), os.pwrite(fd, b'end', 30)))
+    os.pwrite(fd, b'x', n); os.close(fd); os.stat('record')
+umask = os.umask(0o477)
+blind = os.open('blind', os.O_WRONLY | os.O_CREAT); os.umask(umask)
+for n in range(6): os.write(blind, b'blind\\n'); os.stat('blind')
+os.close(blind)
+for name in sorted(os.listdir('.')): print(name, oct(os.stat(name).st_mode), name != 'blind' and open(name).read())
+# from here on each call waits
+fd = os.open('map', os.O_RDWR | os.O_CREAT); os.ftruncate(fd, 4096); m = mmap.mmap(fd, 4096); os.close(fd)
+for n in range(8): m[n] = 65 + n; os.stat('log')
+m.close()
+"""
 FILES = "mkdir -m 700 own && tar cf x.tar *.c *.h && mkdir y && tar xf x.tar -C y && cp -r y z && diff -r y z && echo same && rm -r y && tar tvf x.tar | wc -l && rm x.tar && ls -R"
 PIPE = "seq 1 150 | while read n; do echo $n >> back; mv back over; mv over back; done; wc -l < back; cat back"
 OFFSETS = "seq 1 80 > lines; exec 3< lines; while read n <&3; do echo $n >> back; mkdir x; rmdir x; done; cat back"
@@ -244,6 +292,7 @@ COMMANDS = {
     "odd": ({}, [sys.executable, "-c", ODD], ()),
     "writing": ({}, [sys.executable, "-c", WRITING], ()),
     "reading": ({}, [sys.executable, "-c", READING], ()),
+    "shared": ({}, [sys.executable, "-c", SHARED], ()),
 }
 
 
@@ -388,20 +437,39 @@ APPEND_SH = """
 loop() { i=0; while [ $i -lt $2 ]; do echo "$1 $i" >> log; i=$((i+1)); mkdir d.$1; rmdir d.$1; done; }
 loop $1 $2 & loop $1+ $2 & wait
 """
-APPENDS = {"python": ([sys.executable, "append.py"], [""]), "shell": (["sh", "append.sh"], ["", "+"])}
+# Two processes with one description that stays open, and its duplicate; it is set to append where it wasn't opened so.
+APPEND_KEPT = """
+import fcntl, os, sys
+f = os.open('log', os.O_WRONLY | int(sys.argv[3]))
+fcntl.fcntl(f, fcntl.F_SETFL, os.O_APPEND)
+g, pid = os.dup(f), os.fork()
+who = sys.argv[1] + ('' if pid else '+')
+for k in range(int(sys.argv[2])):
+    os.write(f if k % 2 else g, f'{who} {k}\\n'.encode())
+    os.stat('other'); open(f'own.{who}', 'w').close()
+os.close(f); os.close(g)
+if pid: os.waitpid(pid, 0)
+"""
+APPENDS = {
+    "python": ([sys.executable, "append.py"], [""]),
+    "shell": (["sh", "append.sh"], ["", "+"]),
+    "kept": ([sys.executable, "kept.py"], ["", "+"]),
+    "set": ([sys.executable, "kept.py"], ["", "+"]),
+}
 
 
 def append_together(given, kind, clients, rounds):
     """Clients that append to one file without a lock, which stays open over other calls: each line is there once, in its writer's order."""
     words, writers = APPENDS[kind]
-    place = Place({"log": "", "other": "x", "append.py": APPEND_PY, "append.sh": APPEND_SH})
+    place = Place({"log": "", "other": "x", "append.py": APPEND_PY, "append.sh": APPEND_SH, "kept.py": APPEND_KEPT})
     running = []
     try:
         with Served(given.build, place.there, "--delay-ms", "3") as served:
             for at in range(clients):
                 place.mount, place.stats = place.room / f"mount{at}", place.room / f"stats{at}"
                 place.mount.mkdir()
-                command = place.command(given.build, served.at, [*words, f"c{at}", str(rounds)])
+                flag = 0 if kind == "set" else os.O_APPEND
+                command = place.command(given.build, served.at, [*words, f"c{at}", str(rounds), str(flag)])
                 running.append(subprocess.Popen(command, stdout=subprocess.DEVNULL, stderr=subprocess.PIPE, text=True, stdin=subprocess.DEVNULL))
             said = [it.communicate(timeout=LONG)[1] for it in running]
         bad = [f"status {it.returncode}: {err[-200:]}" for it, err in zip(running, said) if it.returncode or err]
@@ -425,9 +493,9 @@ def part_copy(given, counted):
 
 
 def part_appends(given, counted):
-    """Two processes of each client append: a fault that is known loses lines of one in some thirty runs."""
     for at in range(given.rounds * 2):
-        counted.said(f"appends: shell, {at}", append_together(given, "shell", 4, 6))
+        for kind in ("shell", "kept", "set"):
+            counted.said(f"appends: {kind}, {at}", append_together(given, kind, 4, 6))
 
 
 # The folder is asked for behind that moment, however slow the machine is.
@@ -635,10 +703,11 @@ def part_ways(given, counted):
                 continue
             subprocess.run(["chown", "-R", "65534:65534", place.room], check=True)
             command = ["setpriv", "--reuid", "65534", "--regid", "65534", "--clear-groups", *command]
-        files = given.build / "hidewillow-files"
+        files, before = given.build / "hidewillow-files", (folder / "a").stat().st_ino
         did = ran(command, env={**os.environ, "HIDEWILLOW_SSH": str(script), "HIDEWILLOW_FILES": str(files)})
         there = (folder / "b").read_text() if (folder / "b").exists() else None
         bad = [] if (did.returncode, did.stdout, there) == (3, b"1\n2\n", "2\n") else [did, there]
+        bad += [] if (folder / "a").stat().st_ino == before else ["what was read only was written"]
         counted.said(f"ways: {way}", bad)
         place.away()
 
@@ -683,7 +752,7 @@ def main():
     parts = {"ways": part_ways, "same": part_same, "foreign": part_foreign, "copy": part_copy, "held": part_held, "deaths": part_deaths,
              "resume": part_resume, "wrong": part_wrong, "appends": part_appends}
     counted = Counted()
-    for it in given.parts or [name for name in parts if name != "appends" and (name != "wrong" or given.wrong)]:
+    for it in given.parts or [name for name in parts if name != "wrong" or given.wrong]:
         begin = time.time()
         parts[it](given, counted)
         print(f"runs: {it}: {time.time() - begin:.0f} s", flush=True)

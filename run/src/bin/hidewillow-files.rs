@@ -1,4 +1,5 @@
 //! The server of a folder: `hidewillow-files FOLDER`, over standard input and output.
+use hidewillow_run::asked;
 use hidewillow_run::files::options::{self, Options};
 use hidewillow_run::files::{journal, session};
 use nix::sys::resource::{getrlimit, setrlimit, Resource};
@@ -10,6 +11,7 @@ use std::sync::Arc;
 use std::thread;
 
 fn serve(options: Options) -> io::Result<()> {
+    std::fs::metadata(&options.folder).map_err(|it| io::Error::new(it.kind(), format!("{}: {it}", options.folder)))?;
     // Modes are as clients say, and an epoch holds each folder that it changes open.
     umask(Mode::empty());
     let (_, most) = getrlimit(Resource::RLIMIT_NOFILE)?;
@@ -43,10 +45,14 @@ fn listen(listener: TcpListener, options: Options, secret: Vec<u8>) -> io::Resul
 }
 
 fn main() -> ExitCode {
+    if let Some(text) = asked(std::env::args_os().nth(1), "hidewillow-files", options::HELP) {
+        print!("{text}");
+        return ExitCode::SUCCESS;
+    }
     let options = match options::read(std::env::args().skip(1)) {
         Ok(options) => options,
         Err(why) => {
-            eprint!("hidewillow-files: {why}\n{}", options::USAGE);
+            eprintln!("hidewillow-files: {why}\nhidewillow-files --help tells all options");
             return ExitCode::from(2);
         }
     };

@@ -2,10 +2,16 @@
 use super::journal::Wrong;
 use std::net::SocketAddr;
 
-pub const USAGE: &str = "\
-hidewillow-files FOLDER                      serves the folder over standard input and output
-hidewillow-files --listen 127.0.0.1:PORT --secret-file FILE FOLDER
-                                             serves it at a port of this machine to those who say the secret (for tests)
+pub const HELP: &str = "\
+Serves a folder to hidewillow-run.
+
+Usage: hidewillow-files FOLDER               over standard input and output, as ssh starts it
+       hidewillow-files --listen 127.0.0.1:PORT --secret-file FILE FOLDER
+                                             at a port of this machine, to those who say the secret (for tests)
+
+  -h, --help                                 prints this
+  -V, --version                              prints the version
+
 For tests:
   --delay-ms N          each request is answered so much later     --bandwidth BYTES  so many bytes a second each way
   --refuse-percent N    epochs are refused at random               --seed N           what the random ones depend on
@@ -32,17 +38,17 @@ pub fn read(words: impl IntoIterator<Item = String>) -> Result<Options, String> 
     let mut options = Options::default();
     let mut words = words.into_iter();
     while let Some(word) = words.next() {
-        if !word.starts_with("--") {
+        if !word.starts_with('-') {
             if !std::mem::replace(&mut options.folder, word).is_empty() {
                 return Err("more than one folder".into());
             }
             continue;
         }
-        let value = words.next().ok_or_else(|| format!("{word} wants a value"))?;
+        let value = words.next().ok_or_else(|| format!("{word} is no option, or wants a value"))?;
         options.set(&word, value)?;
     }
     if options.folder.is_empty() {
-        return Err("no folder".into());
+        return Err("the folder is missing".into());
     }
     if options.listen.is_some() != options.secret_file.is_some() {
         return Err("--listen and --secret-file go together".into());
@@ -77,7 +83,7 @@ impl Options {
                     _ => return Err(wrong()),
                 });
             }
-            _ => return Err(format!("{word}: not known")),
+            _ => return Err(format!("{word} is no option")),
         }
         Ok(())
     }

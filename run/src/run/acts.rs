@@ -3,7 +3,7 @@ use crate::codec::Bytes;
 use crate::name::Name;
 use crate::run::calls::{self, Caller, Target, Use};
 use crate::run::epochs::{Alone, Need};
-use crate::run::supervisor::{Done, Supervisor};
+use crate::run::supervisor::{Done, Failure, Supervisor};
 use crate::run::sys::{self, Pid, Regs, Stop, Told};
 use crate::run::tree::{Hold, State};
 use crate::run::undo::{self, Undo};
@@ -102,8 +102,7 @@ impl Supervisor {
             Need::Again => self.go(pid),
             Need::Hold => self.tree.hold(pid, Hold::Settled),
             Need::Wait => {
-                let a = Alone { pid: Some(pid), steps: looks, undo: Vec::new(), made: None, store: None, falls: false };
-                self.ask_alone(a)?;
+                self.ask_alone(Alone { pid: Some(pid), steps: looks, ..Alone::default() })?;
             }
         }
         Ok(())
@@ -172,14 +171,30 @@ impl Supervisor {
         if !self.tree.all.contains_key(&pid) {
             return self.go_all(None);
         }
+        self.take_closed();
+        if !self.stored.due.is_empty() {
+            // it was closed before: so it is stored before
+            self.tree.queue.push_back(pid);
+            return self.go_all(None);
+        }
+        let drafts = self.drafts_to_be_cut(uses);
         let Some(Act { steps, undo, result }) = self.act(pid, uses)? else { return self.go_all(None) };
         let opened = uses.iter().any(|u| matches!(u, Use::Open { .. })) && result >= 0;
         let made = Some(opened.then_some(result));
-        self.ask_alone(Alone { pid: Some(pid), steps, undo, made, store: None, falls: false })
+        self.ask_alone(Alone { pid: Some(pid), steps, undo, made, drafts, ..Alone::default() })
+    }
+    /// What can't be taken back is not done.
+    pub fn keeps_all(&mut self) -> Done {
+        let broken = |e| Failure::Broken(format!("what a file was can't be kept: {e}"));
+        self.undo.has_kept_all().map_err(broken)
     }
     /// Has a process make its call.
     fn act(&mut self, pid: Pid, uses: &[Use]) -> Done<Option<Act>> {
+        if uses.iter().any(|u| self.changes_scratch_folder(u)) {
+            self.paths.forget_local();
+        }
         let undo = self.before(uses); // [15]
+        self.keeps_all()?;
         let moved = undo.iter().any(|u| matches!(u, Undo::FolderGone { .. }));
         let is_done = moved && matches!(uses.last(), Some(Use::RemoveFolder(_)));
         // [11]
@@ -193,6 +208,15 @@ impl Supervisor {
             return Ok(Some(Act { steps: self.looks(uses, false), undo: Vec::new(), result }));
         }
         Ok(Some(Act { steps: self.effects(uses), undo, result }))
+    }
+    /// Whether a scratch folder itself, not what is in it, becomes something else.
+    fn changes_scratch_folder(&self, u: &Use) -> bool {
+        let is_it = |at: &Target| matches!(at, Target::Scratch(path) if self.paths.is_scratch(path));
+        match u {
+            Use::Remove(at) | Use::RemoveFolder(at) | Use::MakeFolder(at) | Use::MakeLink(at) => is_it(at),
+            Use::Rename(one, other) | Use::Exchange(one, other) => is_it(one) || is_it(other),
+            _ => false,
+        }
     }
     /// Has a process at a stop of the filter make its call, and stops it behind. `is_done`: we have done already what
     /// it wants, and it succeeds.
@@ -345,6 +369,7 @@ impl Supervisor {
         let Some(between) = between.filter(|_| one != other && a.kind != Kind::Absent && b.kind != Kind::Absent) else {
             return vec![self.look(one), self.look(other)];
         };
+        self.stored.exchanged(&self.paths, one, other);
         let moved = |from: &Name, base: Version, to: &Name| Step::Rename {
             from: from.clone(),
             base,
@@ -361,9 +386,10 @@ impl Supervisor {
         // a file without a name gets one
         let path = self.names.local(to);
         let m = present(&path).filter(Metadata::is_file)?;
-        let contents = sys::read_quietly(&path).unwrap_or_default();
         self.stored.named(m.ino(), to);
         self.undo.has_name(&m);
+        self.begin_draft(to, &m, false, false);
+        let contents = self.sent_of(to);
         Some(put(to, Version::ABSENT, self.epochs.new_version(), &m, contents))
     }
     fn attributes_set(&mut self, name: &Name) -> Option<Step> {
@@ -416,7 +442,10 @@ impl Supervisor {
                 }
                 Use::Exchange(a, b) => v.push(Undo::Exchanged(a.path(&self.names), b.path(&self.names))),
                 Use::Attributes(at) => before_attributes(&at.path(&self.names), &mut v),
-                Use::Truncate(at) => v.extend(self.undo.keep_content(&at.path(&self.names))),
+                Use::Truncate(at) => {
+                    at.remote().cloned().iter().for_each(|n| self.begin_draft_of(n));
+                    v.extend(self.undo.keep_content(&at.path(&self.names)));
+                }
                 _ => {}
             }
         }

@@ -3,11 +3,12 @@ use crate::name::Name;
 use crate::run::descriptors::{self, Descriptor, Kind};
 use crate::run::drafts::Drafts;
 use crate::run::folders::Reading;
-use crate::run::inject::{self, to_be_restarted, Call};
+use crate::run::inject::{self, to_be_restarted, Call, Copying};
 use crate::run::paths::{bytes, Where};
 use crate::run::supervisor::{Done, Supervisor};
 use crate::run::sys::{self, Pid, Regs, Stop, Told};
 use crate::run::tree::{Copy, Facts, State, Thread};
+use std::cell::Cell;
 use std::collections::HashMap;
 use std::fs::File;
 use std::io::{self, Read};
@@ -70,6 +71,11 @@ struct Copied {
     own: Regs,
     its: Regs,
     pending: [Vec<sys::SigInfo>; 2],
+    child: Option<Pid>,
+    /// The copy is at a stop of the filter.
+    at_filter: bool,
+    /// Signals that came in the meantime.
+    signals: Vec<i32>,
 }
 
 impl Supervisor {
@@ -96,7 +102,7 @@ impl Supervisor {
             return Ok(false);
         }
         self.stats.checkpoints += 1;
-        self.stats.checkpoint_time += begin.elapsed();
+        self.stats.checkpoint_times.push(begin.elapsed());
         self.epochs.cost = (self.epochs.cost * 3 + begin.elapsed()) / 4;
         self.go_all(at)?;
         Ok(true)
@@ -207,6 +213,7 @@ impl Supervisor {
     /// Copies all that have run since they were copied, and begins an epoch; or says why that can't be.
     fn copy_all(&mut self) -> Done<Option<&'static str>> {
         self.stopping = true;
+        self.take_all_closed();
         let taken = self.take_output();
         self.stopping = false;
         taken?;
@@ -216,7 +223,7 @@ impl Supervisor {
         self.stats.kept_copies += (all.len() - due.len()) as u64;
         let mut tables = HashMap::new();
         for pid in &due {
-            let t = descriptors::of(*pid, &self.streams);
+            let t = descriptors::of(*pid, &self.streams, &mut self.handles);
             if let Some(why) = self.unkept(&t) {
                 return Ok(Some(why));
             }
@@ -236,6 +243,7 @@ impl Supervisor {
                 }
             }
         }
+        self.keeps_all()?;
         Ok(None)
     }
     /// Why one of these descriptors can't be opened once more.
@@ -252,57 +260,80 @@ impl Supervisor {
             _ => None,
         })
     }
-    /// The calls that fork these.
-    fn forks(&mut self, due: &[Pid]) -> (Vec<Call>, Vec<Copied>) {
-        let (mut forks, mut copied) = (Vec::new(), Vec::new());
-        for pid in due {
-            let p = self.tree.at(*pid);
-            let (own, its) = registers_behind(p.state, &p.regs);
-            let at_filter = p.state == State::Entry;
-            let base = if at_filter { p.regs } else { own };
-            let args = [(libc::CLONE_PARENT | libc::SIGCHLD) as u64, 0, 0, 0];
-            forks.push(Call::new(*pid, base, at_filter, p.facts.site, libc::SYS_clone, args));
-            let mut pending = [sys::pending(*pid, false), sys::pending(*pid, true)];
-            pending[0].extend(p.signals.iter().map(|s| signal_of_user(*s)));
-            copied.push(Copied { pid: *pid, own, its, pending });
-        }
-        (forks, copied)
+    /// What has to be known of one that is about to be copied.
+    fn about_to_copy(&self, pid: Pid) -> Option<Copied> {
+        let p = self.tree.get(pid)?;
+        let (own, its) = registers_behind(p.state, &p.regs);
+        let mut pending = [sys::pending(pid, false), sys::pending(pid, true)];
+        pending[0].extend(p.signals.iter().map(|s| signal_of_user(*s)));
+        Some(Copied { pid, own, its, pending, child: None, at_filter: false, signals: Vec::new() })
     }
-    /// All forks at once; then all copies close their descriptors at once.
-    fn fork_all(&mut self, due: &[Pid], tables: &mut HashMap<Pid, Vec<Descriptor>>) -> Done<bool> {
-        let (mut forks, copied) = self.forks(due);
+    /// Those that have the board make their copies by themselves, all at once.
+    fn copy_inside(&self, mut all: Vec<Copied>) -> Vec<Copied> {
+        let mut making: Vec<Copying> = all.iter().map(|c| Copying::begin(c.pid, &c.own)).collect();
+        inject::copied(&mut making);
+        for (c, made) in all.iter_mut().zip(making) {
+            (c.child, c.signals, c.at_filter) = (made.child, made.signals, true);
+        }
+        all
+    }
+    /// All forks at once; then all copies close their descriptors at once. Also the ends of others that came in between.
+    fn fork_others(&mut self, mut all: Vec<Copied>) -> (Vec<Copied>, Vec<sys::Waited>) {
+        let mut forks: Vec<Call> = all.iter().map(|c| self.fork_of(c)).collect();
         let mut ends = inject::make(&mut forks);
         let mut closes = Vec::new();
-        for (f, c) in forks.iter_mut().zip(&copied) {
-            let _ = sys::set_registers(c.pid, &c.own);
-            let p = self.tree.at(c.pid);
-            p.state = State::Again;
-            p.regs = c.own;
-            p.signals.append(&mut f.signals);
-            let all = [0, u64::from(u32::MAX), 0, 0];
-            closes.push(Call::new(f.child, c.its, false, p.facts.site, libc::SYS_close_range, all));
+        for (f, c) in forks.iter_mut().zip(&mut all) {
+            c.child = (!f.gone && f.child > 0 && f.result > 0).then_some(f.child);
+            c.signals.append(&mut f.signals);
+            let table = [0, u64::from(u32::MAX), 0, 0];
+            let site = self.tree.at(c.pid).facts.site;
+            closes.extend(c.child.map(|child| Call::new(child, c.its, false, site, libc::SYS_close_range, table)));
         }
-        let whole = forks.iter().all(|f| !f.gone && f.child > 0 && f.result > 0);
-        if whole {
-            ends.extend(inject::make(&mut closes));
+        ends.extend(inject::make(&mut closes));
+        for gone in closes.iter().filter(|c| c.gone) {
+            all.iter_mut().filter(|c| c.child == Some(gone.pid)).for_each(|c| c.child = None);
         }
-        for (f, c) in forks.iter().zip(copied) {
-            if f.child <= 0 {
-                continue;
-            }
-            let threads = self.copy_threads(c.pid);
-            if self.tree.at(c.pid).facts.group != self.tree.group {
-                // the group's number is the leader's, which is to be had again
-                sys::set_group(f.child, f.child);
-            }
-            let descriptors = tables.remove(&c.pid).unwrap_or_default();
-            let (pid, robust) = (f.child, sys::robust_list(c.pid));
-            let copy = Rc::new(Copy { pid, regs: c.its, descriptors, threads, pending: c.pending, robust });
-            self.stats.copies += 1;
-            self.tree.at(c.pid).copy = whole.then_some(copy);
+        (all, ends)
+    }
+    fn fork_of(&self, c: &Copied) -> Call {
+        let p = self.tree.get(c.pid);
+        let at_filter = p.is_some_and(|p| p.state == State::Entry);
+        let (base, site) = p.map_or((c.own, 0), |p| (if at_filter { p.regs } else { c.own }, p.facts.site));
+        let args = [(libc::CLONE_PARENT | libc::SIGCHLD) as u64, 0, 0, 0];
+        Call::new(c.pid, base, at_filter, site, libc::SYS_clone, args)
+    }
+    /// Makes copies of all these, which are stopped and have no descriptors.
+    fn fork_all(&mut self, due: &[Pid], tables: &mut HashMap<Pid, Vec<Descriptor>>) -> Done<bool> {
+        let all: Vec<Copied> = due.iter().filter_map(|pid| self.about_to_copy(*pid)).collect();
+        let (inside, others): (Vec<_>, Vec<_>) = all.into_iter().partition(|c| self.has_board(c.pid));
+        let mut all = self.copy_inside(inside);
+        let (others, ends) = self.fork_others(others);
+        all.extend(others);
+        let whole = all.iter().all(|c| c.child.is_some());
+        for c in all {
+            let table = tables.remove(&c.pid).unwrap_or_default();
+            self.keep_copy(c, table, whole);
         }
         self.ended_meanwhile(ends)?;
-        Ok(whole && closes.iter().all(|c| !c.gone))
+        Ok(whole)
+    }
+    /// Takes in what became of a process that was to be copied.
+    fn keep_copy(&mut self, mut c: Copied, descriptors: Vec<Descriptor>, whole: bool) {
+        let _ = sys::set_registers(c.pid, &c.own);
+        let p = self.tree.at(c.pid);
+        (p.state, p.regs) = (State::Again, c.own);
+        p.signals.append(&mut c.signals);
+        let Some(pid) = c.child else { return };
+        let threads = self.copy_threads(c.pid);
+        if self.tree.at(c.pid).facts.group != self.tree.group {
+            // the group's number is the leader's, which is to be had again
+            sys::set_group(pid, pid);
+        }
+        let robust = sys::robust_list(c.pid);
+        let at_filter = Cell::new(c.at_filter);
+        let copy = Rc::new(Copy { pid, regs: c.its, descriptors, threads, pending: c.pending, robust, at_filter });
+        self.stats.copies += 1;
+        self.tree.at(c.pid).copy = whole.then_some(copy);
     }
     fn ended_meanwhile(&mut self, ends: Vec<sys::Waited>) -> Done {
         self.stopping = true;

@@ -2,13 +2,14 @@
 use crate::name::Name;
 use crate::run::checkpoint::Snapshot;
 use crate::run::decides::Decides;
+use crate::run::drafts::OldDrafts;
 use crate::run::names::Known;
 use crate::run::proved::Proved;
 use crate::run::supervisor::{Done, Supervisor};
 use crate::run::sys::Pid;
 use crate::run::tree::{Hold, State};
 use crate::run::undo::Undo;
-use crate::wire::{Kind, Request, Step, Version};
+use crate::wire::{Body, Content, Kind, Request, Step, Version};
 use std::collections::{HashMap, VecDeque};
 use std::time::{Duration, Instant};
 
@@ -19,6 +20,8 @@ pub struct Epoch {
     pub born: Instant,
     /// Something was said in it.
     pub says: bool,
+    /// How much of files' contents it has.
+    bytes: usize,
     /// When it was asked for.
     pub asked: Instant,
 }
@@ -26,11 +29,12 @@ pub struct Epoch {
 impl Epoch {
     fn begin(number: u64, snapshot: Snapshot) -> Epoch {
         let born = Instant::now();
-        Epoch { number, snapshot, steps: Vec::new(), born, says: false, asked: born }
+        Epoch { number, snapshot, steps: Vec::new(), born, says: false, bytes: 0, asked: born }
     }
 }
 
 /// A call, or a store, that waits for its own reply.
+#[derive(Default)]
 pub struct Alone {
     pub pid: Option<Pid>,
     pub steps: Vec<Step>,
@@ -42,6 +46,8 @@ pub struct Alone {
     pub store: Option<Name>,
     /// It falls with what was sent before it.
     pub falls: bool,
+    /// The drafts of the files that it cut, as they were.
+    pub drafts: OldDrafts,
 }
 
 /// So many epochs may wait for their replies at once.
@@ -64,11 +70,18 @@ pub struct Epochs {
     pub theirs: HashMap<Version, Version>,
     /// What a checkpoint has cost lately: an epoch is at least ten times as long.
     pub cost: Duration,
-    /// How long an answer took lately: what shows nothing needn't be asked more often.
+    /// How long an answer took lately: what shows little needn't be asked more often.
     pub way: Duration,
+    /// Since when nothing was refused: the longer that is, the less is it worth to go back but a little.
+    pub calm: Instant,
     next: u64,
     next_version: u64,
 }
+
+/// An epoch may take such a part of the time in which nothing was refused.
+const CALM_EPOCHS: u32 = 8;
+/// So much of files' contents is sent without waiting for more.
+const LARGE: usize = 256 << 10;
 
 /// What a call has to do before it may be made.
 #[derive(Clone, Copy, PartialEq, Eq, Debug)]
@@ -97,6 +110,7 @@ impl Epochs {
             theirs: HashMap::new(),
             cost: Duration::ZERO,
             way: Duration::ZERO,
+            calm: Instant::now(),
             next: 0,
             next_version: 0,
         }
@@ -129,6 +143,35 @@ impl Epochs {
     pub fn is_changing(&self) -> bool {
         self.alone.values().any(|a| a.made.is_some() || a.store.is_some())
     }
+    /// A call that waits for its reply has changed this name here already; what is known of it is of before.
+    pub fn waits_with(&self, name: &Name) -> bool {
+        let made = self.alone.values().filter(|a| a.made.is_some());
+        made.flat_map(|a| &a.steps).flat_map(changed_by).any(|n| name.is_within(n))
+    }
+}
+
+/// The names that a step changes.
+fn changed_by(step: &Step) -> impl Iterator<Item = &Name> {
+    let (one, other) = match step {
+        Step::Look { .. } | Step::Names { .. } => (None, None),
+        Step::Put { name, .. }
+        | Step::MakeFolder { name, .. }
+        | Step::MakeLink { name, .. }
+        | Step::Remove { name, .. }
+        | Step::RemoveFolder { name, .. }
+        | Step::Attributes { name, .. } => (Some(name), None),
+        Step::Link { to, .. } => (Some(to), None),
+        Step::Rename { from, to, .. } => (Some(from), Some(to)),
+    };
+    one.into_iter().chain(other)
+}
+
+/// How much of a file's contents a step has.
+fn length_of(step: &Step) -> usize {
+    match step {
+        Step::Put { content: Content::Whole(Body::Here(bytes)), .. } => bytes.0.len(),
+        _ => 0,
+    }
 }
 
 impl Supervisor {
@@ -141,10 +184,11 @@ impl Supervisor {
         }
         let full = self.epochs.is_full();
         if let Some(e) = &self.epochs.current {
-            if full || e.born.elapsed() < self.epoch_length(e) || !self.checkpoint(pid)? {
+            if full || e.born.elapsed() < self.epoch_length(e) {
                 return Ok(Need::Go);
             }
-            return Ok(self.after_checkpoint(pid));
+            self.checkpoint(pid)?;
+            return Ok(self.after_checkpoint(pid, Need::Go));
         }
         if self.epochs.caution > 0 {
             return Ok(Need::Wait);
@@ -153,17 +197,24 @@ impl Supervisor {
             return Ok(Need::Hold);
         }
         // [17]
-        Ok(if self.checkpoint(pid)? { self.after_checkpoint(pid) } else { Need::Wait })
+        let need = if self.checkpoint(pid)? { Need::Go } else { Need::Wait };
+        Ok(self.after_checkpoint(pid, need))
     }
-    fn after_checkpoint(&self, pid: Option<Pid>) -> Need {
+    /// A process that was copied isn't at its call any more, also where another could not be.
+    fn after_checkpoint(&self, pid: Option<Pid>, need: Need) -> Need {
         match pid.and_then(|p| self.tree.get(p)) {
             Some(p) if p.state == State::Again => Need::Again,
-            _ => Need::Go,
+            _ => need,
         }
     }
     fn epoch_length(&self, e: &Epoch) -> Duration {
-        let way = if e.says { Duration::ZERO } else { self.epochs.way.min(self.options.epoch * 5) };
-        self.options.epoch.max(self.epochs.cost * 10).max(way).min(self.options.epoch * 20)
+        let most = match e {
+            Epoch { says: true, .. } => 2,
+            Epoch { bytes: LARGE.., .. } => 1,
+            _ => 10,
+        };
+        let calm = self.epochs.way.max(self.epochs.calm.elapsed() / CALM_EPOCHS).min(self.options.epoch * most);
+        self.options.epoch.max(self.epochs.cost * 10).max(calm).min(self.options.epoch * 20)
     }
     /// The tree stands at a checkpoint: a new epoch begins.
     pub fn begin_epoch(&mut self, snapshot: Snapshot) -> Done {
@@ -218,6 +269,7 @@ impl Supervisor {
     pub fn guess(&mut self, steps: Vec<Step>) {
         self.apply(&steps);
         if let Some(e) = &mut self.epochs.current {
+            e.bytes += steps.iter().map(length_of).sum::<usize>();
             e.steps.extend(steps);
         }
     }
@@ -243,6 +295,7 @@ impl Supervisor {
                 Step::Link { from, to, .. } => self.set_link(from, to),
                 Step::Remove { name, .. } | Step::RemoveFolder { name, .. } => {
                     self.stored.forget(name);
+                    self.rename_draft(name);
                     self.set_known(name, Known { looked: epoch, ..Known::default() });
                 }
                 Step::Rename { from, to, .. } => self.set_moved(from, to),
@@ -266,10 +319,10 @@ impl Supervisor {
             self.epochs.decides.told(number, value);
         }
     }
-    /// Whether an epoch without its reply has changed it.
+    /// Whether an epoch, or a call, without its reply has changed it.
     pub fn is_changed(&mut self, name: &Name) -> bool {
         let number = self.names.number(name);
-        self.epochs.decides.has_changed(number)
+        self.epochs.decides.has_changed(number) || self.epochs.waits_with(name)
     }
     fn set_file(&mut self, name: &Name, version: Version, looked: u64) {
         let file = self.names.get(name).file;
@@ -286,6 +339,9 @@ impl Supervisor {
         self.set_known(to, k);
     }
     fn set_moved(&mut self, from: &Name, to: &Name) {
+        self.rename_draft(to);
+        self.move_drafts(from, to);
+        self.stored.moved(&self.paths, from, to);
         for n in self.names.within(from) {
             let Some(m) = n.moved(from, to) else { continue };
             let k = self.names.get(&n);
@@ -296,5 +352,27 @@ impl Supervisor {
                 self.stored.watch(&self.names, &m);
             }
         }
+    }
+}
+
+#[cfg(test)]
+mod tests {
+    use super::*;
+
+    #[test]
+    fn a_call_that_waits_has_changed_its_names() {
+        let name = |text: &str| Name::new(text).unwrap();
+        let (mut epochs, base, over) = (Epochs::new(), Version::own(1), Version::ABSENT);
+        let steps = vec![
+            Step::Look { name: name("seen"), version: base },
+            Step::Rename { from: name("old"), base, to: name("new"), over },
+        ];
+        epochs.alone.insert(1, Alone { steps: steps.clone(), made: Some(None), ..Alone::default() });
+        let (changed, others) = (["old", "new", "old/below"], ["seen", "older", "n"]);
+        assert!(changed.iter().all(|n| epochs.waits_with(&name(n))));
+        assert!(!others.iter().any(|n| epochs.waits_with(&name(n))));
+        // one that is made only once it is granted has changed nothing yet
+        epochs.alone.insert(1, Alone { steps, ..Alone::default() });
+        assert!(!changed.iter().any(|n| epochs.waits_with(&name(n))));
     }
 }

@@ -143,7 +143,9 @@ impl Supervisor {
         p.facts.site = 0;
         p.facts.signal_stack = None;
         p.facts.inside = Inside::Not;
+        p.facts.pieces.clear();
         p.facts.bound.retain(|b| !matches!(b, Bound::SharedMemory | Bound::Terminal));
+        self.begins_inside(pid);
         self.go(pid);
     }
     fn on_signal(&mut self, pid: Pid, signal: i32) {
@@ -243,6 +245,12 @@ impl Supervisor {
             libc::SYS_sigaltstack | libc::SYS_rt_sigaction => self.signal_call(pid, number, &r),
             libc::SYS_setpgid | libc::SYS_setsid => self.group_call(pid, number, &r)?,
             libc::SYS_read => self.terminal_read(pid)?,
+            libc::SYS_fcntl if r.rsi as i32 == libc::F_SETFL => {
+                if r.rdx as i32 & libc::O_APPEND != 0 {
+                    self.appends_from_here(pid, r.rdi as i32);
+                }
+                self.go(pid);
+            }
             _ if self.binding_call(pid, number, &r) => self.go(pid),
             _ => return self.file_call(pid, number, &r),
         }

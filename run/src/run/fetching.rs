@@ -5,7 +5,7 @@ use crate::run::acts::put;
 use crate::run::calls::Use;
 use crate::run::epochs::{Alone, Need};
 use crate::run::names::Known;
-use crate::run::supervisor::{Done, Supervisor};
+use crate::run::supervisor::{Done, Failure, Supervisor};
 use crate::run::sys::{self, Pid};
 use crate::run::tree::Hold;
 use crate::wire::{Along, Entry, Kind, Request, Version, LONGEST_ALONG, LONGEST_PIECE};
@@ -161,7 +161,9 @@ impl Supervisor {
         }
         let Some(c) = self.fetching.contents.remove(&name) else { return Ok(()) };
         let k = self.names.get(&name);
-        if !c.spoilt && k.version == c.version && size == c.bytes.len() as u64 {
+        // under a name that a call has changed there may be another file
+        let is_it = k.version == c.version && !self.epochs.waits_with(&name);
+        if is_it && !c.spoilt && size == c.bytes.len() as u64 {
             self.fill(&name, &c.bytes);
         }
         if k.version != c.version || self.names.get(&name).have {
@@ -179,6 +181,7 @@ impl Supervisor {
         if self.names.fill(name, contents).is_err() {
             return;
         }
+        self.stored.is_as_sent(&self.names, name);
         for n in self.names.names_of_file(name) {
             let k = self.names.get(&n);
             self.set_told(&n, Known { have: true, ..k });
@@ -210,13 +213,12 @@ impl Supervisor {
         if old.version == e.version && old.kind == e.kind && old.kind != Kind::Absent {
             return;
         }
-        // What isn't open any more was closed before the next line takes that in.
-        let is_open = self.is_open_for_writing(&e.name);
-        self.take_closed();
-        if is_open || self.names.names_of_file(&e.name).iter().any(|n| self.stored.due.contains(n)) {
-            let kind = if e.kind == Kind::Absent { Kind::Absent } else { old.kind };
-            self.set_told(&e.name, Known { version: e.version, kind, have: true, looked: 0, ..old });
-            if e.kind == Kind::File && old.kind == Kind::File {
+        if old.kind == Kind::File && !self.epochs.is_quiet() {
+            self.retold.insert(e.name.clone());
+        }
+        if self.stays_the_file(e) {
+            self.set_told(&e.name, Known { version: e.version, kind: e.kind, have: true, looked: 0, ..old });
+            if e.kind == Kind::File {
                 self.changed_drafts.push(e.name.clone());
             }
             return;
@@ -242,6 +244,18 @@ impl Supervisor {
             self.stored.watch(&self.names, &e.name);
         }
     }
+    /// Whether what others have made of a file goes into the same local one, since it is or was written here.
+    fn stays_the_file(&mut self, e: &Entry) -> bool {
+        // What isn't open any more was closed before the next line takes that in.
+        let is_open = self.is_open_for_writing(&e.name);
+        self.take_closed();
+        let is_ours = is_open || self.is_due(&e.name) || self.is_drafted(&e.name);
+        match e.kind {
+            Kind::Absent => is_ours,
+            Kind::File => is_ours || self.may_be_drafted_again(&e.name),
+            _ => false,
+        }
+    }
     /// A folder's own entry, then those of its names.
     pub fn fresh_folder(&mut self, entries: &[Entry]) {
         let Some((folder, inside)) = entries.split_first() else { return };
@@ -258,26 +272,32 @@ impl Supervisor {
         self.names.listed(&folder.name);
     }
 
+    /// It isn't what was stored last. What isn't here wasn't written.
+    fn has_to_be_stored(&self, name: &Name) -> bool {
+        let k = self.names.get(name);
+        (k.kind != Kind::File || k.have) && self.stored.changed(&self.names, name).is_some()
+    }
     /// Stores what was closed; false: the process has to wait, or makes its call once more.
     pub fn store_closed(&mut self, pid: Option<Pid>) -> Done<bool> {
         self.take_closed();
         while let Some(name) = self.stored.due.first().cloned() {
-            if self.stored.changed(&self.names, &name).is_none() {
+            if !self.has_to_be_stored(&name) {
                 self.stored.due.remove(0);
-                self.end_draft(&name, None);
+                self.end_draft(&name);
                 continue;
             }
             let need = if self.epochs.is_storing() { Need::Hold } else { self.need(pid)? };
+            if let (Need::Again, Some(pid)) = (need, pid) {
+                // also where the checkpoint has stored it: the process isn't at its call any more
+                self.go(pid);
+                return Ok(false);
+            }
             if self.stored.due.first() != Some(&name) {
                 continue;
             }
             match (need, pid) {
                 (Need::Go, _) => self.store(&name, false)?,
                 (Need::Wait, _) => self.store(&name, true)?,
-                (Need::Again, Some(pid)) => {
-                    self.go(pid);
-                    return Ok(false);
-                }
                 (_, Some(pid)) => {
                     self.tree.hold(pid, Hold::Settled);
                     return Ok(false);
@@ -297,9 +317,9 @@ impl Supervisor {
     pub fn book_stores(&mut self) -> Done {
         while self.epochs.current.is_some() && !self.epochs.is_storing() {
             let Some(name) = self.stored.due.first().cloned() else { break };
-            if self.stored.changed(&self.names, &name).is_none() {
+            if !self.has_to_be_stored(&name) {
                 self.stored.due.remove(0);
-                self.end_draft(&name, None);
+                self.end_draft(&name);
                 continue;
             }
             self.store(&name, false)?;
@@ -308,22 +328,23 @@ impl Supervisor {
     }
     fn store(&mut self, name: &Name, alone: bool) -> Done {
         let Some((m, mark)) = self.stored.changed(&self.names, name) else { return Ok(()) };
-        let contents = sys::read_quietly(&self.names.local(name)).unwrap_or_default();
+        // What is closed from here on is due once more: it may be written while it is read.
+        self.stored.stored(name, mark);
+        let path = self.names.local(name);
+        let contents = sys::read_quietly(&path).map_err(|e| Failure::Broken(format!("{}: {e}", path.display())))?;
         self.stats.stores += 1;
         self.stats.stored_bytes += contents.len() as u64;
         let base = self.names.get(name).version;
         if !alone {
-            self.end_draft(name, Some(&contents));
+            self.draft_is_sent(name, &contents);
         }
         let steps = vec![put(name, base, self.epochs.new_version(), &m, contents)];
-        self.stored.stored(name, mark);
         if !alone {
             self.guess(steps);
             return Ok(());
         }
         self.apply(&steps);
-        let store = Some(name.clone());
-        self.ask_alone(Alone { pid: None, steps, undo: Vec::new(), made: None, store, falls: false })
+        self.ask_alone(Alone { steps, store: Some(name.clone()), ..Alone::default() })
     }
 }
 

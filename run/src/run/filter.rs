@@ -21,7 +21,8 @@ enum When {
 }
 
 const EMPTY_PATH: u32 = libc::AT_EMPTY_PATH as u32;
-const LOCKS: &[i32] = &[libc::F_SETLK, libc::F_SETLKW, libc::F_OFD_SETLK, libc::F_OFD_SETLKW];
+/// Locks; and flags, among which is that all that is written goes to the end.
+const LOCKS: &[i32] = &[libc::F_SETLK, libc::F_SETLKW, libc::F_OFD_SETLK, libc::F_OFD_SETLKW, libc::F_SETFL];
 
 /// Calls with a path, or that change what a path names.
 const FILES: &[(c_long, When)] = &[
@@ -175,21 +176,35 @@ fn rule(f: &mut Vec<sock_filter>, nr: c_long, when: When) {
     f.extend(body);
 }
 
+/// A call that is seen unless it comes from a place of the board that lets it by.
+fn rule_inside(f: &mut Vec<sock_filter>, nr: c_long, when: When, place: u32) {
+    let mut free = vec![load(PLACE_AT), unless_is(place, 3), load(PLACE_AT + 4), unless_is(0, 1), give(ALLOW)];
+    free.push(load(NR_AT));
+    rule(&mut free, nr, when);
+    f.push(unless_is(nr as u32, free.len() as u8));
+    f.extend(free);
+}
+
 /// The filter. `terminal`: reads of descriptor 0 are seen, too, as what was read there can't be unread.
+///
+/// Nothing but a call's number is looked at before it is one of those that may be seen: so the kernel knows beforehand of all others
+/// that they go by, and doesn't run it for them. What is frequent stands first.
 pub fn program(terminal: bool) -> Vec<sock_filter> {
     let mut f = vec![load(ARCH_AT), op(BPF_JMP | BPF_JEQ | BPF_K, 1, 0, ARCH_X86_64)];
     f.push(give(ERRNO | libc::ENOSYS as u32));
-    // calls that were looked at within the process
-    f.extend([load(PLACE_AT), unless_is(inside::free_place(), 3), load(PLACE_AT + 4), unless_is(0, 1), give(ALLOW)]);
     f.push(load(NR_AT));
     f.push(op(BPF_JMP | libc::BPF_JGE | BPF_K, 0, 1, FIRST_X32));
     f.push(give(ERRNO | libc::ENOSYS as u32));
     if terminal {
         rule(&mut f, libc::SYS_read, When::OneOf(0, &[0]));
     }
-    for (nr, when) in FILES.iter().chain(PROCESSES).chain(UNCOPYABLE) {
-        rule(&mut f, *nr, *when);
-    }
+    let all = || FILES.iter().chain(PROCESSES).chain(UNCOPYABLE).copied();
+    let (looks, others): (Vec<_>, Vec<_>) = all().partition(|(nr, _)| inside::LOOKS.contains(nr));
+    let (always, at_times): (Vec<_>, Vec<_>) = others.into_iter().partition(|(_, when)| matches!(when, When::Always));
+    at_times.into_iter().for_each(|(nr, when)| rule(&mut f, nr, when));
+    looks.into_iter().for_each(|(nr, when)| rule_inside(&mut f, nr, when, inside::free_place()));
+    rule_inside(&mut f, libc::SYS_clone, When::Always, inside::copied_place());
+    always.into_iter().for_each(|(nr, when)| rule(&mut f, nr, when));
     for (nr, error) in REFUSED {
         f.extend([unless_is(*nr as u32, 1), give(ERRNO | *error as u32)]);
     }
@@ -215,6 +230,9 @@ mod tests {
     fn answer(program: &[sock_filter], arch: u32, number: u32, args: [u64; 6]) -> u32 {
         let mut data = vec![number, arch, 0, 0];
         data.extend(args.iter().flat_map(|a| [*a as u32, (*a >> 32) as u32]));
+        run(program, &data)
+    }
+    fn run(program: &[sock_filter], data: &[u32]) -> u32 {
         let (mut at, mut loaded) = (0, 0);
         loop {
             let f = &program[at];
@@ -248,6 +266,16 @@ mod tests {
         assert_eq!(on(libc::SYS_io_uring_setup, [0; 6]), ERRNO | libc::ENOSYS as u32);
         assert_eq!(answer(&p, 0x4000_0003, libc::SYS_read as u32, [0; 6]), ERRNO | libc::ENOSYS as u32);
         assert_eq!(answer(&p, ARCH_X86_64, FIRST_X32, [0; 6]), ERRNO | libc::ENOSYS as u32);
+        // from the board, and not from elsewhere
+        let from = |place: u32, number: c_long| {
+            let mut data = vec![number as u32, ARCH_X86_64, place, 0];
+            data.extend([0; 12]);
+            run(&p, &data)
+        };
+        assert_eq!(from(inside::free_place(), libc::SYS_openat), ALLOW);
+        assert_eq!(from(inside::free_place(), libc::SYS_clone), TRACE);
+        assert_eq!(from(inside::copied_place(), libc::SYS_clone), ALLOW);
+        assert_eq!(from(inside::copied_place(), libc::SYS_openat), TRACE);
         assert_eq!(answer(&program(true), ARCH_X86_64, libc::SYS_read as u32, [0; 6]), TRACE);
     }
 }

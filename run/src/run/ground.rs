@@ -44,31 +44,49 @@ fn mount(from: &Path, to: &Path, kind: &str, flags: u64, data: &str) -> io::Resu
 /// The mount: a file system in memory, of which the processes see one folder.
 pub struct Ground {
     /// The file system as a whole; it has no other name.
-    #[allow(dead_code)]
     top: OwnedFd,
+    /// Where the command begins.
+    pub begin: PathBuf,
     pub mount: PathBuf,
     pub device: u64,
+    /// Both below the file system's top.
     pub data: PathBuf,
     pub undo: PathBuf,
+}
+
+impl Ground {
+    /// From here on paths of this process begin at the file system's top: from there the local copies are found soonest.
+    pub fn enter(&self) -> io::Result<()> {
+        // SAFETY: numbers only.
+        at("the mount", checked(unsafe { libc::fchdir(self.top.as_raw_fd()) }))
+    }
+    /// Does something where the command begins.
+    pub fn where_it_begins<T>(&self, what: impl FnOnce() -> T) -> io::Result<T> {
+        std::env::set_current_dir(&self.begin)?;
+        let done = what();
+        self.enter()?;
+        Ok(done)
+    }
 }
 
 /// Mounts an empty folder there, in namespaces that were entered by a fork.
 pub fn prepare(folder: &Path) -> io::Result<Ground> {
     mount(Path::new("none"), Path::new("/"), "none", libc::MS_REC | libc::MS_PRIVATE, "")?;
     mount(Path::new("proc"), Path::new("/proc"), "proc", 0, "")?;
-    let cwd = std::env::current_dir()?;
+    let begin = std::env::current_dir()?;
     fs::create_dir_all(folder)?;
     let folder = fs::canonicalize(folder)?;
     mount(Path::new("hidewillow"), &folder, "tmpfs", 0, "mode=700")?;
     let top = sys::open(&folder, libc::O_PATH | libc::O_DIRECTORY)?;
-    let base = sys::fd_path(top.as_raw_fd());
-    let (data, undo) = (base.join("data"), base.join("undo"));
-    fs::create_dir(&data)?;
-    fs::create_dir(&undo)?;
+    let (data, undo) = (PathBuf::from("data"), PathBuf::from("undo"));
     let device = sys::stat(top.as_raw_fd())?.st_dev;
-    mount(&data, &folder, "none", libc::MS_BIND, "")?;
-    std::env::set_current_dir(cwd)?;
-    Ok(Ground { top, mount: folder, device, data, undo })
+    let ground = Ground { top, begin, mount: folder, device, data, undo };
+    ground.enter()?;
+    fs::create_dir(&ground.data)?;
+    fs::create_dir(&ground.undo)?;
+    mount(&ground.data, &ground.mount, "none", libc::MS_BIND, "")?;
+    std::env::set_current_dir(&ground.begin)?;
+    Ok(ground)
 }
 
 /// A process that has the supervisor's descriptors, and no privileges: from it the tree's processes fetch theirs.

@@ -14,6 +14,7 @@ mod folders;
 mod ground;
 mod inject;
 mod inside;
+mod learned;
 mod names;
 mod opened;
 pub mod options;

@@ -23,12 +23,17 @@ impl Supervisor {
         let m = fs::symlink_metadata(&path).ok().filter(|m| !m.is_dir() && m.nlink() == 1);
         m.is_some_and(|m| self.is_open(&path, &m, |_, _| true))
     }
-    /// Whether a process has this file open for writing.
+    /// Whether a process has this file open for writing, or mapped so.
     pub fn is_open_for_writing(&self, name: &Name) -> bool {
         let path = self.names.local(name);
-        let writes =
-            |pid, fd| descriptors::position(pid, fd).is_none_or(|(_, f)| f & libc::O_ACCMODE != libc::O_RDONLY);
-        fs::symlink_metadata(&path).is_ok_and(|m| m.is_file() && self.is_open(&path, &m, writes))
+        let Some(m) = fs::symlink_metadata(&path).ok().filter(Metadata::is_file) else { return false };
+        let is_written =
+            || self.is_open(&path, &m, |pid, fd| has_flags(pid, fd, |f| f & libc::O_ACCMODE != libc::O_RDONLY));
+        sys::is_nowhere_written(&path).map_or_else(is_written, |nowhere| !nowhere)
+    }
+    /// Whether a process has it open so that all that it writes goes to its end.
+    pub fn is_open_to_append(&self, path: &Path, m: &Metadata) -> bool {
+        self.is_open(path, m, |pid, fd| has_flags(pid, fd, |f| f & libc::O_APPEND != 0))
     }
     /// Whether a process has a descriptor of this file, and it is such a one.
     fn is_open(&self, path: &Path, m: &Metadata, is_such: impl Fn(Pid, RawFd) -> bool) -> bool {
@@ -38,4 +43,9 @@ impl Supervisor {
         let (file, all) = ((m.dev(), m.ino()), self.tree.processes());
         all.iter().any(|pid| descriptors::at(*pid, file).into_iter().any(|fd| is_such(*pid, fd)))
     }
+}
+
+/// Whether a descriptor has such flags, or has gone meanwhile.
+fn has_flags(pid: Pid, fd: RawFd, such: impl Fn(i32) -> bool) -> bool {
+    descriptors::position(pid, fd).is_none_or(|(_, flags)| such(flags))
 }

@@ -4,8 +4,24 @@ use std::ffi::OsString;
 use std::path::PathBuf;
 use std::time::Duration;
 
-pub const USAGE: &str = "usage: hidewillow-run --at ssh:HOST:FOLDER|tcp:PORT:SECRETFILE|local:FOLDER [--mount DIR] \
-[--scratch DIR].. [--strict] [--resume] [--why] [--stats[=FILE]] [--trace FILE] -- COMMAND ..";
+pub const HELP: &str = "\
+Runs a command over a folder of another machine, and lets it go on from what is likely.
+
+Usage: hidewillow-run --at PLACE [OPTION].. -- COMMAND ..
+
+  --at PLACE        the folder: ssh:HOST:FOLDER, where HOST has hidewillow-files on its PATH; local:FOLDER; or tcp:PORT:SECRETFILE
+  --mount DIR       where it is seen [where the command begins]
+  --scratch DIR     a folder of this machine that is undone with it; may be said again [/tmp]
+  --strict          each call waits for its reply
+  --resume          where the server is lost, what is decided waits for it to come back
+  --why             says once of each kind of call that waits why it does
+  --stats[=FILE]    counts, to standard error or into a file
+  --trace FILE      each call, into a file
+  -h, --help        prints this
+  -V, --version     prints the version
+
+The status is the command's; 2 where an option is wrong, and 75 where the server is lost.
+";
 
 #[derive(Clone, Debug)]
 pub struct Options {
@@ -73,7 +89,7 @@ impl Options {
         while let Some(a) = args.next() {
             match a.to_str() {
                 Some("--at") => {
-                    at = Some(text_of(args.next(), "--at")?.parse::<Place>().map_err(|e| e.to_string())?);
+                    at = Some(text_of(args.next(), "--at")?.parse::<Place>().map_err(|e| format!("--at: {e}"))?);
                 }
                 Some("--mount") => o.mount = Some(path_of(args.next(), "--mount")?),
                 Some("--scratch") => o.scratch.push(path_of(args.next(), "--scratch")?),

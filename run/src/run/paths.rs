@@ -5,7 +5,7 @@ use crate::run::names::Names;
 use crate::run::sys::Pid;
 use crate::wire::Kind;
 use std::cell::{RefCell, RefMut};
-use std::collections::{HashMap, HashSet, VecDeque};
+use std::collections::{HashMap, VecDeque};
 use std::ffi::OsStr;
 use std::fs;
 use std::os::unix::ffi::{OsStrExt, OsStringExt};
@@ -39,8 +39,8 @@ pub struct Paths {
     scratch: Vec<Vec<u8>>,
     /// Links of this machine, by their paths; `None`: it is none.
     local_links: RefCell<HashMap<Vec<u8>, Option<Vec<u8>>>>,
-    /// Whole paths that stay on this machine, outside of scratch folders.
-    local: RefCell<HashSet<Vec<u8>>>,
+    /// Where whole paths lead that stay on this machine, and not into a scratch folder.
+    local: RefCell<HashMap<Vec<u8>, Where>>,
     /// The same for the processes themselves.
     board: RefCell<Board>,
 }
@@ -84,24 +84,40 @@ impl Paths {
     }
     /// Where a path leads; `follow`: also where its last part is a link.
     pub fn lead(&self, names: &Names, pid: Pid, folder: i32, path: &[u8], follow: bool) -> Led {
-        if path.starts_with(b"/") && self.local.borrow().contains(path) {
-            return Led { to: Where::Local(os(path).into()), links: Vec::new() };
+        if let Some(to) = self.local.borrow().get(path) {
+            return Led { to: to.clone(), links: Vec::new() };
         }
         let led = self.follow(names, pid, folder, path, follow);
-        let stays = |l: &Led| l.links.is_empty() && matches!(l.to, Where::Local(_));
-        let is_kept = path.starts_with(b"/") && !path.starts_with(b"/proc") && !path.starts_with(b"/dev");
+        let is_kept = path.starts_with(b"/") && !path.starts_with(b"/proc") && !is_of_process(path);
+        let stays = |l: &Led| l.links.is_empty() && self.stays(&l.to);
         // also where its last part is a link that some other call follows
-        if is_kept && stays(&led) && (follow || stays(&self.follow(names, pid, folder, path, true))) {
+        let stays_followed = || {
+            let other = self.follow(names, pid, folder, path, true);
+            stays(&other) && std::mem::discriminant(&other.to) == std::mem::discriminant(&led.to)
+        };
+        if is_kept && stays(&led) && (follow || stays_followed()) {
             let mut local = self.local.borrow_mut();
             if local.len() >= MOST_PATHS {
                 local.clear();
                 self.board().wipe();
             }
-            if local.insert(path.to_vec()) {
+            if local.insert(path.to_vec(), led.to.clone()).is_none() {
                 self.board().add(path); // [19]
             }
         }
         led
+    }
+    /// It is on this machine, and none of the command's calls makes something else of it but those that this is told of.
+    fn stays(&self, to: &Where) -> bool {
+        match to {
+            Where::Remote(_) => false,
+            Where::Scratch(path) => self.is_scratch(path),
+            Where::Local(_) => true,
+        }
+    }
+    /// Whether it is a scratch folder itself.
+    pub fn is_scratch(&self, path: &Path) -> bool {
+        self.scratch.iter().any(|s| s == bytes(path))
     }
     fn follow(&self, names: &Names, pid: Pid, folder: i32, path: &[u8], follow: bool) -> Led {
         let mut todo: VecDeque<Vec<u8>> = path.split(|b| *b == b'/').map(<[u8]>::to_vec).collect();
@@ -150,9 +166,18 @@ impl Paths {
             return known.clone();
         }
         let target = fs::read_link(OsStr::from_bytes(at)).ok().map(|t| t.into_os_string().into_vec());
+        if self.scratch.iter().any(|s| under(at, s).is_some()) {
+            // the command's own calls change it
+            return target;
+        }
         self.local_links.borrow_mut().insert(at.to_vec(), target.clone());
         target
     }
+}
+
+/// Devices may lead to what is of a process, but for the memory that has a name.
+fn is_of_process(path: &[u8]) -> bool {
+    under(path, b"/dev").is_some_and(|rest| !rest.is_empty()) && under(path, b"/dev/shm").is_none()
 }
 
 /// The folder that a path begins at which doesn't begin with `/`.

@@ -60,6 +60,7 @@ impl Supervisor {
     pub fn settled(&mut self) -> Done {
         if self.epochs.is_quiet() {
             self.epochs.settling = false;
+            self.retold.clear();
         }
         if self.epochs.alone.is_empty() && !self.epochs.settling {
             self.tree.wake(Hold::Settled);
@@ -78,7 +79,7 @@ impl Supervisor {
             self.apply(&a.steps);
         }
         if a.store.is_some() {
-            self.end_drafts_of(&a.steps);
+            self.drafts_are_sent(&a.steps);
         }
         let alive = a.pid.filter(|p| self.tree.get(*p).is_some_and(|p| p.hold == Some(Hold::Reply)));
         if let Some(pid) = alive {
@@ -100,6 +101,8 @@ impl Supervisor {
         self.stats.refused_waits += 1;
         self.trace.note("wait refused", &[("number", number)]);
         undo::take_back(a.undo);
+        self.put_back_drafts(a.drafts);
+        self.forget_retold();
         if a.falls {
             self.link.send(Request::Acknowledge { number })?;
         }
@@ -162,9 +165,5 @@ impl Supervisor {
     fn fresh(&mut self, stale: &[Entry], folders: &[Vec<Entry>]) {
         stale.iter().for_each(|e| self.fresh_entry(e));
         folders.iter().for_each(|f| self.fresh_folder(f));
-        if self.stored.watches_folders() {
-            let due = std::mem::take(&mut self.stored.due);
-            self.stored.discard(&self.paths, due);
-        }
     }
 }

@@ -1,14 +1,17 @@
 //! Going back to a checkpoint: each process is made anew from its copy, with its old number.
+use crate::name::Name;
 use crate::run::checkpoint::{Pipe, Snapshot};
 use crate::run::decides::Back;
 use crate::run::descriptors::{Descriptor, Kind};
 use crate::run::folders::{self, Again};
 use crate::run::inject::Puppet;
+use crate::run::names::Known;
 use crate::run::paths::{bytes, Where};
 use crate::run::supervisor::{Done, Failure, Supervisor};
 use crate::run::sys::{self, Pid, SigInfo, Told};
 use crate::run::tree::{Copy, Facts, Process, State, Thread};
 use crate::run::{undo, wrong};
+use crate::wire::{Kind as FileKind, Version};
 use std::collections::{HashMap, HashSet};
 use std::fs::{self, File};
 use std::io::{Read, Write};
@@ -37,6 +40,7 @@ impl Supervisor {
         for (name, version) in back.names {
             self.names.go_back(name, version);
         }
+        self.forget_retold();
         self.names.forget_looks();
         self.watch_all();
         self.tree.root_status = snapshot.root_status;
@@ -84,9 +88,21 @@ impl Supervisor {
         self.epochs.sent.clear();
         self.epochs.settling = false;
         self.epochs.fails += 1;
+        self.epochs.calm = Instant::now();
         self.epochs.caution = 1 << (self.epochs.fails - 1).min(6);
         self.fetching.forget_all();
         self.streams.take_back(&mut *self.epochs.decides, said);
+    }
+    /// The local copies of these are as before the server told of them: whatever comes to rest on one is refused, and told anew.
+    pub fn forget_retold(&mut self) {
+        let retold = std::mem::take(&mut self.retold);
+        let all: HashSet<Name> = retold.iter().flat_map(|n| self.names.names_of_file(n)).collect();
+        for n in all {
+            let k = self.names.get(&n);
+            if k.kind == FileKind::File {
+                self.set_told(&n, Known { version: Version::UNKNOWN, ..k });
+            }
+        }
     }
     fn watch_all(&mut self) {
         if self.stored.watches_folders() {
@@ -98,7 +114,8 @@ impl Supervisor {
     fn make_anew(&mut self, pid: Pid, facts: &Facts, copy: &Rc<Copy>, of: &Snapshot, opened: &mut Opened) -> Done {
         let mut maker = Puppet { pid: copy.pid, regs: copy.regs, site: facts.site, signals: Vec::new() };
         next_number(pid)?;
-        let child = maker.clone([(libc::CLONE_PARENT | libc::SIGCHLD) as u64, 0, 0, 0])?;
+        let flags = (libc::CLONE_PARENT | libc::SIGCHLD) as u64;
+        let child = maker.clone_at(copy.at_filter.take(), [flags, 0, 0, 0])?;
         if child != pid {
             return Err(Failure::Broken(format!("a process has the number {child} instead of {pid}")));
         }

@@ -38,7 +38,8 @@ impl Supervisor {
             if FORWARD.load(Ordering::Relaxed) != 0 || ORPHANED.load(Ordering::Relaxed) {
                 return Err(Failure::Lost(why.to_owned()));
             }
-            let Ok(mut link) = Link::open_as(&self.options.at, &self.session) else { continue };
+            let opened = self.ground.where_it_begins(|| Link::open_as(&self.options.at, &self.session));
+            let Ok(Ok(mut link)) = opened else { continue };
             if let Ok((done, entries)) = all_names(&mut link, 0) {
                 return Ok((link, done, entries));
             }

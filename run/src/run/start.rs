@@ -1,12 +1,14 @@
 //! From the command line to the command, and from its end to ours.
 use crate::client::Link;
 use crate::name::Name;
+use crate::run::descriptors::Handles;
 use crate::run::drafts::Drafts;
 use crate::run::epochs::Epochs;
 use crate::run::fetching::{Fetching, MOST_BESIDE};
 use crate::run::filter;
 use crate::run::ground;
 use crate::run::inside::Board;
+use crate::run::learned::Learned;
 use crate::run::names::Names;
 use crate::run::options::Options;
 use crate::run::output::{self, Streams};
@@ -18,8 +20,8 @@ use crate::run::sys::{self, Pid};
 use crate::run::tree::{Facts, Process, State, Tree};
 use crate::run::undo::{self, UndoLog};
 use crate::wire::{Entry, Reply, Request};
-use std::collections::VecDeque;
-use std::ffi::CString;
+use std::collections::{HashSet, VecDeque};
+use std::ffi::{CStr, CString};
 use std::fs::{self, File};
 use std::io::{self, Read, Write};
 use std::os::fd::{AsRawFd, OwnedFd};
@@ -213,7 +215,8 @@ fn supervise(options: Options, link: (Link, Vec<u8>), entries: &[Entry]) -> i32 
         libc::prctl(libc::PR_SET_TIMERSLACK, 1000);
     }
     let begin = Instant::now();
-    let stats = options.stats.clone();
+    let files = sys::open_many_files();
+    let stats = options.stats.clone().map(|to| to.map(|file| std::path::absolute(&file).unwrap_or(file)));
     let mut s = match prepare(options, link, entries) {
         Ok(s) => s,
         Err(e) => {
@@ -221,7 +224,8 @@ fn supervise(options: Options, link: (Link, Vec<u8>), entries: &[Entry]) -> i32 
             return exited(CANNOT);
         }
     };
-    let status = match begin_command(&mut s).map_err(|e| Failure::Broken(e.to_string())).and_then(|()| s.run()) {
+    let status = match begin_command(&mut s, &files).map_err(|e| Failure::Broken(e.to_string())).and_then(|()| s.run())
+    {
         Ok(status) => status,
         Err(e) => {
             s.abandon(); // [18]
@@ -253,8 +257,11 @@ fn prepare(mut options: Options, (link, session): (Link, Vec<u8>), entries: &[En
         undo.add_folder(fs::metadata(&*s)?.dev(), s.join(saved_names(tag)));
     }
     let scratch = options.scratch.iter().map(|s| bytes(s).to_vec()).collect();
+    ground.enter()?;
     let mut s = Supervisor {
         paths: Paths::new(bytes(&ground.mount).to_vec(), scratch, Board::make()?),
+        learned: Learned::default(),
+        handles: Handles::default(),
         stored: Stored::watch_mount(&ground.mount)?,
         names: Names::new(ground.data.clone(), ground.undo.clone()),
         streams: Streams::open()?,
@@ -265,6 +272,7 @@ fn prepare(mut options: Options, (link, session): (Link, Vec<u8>), entries: &[En
         drafts: Drafts::default(),
         changed_drafts: Vec::new(),
         reopened: Vec::new(),
+        retold: HashSet::new(),
         later: VecDeque::new(),
         tree: Tree::default(),
         stats: Stats::default(),
@@ -318,17 +326,18 @@ fn hear(s: &Supervisor) {
     unsafe { libc::syscall(libc::SYS_setitimer, libc::ITIMER_REAL, &raw const every, 0) };
 }
 
-fn begin_command(s: &mut Supervisor) -> io::Result<()> {
+fn begin_command(s: &mut Supervisor, files: &libc::rlimit) -> io::Result<()> {
     let args: Vec<CString> = s.options.command.iter().map(sys::c_str).collect();
     let (read, write) = output::pipe()?;
     let input = sys::stat(0).map(|st| st.st_mode & libc::S_IFMT == libc::S_IFCHR && st.st_rdev != 0x103);
     let program = filter::program(input.unwrap_or(false) && io::IsTerminal::is_terminal(&io::stdin()));
     let ends = [s.streams.end_of(0), s.streams.end_of(1)];
+    let begin = sys::c_path(&s.ground.begin);
     let ignored = [libc::SIGINT, libc::SIGQUIT].map(|n| (n, handle(n, libc::SIG_IGN)));
     // SAFETY: there is one thread; the child only makes calls until it execs.
     let root = match unsafe { libc::fork() } {
         -1 => return Err(io::Error::last_os_error()),
-        0 => become_command(&args, read, ends, program, &ignored),
+        0 => become_command((&args, &begin), read, ends, program, (&ignored, files)),
         root => root,
     };
     sys::seize(root)?;
@@ -345,26 +354,28 @@ fn begin_command(s: &mut Supervisor) -> io::Result<()> {
 
 /// The child of the fork: waits until it is traced, and becomes the command.
 fn become_command(
-    args: &[CString],
+    (args, begin): (&[CString], &CStr),
     gate: OwnedFd,
     ends: [i32; 2],
     mut program: Vec<libc::sock_filter>,
-    signals: &[(i32, usize)],
+    (signals, files): (&[(i32, usize)], &libc::rlimit),
 ) -> ! {
     let mut gate = File::from(gate);
     let _ = gate.read(&mut [0u8; 1]);
     let mut pointers: Vec<*const libc::c_char> = args.iter().map(|a| a.as_ptr()).collect();
     pointers.push(std::ptr::null());
-    // SAFETY: the descriptors are open; `pointers` are strings that end with zeros, and a null.
+    // SAFETY: the descriptors are open; `begin` ends with a zero; `pointers` are strings that do so, and a null.
     unsafe {
         for (signal, was) in signals {
             libc::signal(*signal, *was);
         }
         libc::signal(libc::SIGPIPE, libc::SIG_DFL);
+        libc::setrlimit(libc::RLIMIT_NOFILE, files);
         libc::dup2(ends[0], 1);
         libc::dup2(ends[1], 2);
         // descriptors from outside can't be opened once more
         libc::syscall(libc::SYS_close_range, 3u32, u32::MAX, libc::CLOSE_RANGE_CLOEXEC);
+        libc::chdir(begin.as_ptr());
         if !filter::install(&mut program) {
             libc::_exit(CANNOT);
         }

@@ -21,7 +21,8 @@ pub struct Stats {
     pub merged: u64,
     pub epochs: u64,
     pub checkpoints: u64,
-    pub checkpoint_time: Duration,
+    /// How long each of them took.
+    pub checkpoint_times: Vec<Duration>,
     pub copies: u64,
     pub kept_copies: u64,
     pub rollbacks: u64,
@@ -99,6 +100,13 @@ impl Trace {
     }
 }
 
+/// What half of them are not longer than.
+fn median(all: &[Duration]) -> Duration {
+    let mut all = all.to_vec();
+    all.sort_unstable();
+    all.get(all.len() / 2).copied().unwrap_or_default()
+}
+
 impl Stats {
     pub fn report(&self, wall: Duration, why: &Why, traffic: (u64, u64)) -> String {
         let mut t = String::new();
@@ -116,8 +124,9 @@ impl Stats {
         line("stores", format!("{} bytes {}", self.stores, self.stored_bytes));
         line("merged", self.merged.to_string());
         line("epochs", self.epochs.to_string());
-        let us = each(self.checkpoint_time, self.checkpoints);
-        line("checkpoints", format!("{} us_each {us:.0}", self.checkpoints));
+        let us = each(self.checkpoint_times.iter().sum(), self.checkpoints);
+        let half = median(&self.checkpoint_times).as_secs_f64() * 1e6;
+        line("checkpoints", format!("{} us_each {us:.0} half_within {half:.0}", self.checkpoints));
         line("copies", format!("{} kept {}", self.copies, self.kept_copies));
         let us = each(self.rollback_time, self.rollbacks);
         line("rollbacks", format!("{} us_each {us:.0}", self.rollbacks));

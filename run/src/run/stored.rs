@@ -28,6 +28,8 @@ pub struct Stored {
     marks: HashMap<Name, Mark>,
     /// Files that were made without names, by their inodes: when they are closed, the kernel tells of the inode.
     named: HashMap<u64, Name>,
+    /// The kernel could not tell of all that was closed.
+    pub missed: bool,
 }
 
 fn new_file(fd: RawFd) -> Option<File> {
@@ -57,7 +59,7 @@ impl Stored {
                 Teller::Folders(new_file(fd).ok_or_else(io::Error::last_os_error)?, HashMap::new())
             }
         };
-        Ok(Stored { teller, due: Vec::new(), marks: HashMap::new(), named: HashMap::new() })
+        Ok(Stored { teller, due: Vec::new(), marks: HashMap::new(), named: HashMap::new(), missed: false })
     }
     /// Watches a folder, where each is watched by itself.
     pub fn watch(&mut self, names: &Names, folder: &Name) {
@@ -79,15 +81,22 @@ impl Stored {
     }
     /// Takes in what was closed so far.
     pub fn drain(&mut self, paths: &Paths) {
-        let mut buf = [0u8; 8192];
+        let mut buf = [0u8; 2048];
         loop {
             let found = match &mut self.teller {
                 Teller::Mount(f) => f.read(&mut buf).map(|n| of_events(&buf[..n], paths)),
                 Teller::Folders(f, w) => f.read(&mut buf).map(|n| of_watches(&buf[..n], w)),
             };
             match found {
-                Ok(v) => v.iter().for_each(|n| self.was_closed(n)),
-                Err(_) => return,
+                Ok(v) => v.iter().for_each(|n| match n {
+                    Some(n) => self.was_closed(n),
+                    None => self.missed = true,
+                }),
+                Err(e) if e.kind() == io::ErrorKind::Interrupted => {}
+                Err(e) => {
+                    self.missed |= e.kind() != io::ErrorKind::WouldBlock;
+                    return;
+                }
             }
         }
     }
@@ -114,44 +123,74 @@ impl Stored {
         let mark = (m.mtime(), m.mtime_nsec(), m.len(), m.mode(), m.ino());
         (self.marks.get(name) != Some(&mark)).then_some((m, mark))
     }
+    /// What is here is what the server has: that it was written so needn't be stored.
+    pub fn is_as_sent(&mut self, names: &Names, name: &Name) {
+        self.forget(name);
+        if let Some((_, mark)) = self.changed(names, name) {
+            self.marks.insert(name.clone(), mark);
+        }
+    }
     pub fn stored(&mut self, name: &Name, mark: Mark) {
         self.due.retain(|n| n != name);
         self.marks.insert(name.clone(), mark);
+    }
+    /// Names were moved: what was closed under the old ones is due under the new ones. Of a mount the kernel tells the new ones itself.
+    pub fn moved(&mut self, paths: &Paths, from: &Name, to: &Name) {
+        if self.watches_folders() {
+            self.drain(paths);
+        }
+        for n in &mut self.due {
+            *n = n.moved(from, to).unwrap_or_else(|| n.clone());
+        }
+    }
+    /// Two have taken each other's names: whether what is told of one was closed before that isn't told, so both are due.
+    pub fn exchanged(&mut self, paths: &Paths, one: &Name, other: &Name) {
+        if self.watches_folders() {
+            self.drain(paths);
+            if self.due.contains(one) || self.due.contains(other) {
+                self.is_due(one);
+                self.is_due(other);
+            }
+        }
     }
     pub fn forget(&mut self, name: &Name) {
         self.marks.remove(name);
     }
 }
 
-/// The names in fanotify's events; each brings a descriptor.
-fn of_events(mut b: &[u8], paths: &Paths) -> Vec<Name> {
+/// The names in fanotify's events; each brings a descriptor. Whose close it was says nothing: who looks at descriptors of a process by
+/// `/proc` just as that closes them is the last one. `None`: one could not be told.
+fn of_events(mut b: &[u8], paths: &Paths) -> Vec<Option<Name>> {
     let mut v = Vec::new();
-    let me = std::process::id() as i32;
     while let Some(event) = b.get(..24) {
         let number = |at: usize| i32::from_le_bytes(event[at..at + 4].try_into().expect("four bytes"));
-        let (len, file, pid) = (number(0) as usize, new_file(number(16)), number(20));
+        let (len, file) = (number(0) as usize, new_file(number(16)));
         b = b.get(len.max(24)..).unwrap_or_default();
-        let Some(path) = file.and_then(|f| fs::read_link(sys::fd_path(f.as_raw_fd())).ok()) else { continue };
-        let removed = bytes(&path).strip_suffix(b" (deleted)");
-        if pid == me {
+        let Some(path) = file.and_then(|f| fs::read_link(sys::fd_path(f.as_raw_fd())).ok()) else {
+            v.push(None);
             continue;
-        }
+        };
+        let removed = bytes(&path).strip_suffix(b" (deleted)");
         match paths.place(removed.unwrap_or(bytes(&path))) {
-            Where::Remote(n) if removed.is_none() || n.last().starts_with(b"#") => v.push(n),
+            Where::Remote(n) if removed.is_none() || n.last().starts_with(b"#") => v.push(Some(n)),
             _ => {}
         }
     }
     v
 }
 
-/// The names in inotify's events.
-fn of_watches(mut b: &[u8], watches: &HashMap<i32, Name>) -> Vec<Name> {
+/// The names in inotify's events. `None`: some could not be told.
+fn of_watches(mut b: &[u8], watches: &HashMap<i32, Name>) -> Vec<Option<Name>> {
     let mut v = Vec::new();
     while let Some(event) = b.get(..16) {
         let number = |at: usize| i32::from_le_bytes(event[at..at + 4].try_into().expect("four bytes"));
         let len = number(12) as usize;
         let part = b.get(16..16 + len).unwrap_or_default().split(|x| *x == 0).next().unwrap_or_default();
-        v.extend(watches.get(&number(0)).and_then(|f| f.child(part)));
+        match watches.get(&number(0)) {
+            Some(folder) => v.extend(folder.child(part).map(Some)),
+            None if number(0) < 0 => v.push(None),
+            None => {}
+        }
         b = b.get(16 + len..).unwrap_or_default();
     }
     v

@@ -1,10 +1,12 @@
 //! The supervisor as a whole, and its loop.
 use crate::client::Link;
 use crate::name::Name;
-use crate::run::drafts::Drafts;
+use crate::run::descriptors::Handles;
+use crate::run::drafts::{Drafts, FileId};
 use crate::run::epochs::Epochs;
 use crate::run::fetching::Fetching;
 use crate::run::ground::Ground;
+use crate::run::learned::Learned;
 use crate::run::names::Names;
 use crate::run::options::Options;
 use crate::run::output::Streams;
@@ -15,7 +17,7 @@ use crate::run::sys::{self, Pid};
 use crate::run::tree::{Process, State, Tree};
 use crate::run::undo::UndoLog;
 use crate::wire::Reply;
-use std::collections::VecDeque;
+use std::collections::{HashSet, VecDeque};
 use std::fmt;
 use std::io;
 use std::os::fd::RawFd;
@@ -71,13 +73,17 @@ pub struct Supervisor {
     pub tree: Tree,
     pub names: Names,
     pub paths: Paths,
+    pub learned: Learned,
+    pub handles: Handles,
     pub undo: UndoLog,
     pub stored: Stored,
     pub drafts: Drafts,
     /// Those that others have changed, until what was written here is written over that.
     pub changed_drafts: Vec<Name>,
     /// Those that were opened once more.
-    pub reopened: Vec<Name>,
+    pub reopened: Vec<FileId>,
+    /// Files that the server told anew under epochs without their replies: these may take their local copies back to before.
+    pub retold: HashSet<Name>,
     /// Replies that came while another was waited for.
     pub later: VecDeque<Reply>,
     pub streams: Streams,
@@ -120,6 +126,7 @@ impl Supervisor {
             while let Some(pid) = self.tree.queue.pop_front() {
                 self.on_call(pid)?;
             }
+            self.keeps_all()?;
             if self.tree.all.is_empty() && self.is_all_decided()? {
                 return Ok(self.tree.root_status.unwrap_or(0));
             }
@@ -175,6 +182,7 @@ impl Supervisor {
     }
     /// All processes have ended: what they wrote is stored, and the replies are there.
     fn is_all_decided(&mut self) -> Done<bool> {
+        self.take_all_closed();
         self.store_closed(None)?;
         self.take_output()?;
         self.close_epoch()?;

@@ -1,11 +1,13 @@
 //! The few system calls that the standard library doesn't have: ptrace, and the memory of a traced process.
 use std::cell::RefCell;
 use std::cmp::Ordering;
-use std::ffi::{CString, OsStr};
-use std::fs::File;
+use std::ffi::{CStr, CString, OsStr};
+use std::fs::{self, File, Metadata, Permissions};
 use std::io::{self, Read};
+use std::mem::ManuallyDrop;
 use std::os::fd::{AsRawFd, FromRawFd, OwnedFd, RawFd};
 use std::os::unix::ffi::OsStrExt;
+use std::os::unix::fs::PermissionsExt;
 use std::path::Path;
 
 pub type Pid = i32;
@@ -296,20 +298,49 @@ pub fn make_file(folder: RawFd, name: &Path, size: u64, mode: u32, at: (i64, i64
     }
     Ok(())
 }
-/// Opens a file to read it so that its time of access stays, where that is allowed.
+/// Opens a file of ours to read it, whatever its mode says, and so that its time of access stays, where that is allowed.
 pub fn open_quietly(p: &Path) -> io::Result<File> {
-    open(p, libc::O_RDONLY | libc::O_NOATIME).or_else(|_| open(p, libc::O_RDONLY)).map(File::from)
+    let read = || open(p, libc::O_RDONLY | libc::O_NOATIME).or_else(|_| open(p, libc::O_RDONLY)).map(File::from);
+    let refused = |e: &io::Error| e.kind() == io::ErrorKind::PermissionDenied;
+    read().or_else(|e| {
+        let mode = fs::metadata(p).ok().filter(|_| refused(&e)).ok_or(e)?.permissions();
+        fs::set_permissions(p, Permissions::from_mode(mode.mode() | 0o400))?;
+        let file = read();
+        fs::set_permissions(p, mode)?;
+        file
+    })
 }
 pub fn read_quietly(p: &Path) -> io::Result<Vec<u8>> {
     let mut contents = Vec::new();
     open_quietly(p)?.read_to_end(&mut contents)?;
     Ok(contents)
 }
+/// As many files may be open from here on as may be at all; returns the limit of before.
+pub fn open_many_files() -> libc::rlimit {
+    let mut was = libc::rlimit { rlim_cur: 0, rlim_max: 0 };
+    // SAFETY: both limits are ours.
+    unsafe {
+        libc::getrlimit(libc::RLIMIT_NOFILE, &raw mut was);
+        libc::setrlimit(libc::RLIMIT_NOFILE, &libc::rlimit { rlim_cur: was.rlim_max, ..was });
+    }
+    was
+}
 /// Whether no process of this machine has a file open: a lease to write it is given then alone. `false` where none is to be had.
 pub fn is_nowhere_open(p: &Path) -> bool {
-    let Ok(file) = open(p, libc::O_RDONLY | libc::O_NONBLOCK | libc::O_NOFOLLOW) else { return false };
+    has_lease(p, libc::F_WRLCK) == Some(true)
+}
+/// Whether none has it open for writing, or mapped so: a lease to read it is given then alone. `None` where none is to be had.
+pub fn is_nowhere_written(p: &Path) -> Option<bool> {
+    has_lease(p, libc::F_RDLCK)
+}
+fn has_lease(p: &Path, kind: i32) -> Option<bool> {
+    let file = open(p, libc::O_RDONLY | libc::O_NONBLOCK | libc::O_NOFOLLOW).ok()?;
     // SAFETY: numbers only; the lease ends with the descriptor.
-    unsafe { libc::fcntl(file.as_raw_fd(), libc::F_SETLEASE, libc::F_WRLCK) == 0 }
+    match unsafe { libc::fcntl(file.as_raw_fd(), libc::F_SETLEASE, kind) } {
+        0 => Some(true),
+        _ if io::Error::last_os_error().kind() == io::ErrorKind::WouldBlock => Some(false),
+        _ => None,
+    }
 }
 /// A handle of a file that neither reads nor writes, by which it can be opened again.
 pub fn handle(p: &Path) -> io::Result<OwnedFd> {
@@ -326,6 +357,31 @@ pub fn stat(fd: RawFd) -> io::Result<libc::stat> {
         return Err(io::Error::last_os_error());
     }
     Ok(st)
+}
+/// What is known of the file that a handle is of.
+pub fn metadata(handle: &OwnedFd) -> io::Result<Metadata> {
+    // SAFETY: it is only looked at, and stays the handle's.
+    let file = ManuallyDrop::new(unsafe { File::from_raw_fd(handle.as_raw_fd()) });
+    file.metadata()
+}
+/// Which kind of file system it is on.
+pub fn file_system(fd: RawFd) -> Option<i64> {
+    // SAFETY: plain numbers.
+    let mut st: libc::statfs = unsafe { std::mem::zeroed() };
+    // SAFETY: `st` is ours.
+    (unsafe { libc::fstatfs(fd, &raw mut st) } == 0).then_some(st.f_type)
+}
+/// Reads the beginning of a file below a folder.
+pub fn read_at(folder: RawFd, name: &CStr, to: &mut [u8]) -> Option<usize> {
+    // SAFETY: `name` ends with a zero; the descriptor is new, so it is ours alone; `to` is as long as is said.
+    unsafe {
+        let fd = libc::openat(folder, name.as_ptr(), libc::O_RDONLY | libc::O_CLOEXEC);
+        if fd < 0 {
+            return None;
+        }
+        let file = OwnedFd::from_raw_fd(fd);
+        usize::try_from(libc::read(file.as_raw_fd(), to.as_mut_ptr().cast(), to.len())).ok()
+    }
 }
 /// Sets both times of a name itself (not of what a symbolic link names).
 pub fn set_times(p: &Path, at: (i64, i64)) {

@@ -1,7 +1,9 @@
 //! The processes of the command, and what of each is the supervisor's.
 use crate::run::descriptors::Descriptor;
 use crate::run::inside::Inside;
+use crate::run::learned::Piece;
 use crate::run::sys::{self, Pid, Regs, SigInfo};
+use std::cell::Cell;
 use std::collections::{HashMap, HashSet, VecDeque};
 use std::rc::Rc;
 
@@ -110,6 +112,8 @@ pub struct Facts {
     pub signal_stack: Option<[u64; 3]>,
     pub bound: Vec<Bound>,
     pub inside: Inside,
+    /// The pieces of code that are known in its program.
+    pub pieces: Vec<Piece>,
 }
 
 impl Facts {
@@ -128,6 +132,7 @@ impl Facts {
             signal_stack: None,
             bound: Vec::new(),
             inside: Inside::Not,
+            pieces: Vec::new(),
         }
     }
     pub fn bind(&mut self, b: Bound, on: bool) {
@@ -160,6 +165,8 @@ pub struct Copy {
     pub pending: [Vec<SigInfo>; 2],
     /// Its first thread's list of locks that are given back at its end.
     pub robust: (u64, u64),
+    /// It is at a stop of the filter still, behind which it was copied.
+    pub at_filter: Cell<bool>,
 }
 
 impl Drop for Copy {

@@ -101,6 +101,8 @@ pub struct UndoLog {
     next: u64,
     /// Each folder for saved names is locked as long as this lives.
     locks: Vec<OwnedFd>,
+    /// Why something could not be kept.
+    failed: Option<std::io::Error>,
 }
 
 /// What a folder for saved names is called, before who made it.
@@ -165,7 +167,7 @@ impl UndoLog {
     pub fn keep_name(&mut self, path: &Path) -> Option<Undo> {
         let m = fs::symlink_metadata(path).ok()?;
         if m.is_file() && m.nlink() > 1 {
-            return sys::handle(path).ok().map(|handle| Undo::LinkGone { handle, path: path.to_owned() });
+            return self.handle(path).map(|handle| Undo::LinkGone { handle, path: path.to_owned() });
         }
         let saved = self.new_place(m.dev())?;
         sys::link(path, &saved).then(|| Undo::Gone { saved, path: path.to_owned() })
@@ -193,22 +195,40 @@ impl UndoLog {
         }
         Some(folder.join(format!("s{}", self.next)))
     }
+    /// Where something could not be kept, nothing may be done that it would be wanted for.
+    pub fn has_kept_all(&mut self) -> std::io::Result<()> {
+        self.failed.take().map_or(Ok(()), Err)
+    }
+    /// A handle of a file; a file that isn't there needs none.
+    fn handle(&mut self, path: &Path) -> Option<OwnedFd> {
+        self.kept(sys::handle(path))
+    }
+    fn kept<T>(&mut self, done: std::io::Result<T>) -> Option<T> {
+        match done {
+            Ok(it) => Some(it),
+            Err(e) if e.kind() == std::io::ErrorKind::NotFound => None,
+            Err(e) => {
+                self.failed = Some(e);
+                None
+            }
+        }
+    }
     /// What is in a file.
     pub fn contents(&mut self, path: &Path) -> Pieces {
-        match (sys::handle(path), fs::symlink_metadata(path)) {
-            (Ok(handle), Ok(m)) => self.image(&handle, &m),
+        match (self.handle(path), fs::symlink_metadata(path)) {
+            (Some(handle), Ok(m)) => self.image(&handle, &m),
             _ => Pieces::new(),
         }
     }
     /// Keeps a file's contents before they change.
     pub fn keep_content(&mut self, path: &Path) -> Option<Undo> {
         let m = fs::symlink_metadata(path).ok()?;
-        let handle = Rc::new(sys::handle(path).ok()?);
+        let handle = Rc::new(self.handle(path)?);
         Some(self.content(handle, &m))
     }
     /// The same of a file that is open for writing.
     pub fn keep_open(&mut self, handle: &Rc<OwnedFd>) -> Option<Undo> {
-        let m = fs::metadata(sys::fd_path(handle.as_raw_fd())).ok()?;
+        let m = sys::metadata(handle).ok()?;
         Some(self.content(handle.clone(), &m))
     }
     fn content(&mut self, handle: Rc<OwnedFd>, m: &Metadata) -> Undo {
@@ -218,12 +238,13 @@ impl UndoLog {
     /// What is in a file; read once as long as it stays the same.
     fn image(&mut self, handle: &OwnedFd, m: &Metadata) -> Pieces {
         let file = (m.dev(), m.ino());
-        let old = self.images.get(&file);
-        if let Some(image) = old.filter(|i| i.mark == mark(m)) {
-            return image.data.clone();
+        let old = self.images.get(&file).map(|i| (i.mark == mark(m), i.data.clone()));
+        if let Some((true, data)) = old {
+            return data;
         }
-        let old = old.map_or(&[][..], |i| &i.data);
-        let data = sys::open_quietly(&sys::fd_path(handle.as_raw_fd())).map_or(Pieces::new(), |f| pieces(f, old));
+        let old = old.map(|(_, data)| data).unwrap_or_default();
+        let from = self.kept(sys::open_quietly(&sys::fd_path(handle.as_raw_fd())));
+        let data = from.map_or(Pieces::new(), |f| pieces(f, &old));
         self.images.insert(file, Image { mark: mark(m), data: data.clone() });
         data
     }

@@ -173,12 +173,10 @@ impl Supervisor {
     /// One that is held in a wait is stopped, so signals don't reach it: they are looked for.
     pub fn let_signals_in(&mut self) {
         for pid in self.tree.held(Hold::Child) {
-            let Ok(status) = std::fs::read_to_string(format!("/proc/{pid}/status")) else { continue };
-            let mask = |name: &str| {
-                let line = status.lines().find_map(|l| l.strip_prefix(name));
-                line.map_or(0, |x| u64::from_str_radix(x.trim(), 16).unwrap_or(0))
-            };
-            if (mask("SigPnd:") | mask("ShdPnd:")) & !mask("SigBlk:") != 0 {
+            let blocked = sys::signal_mask(pid);
+            let pending = [false, true].map(|of_process| sys::pending(pid, of_process));
+            let mut signals = pending.iter().flatten().map(|i| i[0]);
+            if signals.any(|s| s > 0 && blocked >> (s - 1) & 1 == 0) {
                 self.let_signal_in(pid);
             }
         }

@@ -15,7 +15,7 @@ fn main() {
     } else {
         println!(
             "cargo::error={} is not there: run `tools/build.py library` at the top of the repository, or set \
-             HIDEWILLOW_LIB to the folder that has it; docs/FOREIGN.md, \"Rust\", tells of both",
+             HIDEWILLOW_LIB to the folder that has it; rust/README.md tells of both",
             library.display()
         );
     }

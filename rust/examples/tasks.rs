@@ -35,7 +35,7 @@ fn wait_for<T>(future: impl Future<Output = T>) -> T {
 
 /// Sells one apple, on the guess that it is paid: the guess, for the bank.
 fn sell(shop: &Shop, customer: u16) -> Result<Guess, Refusal> {
-    let ((), paid) = shop.guess(|s| {
+    let ((), paid) = shop.guess(move |s| {
         let stock = s.get("apples")?.unwrap_or_default();
         s.put("apples", stock - 1);
         s.say(customer, format!("an apple for customer {customer}, {} are left", stock - 1))
@@ -50,13 +50,13 @@ async fn ships(
     customer: u16,
 ) -> Result<Fate, Box<dyn Error + Send + Sync>> {
     let paid = sell(&shop, customer)?;
-    let fate = shop.watch(&paid);
+    let fate = shop.watch(&paid)?;
     bank.send((customer, paid))?;
     Ok(fate.await)
 }
 
 fn main() -> Result<(), Box<dyn Error + Send + Sync>> {
-    let shop = Shop::new(Speculator::open(16, 1)?);
+    let shop = Shop::new(Speculator::open(16, 1)?)?;
     shop.step(|s| {
         s.put("apples", 10);
         Ok(())

@@ -44,7 +44,7 @@
 //! # Ok::<_, hidewillow::Error>(())
 //! ```
 //!
-//! It needs Rust 1.95 and the library in the repository's `build/` or where `HIDEWILLOW_LIB` says, and no other crate. Keys have
+//! It needs Rust 1.85 and the library in the repository's `build/` or where `HIDEWILLOW_LIB` says, and no other crate. Keys have
 //! at most 65,536 bytes, values and outputs 16,777,216; at most 65,535 guesses are undecided at once.
 #![warn(missing_docs)]
 pub mod data;

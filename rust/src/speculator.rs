@@ -37,6 +37,8 @@ pub enum Refusal {
     Form,
     /// Want of memory.
     Memory,
+    /// The kernel is no more behind this handle ([`Shared::end`](crate::shared::Shared::end)).
+    Ended,
 }
 
 impl fmt::Display for Refusal {
@@ -50,6 +52,7 @@ impl fmt::Display for Refusal {
             Refusal::SaidTwice => "a step says one output",
             Refusal::Form => "the bytes are no value of this type",
             Refusal::Memory => "out of memory",
+            Refusal::Ended => "the kernel was taken from its thread",
         })
     }
 }
@@ -103,9 +106,14 @@ impl Guess {
         self.id
     }
 
-    fn spend(mut self) -> u64 {
+    pub(crate) fn spend(mut self) -> u64 {
         self.spent = true;
         self.id
+    }
+
+    /// It once more, without the right: dropped, it fails nothing.
+    pub(crate) fn twin(&self) -> Guess {
+        Guess { id: self.id, dropped: Arc::clone(&self.dropped), spent: true }
     }
 }
 
@@ -117,13 +125,13 @@ impl Drop for Guess {
     }
 }
 
-/// A guess of another kernel, as it was.
+/// A guess of another kernel, or of one that is no more behind its handle, as it was.
 #[derive(Debug)]
 pub struct Stranger(pub Guess);
 
 impl fmt::Display for Stranger {
     fn fmt(&self, f: &mut fmt::Formatter<'_>) -> fmt::Result {
-        write!(f, "guess {} is another kernel's", self.0.id)
+        write!(f, "guess {} is not of the kernel here", self.0.id)
     }
 }
 
@@ -495,6 +503,11 @@ impl<K: ?Sized, V: ?Sized> Speculator<K, V> {
         counts
     }
 
+    /// Wakes who waits for outputs.
+    pub(crate) fn wake_all(&self) {
+        self.inner.borrow_mut().changed();
+    }
+
     /// The handle, behind the failures of dropped tokens.
     fn settled(&self) -> std::cell::RefMut<'_, Inner> {
         let mut inner = self.inner.borrow_mut();
@@ -546,13 +559,49 @@ impl<K: ?Sized + Data, V: ?Sized + Data> Speculator<K, V> {
 
     /// Takes a step: what the closure looks at, writes and says. Where it ends with an error nothing has changed.
     ///
+    /// ```no_run
+    /// # use hidewillow::speculator::Speculator;
+    /// # let mut shop: Speculator<str, u32> = Speculator::open(64, 1)?;
+    /// shop.step(|s| {
+    ///     let apple = s.get("apple")?.unwrap_or(10);
+    ///     s.put("apple", apple + 2);
+    ///     Ok(()) // no type beside it: the error of a step is a `Refusal`
+    /// })?;
+    /// # Ok::<_, Box<dyn std::error::Error + Send + Sync>>(())
+    /// ```
+    ///
     /// # Errors
     /// What the closure says, [`Refusal::LongKey`], [`Refusal::LongValue`] and [`Refusal::Memory`].
     pub fn step<R>(&mut self, step: impl FnOnce(&mut Step<'_, K, V>) -> Result<R, Refusal>) -> Result<R, Refusal> {
         self.try_step(step)
     }
 
-    /// The same where the closure has errors of its own.
+    /// The same where the closure has errors of its own, of any type that a [`Refusal`] becomes by `?`.
+    ///
+    /// ```no_run
+    /// # use hidewillow::speculator::{Refusal, Speculator};
+    /// # use std::error::Error;
+    /// # let mut shop: Speculator<str, u32> = Speculator::open(64, 1)?;
+    /// shop.try_step(|s| -> Result<(), Box<dyn Error>> {
+    ///     let apple = s.get("apple")?.ok_or("there is no price")?;
+    ///     s.put("apple", apple + 2);
+    ///     Ok(())
+    /// })?;
+    /// # Ok::<_, Box<dyn Error>>(())
+    /// ```
+    ///
+    /// Of these there are many, so where nothing names one the compiler asks for it: for closures without an error of their own there is
+    /// [`step`](Self::step).
+    ///
+    /// ```compile_fail,E0283
+    /// # use hidewillow::speculator::Speculator;
+    /// # let mut shop: Speculator<str, u32> = Speculator::open(64, 1)?;
+    /// shop.try_step(|s| {
+    ///     s.put("apple", 12);
+    ///     Ok(())
+    /// })?;
+    /// # Ok::<_, Box<dyn std::error::Error + Send + Sync>>(())
+    /// ```
     ///
     /// # Errors
     /// As of [`step`](Self::step).
@@ -638,8 +687,13 @@ impl<K: ?Sized + Data, V: ?Sized + Data> Speculator<K, V> {
     /// # Errors
     /// [`Refusal::Memory`], and [`Refusal::Form`] where the bytes are no `V`.
     pub fn value(&self, key: impl Like<K>) -> Result<Option<V::Owned>, Refusal> {
+        self.value_of(&key.like().bytes())
+    }
+
+    /// The same of a key by its bytes.
+    pub(crate) fn value_of(&self, key: &[u8]) -> Result<Option<V::Owned>, Refusal> {
         let mut inner = self.settled();
-        let there = inner.read(&key.like().bytes())?;
+        let there = inner.read(key)?;
         there.map(|bytes| V::read(bytes).ok_or(Refusal::Form)).transpose()
     }
 

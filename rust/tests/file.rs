@@ -215,7 +215,8 @@ fn a_backup_is_refused_where_something_is_or_may_not_be() -> io::Result<()> {
     assert_eq!(refused(&copy.0.join("a/b")), io::ErrorKind::NotFound);
     assert_eq!(left_beside(&copy.0)?, 0);
     // What a crash left of one is no hindrance.
-    let left = copy.0.with_file_name(format!(".{}.new-backup", copy.0.file_name().unwrap_or_default().display()));
+    let left =
+        copy.0.with_file_name(format!(".{}.new-backup", copy.0.file_name().unwrap_or_default().to_string_lossy()));
     fs::create_dir(&left)?;
     fs::write(left.join("snapshot-0000000009-900"), "half of one")?;
     fs::write(left.join("new-0-store"), "")?;

@@ -35,8 +35,8 @@ impl Drop for Named {
     }
 }
 
-/// The runs of a part of a test: of `all`, or of as many as the variable RUNS says where those are fewer, behind as many as
-/// RUNS_AFTER says.
+/// The runs of a part of a test: of `all`, or of as many as the variable `RUNS` says where those are fewer, behind as many as
+/// `RUNS_AFTER` says.
 pub fn runs(part: u64, all: u64) -> std::ops::Range<u64> {
     let number = |name| std::env::var(name).ok().and_then(|it| it.parse().ok());
     let (first, count) = (number("RUNS_AFTER").unwrap_or(0), number("RUNS").unwrap_or(all));

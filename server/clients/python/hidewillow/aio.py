@@ -1,6 +1,6 @@
 """The client that goes on before the disk has what it was told, for asyncio. Its one rule is told in `hidewillow.client`.
 
-    async with await Client.connect() as store:
+    async with Client() as store:
         number = await store.ask("INCR", "tickets")
         await store.wait_all()
         print("sold", number)
@@ -16,24 +16,39 @@ from .client import LOST, Answer, Word, carried, raised, request, simple, undone
 
 
 class Client:
-    """A connection whose commands are answered ahead."""
+    """A connection whose commands are answered ahead. `async with` opens and closes it, as `connect` and `close` do."""
 
-    def __init__(self, reader: asyncio.StreamReader, writer: asyncio.StreamWriter) -> None:
-        self._reader, self._writer = reader, writer
+    def __init__(self, host: str = "127.0.0.1", port: int = 7379, password: str | None = None) -> None:
+        self._at, self._password = (host, port), password
+        self._streams: tuple[asyncio.StreamReader, asyncio.StreamWriter] | None = None
         self._sent: list[tuple[Word, ...]] = []
         self._answered = 0
 
     @classmethod
     async def connect(cls, host: str = "127.0.0.1", port: int = 7379, password: str | None = None) -> Client:
         """A connection to a server, which has said the password where there is one."""
-        client = cls(*await asyncio.open_connection(host, port, limit=1 << 20))
-        if password is not None:
-            raised(await client._exchange(("AUTH", password)))
-        raised(await client._exchange(("SPEC",)))
-        return client
+        return await cls(host, port, password).__aenter__()
 
     async def __aenter__(self) -> Client:
+        if self._streams is None:
+            self._streams = await asyncio.open_connection(*self._at, limit=1 << 20)
+            if self._password is not None:
+                raised(await self._exchange(("AUTH", self._password)))
+            raised(await self._exchange(("SPEC",)))
         return self
+
+    @property
+    def _reader(self) -> asyncio.StreamReader:
+        return self._opened()[0]
+
+    @property
+    def _writer(self) -> asyncio.StreamWriter:
+        return self._opened()[1]
+
+    def _opened(self) -> tuple[asyncio.StreamReader, asyncio.StreamWriter]:
+        if self._streams is None:
+            raise ConnectionError("it is not connected: `async with` does that, or `await Client.connect()`")
+        return self._streams
 
     async def __aexit__(self, *_: object) -> None:
         await self.close()

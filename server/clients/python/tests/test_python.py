@@ -233,7 +233,11 @@ class Store(unittest.TestCase):
 
     def test_asyncio(self):
         async def job():
+            with self.assertRaisesRegex(ConnectionError, "not connected"):
+                await aio.Client(self.host, self.port).ask("GET", "aio")
             async with await aio.Client.connect(self.host, self.port) as store:
+                self.assertIsNone(await store.ask("GET", "absent"))
+            async with aio.Client(self.host, self.port) as store:
                 await store.ask("SET", "aio", "x" * 100_000)
                 self.assertEqual(await store.ask("GET", "aio"), b"x" * 100_000)
                 await store.wait_all()

@@ -29,7 +29,7 @@ pub fn boot(alloc: Global, text: &[u8]) -> Result<Holder, Fault>
     }
 }
 
-/// How many texts terminal 1 shows: those that rest on no undecided guess, up to the first that does.
+/// How many texts terminal 1 shows: those that depend on no undecided guess, up to the first that does.
 pub fn shown(kernel: &Kernel) -> usize
     ensures { result ≡ length (released (texts_at kernel.now 1)) }
 {

@@ -1,4 +1,4 @@
-//! Accounts over a kernel of own keys: a transfer goes on a guess, another rests on it, and the guess is decided.
+//! Accounts over a kernel of own keys: a transfer goes on a guess, another depends on it, and the guess is decided.
 #![tactic(auto)]
 
 ghost use Rattle.std.specs.Prelude.{◌≡◌, IfOk, OnOk};
@@ -72,7 +72,7 @@ fn carry_out(
     Ok(step)
 }
 
-/// Takes an order, which rests on whatever its accounts rest on. No guess is drawn or decided.
+/// Takes an order, which depends on whatever its accounts depend on. No guess is drawn or decided.
 fn take(bank: &mut Speculator<u16, u64, u64>, alloc: Global, order: Order) -> Result<(), Refused>
     ensures guesses { bank.new.guesses ≡ bank.old.guesses }
     ensures opens { numbers bank.new.opens ≡ numbers bank.old.opens }
@@ -82,7 +82,7 @@ fn take(bank: &mut Speculator<u16, u64, u64>, alloc: Global, order: Order) -> Re
     Ok(())
 }
 
-/// Takes an order that may turn out wrong, on a guess. All that rests on it can be taken back.
+/// Takes an order that may turn out wrong, on a guess. All that depends on it can be taken back.
 fn guess(
     bank: &mut Speculator<u16, u64, u64>,
     alloc: Global,
@@ -111,7 +111,7 @@ fn decide(bank: &mut Speculator<u16, u64, u64>, guess: Guess, is_right: bool)
     }
 }
 
-/// A transfer on a guess, and one that rests on it; then the guess is decided. A token can't be let go, so that it is spent
+/// A transfer on a guess, and one that depends on it; then the guess is decided. A token can't be let go, so that it is spent
 /// before any `?`.
 fn go_on(
     bank: &mut Speculator<u16, u64, u64>,
@@ -134,7 +134,7 @@ fn show_booked(rt: &HostRuntime, bank: &mut Speculator<u16, u64, u64>) -> anyhow
     Ok(())
 }
 
-/// A deposit and what rests on a guess; then what was booked, and what each account has.
+/// A deposit and what depends on a guess; then what was booked, and what each account has.
 fn show(
     rt: &HostRuntime,
     bank: &mut Speculator<u16, u64, u64>,

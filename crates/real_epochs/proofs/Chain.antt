@@ -1,4 +1,4 @@
--- What rests on the oldest epoch without its reply: all behind its beginning, but for what the server told.
+-- What depends on the oldest epoch without its reply: all behind its beginning, but for what the server told.
 use Rattle.real_epochs.proofs.Names.{◌≡◌, ℕ, Bool, true, false, ◌||◌, ◌==◌, cond, List, [], ◌∷◌, ◌++◌, map, refl, sym}
 use Rattle.real_epochs.proofs.Names.{◌∙◌, ap, subst, append-nil, or_parts, or_from, or_left, or_right, eqb-true, eq-eqb, list_any}
 use Rattle.real_epochs.proofs.Names.{eq_by_cmp, nat_cmp, unsigned_tied, FinMap, filter, has, has_filter, true≢false}
@@ -43,7 +43,7 @@ left s n = marked_effect host (mark n) (outcome host s n)
 abbrev next : Values → Entry → Values
 next s n = after host (outcome host s n) s
 
--- where nothing is dirty, a step rests on no guess but its own
+-- where nothing is dirty, a step depends on no guess but its own
 quiet : (g : ℕ) (s : Values) (n : Entry) → is_marked (mark n) g ≡ false → hit nat_cmp g [] (left s n) ≡ false
 quiet g s (Opens number checkpoint) none = or_from _ _ none refl
 quiet g s (Does (Changes name version)) none = refl
@@ -57,7 +57,7 @@ Dirty dirty past = (k : ℕ) → is_in nat_cmp dirty k ≡ ((k == tree) || chang
 tree_is : (dirty : List ℕ) (past : List Event) → Dirty dirty past → is_in nat_cmp dirty tree ≡ true
 tree_is dirty past are = are tree
 
--- such a step rests on the epoch, but for what the server told
+-- such a step depends on the epoch, but for what the server told
 record One (g : ℕ) (s : Values) (dirty : List ℕ) (past : List Event) (n : Entry) : Type 0 where
   hits : hit nat_cmp g dirty (left s n) ≡ goes_along n
   later : Dirty (dirtied (hit nat_cmp g dirty (left s n)) (left s n) dirty) (past_with n past)
@@ -180,7 +180,7 @@ held [] g w ws here = absurd (true≢false (sym here))
 held (t ∷ tags) g w ws here = refl
 
 module _ (t : ℕ) where
-  -- a step that rests on nothing says at once
+  -- a step that depends on nothing says at once
   free_one : (s : Values) (n : Entry) (xs : List (Tagged (ℕ × ℕ))) (es : List Event) → released xs ≡ on_stream t (said_on t es)
       → released (said_by host t (left s n).said [] ++ xs) ≡ on_stream t (said_on t (events_in (n ∷ []) ++ es))
   free_one s (Opens number checkpoint) xs es are = are
@@ -192,7 +192,7 @@ module _ (t : ℕ) where
         | false ↦ λ other. are
       ] refl
 
-  -- one that rests on a guess says nothing yet
+  -- one that depends on a guess says nothing yet
   held_one : (said : Option (ℕ × ℕ)) (tags : List ℕ) (g : ℕ) (xs : List (Tagged (ℕ × ℕ))) → has g tags ≡ true → released xs ≡ []
       → released (said_by host t said tags ++ xs) ≡ []
   held_one None tags g xs here none = none

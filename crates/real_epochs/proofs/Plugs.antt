@@ -191,7 +191,7 @@ module _ (a b : EpochsView) (t : ℕ) (same : b.parts ≡ record a.parts { said 
   shown_told None first none (s, told) = (s, subst (Tells s) (λ i. record { parts = sym (none refl) i; line = sym line i }) told)
   shown_told (Some o) first none (s, told) = (with_call (Shows t o) s, shown_some o first s told)
 
--- ---- what rests on the oldest epoch
+-- ---- what depends on the oldest epoch
 changed_at : (a : EpochsView) (b0 : Begun) (rest : List Begun) → a.line ≡ b0 ∷ rest → (s : Story) (t : Tells s a) (w : List Epoch) → s.waiting ≡ w → (name : ℕ) → (name == 0) ≡ false
     → has b0.token.id (tags_at (undo_state_of nat_cmp a.parts) name) ≡ changed_in (all_in s.waiting) name
 changed_at a b0 rest line s t [] is name there = absurd cc

@@ -26,7 +26,7 @@ module _ (s : Story) (a : EpochsView) (t : Tells s a) where
       ∙ known_is nothing (t.before ++ entries_of s.waiting) name there
       ∙ (λ i. known_after ((events_more t.before (entries_of s.waiting) ∙ (λ j. t.accepted j ++ events_all s.waiting j)) i) name (get-empty nat_cmp name i))
 
-  -- ---- what rests on the oldest epoch
+  -- ---- what depends on the oldest epoch
   pub rests_told : (e : Epoch) (es : List Epoch) → s.waiting ≡ e ∷ es → (k : ℕ)
       → has e.number (tags_at (undo_state_of nat_cmp a.parts) k) ≡ ((k == tree) || changed_in (all_in s.waiting) k)
   rests_told e es is k =

@@ -19,7 +19,7 @@ pub data Entry : Type 0 where
 abbrev pub tree : ℕ
 tree = 0
 
--- An epoch is a guess that changes the tree. What the processes do looks at the tree, and so rests on each epoch without its reply.
+-- An epoch is a guess that changes the tree. What the processes do looks at the tree, and so depends on each epoch without its reply.
 abbrev pub deed_of : Entry → Deed ℕ ℕ ℕ
 deed_of (Opens number checkpoint) = record { looked = tree ∷ []; written = (tree, Some checkpoint) ∷ []; said = None }
 deed_of (Does (Changes name version)) = record { looked = tree ∷ []; written = (name, version) ∷ []; said = None }

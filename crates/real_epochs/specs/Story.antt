@@ -83,7 +83,7 @@ pub data Call : Type 0 where
   Refuses : Call
   Shows : (stream : ℕ) → (output : ℕ) → Call
 
--- What calls make of a story. With the oldest epoch all others are refused, since they rest on it: of what happened in them there
+-- What calls make of a story. With the oldest epoch all others are refused, since they depend on it: of what happened in them there
 -- is left just what the server told.
 abbrev pub with_call : Call → Story → Story
 with_call (Begins number checkpoint) s = record s { waiting = s.waiting ++ (record { number = number; checkpoint = checkpoint; events = [] }) ∷ [] }

@@ -1,4 +1,4 @@
-//! Epochs that wait for their replies, and what rests on them.
+//! Epochs that wait for their replies, and what depends on them.
 ghost use Rattle.std.specs.Prelude.{◌≡◌, ◌==◌, ℕ, [], false, true, length, IfErr, OnOk, if◌then◌else◌};
 ghost use Rattle.sk_speculator.specs.Calls.{FailsIn, TookBack};
 ghost use Rattle.real_epochs.specs.declared.refused.Refused.{Refused};
@@ -127,7 +127,7 @@ impl Epochs {
         }
     }
 
-    /// The server refused the oldest epoch, and with it all that rest on it. Told is the checkpoint that all goes back to, with
+    /// The server refused the oldest epoch, and with it all that depend on it. Told is the checkpoint that all goes back to, with
     /// the names that are undone. This takes no memory.
     pub fn refused(&mut self) -> Option<Back>
         ensures { TakenBack result self.old self.new }
@@ -135,7 +135,7 @@ impl Epochs {
         take_back(&mut self.kernel, &mut self.line)
     }
 
-    /// The next output of a stream that rests on no epoch without its reply: it may be shown, and is taken out.
+    /// The next output of a stream that depends on no epoch without its reply: it may be shown, and is taken out.
     pub fn shown(&mut self, stream: u16) -> Option<u64>
         ensures { Shown stream result self.old self.new }
     {
@@ -224,7 +224,7 @@ fn fail_oldest(kernel: &mut Speculator<u64, u64, u64>, token: Guess) -> Undone<u
     }
 }
 
-/// Takes back the oldest epoch, and with it all that rest on it. This takes no memory.
+/// Takes back the oldest epoch, and with it all that depend on it. This takes no memory.
 fn take_back(kernel: &mut Speculator<u64, u64, u64>, line: &mut Vec<Begun>) -> Option<Back>
     requires { (s : Story) × Tells s (record { parts = kernel.old; line = line.old.items }) }
     ensures back { TakenBack result (record { parts = kernel.old; line = line.old.items })

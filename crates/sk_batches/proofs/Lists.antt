@@ -57,7 +57,7 @@ front_length r rs = length-append r.bytes (payload rs)
 pub both_length : (rs qs : List RecordView) → length (payload (rs ++ qs)) ≡ length (payload rs) + length (payload qs)
 both_length rs qs = ap length (payload_append rs qs) ∙ length-append (payload rs) (payload qs)
 
--- what rests on a batch or not, no record is longer than it was
+-- what depends on a batch or not, no record is longer than it was
 pub kept_length : (first last : ℕ) (rs : List RecordView) → length (payload (kept first last rs)) ≤ length (payload rs)
 kept_length first last [] = omega arith
 kept_length first last (r ∷ rs) =

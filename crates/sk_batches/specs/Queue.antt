@@ -138,7 +138,7 @@ first_failed (b ∷ bs) =
 abbrev pub cut_due : QueueView → Option Cut
 cut_due q = if list_any (λ b. is_sent b.stage) q.batches then None else first_failed q.batches
 
--- the batches of the frame that failed are refused; what is behind them is logged anew, without what rests on them
+-- the batches of the frame that failed are refused; what is behind them is logged anew, without what depends on them
 abbrev pub cut_off : Cut → Batch → Batch
 cut_off c b =
     if nat_lt b.frame c.frame then b

@@ -1,17 +1,17 @@
--- Records of commands, and what they rest on.
+-- Records of commands, and what they depend on.
 use Rattle.std.specs.Prelude.{◌&&◌, ℕ, Bool, not, nat_le, List, [], ◌∷◌, ◌++◌, ◌-◌, length, take}
 use Rattle.std.specs.List.{filter, list_any}
 
--- what is logged of a command: the batches that it rests on beside its own, and its bytes
+-- what is logged of a command: the batches that it depends on beside its own, and its bytes
 pub record RecordView : Type 0 where
   pub rests : List ℕ
   pub bytes : List ℕ
 
--- whether it rests on one of the batches from the first to the last
+-- whether it depends on one of the batches from the first to the last
 abbrev pub is_struck : ℕ → ℕ → RecordView → Bool
 is_struck first last r = list_any (λ n. nat_le first n && nat_le n last) r.rests
 
--- those that rest on none of them, in their order
+-- those that depend on none of them, in their order
 abbrev pub kept : ℕ → ℕ → List RecordView → List RecordView
 kept first last rs = filter (λ r. not (is_struck first last r)) rs
 

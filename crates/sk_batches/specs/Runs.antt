@@ -51,7 +51,7 @@ abbrev pub with_decided : List Batch → Story → Story
 with_decided [] s = s
 with_decided (b ∷ bs) s = with_oldest b.stage b s
 
--- the records that rest on what is cut off
+-- the records that depend on what is cut off
 abbrev pub struck : Cut → List RecordView → List RecordView
 struck c rs = filter (λ r. is_struck c.first c.last r) rs
 
@@ -112,7 +112,7 @@ LosesNothing = (most most_bytes frame : ℕ) (cs : List Call) (q : QueueView) (s
 abbrev pub behind_of : ℕ → Batch → List RecordView
 behind_of frame b = if nat_lt b.frame frame then [] else if b.frame == frame then [] else b.records
 
--- a cut leaves for the next frame just the records behind what it cuts off that don't rest on it, in their order
+-- a cut leaves for the next frame just the records behind what it cuts off that don't depend on it, in their order
 abbrev pub KeepsTheRest : Type 0
 KeepsTheRest = (c : Cut) (q : QueueView) → kept_records q.batches ≡ []
     → next_records (after_cut c q) ≡ kept c.first c.last (flat_map (behind_of c.frame) q.batches ++ q.records)

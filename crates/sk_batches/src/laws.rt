@@ -17,7 +17,7 @@ pub fn nothing_lost_law()
     ensures { LosesNothing }
 {}
 
-/// Behind a cut just the records are logged anew that don't rest on what was cut off, in their order.
+/// Behind a cut just the records are logged anew that don't depend on what was cut off, in their order.
 pub fn kept_law()
     ensures { KeepsTheRest }
 {}

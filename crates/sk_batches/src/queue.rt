@@ -209,7 +209,7 @@ impl Queue {
         Some(decision)
     }
 
-    /// Whether a batch was cut off and is not told as decided yet. What rests on one must not be added.
+    /// Whether a batch was cut off and is not told as decided yet. What depends on one must not be added.
     pub fn has_refused(&self) -> bool
         ensures { result ≡ list_any (λ b. is_refused b.stage) self.now.batches }
     {

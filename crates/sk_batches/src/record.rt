@@ -6,7 +6,7 @@ ghost use Rattle.sk_batches.specs.Records.{is_struck};
 use std::alloc::{AllocError, Global};
 use std::marker::Model;
 
-/// What is logged of a command, and the batches that it rests on beside its own.
+/// What is logged of a command, and the batches that it depends on beside its own.
 #[derive(Drop)]
 pub(crate) struct Record {
     rests: Vec<u64>,
@@ -39,7 +39,7 @@ impl Record {
         self.bytes.as_slice()
     }
 
-    /// Whether it rests on one of the batches from the first to the last.
+    /// Whether it depends on one of the batches from the first to the last.
     pub(crate) fn is_struck(&self, first: u64, last: u64) -> bool
         ensures { result ≡ is_struck first last self.now }
     {

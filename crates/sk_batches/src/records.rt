@@ -69,7 +69,7 @@ impl Records {
         }
     }
 
-    /// Lets go of those that rest on one of the batches from the first to the last.
+    /// Lets go of those that depend on one of the batches from the first to the last.
     pub(crate) fn keep(&mut self, first: u64, last: u64)
         ensures { self.new ≡ kept first last self.old }
     {

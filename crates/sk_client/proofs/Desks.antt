@@ -189,7 +189,7 @@ asked_more xs ys = ap length (filter-append is_asked xs ys) ∙ length-append (f
 
 -- ---- where no guess is undecided
 
--- nothing is rested on
+-- nothing is depended on
 pub none_rested : (k : KernelView) (pid : ℕ) (name : List ℕ) → length (undecided_at k) ≡ 0 → [] ≡ rests_of k pid name
 none_rested k pid name none = ap (filter (λ g. has g (tags_at k (Proc pid)) || has g (tags_at k (CopyOf name)))) (sym (nil_from_length (undecided_at k) none))
 
@@ -227,7 +227,7 @@ given_reply Answer.Dropped input is = cc
 given_reply a Input.None is = cc
 given_reply a input is = tt
 
--- ---- what a request rests on
+-- ---- what a request depends on
 
 module _ (k : KernelView) (sound : HasSoundTrace k) where
   -- the tags of an entity are undecided

@@ -314,7 +314,7 @@ later_on drawn begun old xs v r es ys last h =
 
 -- ---- which replies are answered so
 
--- an asked request that rests on no lost guess, with what its reply gives
+-- an asked request that depends on no lost guess, with what its reply gives
 record Took (k : KernelView) (q : PendingRequest) (a : Answer) (number : ℕ) : Type 0 where
   asked : q.guess ≡ None
   whole : is_void k q ≡ false

@@ -171,7 +171,7 @@ fn lost_by(status: Option<Status>) -> bool
     !matches!(status, Some(Status::Undecided | Status::Committed))
 }
 
-/// Whether a request rests on a guess that failed or was struck.
+/// Whether a request depends on a guess that failed or was struck.
 fn is_void(kernel: &Kernel, request: &BoxedRequest) -> bool
     ensures { result ≡ is_void kernel.now request.now }
 {
@@ -503,7 +503,7 @@ impl Desk {
         }
     }
 
-    /// The next request, as it is made without a guess, and what it rests on once more.
+    /// The next request, as it is made without a guess, and what it depends on once more.
     #[inline(always)]
     fn draft(&self, pid: Pid, want: &Wanted<'_>) -> Result<(BoxedRequest, TagSet), AllocError>
         ensures request { IfOk result

@@ -139,7 +139,7 @@ impl BoxedRequest {
         }
     }
 
-    /// The same as it is sent, with what it rests on.
+    /// The same as it is sent, with what it depends on.
     pub(crate) fn sent(&self, rests: TagSet) -> Request
         requires { rests ≡ self.now.rests }
         ensures { result ≡ sent self.now }

@@ -14,7 +14,7 @@ use std::marker::Model;
 #[derive(Drop)]
 pub(crate) struct Queued {
     request: BoxedRequest,
-    /// What it rests on, once more, to go with the request; `None` once that was taken.
+    /// What it depends on, once more, to go with the request; `None` once that was taken.
     again: Option<TagSet>,
 }
 
@@ -109,7 +109,7 @@ impl Requests {
         self.queue.reserve(1)
     }
 
-    /// One request more, for which there is room, with what it rests on once more.
+    /// One request more, for which there is room, with what it depends on once more.
     pub(crate) fn push(&mut self, request: BoxedRequest, again: TagSet)
         requires room { length (self.old.taken ++ self.old.waiting) < self.old.room }
         requires again { again ≡ request.rests }

@@ -175,7 +175,7 @@ impl Held {
         }
     }
 
-    /// Takes the next output out of a channel, if it rests on nothing, and keeps it until it is handed over; nothing, where one of
+    /// Takes the next output out of a channel, if it depends on nothing, and keeps it until it is handed over; nothing, where one of
     /// the channel is kept.
     pub fn bring(&mut self, channel: u16) -> Result<(), AllocError>
         ensures brings { OnOk result (MayBring self.old channel self.new) }

@@ -3,7 +3,7 @@ use Rattle.sk_kernel.proofs.Names.{◌≡◌, ℕ, true, false, cond, List, [], 
 use Rattle.sk_kernel.proofs.Names.{ap, ◌==◌, MarkedEffect, System, tags_along, next_dirty, said_with, said_by, Tagged}
 use Rattle.sk_kernel.proofs.Names.{released, released_if}
 
--- no text rests on a guess
+-- no text depends on a guess
 abbrev pub AllClear : {W : Type 0} → List (Tagged W) → Type 0
 AllClear [] = Unit {0}
 AllClear (x ∷ xs) = (x.1 ≡ []) × AllClear xs

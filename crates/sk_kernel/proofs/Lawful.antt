@@ -30,7 +30,7 @@ module _ (k : KernelView) where
   more : (e : Event) (P : List (Happens EntryView) → Type 0) → P (events_of k ++ image e ∷ []) → P (events_of (with_event k e))
   more e P p = subst P (sym (map_more k.trace e)) p
 
-  -- what rests on the guess after the step of an entry
+  -- what depends on the guess after the step of an entry
   abbrev tagged : EntryView → Effect Entity EntityState Saying → ℕ → Bool
   tagged n f id = is_marked n.guess id || list_any (λ x. has id (tags_at k x)) (map (λ r. r.0) f.read ++ map (λ w. w.0) f.written)
 

@@ -1,4 +1,4 @@
--- No note is held exactly where nothing rests on an undecided guess.
+-- No note is held exactly where nothing depends on an undecided guess.
 use Rattle.sk_kernel.proofs.Names.{◌≡◌, ℕ, ◌≤◌, length, true, false, not, List, [], ◌∷◌, inl, inr, refl, sym, ◌∙◌}
 use Rattle.sk_kernel.proofs.Names.{ap, subst, arith, ◌↔◌, min, list_all, sum_by, true≢false, or_left, eq-eqb}
 use Rattle.sk_kernel.proofs.Names.{entity_cmp, Entity, is_in, Merges, log_of, entries_are, plain, Note, has, last_tags}
@@ -36,7 +36,7 @@ module _ (k : KernelView) (m : Parts) (stands : Stands k m) where
   resting_none : ((e : Entity) → tags_at k e ≡ []) → AreUnnoted m.slots
   resting_none none e = (tidy k m stands).clean e (tags_computed k m stands e ∙ none e)
 
-  -- an entity has notes exactly where it rests on a guess
+  -- an entity has notes exactly where it depends on a guess
   some_noted : (e : Entity) → rests_at k e ≡ true → 1 ≤ length (log_at m.slots e)
   some_noted e rests = long_some (log_at m.slots e) (λ none. true≢false (sym rests ∙ ap (λ ts. not (is_empty ts)) (sym (tags_computed k m stands e) ∙ ap (last_tags []) none)))
 

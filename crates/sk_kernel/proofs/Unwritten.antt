@@ -30,7 +30,7 @@ module _ {E V W : Type 0} (a : UndoState E V) (f : MarkedEffect E V W) (tidy : I
   is_known is =
       grind (arith, list_any-append (λ t. t == g) (numbers a.opens) (marks f.mark), marked_here f.mark, known_at (touches f))
 
-  -- a step rests on what something that it touches rests on, and on its own guess
+  -- a step depends on what something that it touches depends on, and on its own guess
   in_step_tags : has g (step_tags a f) ≡ is_tag a f g
   in_step_tags = grind (arith, is_known, has_filter (is_tag a f) g (numbers a.opens ++ marks f.mark))
 

@@ -192,7 +192,7 @@ module _ (k : KernelView) (m : Parts) (stands : Stands k m) where
       (λ i. perform (λ e. stands.trace.merged.look e i) (act k.scripts n.pid n.input))
       ∙ machine_runs.same_outcome (plain k.scripts) entity_total entity_exact k.start (events_of k) stands.trace.full stands.trace.stands n
 
-  -- the list of a guess has just the entities that rest on it
+  -- the list of a guess has just the entities that depend on it
   pub dependents_are : (id : ℕ) (es : List Entity) → (has id (numbers m.opens) ≡ true → (e : Entity) → is_in entity_cmp es e ≡ has id (tags_in (undo_state_of m) e)) → (has id (numbers m.opens) ≡ false → es ≡ [])
       → (e : Entity) → is_in entity_cmp es e ≡ has id (tags_at k e)
   dependents_are id es exact none e =

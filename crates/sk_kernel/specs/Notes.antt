@@ -1,4 +1,4 @@
--- What rests on guesses that may still fail, and how many notes are held for that.
+-- What depends on guesses that may still fail, and how many notes are held for that.
 use Rattle.std.specs.Prelude.{◌≡◌, ◌↔◌, ◌≤◌, ◌^◌, ◌-◌, ℕ, Bool, true, not, min, length, List, []}
 use Rattle.sk_kernel.specs.Base.{list_all, sum_by, entity_cmp, Entity, is_in, log_of, plain, is_empty, AreApart}
 use Rattle.sk_kernel.specs.Kernel.{KernelView, record_at, undecided_at, tags_at}
@@ -7,7 +7,7 @@ use Rattle.sk_kernel.specs.Kernel.{KernelView, record_at, undecided_at, tags_at}
 abbrev pub rests_at : KernelView → Entity → Bool
 rests_at k e = not (is_empty (tags_at k e))
 
--- a number of notes that a kernel can hold: none exactly where nothing rests on an undecided guess; at least one for each entity that does, up to
+-- a number of notes that a kernel can hold: none exactly where nothing depends on an undecided guess; at least one for each entity that does, up to
 -- the largest number; and, of entities among which all of these are, at most those by the record, one for each write that depends on such a guess
 pub record CanHold (k : KernelView) (n : ℕ) : Type 0 where
   pub none : (n ≡ 0) ↔ ((e : Entity) → tags_at k e ≡ [])

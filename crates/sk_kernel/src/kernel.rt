@@ -164,7 +164,7 @@ impl Kernel {
         }
     }
 
-    /// The undecided guesses that an entity rests on.
+    /// The undecided guesses that an entity depends on.
     pub fn tags_of(&self, entity: &Entity) -> &TagSet
         ensures computed { result.now ≡ tags_at self.now entity.now }
         ensures exact { (id : ℕ) → (has id result.now ≡ true) ↔ RestsOn self.now entity.now id }
@@ -172,7 +172,7 @@ impl Kernel {
         self.machine.tags_of(entity)
     }
 
-    /// The entities that rest on a guess, by rising order; none where it is not undecided. This takes no
+    /// The entities that depend on a guess, by rising order; none where it is not undecided. This takes no
     /// memory.
     pub fn dependents(&self, id: GuessId) -> &[Entity]
         ensures rising { IsStrictlySortedBy entity_cmp result.now }
@@ -214,7 +214,7 @@ impl Kernel {
     }
 
     /// The entities that are present, each once, by rising order, with what they have and the undecided guesses that they
-    /// rest on.
+    /// depend on.
     pub fn entries(&self) -> Result<Vec<Present<'_>>, AllocError>
         ensures present { IfOk result
             (λ all. entities_of all.items ≡ map.keys (state_at self.now)) }
@@ -431,7 +431,7 @@ impl Kernel {
         Ok(guess)
     }
 
-    /// Commits a guess: nothing rests on it any more. This takes no memory.
+    /// Commits a guess: nothing depends on it any more. This takes no memory.
     pub fn commit_speculation(&mut self, guess: Guess) -> Result<Outcome, Stranger>
         ensures { CommitPost result guess self.old self.new }
     {
@@ -449,7 +449,7 @@ impl Kernel {
         }
     }
 
-    /// Fails a guess: what rests on it is taken back, in place and without memory.
+    /// Fails a guess: what depends on it is taken back, in place and without memory.
     pub fn fail_speculation(&mut self, guess: Guess) -> Result<Outcome, FailRefusal>
         ensures { FailPost result guess self.old self.new }
     {

@@ -32,7 +32,7 @@ pub fn unwritten()
         (with_event k (events.Guess (next_guess k) pid input)) }
 {}
 
-/// What an accepted step or guess writes has the value that the step gives it, and rests on just what the step rests on.
+/// What an accepted step or guess writes has the value that the step gives it, and depends on just what the step depends on.
 pub fn written()
     ensures step { (k : KernelView) (pid : ℕ) (input : Input) → HasSoundTrace k
         → WritesAll k (entry pid input None) (with_event k (events.Step pid input)) }
@@ -48,7 +48,7 @@ pub fn handed_in()
         → AreEntries k (with_steps k l.lent.pid l.count) l.lent.pid l.count l.now }
 {}
 
-/// After the failure of a guess nothing rests on it.
+/// After the failure of a guess nothing depends on it.
 pub fn failed()
     ensures rests { (k : KernelView) (id : ℕ) (e : Entity)
         → RestsOn (with_event k (events.Fail id)) e id → ⊥ }

@@ -117,7 +117,7 @@ in_front : {X : Type 0} (n : ℕ) (xs : List X) (x : X) → Contains (take n xs)
 in_front n xs x at = subst (λ ys. Contains ys x) (take-append-drop n xs)
     (Contains-append_left (take n xs) (drop n xs) x at)
 
--- what rests on none of more rests on none of those
+-- what depends on none of more depends on none of those
 fewer : (gone more : List ℕ) (r : Command) → not (is_struck (gone ++ more) r) ≡ true → not (is_struck gone r) ≡ true
 fewer gone more r free = not_from_false (is_struck gone r) (false_from_ne_true (is_struck gone r) (λ struck.
     let g = any_has (λ h. has h gone) r.rests struck in

@@ -3,7 +3,7 @@ use Rattle.sk_led.proofs.Names.{◌≡◌, List, [], ◌∷◌, Some, false, ref
 use Rattle.sk_led.proofs.Names.{first_of, has_refusals, resting_among, numbers, connected, said_since, waits_at, Output}
 use Rattle.sk_led.proofs.Names.{NobodyWaits}
 
--- what rests on nothing may go out
+-- what depends on nothing may go out
 none_rests : (ys : List Output) → released (resting_among [] ys) ≡ [] → ys ≡ []
 none_rests [] is = refl
 none_rests (y ∷ ys) is = cc

@@ -9,7 +9,7 @@ pub fn logged_law()
     ensures { LoggedIsInEngine }
 {}
 
-/// So does what each batch logs that a reply rests on which went out.
+/// So does what each batch logs that a reply depends on which went out.
 pub fn replies_law()
     ensures { RepliesRestOnEngine }
 {}

@@ -1,4 +1,4 @@
--- Many private instructions of one process at once: the guesses that they rest on, and what the machine becomes.
+-- Many private instructions of one process at once: the guesses that they depend on, and what the machine becomes.
 use Rattle.sk_machine.proofs.Names.{◌≡◌, ℕ, Bool, true, false, ◌||◌, List, [], ◌∷◌, ◌++◌, Some, None, sym, ◌∙◌, ap}
 use Rattle.sk_machine.proofs.Names.{subst, list_any, filter, IsStrictlySortedBy, nat_cmp, eq_by_cmp, append-nil}
 use Rattle.sk_machine.proofs.Names.{MarkedEffect, has, noted, HandsIn, Merges, alone_tags, IsTidy, numbers, step_tags}
@@ -28,7 +28,7 @@ module _ (m : Parts) (pid : ℕ) where
   tags_same : (scripts : Scripts) → step_tags (undo_state_of m) (touching pid) ≡ alone_tags (plain scripts) (machine_of m) (Proc pid) (alone_reads pid)
   tags_same scripts = ap (filter (λ g. list_any (λ e. has g (tags_at (undo_state_of m) e)) (Proc pid ∷ Sig pid ∷ Proc pid ∷ []))) (append-nil (numbers m.opens))
 
-  -- a rising list of the guesses that the process and its signals rest on
+  -- a rising list of the guesses that the process and its signals depend on
   pub tags_alone : (tags : List ℕ) → IsTidy (undo_state_of m) → IsStrictlySortedBy nat_cmp (numbers m.opens) → IsStrictlySortedBy nat_cmp tags
       → ((g : ℕ) → has g tags ≡ (has g [] || any_rests m g (alone_reads pid)))
       → (scripts : Scripts) → tags ≡ alone_tags (plain scripts) (machine_of m) (Proc pid) (alone_reads pid)
@@ -37,7 +37,7 @@ module _ (m : Parts) (pid : ℕ) where
       (λ g. members g ∙ twice (has g (tags_at (undo_state_of m) (Proc pid))) (has g (tags_at (undo_state_of m) (Sig pid))))
       ∙ tags_same scripts
 
-  -- where they rest on nothing, the process has no notes
+  -- where they depend on nothing, the process has no notes
   pub clean_alone : (scripts : Scripts) (tags : List ℕ) → IsTidy (undo_state_of m) → tags ≡ alone_tags (plain scripts) (machine_of m) (Proc pid) (alone_reads pid) → IsClean m.slots tags (Proc pid ∷ [])
   clean_alone scripts tags tidy is e there none =
       tidy_clean (undo_state_of m) (touching pid) tidy e (contained_more (Proc pid ∷ Sig pid ∷ []) (Proc pid ∷ []) e (contained (Proc pid ∷ []) e there)) (tags_same scripts ∙ sym is ∙ none)

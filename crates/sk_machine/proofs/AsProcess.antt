@@ -1,4 +1,4 @@
--- Steps that rest on just what their process rests on.
+-- Steps that depend on just what their process depends on.
 use Rattle.sk_machine.proofs.Names.{both_ways, or_left, ◌≡◌, ℕ, suc, ◌<◌, ◌≤◌, length, true, List, [], ◌∷◌, ◌++◌, None}
 use Rattle.sk_machine.proofs.Names.{Result, Ok, Err, inl, inr, refl, sym, ◌∙◌, ap, subst, arith, list_any}
 use Rattle.sk_machine.proofs.Names.{slice_index_or, eq_by_cmp_equiv, nat_cmp, eq_by_cmp, or_cases, status_since}
@@ -71,11 +71,11 @@ pub count_is : (os : List (OpenGuess Entity)) → length (numbers (opens_of os))
 count_is [] = refl
 count_is (o ∷ os) = ap suc (count_is os)
 
--- ---- what rests on no more
+-- ---- what depends on no more
 pub covers_one : (tags : List ℕ) (x : Entity) (base : Entity → List ℕ) → ((g : ℕ) → has g (base x) ≡ true → has g tags ≡ true) → Covers tags (x ∷ []) base
 covers_one tags x base h e g there rests = grind (arith, h g, tied_is entity_total entity_exact e x)
 
--- where it rests on one
+-- where it depends on one
 pub one_within : (xs own : List ℕ) (one id : ℕ) (x : Entity) (base : Entity → List ℕ) → length xs ≡ 1 → one ≡ slice_index_or xs 0 one → one ≡ id → xs ≡ own → own ≡ base x → Covers (id ∷ []) (x ∷ []) base
 one_within [] own one id x base len at is same there = absurd (omega arith)
 one_within (y ∷ []) own one id x base len at is same there =
@@ -83,7 +83,7 @@ one_within (y ∷ []) own one id x base len at is same there =
     covers_one (id ∷ []) x base (λ g here. subst (λ ts. has g ts ≡ true) whole here)
 one_within (y ∷ z ∷ xs) own one id x base len at is same there = absurd (omega arith)
 
--- where it rests on nothing
+-- where it depends on nothing
 pub none_within : (tags own : List ℕ) (x : Entity) (base : Entity → List ℕ) → is_empty own ≡ true → own ≡ base x → Covers tags (x ∷ []) base
 none_within tags [] x base none is = covers_one tags x base (λ g here. absurd (false≢true (ap (has g) is ∙ here)))
 none_within tags (t ∷ own) x base none is = absurd (true≢false (sym none))
@@ -117,7 +117,7 @@ alike_two tags x y base a b = alike_both tags (x ∷ []) (y ∷ []) base (alike_
 pub alike_four : (tags : List ℕ) (x y z w : Entity) (base : Entity → List ℕ) → base x ≡ tags → base y ≡ tags → base z ≡ tags → base w ≡ tags → RestAlike tags (x ∷ y ∷ z ∷ w ∷ []) base
 alike_four tags x y z w base a b c d = alike_both tags (x ∷ y ∷ []) (z ∷ w ∷ []) base (alike_two tags x y base a b) (alike_two tags z w base c d)
 
--- ---- where a process rests on all that is open, or nothing is
+-- ---- where a process depends on all that is open, or nothing is
 module _ (m : SlotMap) (os : List Open) (tidy : IsTidy (undo_state m os)) where
   pub open_covered : (tags : List ℕ) (es : List Entity) → tags ≡ numbers os → Covers tags es (tags_in m)
   open_covered tags es all e g there rests = ap (has g) all ∙ tidy.known e g rests
@@ -138,7 +138,7 @@ module _ (m : SlotMap) (os : List Open) (tidy : IsTidy (undo_state m os)) where
     rising = tt;
   }
 
--- ---- where a process goes on with the guesses that it rests on
+-- ---- where a process goes on with the guesses that it depends on
 open_count : (os : List Open) → length (numbers os) ≡ length os
 open_count [] = refl
 open_count (o ∷ os) = ap suc (open_count os)

@@ -1,4 +1,4 @@
--- A private step of a process that goes on with the guesses that it rests on.
+-- A private step of a process that goes on with the guesses that it depends on.
 use Rattle.sk_machine.proofs.Names.{◌≡◌, ℕ, List, [], ◌∷◌, Some, None, refl, sym, ◌∙◌, ap, subst, nat_cmp}
 use Rattle.sk_machine.proofs.Names.{IsStrictlySortedBy, MergedTakes, Entity, Proc, Sig, OpenGuess, Input, became}
 use Rattle.sk_machine.proofs.Names.{SlotMap, look_at, slots_wrote, Scripts, next_in, plain, done_by, Instruction, done}

@@ -69,7 +69,7 @@ in_front es i e here =
     ∙ or_left _ _ here
 
 -- ---- a step
--- what is written rests on what the step rests on
+-- what is written depends on what the step depends on
 pub tags_written : (m n : SlotMap) (tags : List ℕ) (ws : List (Entity × Option EntityState)) → IsClean m tags (entities_of ws) → Performed m tags ws n
     → (e : Entity) → with_tags entity_cmp tags (entities_of ws) (tags_in m) e ≡ tags_in n e
 tags_written m n tags ws clean did = lists.tags_written entity_total entity_exact (log_at m) (log_at n) (look_at m) tags (entities_of ws) clean did.logs
@@ -78,7 +78,7 @@ pub any_of : (tags : Entity → List ℕ) (g : ℕ) (es : List Entity) (e : Enti
 any_of tags g [] e here is = absurd (true≢false (sym here))
 any_of tags g (x ∷ es) e here is = grind (arith, tied_is entity_total entity_exact e x, any_of tags g es e)
 
--- each entity of which a note rests on an undecided guess is in its list
+-- each entity of which a note depends on an undecided guess is in its list
 pub listed : (g : ℕ) (m : SlotMap) (os : List (OpenGuess Entity)) → AllExact (tags_in m) os → AllGrow m → has g (numbers (opens_of os)) ≡ true → AreListed g m (dependents_of g os)
 listed g m os all grows here e carry = exact_at (tags_in m) g os all here e ∙ lists.rests_last g [] (log_at m e) (grows e g) carry
 
@@ -92,7 +92,7 @@ failed_almost g m n grows did os all here =
     lists.failed_almost entity_total entity_exact g (log_at m) (log_at n) grows did.logs (dependents_of g os) (exact_at (tags_in m) g os all here) (but g os)
     (all_kept (λ (o : OpenGuess Entity). (e : Entity) → is_in entity_cmp o.dependents e ≡ has o.id (tags_in m e)) (λ o. not (o.id == g)) os all)
 
--- where that rested on the failed guess alone, it is in none of them
+-- where that depended on the failed guess alone, it is in none of them
 but_apart : (g : ℕ) (os : List (OpenGuess Entity)) → AllByRecursion (λ (o : OpenGuess Entity). (o.id == g) ≡ false) (but g os)
 but_apart g [] = tt
 but_apart g (o ∷ os) = grind (arith, but_apart g os)
@@ -167,11 +167,11 @@ pub more_opens : (os : List (OpenGuess Entity)) (o : OpenGuess Entity) → opens
 more_opens [] o = refl
 more_opens (x ∷ os) o = ap (λ xs. (x.id, x.tags) ∷ xs) (more_opens os o)
 
--- nothing rests on a guess that is not open
+-- nothing depends on a guess that is not open
 pub not_known : (m : Parts) → IsTidy (undo_state_of m) → (g : ℕ) → has g (numbers m.opens) ≡ false → (e : Entity) → has g (tags_in m.slots e) ≡ false
 not_known m tidy g closed e = grind (arith, tidy.known e g)
 
--- where no guess is open any set has those that something rests on
+-- where no guess is open any set has those that something depends on
 pub none_covered : (m : Parts) → IsTidy (undo_state_of m) → m.opens ≡ [] → (tags : List ℕ) (es : List Entity) → Covers tags es (tags_in m.slots)
 none_covered m tidy none tags es = λ e g there rests.
     let closed : has g (numbers m.opens) ≡ false = ap (λ os. has g (numbers os)) none in

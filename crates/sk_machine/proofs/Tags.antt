@@ -1,4 +1,4 @@
--- The tags that a step's footprint rests on, one entity after another.
+-- The tags that a step's footprint depends on, one entity after another.
 use Rattle.sk_machine.proofs.Names.{◌≡◌, ℕ, Bool, true, false, ◌||◌, List, [], ◌∷◌, ◌++◌, map, Option, refl, sym, ◌∙◌}
 use Rattle.sk_machine.proofs.Names.{ap, true≢false, is_empty, nat_cmp, AllByRecursion, or_assoc, list_any-append}
 use Rattle.sk_machine.proofs.Names.{is_marked, touches, has, marks, numbers, tags_at, step_tags, IsTidy, union_is_tags}
@@ -29,7 +29,7 @@ module _ (m : Parts) (n : EntryView) (plan : PlanView) where
       ∙ ap (λ es. any_rests m g es || any_rests m g (map (λ (w : Entity × Option EntityState). w.0) (planned_effect m n plan).written)) (asked (look_at m.slots) (read_by n.pid n.input plan.looks))
       ∙ ap (λ es. any_rests m g (read_by n.pid n.input plan.looks) || any_rests m g es) (changed_are (look_at m.slots) n.pid plan)
 
-  -- a rising list of all guesses that these rest on, with the step's own, is the tags of the step
+  -- a rising list of all guesses that these depend on, with the step's own, is the tags of the step
   pub tags_are : (tags : List ℕ) → IsTidy (undo_state_of m) → IsStrictlySortedBy nat_cmp (numbers m.opens ++ marks n.guess) → IsStrictlySortedBy nat_cmp tags
       → ((g : ℕ) → has g tags ≡ ((is_marked n.guess g || any_rests m g (read_by n.pid n.input plan.looks)) || any_rests m g (written_by n.pid plan.beside)))
       → tags ≡ step_tags (undo_state_of m) (planned_effect m n plan)
@@ -37,7 +37,7 @@ module _ (m : Parts) (n : EntryView) (plan : PlanView) where
       union_is_tags (undo_state_of m) (planned_effect m n plan) tidy tags opens_rise rises
       (λ g. members g ∙ or_assoc (is_marked n.guess g) (any_rests m g (read_by n.pid n.input plan.looks)) (any_rests m g (written_by n.pid plan.beside)) ∙ ap (λ b. is_marked n.guess g || b) (sym (touched_is g)))
 
--- nothing rests on a guess that is not open
+-- nothing depends on a guess that is not open
 closed_rest : (m : Parts) → IsTidy (undo_state_of m) → (g : ℕ) → has g (numbers m.opens) ≡ false → (es : List Entity) → any_rests m g es ≡ false
 closed_rest m tidy g closed [] = refl
 closed_rest m tidy g closed (e ∷ es) = (λ i. not_known m tidy g closed e i || any_rests m g es) ∙ closed_rest m tidy g closed es

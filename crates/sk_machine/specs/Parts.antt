@@ -59,6 +59,6 @@ pub record IsPlanned (m : Parts) (scripts : Scripts) (pid : ℕ) (input : Input)
   pub accepted : perform (look_at m.slots) (act scripts pid input) ≡ Ok (effect_of (look_at m.slots) pid input (seen_with (look_at m.slots) scripts pid input plan))
   pub can : CanPerform (look_at m.slots) scripts pid input plan
 
--- whether one of these entities rests on a guess
+-- whether one of these entities depends on a guess
 abbrev pub any_rests : Parts → ℕ → List Entity → Bool
 any_rests m g es = list_any (λ e. has g (tags_at (undo_state_of m) e)) es

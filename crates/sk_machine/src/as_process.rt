@@ -1,5 +1,5 @@
-//! Steps that rest on just what their process rests on, and write nothing that rests on other guesses: the lists of what
-//! rests on each guess stay as they are.
+//! Steps that depend on just what their process depends on, and write nothing that depends on other guesses: the lists of what
+//! depends on each guess stay as they are.
 ghost use Rattle.std.specs.Prelude.{◌≡◌, ◌∷◌, [], ℕ, true, IfOk};
 ghost use Rattle.sk_machine.specs.Base.{IsStrictlySortedBy, nat_cmp, has, numbers, opens_of, Exit, Proc, Sig};
 ghost use Rattle.sk_machine.specs.Base.{undo_state, input_in, looked_at, read_by, signals_read, looked, looks_of};
@@ -25,7 +25,7 @@ pub(crate) fn are_all(guesses: &Guesses<Entity>, tags: &TagSet) -> bool
     tags.ids().len() == guesses.undecided()
 }
 
-/// Whether an entity rests on none but the guesses of the next step.
+/// Whether an entity depends on none but the guesses of the next step.
 fn is_within(logs: &Logs, untagged: &TagSet, entity: &Entity) -> bool
     requires { untagged.now ≡ [] }
     ensures { result ≡ true → Covers logs.now.tags (entity.now ∷ []) (tags_in logs.now.slots) }
@@ -86,7 +86,7 @@ fn plan_within(logs: &Logs, untagged: &TagSet, plan: &Plan) -> bool
     }
 }
 
-/// Whether all that a plan reads does, beside its process. It stands by itself, so that a step whose process rests on all
+/// Whether all that a plan reads does, beside its process. It stands by itself, so that a step whose process depends on all
 /// that is open has no place for entities in its frame.
 #[inline(never)]
 fn reads_within(logs: &Logs, untagged: &TagSet, pid: Pid, input: InputRef<'_>, plan: &Plan) -> bool
@@ -102,7 +102,7 @@ fn reads_within(logs: &Logs, untagged: &TagSet, pid: Pid, input: InputRef<'_>, p
     plan_within(logs, untagged, plan)
 }
 
-/// Whether an entity rests on just the guesses of the next step.
+/// Whether an entity depends on just the guesses of the next step.
 #[inline(always)]
 fn is_alike(logs: &Logs, untagged: &TagSet, entity: &Entity) -> bool
     requires { untagged.now ≡ [] }
@@ -163,7 +163,7 @@ fn writes_alike(logs: &Logs, untagged: &TagSet, pid: Pid, plan: &Plan) -> bool
     }
 }
 
-/// The next step rests on no guess. Mostly the last one did not either.
+/// The next step depends on no guess. Mostly the last one did not either.
 fn set_untagged(logs: &mut Logs)
     ensures { logs.new ≡ record { slots = logs.old.slots; tags = [] } }
 {
@@ -173,8 +173,8 @@ fn set_untagged(logs: &mut Logs)
     logs.set_tags(TagSet::new(logs.memory()));
 }
 
-/// Makes the guesses of a process those of its next step, and answers whether they are: it reads nothing that rests on
-/// others, and all that it writes rests on just these. Without memory nothing has changed.
+/// Makes the guesses of a process those of its next step, and answers whether they are: it reads nothing that depends on
+/// others, and all that it writes depends on just these. Without memory nothing has changed.
 pub(crate) fn set_alike(
     logs: &mut Logs,
     guesses: &Guesses<Entity>,

@@ -1,4 +1,4 @@
-//! Private steps of a process that rests on all that its step reads rests on: it is changed where it stands, and neither notes
+//! Private steps of a process that depends on all that its step reads depends on: it is changed where it stands, and neither notes
 //! nor lists change.
 ghost use Rattle.std.specs.Prelude.{◌≡◌, IfSome, None, true, false};
 ghost use Rattle.sk_machine.specs.Base.{MergedTakes, input_in, plain, DoesNext, look_at};
@@ -14,8 +14,8 @@ use sk_plain::{InputRef, Plan};
 use sk_script::{Instruction, Scripts};
 
 impl Machine {
-    /// So many guesses a process has to rest on at least, for its signals to rest on no others: all that are undecided, or none
-    /// where the signals rest on none. The last step tells which is looked for. `None` where neither is known.
+    /// So many guesses a process has to depend on at least, for its signals to depend on no others: all that are undecided, or none
+    /// where the signals depend on none. The last step tells which is looked for. `None` where neither is known.
     fn least_tags(&self, pid: Pid) -> Option<usize>
         requires { IsOrdered (undo_state_of self.now) }
         ensures { IfSome result (λ least. IsEnough least pid self.now.slots) }
@@ -33,7 +33,7 @@ impl Machine {
         None
     }
 
-    /// Does a planned private instruction where its process goes on with the guesses that it rests on. Answers whether; else
+    /// Does a planned private instruction where its process goes on with the guesses that it depends on. Answers whether; else
     /// nothing has changed. This takes no memory.
     pub(crate) fn go_on(
         &mut self,

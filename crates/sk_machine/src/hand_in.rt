@@ -16,7 +16,7 @@ use sk_undo::Logs;
 use std::alloc::AllocError;
 use std::slice;
 
-/// Sets what a process has become, where it stands, which rests on these guesses. Without memory nothing has changed.
+/// Sets what a process has become, where it stands, which depends on these guesses. Without memory nothing has changed.
 #[tactic(auto, using(crate::proofs::Writes::performed))]
 fn set_process(logs: &mut Logs, tags: TagSet, pid: Pid, process: &Process) -> Result<(), AllocError>
     requires there { IsProcess (look_at logs.old.slots (Proc pid)) }
@@ -31,7 +31,7 @@ fn set_process(logs: &mut Logs, tags: TagSet, pid: Pid, process: &Process) -> Re
 }
 
 impl Machine {
-    /// The guesses that private instructions of a process rest on: those of the process and of its signals, of which there
+    /// The guesses that private instructions of a process depend on: those of the process and of its signals, of which there
     /// are none where no guess is open.
     fn alone_tags(&self, pid: Pid) -> Result<TagSet, AllocError>
         requires { IsOrdered (undo_state_of self.now) }

@@ -1,5 +1,5 @@
 //! What a kernel keeps beside its trace, and what each event makes of it in place: what entities have
-//! with their undo logs, the status of each guess, what rests on each undecided one, and the texts of the
+//! with their undo logs, the status of each guess, what depends on each undecided one, and the texts of the
 //! terminals.
 #![tactic(auto)]
 

@@ -1,4 +1,4 @@
-//! The lists of what rests on each undecided guess, as steps and failures change them.
+//! The lists of what depends on each undecided guess, as steps and failures change them.
 ghost use Rattle.std.specs.Prelude.{◌≡◌, ◌∷◌, ℕ, true, OnOk, OnErr, []};
 ghost use Rattle.sk_machine.specs.Base.{IsStrictlySortedBy, nat_cmp, has, numbers, undo_state, dependents_of, opens_of};
 ghost use Rattle.sk_machine.specs.Base.{entity_cmp};
@@ -12,7 +12,7 @@ use sk_ids::{Entity, GuessId, TagSet};
 use sk_undo::Logs;
 use std::alloc::AllocError;
 
-/// The guesses that an entity rests on, where this is the set of none.
+/// The guesses that an entity depends on, where this is the set of none.
 #[inline(always)]
 pub(crate) fn tags_of<'a>(logs: &'a Logs, untagged: &'a TagSet, entity: &Entity) -> &'a TagSet
     requires { untagged.now ≡ [] }
@@ -24,7 +24,7 @@ pub(crate) fn tags_of<'a>(logs: &'a Logs, untagged: &'a TagSet, entity: &Entity)
     }
 }
 
-/// Adds an entity to the lists of these guesses. Most entities rest on all that are open, or on just these, and are there.
+/// Adds an entity to the lists of these guesses. Most entities depend on all that are open, or on just these, and are there.
 fn depend(
     guesses: &mut Guesses<Entity>,
     own: &TagSet,
@@ -78,7 +78,7 @@ fn depend_each(
     Ok(())
 }
 
-/// Adds what a step writes to the lists of the guesses that the step rests on. Without memory the lists
+/// Adds what a step writes to the lists of the guesses that the step depends on. Without memory the lists
 /// have what they had.
 #[inline(always)]
 pub(crate) fn depend_all(
@@ -100,7 +100,7 @@ pub(crate) fn depend_all(
     depend_each(guesses, logs, untagged, tags, entities)
 }
 
-/// Takes entities out of the lists of the guesses that they do not rest on.
+/// Takes entities out of the lists of the guesses that they do not depend on.
 pub(crate) fn relieve_all(
     guesses: &mut Guesses<Entity>,
     logs: &Logs,
@@ -118,7 +118,7 @@ pub(crate) fn relieve_all(
     }
 }
 
-/// Whether an entity rests on one guess, and on no other.
+/// Whether an entity depends on one guess, and on no other.
 fn rests_alone(logs: &Logs, untagged: &TagSet, id: GuessId, entity: &Entity) -> bool
     requires { untagged.now ≡ [] }
     ensures { result ≡ true → Covers (id ∷ []) (entity.now ∷ []) (tags_in logs.now.slots) }
@@ -142,7 +142,7 @@ fn rest_alone(logs: &Logs, untagged: &TagSet, id: GuessId, entities: &[Entity]) 
     true
 }
 
-/// Whether all that rests on a guess rests on no other. Where no other is open nobody asks.
+/// Whether all that depends on a guess depends on no other. Where no other is open nobody asks.
 pub(crate) fn is_alone(
     guesses: &Guesses<Entity>,
     logs: &Logs,
@@ -159,7 +159,7 @@ pub(crate) fn is_alone(
     rest_alone(logs, untagged, id, guesses.dependents(id))
 }
 
-/// Takes what rested on a failed guess out of the lists of the guesses that it does not rest on. Mostly it is in none of them.
+/// Takes what depended on a failed guess out of the lists of the guesses that it does not depend on. Mostly it is in none of them.
 pub(crate) fn relieve_freed(
     guesses: &mut Guesses<Entity>,
     logs: &Logs,

@@ -67,7 +67,7 @@ impl Look for Machine {
     }
 }
 
-/// Performs a plan, whose writes and text rest on the guesses of the next step. Without memory nothing has changed.
+/// Performs a plan, whose writes and text depend on the guesses of the next step. Without memory nothing has changed.
 #[inline(always)]
 fn perform(
     logs: &mut Logs,
@@ -170,7 +170,7 @@ impl Machine {
         })
     }
 
-    /// Adds to a set the guesses that these entities rest on.
+    /// Adds to a set the guesses that these entities depend on.
     pub(crate) fn add_tags(&self, tags: TagSet, entities: &[Entity]) -> Result<TagSet, AllocError>
         ensures members { IfOk result
             (λ all. (g : ℕ) → has g all ≡ (has g tags || any_rests self.now g entities.now)) }
@@ -217,7 +217,7 @@ impl Machine {
         self.add_tags(read, written)
     }
 
-    /// Adds to a set the guesses of all that a planned step touches. Where its process rests on all that are open, nothing
+    /// Adds to a set the guesses of all that a planned step touches. Where its process depends on all that are open, nothing
     /// else is looked at. It stands by itself, so that a step while no guess is open has no place for what it reads in its frame.
     #[inline(never)]
     fn add_touched(
@@ -245,7 +245,7 @@ impl Machine {
         Ok(tags)
     }
 
-    /// The guesses that a planned step rests on: those of all that it touches, of which there are none where no guess is
+    /// The guesses that a planned step depends on: those of all that it touches, of which there are none where no guess is
     /// open, and its own.
     #[inline(always)]
     fn step_tags(
@@ -304,7 +304,7 @@ impl Machine {
         self.take_apart(scripts, pid, input, plan)
     }
 
-    /// Takes the step where it rests on just what its process does. Answers whether; else, and without memory, nothing has changed.
+    /// Takes the step where it depends on just what its process does. Answers whether; else, and without memory, nothing has changed.
     fn take_alike(
         &mut self,
         scripts: &Scripts,
@@ -343,7 +343,7 @@ impl Machine {
         Ok(true)
     }
 
-    /// Takes the step where what it writes may come to rest on more. Without memory nothing has changed.
+    /// Takes the step where what it writes may come to depend on more. Without memory nothing has changed.
     #[inline(never)]
     fn take_apart(
         &mut self,
@@ -443,7 +443,7 @@ impl Machine {
         Ok(self.guesses.draw_reserved(own_tags, entities))
     }
 
-    /// Commits an undecided guess: nothing rests on it any more. This takes no memory.
+    /// Commits an undecided guess: nothing depends on it any more. This takes no memory.
     pub fn commit(&mut self, id: GuessId)
         requires grow { AllGrow self.old.slots }
         requires rest { AllRest self.old.slots }
@@ -460,7 +460,7 @@ impl Machine {
         self.terminals.commit(id);
     }
 
-    /// Fails an undecided guess: what rests on it is taken back in place, and the open guesses whose
+    /// Fails an undecided guess: what depends on it is taken back in place, and the open guesses whose
     /// steps do are struck. This takes no memory.
     pub fn fail(&mut self, id: GuessId)
         requires grow { AllGrow self.old.slots }
@@ -497,7 +497,7 @@ impl Machine {
     }
 
     /// The entities that are present, by their order, each once, with what they have and the undecided guesses that they
-    /// rest on.
+    /// depend on.
     pub fn entries(&self) -> Result<Vec<Present<'_>>, AllocError>
         ensures rising { IfOk result
             (λ all. IsStrictlySortedBy entity_cmp (listed.entities_of all.items)) }
@@ -511,14 +511,14 @@ impl Machine {
         self.logs.entries()
     }
 
-    /// The undecided guesses that an entity rests on.
+    /// The undecided guesses that an entity depends on.
     pub fn tags_of(&self, entity: &Entity) -> &TagSet
         ensures { result.now ≡ tags_at (undo_state_of self.now) entity.now }
     {
         tags_of(&self.logs, &self.untagged, entity)
     }
 
-    /// The entities that rest on a guess, by rising order; none where it is not undecided.
+    /// The entities that depend on a guess, by rising order; none where it is not undecided.
     pub fn dependents(&self, id: GuessId) -> &[Entity]
         ensures rising { IsStrictlySortedBy entity_cmp result.now }
         ensures exact { has id (numbers self.now.opens) ≡ true → (e : Entity)

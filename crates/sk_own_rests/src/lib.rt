@@ -1,4 +1,4 @@
-//! What each step of a kernel over own keys rested on when it was taken, and what that says of the end.
+//! What each step of a kernel over own keys depended on when it was taken, and what that says of the end.
 #![tactic(auto)]
 
 pub mod laws;

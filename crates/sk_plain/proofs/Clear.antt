@@ -1,4 +1,4 @@
--- No text of the plain kernel rests on a guess, so all are released: from how a text is said.
+-- No text of the plain kernel depends on a guess, so all are released: from how a text is said.
 use Rattle.sk_plain.proofs.Cites.{◌≡◌, ℕ, Bool, true, false, cond, List, [], ◌∷◌, ◌++◌, map, Option, Some, None, refl}
 use Rattle.sk_plain.proofs.Cites.{sym, subst, ap, ◌==◌, unwrap_or, AllByRecursion, nat_cmp, append-nil, released}
 use Rattle.sk_plain.proofs.Cites.{TaggedText, TerminalMap, texts_at, texts_said, Saying, AllClear, with_said}

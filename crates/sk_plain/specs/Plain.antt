@@ -11,7 +11,7 @@ use Rattle.sk_plain.specs.Refusal.{cause}
 use Rattle.sk_plain.specs.Act.{act, Saying}
 use Rattle.sk_plain.specs.Planned.{refusal_of, texts_after}
 
--- the scripts that it was booted with, what entities have, and the texts of each terminal, of which none rests on a guess
+-- the scripts that it was booted with, what entities have, and the texts of each terminal, of which none depends on a guess
 pub record PlainView : Type 0 where
   pub scripts : ScriptMap
   pub state : State
@@ -30,11 +30,11 @@ plain_start boot = record { scripts = boot.scripts; state = start_of boot; texts
 abbrev pub texts_said : PlainView → ℕ → List (List ℕ)
 texts_said k t = released (texts_at k.texts t)
 
--- all texts said to a terminal so far, whatever they rest on
+-- all texts said to a terminal so far, whatever they depend on
 abbrev pub all_said : PlainView → ℕ → List (List ℕ)
 all_said k t = map (λ x. x.0) (texts_at k.texts t)
 
--- none of the texts rests on a guess
+-- none of the texts depends on a guess
 abbrev pub AllClear : TerminalMap → Type 0
 AllClear m = (t : ℕ) → AllByRecursion (λ x. x.1 ≡ []) (texts_at m t)
 

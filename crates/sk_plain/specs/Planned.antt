@@ -45,7 +45,7 @@ said_in p _ = None
 abbrev pub said_by : PlanView → Option Saying
 said_by plan = said_in plan.process plan.beside
 
--- the texts after a step that rests on these guesses
+-- the texts after a step that depends on these guesses
 abbrev pub texts_after : TerminalMap → List ℕ → Option Saying → TerminalMap
 texts_after texts tags None = texts
 texts_after texts tags (Some s) = said_to texts s.to (s.text, tags)

@@ -757,7 +757,7 @@ fn perform_any<K: Keeper>(
 }
 
 /// Performs what was planned for the next step of a process: its writes, and the text that it says,
-/// which rests on what the step rests on. Without memory nothing has changed.
+/// which depends on what the step depends on. Without memory nothing has changed.
 #[inline(always)]
 #[tactic(auto, using(crate::proofs::Plans::row_quiet))]
 pub fn perform_plan<K: Keeper>(

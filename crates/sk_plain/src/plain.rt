@@ -17,7 +17,7 @@ use sk_terminal::Terminals;
 use std::alloc::{AllocError, Global};
 use std::marker::Model;
 
-/// A kernel without guesses. No text that it keeps rests on one.
+/// A kernel without guesses. No text that it keeps depends on one.
 #[derive(Drop)]
 pub struct Plain {
     scripts: Scripts,

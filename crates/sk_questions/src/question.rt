@@ -7,9 +7,9 @@ use sk_words::Index;
 pub enum Question {
     /// What an entity has.
     Value(Entity),
-    /// The undecided guesses that an entity rests on.
+    /// The undecided guesses that an entity depends on.
     Tags(Entity),
-    /// The entities that rest on a guess.
+    /// The entities that depend on a guess.
     Dependents(GuessId),
     /// What a terminal has released, and how many texts wait.
     Terminal(Index),

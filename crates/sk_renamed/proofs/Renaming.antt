@@ -69,7 +69,7 @@ module _ {B K V : Type 0} (names : B → B → Ordering) (keys : K → K → Ord
   in_at b ws xs are None is = sym (unnamed_in b is ws xs are)
   in_at b ws xs are (Some k) is = sym (named_in b k is ws xs are)
 
--- ---- the guesses that a step rests on
+-- ---- the guesses that a step depends on
 
 module _ {B K V : Type 0} (key : B → Option K) (a : UndoState K V) (g : ℕ) where
   abbrev rests : Option K → Bool

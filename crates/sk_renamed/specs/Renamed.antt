@@ -12,7 +12,7 @@ at_key other f None = other
 at_key other f (Some k) = f k
 
 module _ {B K : Type 0} (key : B → Option K) where
-  -- a name has what its key has; one that stands for no key is absent and rests on nothing
+  -- a name has what its key has; one that stands for no key is absent and depends on nothing
   abbrev pub renamed_state : {V : Type 0} → UndoState K V → UndoState B V
   renamed_state a = record
       { look = λ b. at_key None a.look (key b); logs = λ b. at_key [] a.logs (key b); opens = a.opens }

@@ -1,4 +1,4 @@
--- What is listed beside the answer to an event: what its step read and wrote, and the guesses that it rests on.
+-- What is listed beside the answer to an event: what its step read and wrote, and the guesses that it depends on.
 use Rattle.std.specs.Prelude.{ℕ, List, [], ◌∷◌, ◌++◌, codes, Option, Some, None, Result, Ok, Err}
 use Rattle.sk_report.specs.Base.{Entity, Proc, Event, Refusal, KernelView, effect_at, tags_at, footprint_of, appended}
 use Rattle.sk_report.specs.Base.{Footprint}
@@ -17,7 +17,7 @@ abbrev pub touched_lines : Result Footprint Refusal → List ℕ → List ℕ
 touched_lines (Ok f) tags = footprint_lines f tags
 touched_lines (Err why) tags = []
 
--- of an event that leads from one kernel to another: what the plain kernel reads and writes there, and what the process rests on then,
+-- of an event that leads from one kernel to another: what the plain kernel reads and writes there, and what the process depends on then,
 -- which the step has written; of a decision nothing
 abbrev pub event_lines : KernelView → KernelView → Option Event → List ℕ
 event_lines old new (Some (Event.Step pid input)) =

@@ -1,4 +1,4 @@
-//! What a step touched: what it read, what it wrote, and the guesses that it rests on.
+//! What a step touched: what it read, what it wrote, and the guesses that it depends on.
 ghost use Rattle.std.specs.Prelude.{Some, ◌∷◌, OnOk, flat_map};
 ghost use Rattle.std.specs.Io.KnownBytes.{Appends};
 ghost use Rattle.sk_report.specs.Footprints.{entities_text, footprint_lines};
@@ -45,7 +45,7 @@ impl fmt::Display for PrintedEntities<'_> {
     }
 }
 
-/// Writes what a step read and wrote, and the guesses that it rests on, a line each.
+/// Writes what a step read and wrote, and the guesses that it depends on, a line each.
 pub fn write_footprint<W: Write>(
     footprint: &Footprint,
     tags: &TagSet,

@@ -14,7 +14,7 @@ use sk_terminal::Terminal;
 use std::io;
 use std::io::Write;
 
-/// The places of the end of a line where its entity rests on no guess.
+/// The places of the end of a line where its entity depends on no guess.
 pub const END: usize = 9;
 
 /// A kernel of which a report is written.
@@ -31,10 +31,10 @@ pub trait Subject {
     /// The lines of a terminal.
     ghost terminal_lines: { Self → ℕ → List ℕ };
 
-    /// The guesses that each entity rests on.
+    /// The guesses that each entity depends on.
     ghost tags: { Self → Entity → List ℕ };
 
-    /// What stands at the end of the line of an entity that rests on these guesses.
+    /// What stands at the end of the line of an entity that depends on these guesses.
     ghost end_with: { List ℕ → List ℕ };
 
     /// Writes how many texts a terminal has, and those that are out.
@@ -42,7 +42,7 @@ pub trait Subject {
         ensures { OnOk result (Appends (W.contents out.old) (W.contents out.new)
             (terminal_lines self.now number)) };
 
-    /// Puts the end of the line of an entity that rests on these guesses in a line, before a place, and returns where it starts;
+    /// Puts the end of the line of an entity that depends on these guesses in a line, before a place, and returns where it starts;
     /// `None` for a longer one.
     fn put_end(ids: &[GuessId], line: &mut [u8], end: usize) -> Option<usize>
         requires { (END ≤ end) × (end ≤ length line.old) }

@@ -1,4 +1,4 @@
-//! The guesses that an entity rests on, put in a room from the last one on and written at once.
+//! The guesses that an entity depends on, put in a room from the last one on and written at once.
 ghost use Rattle.std.specs.Prelude.{◌≡◌, ◌≤◌, ◌+◌, ◌*◌, ◌∷◌, ◌++◌, codes, decimal, drop, flat_map, length, OnOk};
 ghost use Rattle.sk_report.specs.Base.{Appends, TAG};
 ghost use Rattle.sk_report.specs.Printed.{tags_text};
@@ -48,7 +48,7 @@ fn put_tags(ids: &[GuessId], line: &mut [u8], end: usize) -> usize
     }
 }
 
-/// Writes the guesses that an entity rests on, behind ` tags `.
+/// Writes the guesses that an entity depends on, behind ` tags `.
 pub(crate) fn write_tags<W: Write>(ids: &[GuessId], out: &mut W) -> io::Result<()>
     ensures { OnOk result (Appends (W.contents out.old) (W.contents out.new)
         (codes " tags " ++ tags_text ids.now)) }

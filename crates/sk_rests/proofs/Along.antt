@@ -18,7 +18,7 @@ use Rattle.sk_rests.proofs.Names.{done_at, IsLogged, IsLogOf, Logs}
 use Rattle.sk_rests.proofs.Lists.{rested, none_kept, all_false, any_map, keep_map, map_keep, flat, failed_more, failed_is, kept_more, kept_one, kept_push, hits_push, no_hits, marks_is}
 
 module _ {K V O F N : Type 0} (own : System K V (ℕ × O) F N) (start : FinMap own.order V) where
-  -- the machine stands for the trace, whose record is that of the steps that are left; these have what they rest on flagged
+  -- the machine stands for the trace, whose record is that of the steps that are left; these have what they depend on flagged
   pub record Stands (es : List (Event N)) (log : List (Logged N O)) (m : Machine K V (ℕ × O)) : Type 0 where
     pub stands : MergedStands own start es m
     pub left : List (Logged N O)
@@ -113,7 +113,7 @@ module _ {K V O F N : Type 0} (own : System K V (ℕ × O) F N) (total : IsTotal
         ∙ (λ i. keep (s.flags c is_open i) (s.flags g there i))
         ∙ keep_map (λ r. has c r.rests) (λ r. has g r.rests) s.left
 
-    -- and what it rests on is still marked
+    -- and what it depends on is still marked
     marked_left : (g : ℕ) → has g (undecided_of own start es) ≡ true
         → rested g (filter (λ r. not (has c r.rests)) s.left) ≡ true
         → still_marked (effects own start (strike own start (record_of own start es) c)) g ≡ true
@@ -197,7 +197,7 @@ module _ {K V O F N : Type 0} (own : System K V (ℕ × O) F N) (total : IsTotal
     open_after : undecided_of own start (es ++ Taken n ∷ []) ≡ undecided_of own start es ++ marks (own.mark n)
     open_after = ap (λ (r : Record N). r.undecided) (recorded_more own start no_record es (Taken n))
 
-    -- it rests on what the tags say
+    -- it depends on what the tags say
     is_its_tag : (g : ℕ) → has g r.rests ≡ is_tag now.state left_behind g
     is_its_tag g =
         logged.rests g
@@ -225,7 +225,7 @@ module _ {K V O F N : Type 0} (own : System K V (ℕ × O) F N) (total : IsTotal
         ∙ and-true (q g)
         ∙ ap (λ ns. hit own.order g (dirt own.order g [] (effects own start ns)) left_behind) (entries_are own start es)
 
-    -- all that it rests on is open then, or its own guess
+    -- all that it depends on is open then, or its own guess
     rests_open : (g : ℕ) → has g r.rests ≡ true
         → (has g (undecided_of own start es) ≡ true) ⊎ (is_marked (own.mark n) g ≡ true)
     rests_open g here =
@@ -256,7 +256,7 @@ module _ {K V O F N : Type 0} (own : System K V (ℕ × O) F N) (total : IsTotal
         true≢false (sym g.2 ∙ not_failed g.0
         (rests_open g.0 (any_at (λ t. t == g.0) r.rests g.0 g.1 (eq-eqb g.0 g.0 refl)))))
 
-    -- no step that is left rests on its own guess
+    -- no step that is left depends on its own guess
     none_rested : (g : ℕ) → is_marked (own.mark n) g ≡ true → rested g s.left ≡ false
     none_rested g is =
         ap (rested g) s.is

@@ -65,7 +65,7 @@ module _ {K V O F N : Type 0} (own : System K V (ℕ × O) F N) where
       ∙ sym (map-append (λ x. (x.0, filter (λ g. has g x.1) guesses)) (said_by own t r.said r.rests)
       (said_to own t log))
 
-  -- each output that some steps said has what one of them rested on
+  -- each output that some steps said has what one of them depended on
   of_some : (t : ℕ) (said : Option (ℕ × O)) (tags : List ℕ) (x : Tagged (ℕ × O)) → Contains (said_by own t said tags) x
       → x.1 ≡ tags
   of_some t None tags x there = nothing_there x there
@@ -148,7 +148,7 @@ module _ {K V O F N : Type 0} (own : System K V (ℕ × O) F N) (total : IsTotal
           λ d. some_same (sym flag ∙ law.1 d),
         )
 
-    -- all outputs, with what they rest on of what is undecided
+    -- all outputs, with what they depend on of what is undecided
     outputs : (t : ℕ) → untagged (told t) ++ b.texts t ≡ resting_among (numbers b.state.opens) (said_to own t s.left)
     outputs t =
         let us = undecided_of own start es in
@@ -159,7 +159,7 @@ module _ {K V O F N : Type 0} (own : System K V (ℕ × O) F N) (total : IsTotal
         ∙ said_as_logged own t us (λ g. []) (effects_of own start es) s.left s.said s.flags
         ∙ ap (λ us. resting_among us (said_to own t s.left)) (sym opens)
 
-    -- what rests on nothing that is undecided rests on committed guesses alone
+    -- what depends on nothing that is undecided depends on committed guesses alone
     settles : (t : ℕ) (x : Tagged (ℕ × O)) (g : ℕ) → Contains (said_to own t s.left) x
         → filter (λ h. has h x.1) (numbers b.state.opens) ≡ [] → has g x.1 ≡ true
         → b.status g ≡ Some Committed

@@ -5,7 +5,7 @@ use Rattle.sk_rests.proofs.Names.{list_any-append, filter-append, MarkedEffect, 
 use Rattle.sk_rests.proofs.Names.{keep, touches, has, Event, Taken, Commit, Fail, marks, still_marked, is_fail}
 use Rattle.sk_rests.proofs.Names.{eqb_turned, or_no, Logged, failed_in, is_struck, kept}
 
--- whether one of some steps rested on a guess
+-- whether one of some steps depended on a guess
 abbrev pub rested : {N O : Type 0} → ℕ → List (Logged N O) → Bool
 rested g log = list_any (λ r. has g r.rests) log
 

@@ -23,7 +23,7 @@ pub record IsSaid {K V O : Type 0} (said : List (Tagged (ℕ × O))) (t : ℕ) (
   pub gone : told t ≡ map (λ x. x.0) out
   -- what waits has as tags those of its guesses that are undecided
   pub texts : b.texts t ≡ resting_among (numbers b.state.opens) waiting
-  -- what is out rests on committed guesses alone
+  -- what is out depends on committed guesses alone
   pub settled : (x : Tagged (ℕ × O)) (g : ℕ) → Contains out x → has g x.1 ≡ true → b.status g ≡ Some Committed
   -- and so does what waits without tags
   pub ready : (x : Tagged (ℕ × O)) (g : ℕ) → Contains waiting x
@@ -36,13 +36,13 @@ module _ {K V O F N : Type 0} (own : System K V (ℕ × O) F N) where
     -- the guesses that were committed, and those that failed, have this status
     pub committed : (g : ℕ) → Contains es (Commit g) ↔ (b.status g ≡ Some Committed)
     pub failed : (g : ℕ) → (has g (failed_in es) ≡ true) ↔ (b.status g ≡ Some Failed)
-    -- the entries that stand are those of the steps that rested on no guess that failed
+    -- the entries that stand are those of the steps that depended on no guess that failed
     pub entries : record_of own start es ≡ map (λ r. r.entry) (kept (failed_in es) log)
-    -- each of them depends on an undecided guess just where it rested on it when it was taken
+    -- each of them depends on an undecided guess just where it depended on it when it was taken
     pub depends : (k g : ℕ) (r : Logged N O) → slice_get (kept (failed_in es) log) k ≡ Some r
         → b.status g ≡ Some Undecided
         → (has g r.rests ≡ true) ↔ Dep (effects_of own start es) g k
-    -- all that it rested on is undecided or committed
+    -- all that it depended on is undecided or committed
     pub decided : (r : Logged N O) (g : ℕ) → Contains (kept (failed_in es) log) r → has g r.rests ≡ true
         → (b.status g ≡ Some Undecided) ⊎ (b.status g ≡ Some Committed)
     -- what they said is what the channels have let go and what waits there
@@ -56,7 +56,7 @@ module _ {K V O F N : Type 0} (own : System K V (ℕ × O) F N) where
       → (log : List (Logged N O)) (told : Told O)
       → Starts own start a → Logs own (λ t. []) a cs log told b → IsAsLogged start (moves_of cs) log told b
 
--- where just the guesses from the first to the last fail more, what is left loses just what rested on one of them
+-- where just the guesses from the first to the last fail more, what is left loses just what depended on one of them
 abbrev pub RangeIsStruck : (N O : Type 0) → Type 0
 RangeIsStruck N O =
     (failed more : List ℕ) (first last : ℕ) (log : List (Logged N O))

@@ -1,4 +1,4 @@
--- What is logged of steps along any calls: what each said, and what it rested on when it was taken.
+-- What is logged of steps along any calls: what each said, and what it depended on when it was taken.
 use Rattle.std.specs.Prelude.{◌≡◌, ℕ, Bool, not, List, [], ◌∷◌, ◌++◌, map, Option}
 use Rattle.std.specs.List.{filter, list_any}
 use Rattle.sk_record.specs.Step.{perform}
@@ -12,7 +12,7 @@ use Rattle.sk_record.specs.Machine.{Machine, Tagged}
 use Rattle.sk_deeds.specs.Moves.{Moves}
 use Rattle.sk_deeds.specs.Told.{Call, Does, Tells, Told, told_more, TakenOut}
 
--- a step that was taken: its entry, what it said to which channel, and the guesses that it rested on then
+-- a step that was taken: its entry, what it said to which channel, and the guesses that it depended on then
 pub record Logged (N O : Type 0) : Type 0 where
   pub entry : N
   pub said : Option (ℕ × O)
@@ -26,11 +26,11 @@ failed_in (Commit g ∷ es) = failed_in es
 failed_in (Fail g ∷ es) = g ∷ failed_in es
 
 module _ {N O : Type 0} where
-  -- whether a step rested on one of these guesses
+  -- whether a step depended on one of these guesses
   abbrev pub is_struck : List ℕ → Logged N O → Bool
   is_struck failed r = list_any (λ g. has g failed) r.rests
 
-  -- the steps that rested on none of them, in their order
+  -- the steps that depended on none of them, in their order
   abbrev pub kept : List ℕ → List (Logged N O) → List (Logged N O)
   kept failed log = filter (λ r. not (is_struck failed r)) log
 
@@ -39,7 +39,7 @@ abbrev pub resting_among : {W : Type 0} → List ℕ → List (Tagged W) → Lis
 resting_among guesses xs = map (λ x. (x.0, filter (λ g. has g x.1) guesses)) xs
 
 module _ {K V O F N : Type 0} (own : System K V (ℕ × O) F N) where
-  -- what some steps said to a channel, each output with what its step rested on
+  -- what some steps said to a channel, each output with what its step depended on
   abbrev pub said_to : ℕ → List (Logged N O) → List (Tagged (ℕ × O))
   said_to t [] = []
   said_to t (r ∷ log) = said_by own t r.said r.rests ++ said_to t log

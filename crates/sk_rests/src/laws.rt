@@ -4,13 +4,13 @@ ghost use Rattle.sk_record.specs.Run.{System};
 ghost use Rattle.sk_rests.specs.Laws.{StandsAsLogged, RangeIsStruck};
 ghost use Rattle.sk_rests.specs.Idle.{IdleMayGo, PartIsKept};
 
-/// Whoever logs of each step what it rested on when it was taken knows, after any calls, which steps stand, what each of them
-/// depends on, and that what went out of a channel rests on committed guesses alone.
+/// Whoever logs of each step what it depended on when it was taken knows, after any calls, which steps stand, what each of them
+/// depends on, and that what went out of a channel depends on committed guesses alone.
 pub fn as_logged<K: Ord, V, O, F, N>()
     ensures { (own : System K V (ℕ × O) F N) → StandsAsLogged own }
 {}
 
-/// Where just the guesses of a range fail, what is left loses just what rested on one of the range.
+/// Where just the guesses of a range fail, what is left loses just what depended on one of the range.
 pub fn range_struck<N, O>()
     ensures { RangeIsStruck N O }
 {}

@@ -1,4 +1,4 @@
-//! What is listed beside the answer to an event: what its step read and wrote, and the guesses that it rests on.
+//! What is listed beside the answer to an event: what its step read and wrote, and the guesses that it depends on.
 ghost use Rattle.std.specs.Prelude.{◌≡◌, OnOk};
 ghost use Rattle.std.specs.Io.KnownBytes.{Appends};
 ghost use Rattle.sk_run.specs.Listing.{foreseen, foreseen_lines};
@@ -30,7 +30,7 @@ pub(crate) fn foresee(kernel: &Kernel, upcoming: Option<(Pid, Input)>) -> Forese
     Foreseen { place, footprint }
 }
 
-/// Writes what was foreseen of a step, and what its process rests on now, where the step was taken.
+/// Writes what was foreseen of a step, and what its process depends on now, where the step was taken.
 pub(crate) fn write_foreseen<W: Write>(
     kernel: &Kernel,
     foreseen: &Foreseen,

@@ -1,4 +1,4 @@
--- A key that is absent and rests on no guess when an entry is taken is absent in each plain run of what is left, at that entry.
+-- A key that is absent and depends on no guess when an entry is taken is absent in each plain run of what is left, at that entry.
 use Rattle.sk_served.proofs.Names.{◌≡◌, ℕ, Bool, true, false, ◌||◌, List, ◌∷◌, ◌++◌, map, Option, Some, None, Result}
 use Rattle.sk_served.proofs.Names.{Ok, Err, IsOk, inl, inr, refl, sym, ap, subst, ◌∙◌, ◌==◌, list_any, IsTotalOrder}
 use Rattle.sk_served.proofs.Names.{eq_by_cmp, FinMap, get, IsAntisymmetric, or_parts, or_from, or_cases, true≢false}
@@ -159,7 +159,7 @@ module _ {E V W F N : Type 0} (K : System E V W F N) (total : IsTotalOrder K.ord
 
   -- ---- a trace
   module _ (exact : IsAntisymmetric K.order) (start : FinMap K.order V) where
-    -- What each entry lacks is absent and rests on no guess when the entry is taken.
+    -- What each entry lacks is absent and depends on no guess when the entry is taken.
     abbrev pub TakenClean : List (Event N) → Type 0
     TakenClean es = (before later : List (Event N)) (n : N) → es ≡ before ++ Taken n ∷ later → (e : E) → lacks n e ≡ true
         → (get (run K start (record_of K start before)) e ≡ None) × ((g : ℕ) → ¬ (IsTagOf K start before e g))

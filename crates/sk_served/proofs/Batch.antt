@@ -1,4 +1,4 @@
--- What a batch logs rests on its guess.
+-- What a batch logs depends on its guess.
 use Rattle.sk_served.proofs.Names.{◌≡◌, ◌<◌, ℕ, suc, true, List, [], ◌∷◌, ◌++◌, map, slice_get, Option, Some, Ok, refl}
 use Rattle.sk_served.proofs.Names.{ap, ◌∙◌, zero, eq_by_cmp, FinMap, get, list_any, or_left, or_right, list_any-append}
 use Rattle.sk_served.proofs.Names.{bytes_eq-Decides, Dep, fed, itself, is_in, touches, writes, MarkedEffect, after}

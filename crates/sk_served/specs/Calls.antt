@@ -12,7 +12,7 @@ use Rattle.sk_served.specs.Laws.{HoldsSame}
 abbrev pub Kernel : Type 0
 Kernel = Machine (List ℕ) (List ℕ) (ℕ × (ℕ × Answer))
 
--- Work that is taken names no reserved key, and where it is told of all keys just those are left out that are absent and rest on nothing.
+-- Work that is taken names no reserved key, and where it is told of all keys just those are left out that are absent and depend on nothing.
 abbrev pub IsProper : Kernel → Event Entry → Type 0
 IsProper a (Taken (Runs asked)) = (names_reserved asked.work ≡ false)
     × (wants_all asked.work ≡ true → LeavesOut (λ key. (a.state.look key ≡ None) × (tags_at a.state key ≡ [])) asked.known)

@@ -38,7 +38,7 @@ AreTold s [] = Unit {0}
 AreTold s (n ∷ ns) = IsTold (get s) n × AreTold (after served (outcome served s n) s) ns
 
 module _ (start : FinMap served.order (List ℕ)) where
-  -- The key is absent and rests on no guess.
+  -- The key is absent and depends on no guess.
   abbrev pub IsClear : List (Event Entry) → List ℕ → Type 0
   IsClear es key = (get (run served start (record_of served start es)) key ≡ None) × ((g : ℕ) → ¬ (IsTagOf served start es key g))
 

@@ -17,7 +17,7 @@ abbrev pub PlainStoresDo : Type 0
 PlainStoresDo = (work : Work) (entries : Entries)
     → Carries work entries (Ok (answer_to work entries)) (after_work work entries)
 
--- Work that a batch logs rests on its guess, where the batch begins before it.
+-- Work that a batch logs depends on its guess, where the batch begins before it.
 abbrev pub RestsOnItsBatch : Type 0
 RestsOnItsBatch = (start : FinMap served.order (List ℕ)) (ns : List Entry) (j i n : ℕ) (asked : Asked)
     → j < i → slice_get ns j ≡ Some (Opens n) → slice_get ns i ≡ Some (Runs asked) → asked.batch ≡ Some n

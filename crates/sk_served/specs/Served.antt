@@ -28,8 +28,8 @@ logged keys ticket (Ask key next) = Ask key (λ value. logged keys ticket (next 
 logged keys ticket (Refuse why) = Refuse why
 logged keys ticket (Done written said) = asking keys (Done written (option_map (λ s. (s.0, (ticket, s.1))) said))
 
--- A batch makes its key absent, which rests on its guess from then on. Work looks at the key of its batch last, and so
--- rests on it too.
+-- A batch makes its key absent, which depends on its guess from then on. Work looks at the key of its batch last, and so
+-- depends on it too.
 abbrev pub act : Entry → Step (List ℕ) (List ℕ) (ℕ × (ℕ × Answer)) (Unit {0})
 act (Opens n) = Done ((batch_key n, None) ∷ []) None
 act (Runs a) = logged (batch_keys a.batch) a.ticket (works a.channel a.known a.work)

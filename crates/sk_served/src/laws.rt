@@ -17,7 +17,7 @@ pub fn entries_act()
     ensures { EntriesAct }
 {}
 
-/// What a batch logs goes with it: work that looked at the key of its batch rests on the guess.
+/// What a batch logs goes with it: work that looked at the key of its batch depends on the guess.
 pub fn batch_law()
     ensures { RestsOnItsBatch }
 {}

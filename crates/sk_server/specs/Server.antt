@@ -35,11 +35,11 @@ is_in_turn s q = (q.number == s.next) && nat_le q.number LAST_REQUEST
 abbrev pub remembered : Request → List ℕ → List ℕ
 remembered q refused = filter (λ g. nat_le q.settled g) refused
 
--- the request rests on one of these guesses
+-- the request depends on one of these guesses
 abbrev pub is_dropped : Request → List ℕ → Bool
 is_dropped q refused = list_any (λ g. has g q.rests) refused
 
--- the answer where the request rests on no refused guess
+-- the answer where the request depends on no refused guess
 abbrev pub judged : FileMap → Ask → Answer
 judged files (Ask.Get name) = Answer.Copy (file_of files name)
 judged files (Ask.Check name version) =

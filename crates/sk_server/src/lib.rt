@@ -1,4 +1,4 @@
-//! The server of remote files: it answers requests in order, and drops what rests on a guess that it refused.
+//! The server of remote files: it answers requests in order, and drops what depends on a guess that it refused.
 #![tactic(auto)]
 
 mod files;

@@ -10,7 +10,7 @@ pub enum Answer {
     No(Content),
     /// The content of the file.
     Copy(Content),
-    /// The request rests on a refused guess.
+    /// The request depends on a refused guess.
     Dropped,
 }
 

@@ -45,7 +45,7 @@ pub enum EditRefusal {
 }
 
 /// A server of files. It answers requests by rising number, and remembers the guesses that it
-/// refused as long as a request can rest on them.
+/// refused as long as a request can depend on them.
 #[derive(Drop)]
 pub struct Server {
     files: Files,
@@ -226,7 +226,7 @@ impl Server {
         request.number == self.next && request.number <= LAST_REQUEST
     }
 
-    /// Whether a request rests on a guess that was refused and that it can still rest on.
+    /// Whether a request depends on a guess that was refused and that it can still depend on.
     fn is_dropped(&self, request: &RequestRef<'_>) -> bool
         ensures { result ≡ is_dropped (request_in request.now)
             (remembered (request_in request.now) self.now.refused) }
@@ -235,7 +235,7 @@ impl Server {
             && request.rests.contains(*guess))
     }
 
-    /// The answer where nothing refused is rested on.
+    /// The answer where nothing refused is depended on.
     fn judge(&self, ask: &AskRef<'_>) -> Verdict
         ensures { said self.now.files (ask_in ask.now) result
             ≡ judged self.now.files (ask_in ask.now) }

@@ -1,8 +1,8 @@
--- Entities that are present, each with what it has and the guesses that it rests on.
+-- Entities that are present, each with what it has and the guesses that it depends on.
 use Rattle.std.specs.Prelude.{◌≡◌, ℕ, List, [], map, Option, Some}
 use Rattle.sk_store.specs.Base.{Entity, EntityState, Present}
 
--- it has what the entity has, and rests on what the entity rests on
+-- it has what the entity has, and depends on what the entity depends on
 abbrev pub IsPresent : (Entity → Option EntityState) → (Entity → List ℕ) → Present → Type 0
 IsPresent look tags p = (look p.entity ≡ Some p.state.now) × (tags p.entity ≡ p.tags.now)
 
@@ -17,6 +17,6 @@ Shown = Entity × (EntityState × List ℕ)
 abbrev pub shown : Present → Shown
 shown p = (p.entity, (p.state.now, p.tags.now))
 
--- what an entity has that rests on no guess
+-- what an entity has that depends on no guess
 abbrev pub shown_alone : Entity × EntityState → Shown
 shown_alone e = (e.0, (e.1, []))

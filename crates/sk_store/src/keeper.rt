@@ -30,7 +30,7 @@ pub trait Keeper: Look {
     /// After that.
     ghost taken_back: { Self → Self.Back → Self };
 
-    /// The guesses that a step rests on.
+    /// The guesses that a step depends on.
     ghost step_tags: { Self → List ℕ };
 
     /// Whether nothing is noted of a write of a process, so that it wants no memory.
@@ -39,7 +39,7 @@ pub trait Keeper: Look {
     /// What it takes its memory from.
     fn memory(&self) -> Global;
 
-    /// Another set of the guesses that the step rests on whose writes it performs.
+    /// Another set of the guesses that the step depends on whose writes it performs.
     fn step_tags(&self) -> Result<TagSet, AllocError>
         ensures { IfOk result (λ tags. tags ≡ step_tags self.now) };
 

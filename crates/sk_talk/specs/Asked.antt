@@ -34,11 +34,11 @@ value_line look es e (Some s) = codes "value " ++ gathered look es e s ++ 10 ∷
 abbrev pub value_answer : KernelView → Entity → List ℕ
 value_answer k e = value_line (map.get (state_at k)) (map.keys (state_at k)) e (map.get (state_at k) e)
 
--- the undecided guesses that it rests on
+-- the undecided guesses that it depends on
 abbrev pub tags_answer : KernelView → Entity → List ℕ
 tags_answer k e = codes "tags " ++ tags_text (tags_at k e) ++ 10 ∷ []
 
--- these rest on a guess, and no others do; they rise
+-- these depend on a guess, and no others do; they rise
 pub record AreDependents (k : KernelView) (id : ℕ) (es : List Entity) : Type 0 where
   pub rising : IsStrictlySortedBy entity_cmp es
   pub exact : (e : Entity) → is_in entity_cmp es e ≡ has id (tags_at k e)

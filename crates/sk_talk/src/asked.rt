@@ -100,7 +100,7 @@ fn value(alloc: Global, kernel: &Kernel, entity: &Entity) -> Result<Vec<u8>, Sto
     Ok(text)
 }
 
-/// The line of the undecided guesses that an entity rests on.
+/// The line of the undecided guesses that an entity depends on.
 fn tags(alloc: Global, kernel: &Kernel, entity: &Entity) -> Result<Vec<u8>, Stop>
     ensures { IfOk result (λ text. text.items ≡ tags_answer kernel.now entity.now) }
 {
@@ -120,7 +120,7 @@ fn listed(alloc: Global, entities: &[Entity]) -> Result<Vec<u8>, Stop>
     Ok(text)
 }
 
-/// The line of the entities that rest on a guess.
+/// The line of the entities that depend on a guess.
 fn dependents(alloc: Global, kernel: &Kernel, id: GuessId) -> Result<Vec<u8>, Stop>
     ensures { IfOk result (λ text. TellsDependents kernel.now id text.items) }
 {

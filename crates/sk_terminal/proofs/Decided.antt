@@ -13,7 +13,7 @@ use Rattle.std.proofs.lemmas.Bool.Decides.{nat_tests}
 told_apart : (g c : ℕ) (tags : List ℕ) → has g tags ≡ true → has c tags ≡ false → (g == c) ≡ false
 told_apart g c tags here free = grind (arith, nat_tests)
 
--- ---- texts of which none rests on the guess stay, and after the decision none does
+-- ---- texts of which none depends on the guess stay, and after the decision none does
 abbrev pub LeavesFree : ℕ → (List TaggedText → List TaggedText) → Type 0
 LeavesFree c change = (texts : List TaggedText) → any_rests c texts ≡ false → texts ≡ change texts
 
@@ -36,7 +36,7 @@ pub drop_takes : (c : ℕ) → TakesOut c (not_dropped c)
 drop_takes c g [] here = absurd (false≢true here)
 drop_takes c g (x ∷ xs) here = grind (arith, told_apart g c x.1, drop_takes c g xs)
 
--- what another guess rests on is there after a commit
+-- what another guess depends on is there after a commit
 light_keeps : (c g : ℕ) → (g == c) ≡ false → (texts : List TaggedText) → any_rests g texts ≡ true → any_rests g (lightened c texts) ≡ true
 light_keeps c g apart [] here = here
 light_keeps c g apart (x ∷ xs) here = grind (arith, has_filter (λ t. not (t == c)) g x.1, light_keeps c g apart xs)
@@ -69,7 +69,7 @@ module _ (c : ℕ) (change : List TaggedText → List TaggedText) (leaves : Leav
   free_at None none = refl
   free_at (Some texts) none = ap Some (leaves texts none)
 
-  -- the terminals at which nothing rests on the guess are as they were
+  -- the terminals at which nothing depends on the guess are as they were
   pub decided : (m n : TerminalMap) (listed : ℕ → Bool) → ((t : ℕ) → listed t ≡ rests_at c m t)
       → ((t : ℕ) → map.get n t ≡ cond (listed t) (option_map change (map.get m t)) (map.get m t)) → (t : ℕ) → map.get n t ≡ option_map change (map.get m t)
   decided m n listed is now t = grind (arith, now t, is t, free_at (map.get m t))
@@ -78,15 +78,15 @@ module _ (c : ℕ) (change : List TaggedText → List TaggedText) (leaves : Leav
   takes_at g None here = absurd (false≢true here)
   takes_at g (Some texts) here = takes g texts here
 
-  -- after it nothing rests on the guess
+  -- after it nothing depends on the guess
   pub none_rests : (m n : TerminalMap) → ((t : ℕ) → map.get n t ≡ option_map change (map.get m t)) → (g t : ℕ) → (g == c) ≡ true → rests_at g n t ≡ false
   none_rests m n now g t same = grind (arith, now t, takes_at g (map.get m t))
 
-  -- and where something rests on another, it did before
+  -- and where something depends on another, it did before
   pub rested : (m n : TerminalMap) → ((t : ℕ) → map.get n t ≡ option_map change (map.get m t)) → (g t : ℕ) → rests_at g n t ≡ true → rests_at g m t ≡ true
   rested m n now g t here = grind (arith, now t, takes_at g (map.get m t))
 
-  -- where nothing rested on it, all is as it was
+  -- where nothing depended on it, all is as it was
   pub as_it_was : (m n : TerminalMap) → ((t : ℕ) → map.get n t ≡ option_map change (map.get m t)) → (g t : ℕ) → rests_at c m t ≡ false → rests_at g n t ≡ rests_at g m t
   as_it_was m n now g t none = grind (arith, now t, free_at (map.get m t))
 
@@ -100,11 +100,11 @@ committed_listed c m n ls ks all now taken g t =
     let free = none_rests c (lightened c) (light_leaves c) (light_takes c) m n now g t in
     grind (arith, nat_tests, taken.0 t, taken.1 g t, all g t, now t, light_others c g (map.get m t))
 
--- nor where there was no list: nothing rested on the guess
+-- nor where there was no list: nothing depended on the guess
 pub untouched_listed : (c : ℕ) (m : TerminalMap) (ls ks : List Listing) → AreListed m ls → NoneListed c ls → TakesList c ls ks → AreListed m ks
 untouched_listed c m ls ks all none taken g t = grind (arith, nat_tests, taken.0 t, taken.1 g t, none t, all g t)
 
--- at a failure the terminals that lost a text were taken off where nothing rests on a guess any more
+-- at a failure the terminals that lost a text were taken off where nothing depends on a guess any more
 pub failed_listed : (c : ℕ) (m n : TerminalMap) (ls ks js : List Listing) (freed : ℕ → Bool) → AreListed m ls → ((t : ℕ) → map.get n t ≡ option_map (not_dropped c) (map.get m t)) → TakesList c ls ks
     → ((t : ℕ) → freed t ≡ rests_at c m t) → ((g t : ℕ) → is_listed g t js ≡ (is_listed g t ks && (not (freed t) || rests_at g n t))) → AreListed n js
 failed_listed c m n ls ks js freed all now taken is left g t =

@@ -145,7 +145,7 @@ pub texts_length : (hs : List Held) → length (texts_of hs) ≡ length hs
 texts_length [] = refl
 texts_length (h ∷ hs) = ap suc (texts_length hs)
 
--- ---- a look back for a text that rests on a guess
+-- ---- a look back for a text that depends on a guess
 abbrev pub is_free : ℕ → Held → Bool
 is_free g h = not (has g h.said.1)
 

@@ -126,7 +126,7 @@ at_most old new k a more = grind (arith, nat_tests)
 pub one_more : (a b c d : Bool) → ((a || (b && d)) || (c && d)) ≡ (a || ((b || (c || false)) && d))
 one_more a b c d = grind arith
 
--- ---- a terminal taken out of a list where nothing of it rests on the guess
+-- ---- a terminal taken out of a list where nothing of it depends on the guess
 pub refreshed : (k t : ℕ) (xs : List ℕ) (rests : ℕ → Bool) (free : Bool) → free ≡ (has k xs && not (rests k)) → has t (cond free (without k xs) xs) ≡ (has t xs && (not (k == t) || rests t))
 refreshed k t xs rests free is = let left = has_filter (λ y. not (y == k)) t xs in grind (arith, nat_tests)
 

@@ -13,7 +13,7 @@ test_waiting [] (k ∷ ks) = refl
 test_waiting (h ∷ hs) [] = refl
 test_waiting (h ∷ hs) (k ∷ ks) = ap (λ b. same_said h.said k.said && b) (test_waiting hs ks)
 
--- what waits begins with a text that rests on a guess, so equal texts are released and waiting alike
+-- what waits begins with a text that depends on a guess, so equal texts are released and waiting alike
 pub test_views : (xs ys : List (List ℕ)) (vs ws : List TaggedText) → released vs ≡ [] → released ws ≡ []
     → (pointwise (text.ghosts).eq xs ys && same_texts vs ws) ≡ same_texts (map clear xs ++ vs) (map clear ys ++ ws)
 test_views xs ys vs ws none none_here =

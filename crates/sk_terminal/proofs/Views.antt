@@ -4,7 +4,7 @@ use Rattle.sk_terminal.proofs.Names.{released, lightened, not_dropped, TaggedTex
 use Rattle.sk_terminal.proofs.Names.{waiting_of}
 use Rattle.std.specs.Prelude.{◌≡◌, ℕ, suc, ◌+◌, false, List, [], ◌∷◌, ◌++◌, length, map, take, drop}
 
--- the released texts are those before the first that rests on a guess
+-- the released texts are those before the first that depends on a guess
 pub prefix-released : (xs : List TaggedText) → prefix_len is_clear xs ≡ length (released xs)
 prefix-released [] = refl
 prefix-released ((w, []) ∷ xs) = omega (arith, prefix-released xs)
@@ -41,7 +41,7 @@ again [] = refl
 again ((w, []) ∷ xs) = ap (λ (l : List TaggedText). clear w ∷ l) (again xs)
 again ((w, t ∷ tags) ∷ xs) = refl
 
--- what follows them begins with a text that rests on a guess
+-- what follows them begins with a text that depends on a guess
 pub released-rest : (ws : List TaggedText) → released (drop (length (released ws)) ws) ≡ []
 released-rest [] = refl
 released-rest ((w, []) ∷ xs) = released-rest xs

@@ -5,7 +5,7 @@ use Rattle.sk_terminal.specs.Terminal.{any_rests}
 use Rattle.sk_terminal.specs.Terminals.{TerminalMap, texts_at}
 use Rattle.sk_terminal.specs.declared.listing.Listing.{Listing}
 
--- a text of a terminal rests on a guess
+-- a text of a terminal depends on a guess
 abbrev pub rests_at : ℕ → TerminalMap → ℕ → Bool
 rests_at g m t = any_rests g (texts_at m t)
 
@@ -28,7 +28,7 @@ abbrev pub AreTidy : List Listing → Type 0
 AreTidy [] = ⊤
 AreTidy (l ∷ ls) = HasNone l.guess ls × (0 < length l.terminals) × AreTidy ls
 
--- listed for a guess are just the terminals at which a text rests on it
+-- listed for a guess are just the terminals at which a text depends on it
 abbrev pub AreListed : TerminalMap → List Listing → Type 0
 AreListed m ls = (g t : ℕ) → is_listed g t ls ≡ rests_at g m t
 

@@ -6,7 +6,7 @@ use Rattle.sk_ids.specs.contracts.text.TextPartialEq.TheImpl as text
 use Rattle.sk_terminal.specs.Terminal.{TaggedText}
 use Rattle.sk_terminal.specs.Terminals.{TerminalMap}
 
--- the same text, which rests on the same guesses
+-- the same text, which depends on the same guesses
 abbrev pub same_said : TaggedText → TaggedText → Bool
 same_said = same_pair (text.ghosts).eq (pointwise nat_eq)
 

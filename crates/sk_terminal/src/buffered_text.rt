@@ -6,7 +6,7 @@ ghost use Rattle.sk_terminal.specs.Terminal.{is_clear};
 use sk_ids::{GuessId, TagSet, Text};
 use std::marker::Model;
 
-/// A text with the undecided guesses that it rests on; contracts see the two as a pair.
+/// A text with the undecided guesses that it depends on; contracts see the two as a pair.
 #[derive(Drop)]
 pub(crate) struct BufferedText {
     text: Text,
@@ -36,7 +36,7 @@ impl PartialEq for BufferedText {
 }
 
 impl BufferedText {
-    /// A text that rests on these guesses.
+    /// A text that depends on these guesses.
     pub(crate) fn new(text: Text, tags: TagSet) -> BufferedText
         ensures { result ≡ (text, tags) }
     {
@@ -50,21 +50,21 @@ impl BufferedText {
         self.text
     }
 
-    /// Whether it rests on no guess.
+    /// Whether it depends on no guess.
     pub(crate) fn is_clear(&self) -> bool
         ensures { result ≡ is_clear self.now }
     {
         self.tags.ids().is_empty()
     }
 
-    /// Whether it rests on a guess.
+    /// Whether it depends on a guess.
     pub(crate) fn rests_on(&self, id: GuessId) -> bool
         ensures { result ≡ has id self.now.1 }
     {
         self.tags.contains(id)
     }
 
-    /// Takes a guess from what it rests on. This takes no memory.
+    /// Takes a guess from what it depends on. This takes no memory.
     pub(crate) fn without(&mut self, id: GuessId)
         ensures { self.new ≡ (self.old.0, without id self.old.1) }
     {

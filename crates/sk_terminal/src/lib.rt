@@ -1,4 +1,4 @@
-//! The texts said to a terminal, released once they rest on no undecided guess.
+//! The texts said to a terminal, released once they depend on no undecided guess.
 #![tactic(auto)]
 
 mod buffered_text;

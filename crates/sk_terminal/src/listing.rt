@@ -1,4 +1,4 @@
-//! The terminals at which waiting texts rest on each guess.
+//! The terminals at which waiting texts depend on each guess.
 ghost use Rattle.std.specs.Prelude.{◌≡◌, ◌==◌, ◌<◌, ◌&&◌, ◌||◌, ℕ, [], true, false, not, length, OnOk, OnErr, MatchOption};
 ghost use Rattle.std.specs.List.{prefix_len};
 ghost use Rattle.sk_record.specs.Notes.{has};
@@ -9,7 +9,7 @@ use crate::numbered::Numbered;
 use sk_ids::{GuessId, TagSet};
 use std::alloc::{AllocError, Global};
 
-/// The terminals at which a waiting text rests on a guess, by rising number, each once.
+/// The terminals at which a waiting text depends on a guess, by rising number, each once.
 #[derive(Drop)]
 pub(crate) struct Listing {
     guess: GuessId,
@@ -110,7 +110,7 @@ pub(crate) fn list(
     Ok(())
 }
 
-/// Whether a terminal is listed though none of its texts rests on the guess.
+/// Whether a terminal is listed though none of its texts depends on the guess.
 fn is_free(list: &Listing, numbered: &Numbered, number: u16) -> bool
     ensures { result
         ≡ (has number list.now.terminals && not (rests_at list.now.guess numbered.now number)) }
@@ -118,7 +118,7 @@ fn is_free(list: &Listing, numbered: &Numbered, number: u16) -> bool
     list.terminals.contains(number) && !numbered.rests_on(number, list.guess)
 }
 
-/// Takes a terminal out of a list where none of its texts rests on the guess.
+/// Takes a terminal out of a list where none of its texts depends on the guess.
 fn take_free(list: &mut Listing, numbered: &Numbered, number: u16)
     ensures guess { list.new.guess ≡ list.old.guess }
     ensures left { (t : ℕ) → has t list.new.terminals

@@ -75,7 +75,7 @@ impl Numbered {
         self.terminals.put(number, terminal)
     }
 
-    /// Whether a text of a terminal rests on a guess.
+    /// Whether a text of a terminal depends on a guess.
     pub(crate) fn rests_on(&self, number: u16, id: GuessId) -> bool
         ensures { result ≡ rests_at id self.now number }
     {
@@ -107,7 +107,7 @@ impl Numbered {
         }
     }
 
-    /// Throws away the texts of one terminal that rest on a guess.
+    /// Throws away the texts of one terminal that depend on a guess.
     fn drop_at(&mut self, number: u16, id: GuessId)
         ensures { (t : ℕ) → map.get self.new t
             ≡ (if number == t then option_map (not_dropped id) (map.get self.old t) else map.get
@@ -118,7 +118,7 @@ impl Numbered {
         }
     }
 
-    /// Throws away the texts of these terminals that rest on a guess. This takes no memory.
+    /// Throws away the texts of these terminals that depend on a guess. This takes no memory.
     pub(crate) fn drop_of(&mut self, numbers: &[u16], id: GuessId)
         ensures { (t : ℕ) → map.get self.new t
             ≡ (if has t numbers.now then option_map (not_dropped id) (map.get self.old t) else

@@ -13,13 +13,13 @@ use sk_ids::{GuessId, TagSet, Text};
 use std::alloc::{AllocError, Global};
 use std::marker::Model;
 
-/// The texts said and not thrown away, in order. Those before the first that rests on a guess are
+/// The texts said and not thrown away, in order. Those before the first that depends on a guess are
 /// released. All calls but `say` take no memory.
 #[derive(Drop)]
 pub struct Terminal {
     out: Vec<Text>,
     waiting: Vec<Held>,
-    /// At least each guess that a text rested on.
+    /// At least each guess that a text depended on.
     newest: u64,
 }
 
@@ -27,7 +27,7 @@ pub struct Terminal {
 #[derive(Drop)]
 pub(crate) struct Held {
     said: BufferedText,
-    /// At least each guess that this text or one before it rests on.
+    /// At least each guess that this text or one before it depends on.
     newest: u64,
 }
 
@@ -101,7 +101,7 @@ impl Terminal {
         }
     }
 
-    /// Says a text that rests on these undecided guesses. Without memory everything is as it was.
+    /// Says a text that depends on these undecided guesses. Without memory everything is as it was.
     pub fn say(&mut self, text: Text, tags: TagSet) -> Result<(), AllocError>
         ensures said { OnOk result (self.new ≡ self.old ++ (text, tags) ∷ []) }
         ensures refused { OnErr result (self.new ≡ self.old) }
@@ -128,7 +128,7 @@ impl Terminal {
         Ok(())
     }
 
-    /// A guess is committed: no text rests on it any more. This looks at the texts said since it was drawn.
+    /// A guess is committed: no text depends on it any more. This looks at the texts said since it was drawn.
     pub fn commit(&mut self, id: GuessId)
         ensures { self.new ≡ lightened id self.old }
     {
@@ -136,7 +136,7 @@ impl Terminal {
         release(&mut self.out, &mut self.waiting);
     }
 
-    /// Throws away the texts that rest on a guess.
+    /// Throws away the texts that depend on a guess.
     pub fn drop_of(&mut self, id: GuessId)
         ensures { self.new ≡ not_dropped id self.old }
     {
@@ -144,7 +144,7 @@ impl Terminal {
         release(&mut self.out, &mut self.waiting);
     }
 
-    /// Whether a text rests on a guess. This looks back to the texts said before the guess was drawn.
+    /// Whether a text depends on a guess. This looks back to the texts said before the guess was drawn.
     pub(crate) fn rests_on(&self, id: GuessId) -> bool
         ensures { result ≡ any_rests id self.now }
     {
@@ -185,7 +185,7 @@ fn newest_of(newest: u64, tags: &TagSet) -> u64
     greatest
 }
 
-/// Releases the texts before the first that rests on a guess, into room that is there.
+/// Releases the texts before the first that depends on a guess, into room that is there.
 fn release(out: &mut Vec<Text>, waiting: &mut Vec<Held>)
     requires { length out.old.items + length waiting.old.items ≤ vec_capacity out.old }
     ensures texts { map clear out.new.items ++ texts_of waiting.new.items
@@ -202,7 +202,7 @@ fn release(out: &mut Vec<Text>, waiting: &mut Vec<Held>)
     }
 }
 
-/// How many texts stand before the first that rests on a guess.
+/// How many texts stand before the first that depends on a guess.
 fn clear_count(texts: &[Held]) -> usize
     ensures { result ≡ prefix_len (λ h. is_clear h.said) texts.now }
 {
@@ -234,7 +234,7 @@ fn drop_front(texts: &mut Vec<Held>, count: usize)
     texts.drain(..count);
 }
 
-/// Whether one of the texts rests on a guess.
+/// Whether one of the texts depends on a guess.
 fn any_rest_on(texts: &[Held], id: GuessId) -> bool
     ensures { (high : ℕ) → AreBounded 0 texts.now high
         → result ≡ list_any (λ h. has id h.said.1) texts.now }
@@ -249,7 +249,7 @@ fn any_rest_on(texts: &[Held], id: GuessId) -> bool
     false
 }
 
-/// Takes a guess from the texts that may rest on it.
+/// Takes a guess from the texts that may depend on it.
 fn take_out(texts: &mut Vec<Held>, id: GuessId)
     ensures texts { (high : ℕ) → AreBounded 0 texts.old.items high
         → texts_of texts.new.items ≡ lightened id (texts_of texts.old.items) }
@@ -264,7 +264,7 @@ fn take_out(texts: &mut Vec<Held>, id: GuessId)
     }
 }
 
-/// Where the texts begin that stand last and rest on a guess.
+/// Where the texts begin that stand last and depend on a guess.
 fn resting_from(texts: &[Held], id: GuessId) -> usize
     ensures within { result ≤ length texts.now }
     ensures rest { list_all (λ h. has id h.said.1) (drop result texts.now) ≡ true }
@@ -276,7 +276,7 @@ fn resting_from(texts: &[Held], id: GuessId) -> usize
     from
 }
 
-/// Whether a text before this place may rest on a guess.
+/// Whether a text before this place may depend on a guess.
 fn may_rest_before(texts: &[Held], place: usize, id: GuessId) -> bool
     requires { place ≤ length texts.now }
     ensures { (high : ℕ) → AreBounded 0 texts.now high → result ≡ false
@@ -291,7 +291,7 @@ fn may_rest_before(texts: &[Held], place: usize, id: GuessId) -> bool
     true
 }
 
-/// Throws away the texts that rest on a guess. Those that stand last go at once, without a look at those
+/// Throws away the texts that depend on a guess. Those that stand last go at once, without a look at those
 /// that were said before it was drawn.
 fn throw_away(texts: &mut Vec<Held>, id: GuessId)
     ensures texts { (high : ℕ) → AreBounded 0 texts.old.items high
@@ -308,7 +308,7 @@ fn throw_away(texts: &mut Vec<Held>, id: GuessId)
     texts.truncate(from);
 }
 
-/// Drops the texts that rest on a guess, one by one.
+/// Drops the texts that depend on a guess, one by one.
 fn drop_resting(texts: &mut Vec<Held>, id: GuessId)
     ensures texts { texts.new.items ≡ filter (λ h. not (has id h.said.1)) texts.old.items }
     ensures fewer { length texts.new.items ≤ length texts.old.items }

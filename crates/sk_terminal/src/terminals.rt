@@ -14,7 +14,7 @@ use std::alloc::{AllocError, Global};
 use std::marker::Model;
 
 /// The terminals that something was said to, by number. A decision looks at those alone at which a text
-/// rests on its guess.
+/// depends on its guess.
 #[derive(Drop)]
 pub struct Terminals {
     alloc: Global,
@@ -97,7 +97,7 @@ impl Terminals {
         )
     }
 
-    /// A guess is committed: no text rests on it any more. This takes no memory.
+    /// A guess is committed: no text depends on it any more. This takes no memory.
     pub fn commit(&mut self, id: GuessId)
         ensures terminals { (t : ℕ) → map.get self.new t
             ≡ option_map (lightened id) (map.get self.old t) }
@@ -106,7 +106,7 @@ impl Terminals {
         lighten(&mut self.numbered, &mut self.lists, id);
     }
 
-    /// Throws away the texts that rest on a guess. This takes no memory.
+    /// Throws away the texts that depend on a guess. This takes no memory.
     pub fn drop_of(&mut self, id: GuessId)
         ensures terminals { (t : ℕ) → map.get self.new t
             ≡ option_map (not_dropped id) (map.get self.old t) }
@@ -116,7 +116,7 @@ impl Terminals {
     }
 }
 
-/// Lists a terminal for the guesses that a text rests on, and says the text to it. Without memory the terminal may be listed
+/// Lists a terminal for the guesses that a text depends on, and says the text to it. Without memory the terminal may be listed
 /// for guesses on which no text of it rests.
 fn say_listed(
     alloc: Global,
@@ -164,7 +164,7 @@ fn say_or_not(
     }
 }
 
-/// Takes a guess from the texts that rest on it, and its list.
+/// Takes a guess from the texts that depend on it, and its list.
 fn lighten(numbered: &mut Numbered, lists: &mut Vec<Listing>, id: GuessId)
     requires tidy { AreTidy lists.old.items }
     requires listed { AreListed numbered.old lists.old.items }
@@ -178,8 +178,8 @@ fn lighten(numbered: &mut Numbered, lists: &mut Vec<Listing>, id: GuessId)
     }
 }
 
-/// Throws away the texts that rest on a guess, its list, and from the other lists the terminals at which nothing
-/// rests on their guess any more.
+/// Throws away the texts that depend on a guess, its list, and from the other lists the terminals at which nothing
+/// depends on their guess any more.
 fn throw_away(numbered: &mut Numbered, lists: &mut Vec<Listing>, id: GuessId)
     requires tidy { AreTidy lists.old.items }
     requires listed { AreListed numbered.old lists.old.items }

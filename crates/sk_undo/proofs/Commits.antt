@@ -23,7 +23,7 @@ pub not_true : (b : Bool) → not b ≡ true → b ≡ false
 not_true true h = absurd (true≢false (sym h))
 not_true false h = refl
 
--- ---- logs as they are seen: where nothing rests on the guess, and a second commit of it
+-- ---- logs as they are seen: where nothing depends on the guess, and a second commit of it
 module _ {V : Type 0} where
   pub kept_one : (left : List ℕ) (t : ℕ) → has t left ≡ true → (v : Option V) (rest : List (Note V)) → record { tags = left; before = v } ∷ rest ≡ noted true left v rest
   kept_one [] t here v rest = absurd (true≢false (sym here))
@@ -33,7 +33,7 @@ module _ {V : Type 0} where
   noted_some [] v rest some = absurd (true≢false (sym some))
   noted_some (t ∷ tags) v rest some = refl
 
-  -- where no note rests on it, nothing changes
+  -- where no note depends on it, nothing changes
   pub committed_free : (g : ℕ) (ns : List (Note V)) → carries g ns ≡ false → list_all (λ n. not (is_empty n.tags)) ns ≡ true → committed g ns ≡ ns
   committed_free g [] none rests = refl
   committed_free g (n ∷ ns) none rests =
@@ -52,7 +52,7 @@ module _ {V : Type 0} where
   committed_twice g [] = refl
   committed_twice g (n ∷ ns) = again_by g (without g n.tags) n.before (committed g ns) (without_free g (without g n.tags) (has_without g n.tags)) (committed_twice g ns)
 
-  -- ---- what neither rests on the guess nor on nothing
+  -- ---- what neither depends on the guess nor on nothing
   abbrev pub is_settled : ℕ → Note V → Bool
   is_settled g n = not (has g n.tags) && not (is_empty n.tags)
 
@@ -169,7 +169,7 @@ module _ {U V : Type 0} (undone : U → Option V → Option V) where
   light_before g now [] = refl
   light_before g now (n ∷ ns) = ap (undone n.undo) (light_before g now ns)
 
-  -- where each note rests on something else too, none is dropped
+  -- where each note depends on something else too, none is dropped
   pub none_gone : (g t : ℕ) (ns : List (RawNote U)) (now : Option V) → not (t == g) ≡ true → AllSeen t (in_order now ns) → in_order now (lightened g ns) ≡ committed g (in_order now ns)
   none_gone g t [] now other all = refl
   none_gone g t (n ∷ ns) now other all =

@@ -1,4 +1,4 @@
--- A guess that is taken back gives each entity what it had before the first write that rests on it.
+-- A guess that is taken back gives each entity what it had before the first write that depends on it.
 use Rattle.sk_undo.proofs.Cites.{◌≡◌, ℕ, List, [], ◌∷◌, ◌++◌, Bool, true, false, cond, not, ◌||◌, Option}
 use Rattle.sk_undo.proofs.Cites.{refl, sym, ◌∙◌, ap, subst, eq_by_cmp, Equal-is, get}
 use Rattle.sk_undo.proofs.Cites.{true≢false, reverse-append, Entity, entity_cmp, entity_exact}
@@ -13,7 +13,7 @@ use Rattle.sk_undo.proofs.SeenNotes.{none_off, one_off}
 -- ---- a log, the oldest note first
 
 module _ {V : Type 0} where
-  -- where some note rests on it, the value now is of no account
+  -- where some note depends on it, the value now is of no account
   any_now : (g : ℕ) (l : List (Note V)) (now then : Option V) → carries g l ≡ true → unwound g l now ≡ unwound g l then
   any_now g [] now then is = absurd (true≢false (sym is))
   any_now g (m ∷ l) now then is =
@@ -35,7 +35,7 @@ carried g tags (n ∷ ns) has_it unnoted =
     let same : tags ≡ n.tags = (exact_bytes tags n.tags).0 (and_both (is_whole n.before) (same_tags tags n.tags) unnoted).1 in
     any_reverse (λ (m : Note EntityState). has g m.tags) (n ∷ ns) ∙ ap (λ b. b || carries g ns) (ap (has g) (sym same) ∙ has_it)
 
--- what a failure gives is the same before and after a write that rests on the guess
+-- what a failure gives is the same before and after a write that depends on the guess
 pub wrote_same : (g : ℕ) (tags : List ℕ) (s : SlotView) (v : Option EntityState) → has g tags ≡ true
     → (unwound g (reverse (slot_wrote tags s v).log) (slot_wrote tags s v).now ≡ unwound g (reverse s.log) s.now)
     × (cut g (reverse (slot_wrote tags s v).log) ≡ cut g (reverse s.log))

@@ -43,7 +43,7 @@ joined_seen now p q (n ∷ ns) agree can =
     ]
     ∙ ap (λ b. cond b (joined q (in_order undone now ns)) (m ∷ joined (Some m) (in_order undone now ns))) (agree n.tags)
 
--- ---- notes that can be undone, with the guess out of them, and without those that then rest on nothing
+-- ---- notes that can be undone, with the guess out of them, and without those that then depend on nothing
 light_can : (g : ℕ) (now : Option EntityState) (ns : List Raw) → Can now ns → Can now (lightened g ns)
 light_can g now [] can = tt
 light_can g now (n ∷ ns) can = (subst (Fits n.undo) (sym (light_before undone g now ns)) can.0, light_can g now ns can.1)
@@ -52,7 +52,7 @@ drop_can : (now : Option EntityState) (ns : List Raw) → Can now ns → Can now
 drop_can now [] can = tt
 drop_can now (n ∷ ns) can = elim (is_empty n.tags) as (λ b. Can now (cond b (dropped ns) (n ∷ ns))) [ true ↦ drop_can now ns can.1 | false ↦ can ]
 
--- ---- from the first note that rests on the guess
+-- ---- from the first note that depends on the guess
 abbrev place : ℕ → List Raw → ℕ
 place g ns = prefix_len (λ n. not (has g n.tags)) ns
 
@@ -111,7 +111,7 @@ commit_joined g now ns can grows rests =
     ∙ whole_seen g now ns (subst (Can now) (reverse-reverse ns) (in_turn is_held_whole state_undone NoteFits now (reverse ns) can)) (subst IsGrowing (order_is undone now ns) grows) (subst EachRests (order_is undone now ns) rests)
     ∙ ap (committed_joined g None) (sym (order_is undone now ns))
 
--- ---- a log of which no note rests on the guess
+-- ---- a log of which no note depends on the guess
 pub joined_free : (g : ℕ) (p : Option (Note EntityState)) (ns : List (Note EntityState)) → carries g ns ≡ false → committed_joined g p ns ≡ ns
 joined_free g p [] none = refl
 joined_free g p (n ∷ ns) none =
@@ -160,7 +160,7 @@ joined_first (n ∷ ns) rests all =
     ap (λ xs. n ∷ xs) (joined_merged n ns both.0 both.1)
     ∙ sym (ap (λ b. cond b (merged [] ns) (n ∷ merged n.tags ns)) (some_differ n.tags (and_both _ _ rests).0))
 
--- a note that does not rest on the guess stays, where it has not the tags of the one before it
+-- a note that does not depend on the guess stays, where it has not the tags of the one before it
 stays_first : (g t : ℕ) (tags : List ℕ) (n : Note EntityState) (ns : List (Note EntityState)) → has g n.tags ≡ false → has t n.tags ≡ true → same_tags n.tags tags ≡ false
     → n ∷ merged n.tags (committed g ns) ≡ merged tags (committed g (n ∷ ns))
 stays_first g t tags n ns free here apart =

@@ -48,7 +48,7 @@ module _ {U : Type 0} where
       let all = whole ∙ ap (λ k. lightened_from g k ns) next in
       ap (λ k. has g (newest_tags (reverse (take k ns)))) next ∙ rests_on_last g (take (suc j) ns) ∙ at_place i j g ns n lt (is ∙ ap (λ ys. slice_index_or ys j n) all) ∙ none
 
-  -- the notes gone over rest on the guess
+  -- the notes gone over depend on the guess
   pub none_gone_over : (g : ℕ) (ns : List (RawNote U)) → AllRest g (drop (length ns) ns)
   none_gone_over g [] = refl
   none_gone_over g (n ∷ ns) = none_gone_over g ns
@@ -64,7 +64,7 @@ module _ {U : Type 0} where
       let same = whole ∙ ap (λ k. lightened_from g k ns) next in
       rests_before g j ns n lt (is ∙ ap (λ ys. slice_index_or ys j n) same) here (subst (λ k. AllRest g (drop k ns)) next all)
 
-  -- ---- where each note rests on what those before it rest on, the others don't rest on the guess
+  -- ---- where each note depends on what those before it depend on, the others don't depend on the guess
   free_front : (g : ℕ) (tags : List ℕ) (xs ys : List (RawNote U)) → AllRest g (from_first g (xs ++ ys)) → has g (last_on tags xs) ≡ false → lightened g xs ≡ xs
   free_front g tags [] ys all none = refl
   free_front g tags (x ∷ xs) ys all none =

@@ -109,7 +109,7 @@ module _ {V : Type 0} where
   all_last g [] n all = (and_both _ _ all).0
   all_last g (x ∷ xs) n all = all_last g xs n (and_both _ _ all).1
 
-  -- where the last note does not rest on a guess, none does
+  -- where the last note does not depend on a guess, none does
   pub last_none : (g : ℕ) (xs : List (Note V)) (n : Note V) → IsGrowing (xs ++ n ∷ []) → has g n.tags ≡ false → carries g (xs ++ n ∷ []) ≡ false
   last_none g [] n grows none = ap (λ b. b || false) none
   last_none g (x ∷ xs) n grows none =
@@ -168,7 +168,7 @@ module _ {U V : Type 0} (undone : U → Option V → Option V) where
       let n : Note V = record { tags = r.tags; before = undone r.undo now } in
       grow_front (reverse ns) (n ∷ []) (subst IsGrowing (reverse_onto ns n []) grows)
 
-  -- and where the newest does not rest on the guess
+  -- and where the newest does not depend on the guess
   pub at_end : (g : ℕ) (now : Option V) (rs : List (RawNote U)) → has g (newest_tags rs) ≡ false → IsGrowing (log now rs) → (unwound g (log now rs) now ≡ now) × (cut g (log now rs) ≡ log now rs)
   at_end g now [] none grows = (refl, refl)
   at_end g now (r ∷ rs) none grows =
@@ -203,7 +203,7 @@ module _ {U V : Type 0} (fits : U → Option V → Type 0) (undone : U → Optio
         left = λ p all. ap (list_all p) notes ∙ all_less p rs (so.left p all);
       }
 
-  -- where the newest of what is left does not rest on the guess
+  -- where the newest of what is left does not depend on the guess
   pub all_off : (g : ℕ) (old now : Option V) (olds rs : List (RawNote U)) → Left g old now olds rs → has g (newest_tags rs) ≡ false → IsGrowing (reverse (seen undone old olds))
       → (now ≡ unwound g (reverse (seen undone old olds)) old) × (reverse (seen undone now rs) ≡ cut g (reverse (seen undone old olds)))
   all_off g old now olds rs so none grows =

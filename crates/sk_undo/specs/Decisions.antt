@@ -7,7 +7,7 @@ use Rattle.sk_undo.specs.Log.{EachRests, carries}
 use Rattle.sk_undo.specs.Slot.{SlotView, is_bare, committed_joined}
 use Rattle.sk_undo.specs.Logs.{SlotMap, slot_in, placed, look_at, log_at}
 
--- a slot of which the notes that rest on a guess are taken back, with those after them
+-- a slot of which the notes that depend on a guess are taken back, with those after them
 pub record SlotUnwound (g : ℕ) (old new : SlotView) : Type 0 where
   pub now : IsGrowing (reverse old.log) → new.now ≡ unwound g (reverse old.log) old.now
   pub log : IsGrowing (reverse old.log) → reverse new.log ≡ cut g (reverse old.log)
@@ -25,7 +25,7 @@ pub record ChangedAt (Changed : SlotView → SlotView → Type 0) (old : SlotMap
   pub all : new ≡ placed old e slot
   pub kept : map.contains_key new e ≡ true → map.contains_key old e ≡ true
 
--- the notes that rest on a guess taken back, with those after them
+-- the notes that depend on a guess taken back, with those after them
 pub record Unwound (old : SlotMap) (g : ℕ) (new : SlotMap) : Type 0 where
   pub look : (e : Entity) → look_at new e ≡ unwound g (log_at old e) (look_at old e)
   pub logs : (e : Entity) → log_at new e ≡ cut g (log_at old e)
@@ -36,15 +36,15 @@ pub record Lightened (old : SlotMap) (g : ℕ) (new : SlotMap) : Type 0 where
   pub logs : (e : Entity) → Merges [] (committed g (log_at old e)) (log_at new e)
   pub joined : (e : Entity) → log_at new e ≡ committed_joined g None (log_at old e)
 
--- each entity is listed of which a note rests on the guess
+-- each entity is listed of which a note depends on the guess
 abbrev pub AreListed : ℕ → SlotMap → List Entity → Type 0
 AreListed g m es = (e : Entity) → carries g (log_at m e) ≡ true → is_in entity_cmp es e ≡ true
 
--- each note of each entity rests on some guess
+-- each note of each entity depends on some guess
 abbrev pub AllRest : SlotMap → Type 0
 AllRest m = (e : Entity) → EachRests (log_at m e)
 
--- what a note rests on the later notes of its log rest on too
+-- what a note depends on the later notes of its log depend on too
 abbrev pub AllGrow : SlotMap → Type 0
 AllGrow m = (e : Entity) → IsGrowing (log_at m e)
 

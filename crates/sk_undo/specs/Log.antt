@@ -61,11 +61,11 @@ module _ {U V : Type 0} (fits : U → Option V → Type 0) (undone : U → Optio
   CanGoBack now (n ∷ ns) = fits n.undo now × CanGoBack (undone n.undo now) ns
 
 module _ {V : Type 0} where
-  -- whether a note rests on the guess
+  -- whether a note depends on the guess
   abbrev pub carries : ℕ → List (Note V) → Bool
   carries g log = list_any (λ n. has g n.tags) log
 
-  -- each note rests on some guess
+  -- each note depends on some guess
   abbrev pub EachRests : List (Note V) → Type 0
   EachRests log = list_all (λ n. not (is_empty n.tags)) log ≡ true
 
@@ -80,12 +80,12 @@ module _ {U : Type 0} where
   newest_tags [] = []
   newest_tags (n ∷ ns) = n.tags
 
-  -- from the first note on that rests on the guess
+  -- from the first note on that depends on the guess
   abbrev pub from_first : ℕ → List (RawNote U) → List (RawNote U)
   from_first g [] = []
   from_first g (n ∷ ns) = if has g n.tags then n ∷ ns else from_first g ns
 
-  -- what a note rests on the later notes rest on too
+  -- what a note depends on the later notes depend on too
   abbrev pub Grows : List (RawNote U) → Type 0
   Grows ns = (g : ℕ) → list_all (λ n. has g n.tags) (from_first g ns) ≡ true
 

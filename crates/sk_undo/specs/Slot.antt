@@ -66,7 +66,7 @@ abbrev pub joined : Option (Note EntityState) → List (Note EntityState) → Li
 joined p [] = []
 joined p (n ∷ ns) = if is_needless p n.tags then joined p ns else n ∷ joined (Some n) ns
 
--- from the first note on that rests on the guess: without it in all tags, and then without each note for which the one before it stands
+-- from the first note on that depends on the guess: without it in all tags, and then without each note for which the one before it stands
 abbrev pub committed_joined : ℕ → Option (Note EntityState) → List (Note EntityState) → List (Note EntityState)
 committed_joined g p [] = []
 committed_joined g p (n ∷ ns) = if has g n.tags then joined p (committed g (n ∷ ns)) else n ∷ committed_joined g (Some n) ns

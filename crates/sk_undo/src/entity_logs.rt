@@ -113,7 +113,7 @@ impl ObjectLog {
         self.log.reserve()
     }
 
-    /// Notes a write that rests on all that `tags` has.
+    /// Notes a write that depends on all that `tags` has.
     fn add(&mut self, tags: TagSet, undo: PutBack<Value>) -> Result<(), AllocError>
         requires { Covers tags (newest_tags (reverse self.old.log.notes.items)) }
         ensures ok { OnOk result
@@ -127,7 +127,7 @@ impl ObjectLog {
         Ok(())
     }
 
-    /// Notes a change that rests on all that `tags` has.
+    /// Notes a change that depends on all that `tags` has.
     pub fn note(&mut self, tags: TagSet, undo: Undo) -> Result<(), AllocError>
         requires { Covers tags (newest_tags (reverse self.old.log.notes.items)) }
         ensures ok { OnOk result
@@ -140,7 +140,7 @@ impl ObjectLog {
         self.add(tags, PutBack::Changed(undo))
     }
 
-    /// Notes that the object appears, which rests on all that `tags` has.
+    /// Notes that the object appears, which depends on all that `tags` has.
     pub fn note_birth(&mut self, tags: TagSet) -> Result<(), AllocError>
         requires { Covers tags (newest_tags (reverse self.old.log.notes.items)) }
         ensures ok { OnOk result
@@ -152,7 +152,7 @@ impl ObjectLog {
         self.add(tags, PutBack::Was(None))
     }
 
-    /// Notes that the object goes, which rests on all that `tags` has, with the value that it had. Where
+    /// Notes that the object goes, which depends on all that `tags` has, with the value that it had. Where
     /// room was reserved the note is taken.
     pub fn note_death(&mut self, tags: TagSet, before: Value) -> Result<(), AllocError>
         requires { Covers tags (newest_tags (reverse self.old.log.notes.items)) }
@@ -166,7 +166,7 @@ impl ObjectLog {
         self.add(tags, PutBack::Was(Some(before)))
     }
 
-    /// Undoes the writes that rest on the guess, without memory; the room that was made stays. The
+    /// Undoes the writes that depend on the guess, without memory; the room that was made stays. The
     /// value is as the last note left it.
     pub fn unwind(&mut self, value: &mut Option<Value>, guess: GuessId)
         requires { CanGoBack ObjectFits object_undone value.old (reverse self.old.log.notes.items) }
@@ -181,7 +181,7 @@ impl ObjectLog {
         self.log.unwind(value, guess);
     }
 
-    /// Takes a guess out of all notes, and drops those that then rest on nothing, without memory; the
+    /// Takes a guess out of all notes, and drops those that then depend on nothing, without memory; the
     /// room that was made stays.
     pub fn commit(&mut self, guess: GuessId)
         ensures log { (now : Option Value)
@@ -241,7 +241,7 @@ impl ProcessLog {
         self.log.reserve()
     }
 
-    /// Notes a write that rests on all that `tags` has; one of the newest run wants no memory.
+    /// Notes a write that depends on all that `tags` has; one of the newest run wants no memory.
     fn add(&mut self, tags: TagSet, before: Option<Process>) -> Result<(), AllocError>
         requires { Covers tags (last_tags [] (runs_of self.old.log.notes.items)) }
         ensures ok { OnOk result
@@ -261,7 +261,7 @@ impl ProcessLog {
         Ok(())
     }
 
-    /// Notes a step of the process, which rests on all that `tags` has, with the process before it. A step of
+    /// Notes a step of the process, which depends on all that `tags` has, with the process before it. A step of
     /// the newest run wants no memory.
     pub fn note(&mut self, tags: TagSet, before: Process) -> Result<(), AllocError>
         requires { Covers tags (last_tags [] (runs_of self.old.log.notes.items)) }
@@ -278,7 +278,7 @@ impl ProcessLog {
         self.add(tags, Some(before))
     }
 
-    /// Notes that the process appears, which rests on all that `tags` has.
+    /// Notes that the process appears, which depends on all that `tags` has.
     pub fn note_birth(&mut self, tags: TagSet) -> Result<(), AllocError>
         requires { Covers tags (last_tags [] (runs_of self.old.log.notes.items)) }
         ensures ok { OnOk result
@@ -293,7 +293,7 @@ impl ProcessLog {
         self.add(tags, None)
     }
 
-    /// Puts back what was there before the first run that rests on the guess, and forgets that run and those
+    /// Puts back what was there before the first run that depends on the guess, and forgets that run and those
     /// after it, without memory; the room that was made stays.
     pub fn unwind(&mut self, value: &mut Option<Process>, guess: GuessId)
         ensures value { value.new ≡ unwound guess (runs_of self.old.log.notes.items) value.old }
@@ -304,7 +304,7 @@ impl ProcessLog {
         self.log.unwind(value, guess);
     }
 
-    /// Takes a guess out of all tags, drops the runs that then rest on nothing, and joins those whose tags
+    /// Takes a guess out of all tags, drops the runs that then depend on nothing, and joins those whose tags
     /// became equal, without memory; the room that was made stays.
     pub fn commit(&mut self, guess: GuessId)
         ensures runs { runs_of self.new.log.notes.items

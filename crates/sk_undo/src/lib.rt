@@ -1,5 +1,5 @@
 //! What entities have, each with its undo log, in which each write stands with the guesses that it
-//! rests on, and what puts it back.
+//! depends on, and what puts it back.
 #![tactic(auto)]
 
 pub mod entity_logs;

@@ -1,4 +1,4 @@
-//! The writes of one value, each with the guesses that it rests on and with what puts it back.
+//! The writes of one value, each with the guesses that it depends on and with what puts it back.
 ghost use Rattle.std.specs.Prelude.{◌≡◌, ◌≤◌, ◌<◌, ◌+◌, ◌++◌, ◌∷◌, [], Bool, true, false, not, length, take, drop, None, OnOk, Option, IsOk, reverse};
 ghost use Rattle.sk_undo.specs.Base.{option_copied, unwrap_or, vec_len, vec_capacity, prefix_len, list_all};
 ghost use Rattle.sk_undo.specs.Base.{IsStrictlySortedBy, nat_cmp, has, unwound, cut, IsGrowing, PutBack};
@@ -85,7 +85,7 @@ impl Logged for EntityState {
     }
 }
 
-/// A write, the guesses that it rests on, and what puts it back.
+/// A write, the guesses that it depends on, and what puts it back.
 #[derive(Drop)]
 pub struct Note<U> {
     pub tags: TagSet,
@@ -98,7 +98,7 @@ pub struct Log<V> {
     notes: Vec<Note<PutBack<V>>>,
 }
 
-/// Takes a guess out of the tags of the newest notes, back to the first that does not rest on it, and
+/// Takes a guess out of the tags of the newest notes, back to the first that does not depend on it, and
 /// answers how many notes stand up to that one.
 fn lighten<V: Logged>(notes: &mut Vec<Note<PutBack<V>>>, guess: GuessId) -> usize
     ensures notes { notes.new.items
@@ -310,7 +310,7 @@ impl<V: Logged> Log<V> {
         }
     }
 
-    /// Whether the newest write rests on the guess.
+    /// Whether the newest write depends on the guess.
     fn rests_last(&self, guess: GuessId) -> bool
         ensures { result ≡ has guess (newest_tags (reverse self.now.notes.items)) }
     {
@@ -320,8 +320,8 @@ impl<V: Logged> Log<V> {
         }
     }
 
-    /// Undoes the writes that rest on the guess, which are the newest where each note rests on
-    /// what those before it rest on. It takes no memory, and leaves the room that was made.
+    /// Undoes the writes that depend on the guess, which are the newest where each note depends on
+    /// what those before it depend on. It takes no memory, and leaves the room that was made.
     pub fn unwind(&mut self, value: &mut Option<V>, guess: GuessId)
         requires can { CanGoBack (FitsBy V.fits) (undone_by V.undone) value.old
             (reverse self.old.notes.items) }
@@ -342,9 +342,9 @@ impl<V: Logged> Log<V> {
         }
     }
 
-    /// Takes a guess out of all notes, and drops those that then rest on nothing. The first are the
-    /// newest, and the others the oldest, where each note rests on what those before it rest on. It takes
-    /// no memory, leaves the room that was made, and looks at the notes alone that rest on the guess. Answers
+    /// Takes a guess out of all notes, and drops those that then depend on nothing. The first are the
+    /// newest, and the others the oldest, where each note depends on what those before it depend on. It takes
+    /// no memory, leaves the room that was made, and looks at the notes alone that depend on the guess. Answers
     /// the place of the first of these.
     pub fn commit(&mut self, guess: GuessId) -> usize
         ensures notes { Grows self.old.notes.items

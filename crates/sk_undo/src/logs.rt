@@ -1,4 +1,4 @@
-//! What performs the writes of steps, and notes what takes them back with the guesses that they rest on.
+//! What performs the writes of steps, and notes what takes them back with the guesses that they depend on.
 ghost use Rattle.std.specs.Prelude.{◌≡◌, ◌↔◌, [], min, ◌-◌, ◌^◌, true, false, Some, None, is_some, IfOk, OnOk, OnErr};
 ghost use Rattle.sk_undo.specs.Base.{All, IsStrictlySortedBy, entity_cmp, Entity, Proc, IsPresent, entities_of};
 ghost use Rattle.sk_undo.specs.Base.{CanBecome, became, option_copied, unwrap_or, eq_by_cmp, nat_cmp, is_in, last_tags};
@@ -215,8 +215,8 @@ impl Logs {
         }
     }
 
-    /// Changes a process where it stands, if it rests on at least so many guesses and nothing need be noted of a write that
-    /// rests on just these. Answers whether; else nothing has changed. This takes no memory.
+    /// Changes a process where it stands, if it depends on at least so many guesses and nothing need be noted of a write that
+    /// depends on just these. Answers whether; else nothing has changed. This takes no memory.
     pub fn go_on<C: Becoming>(&mut self, pid: Pid, least: usize, by: &C) -> bool
         requires { CanBecome (C.can by.now) (look_at self.old.slots (Proc pid)) }
         ensures exact { result ≡ goes_on least (slot_in (map.get self.old.slots (Proc pid))).log }
@@ -297,7 +297,7 @@ impl Logs {
         Ok(())
     }
 
-    /// The same, of a step that rests on no guess: then what has no slot gets none, and needs no number.
+    /// The same, of a step that depends on no guess: then what has no slot gets none, and needs no number.
     fn clear_untagged(&mut self, entity: &Entity) -> Result<(), AllocError>
         requires { self.old.tags ≡ [] }
         ensures ok { OnOk result (self.new ≡ wrote self.old entity.now None) }
@@ -309,7 +309,7 @@ impl Logs {
         Ok(())
     }
 
-    /// Takes back what rests on a guess at one entity, in place and without memory.
+    /// Takes back what depends on a guess at one entity, in place and without memory.
     fn unwind_at(&mut self, entity: &Entity, guess: GuessId)
         ensures slots { ChangedAt (SlotUnwound guess) self.old.slots entity.now self.new.slots }
         ensures tags { self.new.tags ≡ self.old.tags }
@@ -321,7 +321,7 @@ impl Logs {
         self.names.recount(entity, was, is);
     }
 
-    /// Takes back what rests on a guess, at the entities of which a note does, in place and without
+    /// Takes back what depends on a guess, at the entities of which a note does, in place and without
     /// memory.
     pub fn unwind(&mut self, guess: GuessId, entities: &[Entity])
         requires listed { AreListed guess self.old.slots entities.now }
@@ -335,7 +335,7 @@ impl Logs {
         }
     }
 
-    /// Takes a guess out of all notes, at the entities of which a note rests on it, and leaves out those for
+    /// Takes a guess out of all notes, at the entities of which a note depends on it, and leaves out those for
     /// which then an older one stands. It takes no memory.
     pub fn commit(&mut self, guess: GuessId, entities: &[Entity])
         requires listed { AreListed guess self.old.slots entities.now }

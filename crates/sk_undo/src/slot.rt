@@ -504,8 +504,8 @@ impl Slot {
         become_in(&mut self.value, by);
     }
 
-    /// Changes the process that is there, where it stands, if it rests on at least so many guesses and nothing need be noted of
-    /// a write that rests on just these. Answers whether; else nothing has changed. This takes no memory.
+    /// Changes the process that is there, where it stands, if it depends on at least so many guesses and nothing need be noted of
+    /// a write that depends on just these. Answers whether; else nothing has changed. This takes no memory.
     pub fn go_on<C: Becoming>(&mut self, least: usize, by: &C) -> bool
         requires { CanBecome (C.can by.now) self.old.now }
         ensures exact { result ≡ goes_on least self.old.log }
@@ -561,7 +561,7 @@ impl Slot {
         self.value.is_none() && self.is_unnoted()
     }
 
-    /// Takes back what rests on the guess, in place and without memory.
+    /// Takes back what depends on the guess, in place and without memory.
     pub fn unwind(&mut self, guess: GuessId)
         ensures now { IsGrowing (reverse self.old.log)
             → self.new.now ≡ unwound guess (reverse self.old.log) self.old.now }
@@ -571,7 +571,7 @@ impl Slot {
         self.log.unwind(&mut self.value, guess);
     }
 
-    /// Takes a guess out of all notes, drops those that then rest on nothing, and leaves out those for which
+    /// Takes a guess out of all notes, drops those that then depend on nothing, and leaves out those for which
     /// then an older one stands. It takes no memory.
     pub fn commit(&mut self, guess: GuessId)
         ensures now { self.new.now ≡ self.old.now }

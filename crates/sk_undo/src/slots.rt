@@ -303,7 +303,7 @@ impl Slots {
         })
     }
 
-    /// The same, and answers just whether there was something before it. What is born of a step that rests on no guess is put
+    /// The same, and answers just whether there was something before it. What is born of a step that depends on no guess is put
     /// at once.
     pub fn set_alone(
         &mut self,
@@ -558,8 +558,8 @@ impl Slots {
         Ok(())
     }
 
-    /// Changes a process where it stands, if it rests on at least so many guesses and nothing need be noted of a write that
-    /// rests on just these. Answers whether; else nothing has changed. This takes no memory.
+    /// Changes a process where it stands, if it depends on at least so many guesses and nothing need be noted of a write that
+    /// depends on just these. Answers whether; else nothing has changed. This takes no memory.
     pub fn go_on<C: Becoming>(&mut self, pid: Pid, least: usize, by: &C) -> bool
         requires { CanBecome (C.can by.now) (look_at self.old (Proc pid)) }
         ensures exact { result ≡ goes_on least (slot_in (map.get self.old (Proc pid))).log }
@@ -589,7 +589,7 @@ impl Slots {
         }
     }
 
-    /// Takes back what rests on a guess at one entity, in place and without memory.
+    /// Takes back what depends on a guess at one entity, in place and without memory.
     pub fn unwind_at(&mut self, entity: &Entity, guess: GuessId)
         ensures { ChangedAt (SlotUnwound guess) self.old entity.now self.new }
     {
@@ -615,7 +615,7 @@ impl Slots {
         }
     }
 
-    /// Takes a guess out of all notes, at the entities of which a note rests on it, and leaves out those for
+    /// Takes a guess out of all notes, at the entities of which a note depends on it, and leaves out those for
     /// which then an older one stands. It takes no memory.
     pub fn commit(&mut self, guess: GuessId, entities: &[Entity])
         requires listed { AreListed guess self.old entities.now }

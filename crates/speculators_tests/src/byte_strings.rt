@@ -99,7 +99,7 @@ fn is_bare(kernel: &Bytes<u64, u64>, name: &[u8]) -> bool {
     kernel.value(name).is_none() && kernel.tags_of(name).ids().is_empty()
 }
 
-/// How many keys that the last failure took back are absent and rest on nothing.
+/// How many keys that the last failure took back are absent and depend on nothing.
 fn bare_undone(kernel: &Bytes<u64, u64>) -> usize {
     let mut count = 0usize;
     for place in 0..KEYS as usize {

@@ -14,7 +14,7 @@ use std::process::Abort;
 /// How often what grows is grown: past each number at which a body could give up.
 pub const MANY: u32 = 70_001;
 
-/// How many guesses rest on each other, each of which has the numbers of all before it.
+/// How many guesses depend on each other, each of which has the numbers of all before it.
 const NESTED: u32 = 1_500;
 
 /// How many guesses are drawn where as many as may be open are struck: they are more than `MANY` together.
@@ -26,7 +26,7 @@ const CHANNEL: u16 = 0;
 /// What is grown.
 #[derive(Clone, Copy)]
 enum Row {
-    /// Many keys and outputs rest on one guess, which fails.
+    /// Many keys and outputs depend on one guess, which fails.
     Keys,
     /// As many guesses are open as may be.
     Guesses,
@@ -58,14 +58,14 @@ fn guesses<K: Kernel>(own: &mut Own<K>, count: u32) -> Result<(), Wrong> {
     Ok(())
 }
 
-/// A guess that rests on the first key.
+/// A guess that depends on the first key.
 fn guesses_behind<K: Kernel>(own: &mut Own<K>) -> Result<(), Wrong> {
     add_look(&mut own.step, own.alloc, 0)?;
     own.draw()?;
     Ok(())
 }
 
-/// A step that rests on the first key, with an output.
+/// A step that depends on the first key, with an output.
 fn says<K: Kernel>(own: &mut Own<K>, channel: u16) -> Result<(), Wrong> {
     add_look(&mut own.step, own.alloc, 0)?;
     own.step.said = Some((channel, 1));
@@ -93,7 +93,7 @@ fn grows_keys<K: Kernel>(rt: &impl Abort, own: &mut Own<K>) -> Result<(), Wrong>
     holds(waiting == MANY as usize && left == 0, Wrong::Output)
 }
 
-/// So many guesses, each of which but the first rests on the first.
+/// So many guesses, each of which but the first depends on the first.
 fn fills<K: Kernel>(own: &mut Own<K>, count: u16) -> Result<(), Wrong> {
     guesses(own, 1)?;
     for _ in 1..count {

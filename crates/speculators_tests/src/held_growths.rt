@@ -20,7 +20,7 @@ fn writes(held: &mut Held, number: u32) -> Result<(), Refusal> {
     held.remove(&key_of(MANY.wrapping_add(number)))
 }
 
-/// Takes a step that rests on the first key, with an output.
+/// Takes a step that depends on the first key, with an output.
 fn takes(held: &mut Held, number: u32) -> Result<(), Refusal> {
     held.look(&key_of(0))?;
     held.put(&key_of((2 * MANY).wrapping_add(number)), b"had")?;
@@ -28,7 +28,7 @@ fn takes(held: &mut Held, number: u32) -> Result<(), Refusal> {
     held.take()
 }
 
-/// A guess whose step has many parts, and as many steps that rest on it.
+/// A guess whose step has many parts, and as many steps that depend on it.
 fn grows_keys(held: &mut Held) -> Result<(), Refusal> {
     for number in 0..MANY {
         writes(held, number)?;

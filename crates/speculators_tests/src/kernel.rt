@@ -44,7 +44,7 @@ pub trait Kernel {
     /// Whether these are the keys that it has, a bit for each.
     fn has_keys(&self, keys: u64) -> bool;
 
-    /// A bit for each key that rests on a guess; `None` where they are not told as they should be.
+    /// A bit for each key that depends on a guess; `None` where they are not told as they should be.
     fn dependents(&self, id: GuessId) -> Option<u64>;
 
     fn status(&self, id: GuessId) -> Option<Status>;

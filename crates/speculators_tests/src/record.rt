@@ -10,7 +10,7 @@ struct Taken {
     guess: Option<GuessId>,
 }
 
-/// An output that was said, and whether it rests on an undecided guess.
+/// An output that was said, and whether it depends on an undecided guess.
 #[derive(Clone, Copy, Drop)]
 pub struct Heard {
     channel: u16,
@@ -18,7 +18,7 @@ pub struct Heard {
     rests: bool,
 }
 
-/// What a key has, and a bit for each of the undecided guesses that it rests on, in their order.
+/// What a key has, and a bit for each of the undecided guesses that it depends on, in their order.
 #[derive(Clone, Copy, Drop)]
 pub struct Cell {
     pub value: Option<u64>,
@@ -68,7 +68,7 @@ impl Reckoning {
         }
     }
 
-    /// The guesses that a step rests on through what it looks at and writes.
+    /// The guesses that a step depends on through what it looks at and writes.
     fn rests(&self, deed: &Deed) -> u64 {
         let mut rests = 0;
         for key in deed.looked {
@@ -89,7 +89,7 @@ impl Reckoning {
         }
     }
 
-    /// A step more, which also rests on this guess.
+    /// A step more, which also depends on this guess.
     fn takes(&mut self, job: &Job, own: u64) -> Result<(), AllocError> {
         let deed = job.deed(self.cell(job.actor).value, self.cell(job.looks).value);
         let rests = own | self.rests(&deed);
@@ -107,7 +107,7 @@ impl Reckoning {
         Ok(())
     }
 
-    /// A bit for each key that rests on the guess at a place.
+    /// A bit for each key that depends on the guess at a place.
     pub fn dependents(&self, place: usize) -> u64 {
         let mut keys = 0;
         for key in 0..KEYS {
@@ -118,7 +118,7 @@ impl Reckoning {
         keys
     }
 
-    /// A bit for each key that is there or rests on a guess.
+    /// A bit for each key that is there or depends on a guess.
     pub fn keys(&self) -> u64 {
         let mut keys = 0;
         for key in 0..KEYS {
@@ -130,7 +130,7 @@ impl Reckoning {
         keys
     }
 
-    /// The output of a channel behind so many, if neither it nor one before it rests on a guess.
+    /// The output of a channel behind so many, if neither it nor one before it depends on a guess.
     pub fn released(&self, channel: u16, count: usize) -> Option<u64> {
         let mut place = 0usize;
         for heard in &self.heard {
@@ -147,7 +147,7 @@ impl Reckoning {
         None
     }
 
-    /// How many outputs of a channel wait: the first that rests on a guess, and all behind it.
+    /// How many outputs of a channel wait: the first that depends on a guess, and all behind it.
     pub fn waiting(&self, channel: u16) -> usize {
         let mut count = 0usize;
         for heard in &self.heard {

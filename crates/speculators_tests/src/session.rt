@@ -233,7 +233,7 @@ impl<K: Kernel> Session<K> {
         self.judge_outputs(&reckoning)
     }
 
-    /// The keys that are there or rest on a guess, and what each has.
+    /// The keys that are there or depend on a guess, and what each has.
     fn judge_keys(&self, reckoning: &Reckoning) -> Result<(), Wrong> {
         for key in 0..KEYS {
             self.judge_key(reckoning, key)?;
@@ -247,7 +247,7 @@ impl<K: Kernel> Session<K> {
         holds(self.has_tags(key, cell.rests), Wrong::Tags)
     }
 
-    /// Whether a key rests on these guesses.
+    /// Whether a key depends on these guesses.
     fn has_tags(&self, key: u32, rests: u64) -> bool {
         let mut tags = self.own.kernel.tags(key).ids().iter();
         for (place, id) in self.record.undecided().iter().enumerate() {
@@ -258,7 +258,7 @@ impl<K: Kernel> Session<K> {
         tags.next().is_none()
     }
 
-    /// How many guesses there are, and what rests on each.
+    /// How many guesses there are, and what depends on each.
     fn judge_guesses(&self, reckoning: &Reckoning) -> Result<(), Wrong> {
         holds(self.own.kernel.counts() == self.counts(), Wrong::Status)?;
         for (place, id) in self.record.undecided().iter().enumerate() {

@@ -108,7 +108,7 @@ fn takes_back(rt: HostRuntime) -> Result<(), Wrong> {
     judge_failing(&rt, &mut sums, &mut SumStep::new(rt.alloc()))
 }
 
-/// What rests on a committed guess alone stays.
+/// What depends on a committed guess alone stays.
 #[test]
 fn keeps_what_is_committed(rt: HostRuntime) -> Result<(), Wrong> {
     let mut sums = Sums::new(rt.alloc(), 7, NonZeroU16::MAX);

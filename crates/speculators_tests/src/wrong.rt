@@ -11,9 +11,9 @@ pub enum Wrong {
     Keys,
     /// A key has another value.
     Value,
-    /// A key rests on other guesses.
+    /// A key depends on other guesses.
     Tags,
-    /// Other keys rest on a guess.
+    /// Other keys depend on a guess.
     Dependents,
     /// Something else became of a guess.
     Status,

@@ -225,7 +225,7 @@ module _ (drawn begun : ℕ) (old : World) (xs : Exchanges) (v : WorldView) (q :
     abbrev there : Contains (c.0.given ++ (q, a) ∷ law_served later rs) (q, a)
     there = Contains-append_right c.0.given ((q, a) ∷ law_served later rs) (q, a) (cons_first (q, a) (law_served later rs))
 
-    -- a request that was not dropped rests on no lost guess
+    -- a request that was not dropped depends on no lost guess
     pub whole : (a ≡ Dropped → ⊥) → is_void v.desk.kernel q ≡ true → ⊥
     whole kept void =
         not_void (table now.scripts) now.start c.0.trace (last_guess now) (c.0.given ++ (q, a) ∷ law_served later rs) c.0.given (q ∷ rest) unserved v.server.refused c.0.all.holds (q, a) there kept

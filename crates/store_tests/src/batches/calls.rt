@@ -6,7 +6,7 @@ use std::process::Abort;
 
 /// A call, and what it is told.
 pub(crate) enum Call {
-    /// A record that rests on these batches is of this one.
+    /// A record that depends on these batches is of this one.
     Adds(&'static [u64], &'static [u8], Result<u64, Refusal>),
     /// The newest record goes.
     Withdraws,

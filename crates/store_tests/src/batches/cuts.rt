@@ -1,11 +1,11 @@
-//! A frame that failed is cut off with what rests on it.
+//! A frame that failed is cut off with what depends on it.
 use crate::batches::calls::Call::{
     self, Adds, CutDue, Cuts, Decides, Failed, Number, Room, Synced, Takes,
 };
 use crate::batches::calls::plays;
 use sk_batches::{Cut, Decision, Refusal, Taken};
 
-/// Batch 1 is logged; 2 fails; a record of 3 rests on it and one does not; 4 was told as synced.
+/// Batch 1 is logged; 2 fails; a record of 3 depends on it and one does not; 4 was told as synced.
 const FAILED: &[Call] = &[
     Adds(&[], b"aa", Ok(1)),
     Takes(40, Ok(Taken { frame: 7, len: 2 })),

@@ -34,7 +34,7 @@ fn replies_wait_for_what_they_rest_on(rt: HostRuntime) {
     plays(&rt, rt.alloc(), WAITS, LOGGED);
 }
 
-/// Batch 1 fails; a step of batch 2 rests on it and one does not.
+/// Batch 1 fails; a step of batch 2 depends on it and one does not.
 const FAILED: &[Call] = &[
     Logs(b"a", b"a", Ok(1)),
     Sends(1, 26),

@@ -44,7 +44,7 @@ pub enum Call {
     Has(&'static [u8], &'static [u8]),
     /// A key is absent.
     Lacks(&'static [u8]),
-    /// A key rests on so many batches.
+    /// A key depends on so many batches.
     RestsOn(&'static [u8], usize),
     /// So many bytes are undecided.
     Undecided(usize),

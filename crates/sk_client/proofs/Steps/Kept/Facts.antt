@@ -95,7 +95,7 @@ module _ (es : List (Happens Caused)) (k : KernelView) (t : Traced es k) where
   pub does_seen : (p : ℕ) (input : Input) → outcome (kernel (table k.scripts)) (state (table k.scripts) k.start es) (own p input) ≡ effect_at k (entry p input None)
   does_seen p input = λ i. perform (get (state_seen i)) (act k.scripts p input)
 
-  -- ---- what a request rests on
+  -- ---- what a request depends on
 
   abbrev marks_now : ℕ → Entity → Bool
   marks_now g e = is_in entity_cmp (dirt entity_cmp g [] (effects (kernel (table k.scripts)) k.start (record_of (kernel (table k.scripts)) k.start es))) e

@@ -1,4 +1,4 @@
--- The process rests on just these guesses, and so does the entity.
+-- The process depends on just these guesses, and so does the entity.
 use Rattle.sk_machine.proofs.Names.{Proc, tags_in}
 use Rattle.sk_machine.proofs.AsProcess.{alike_two}
 use Rattle.sk_machine.proofs.as_process.beside_alike.Goals as goal

@@ -1,4 +1,4 @@
--- It rests on nothing, or on guesses that are all there.
+-- It depends on nothing, or on guesses that are all there.
 use Rattle.sk_machine.proofs.Names.{ap, sym, ◌∙◌, has, tags_in}
 use Rattle.sk_machine.proofs.AsProcess.{covers_one, none_within}
 use Rattle.sk_machine.proofs.as_process.is_within.Goals as goal

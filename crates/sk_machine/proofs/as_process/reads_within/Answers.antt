@@ -1,4 +1,4 @@
--- The process rests on just these, and the rest on none but these.
+-- The process depends on just these, and the depend on none but these.
 use Rattle.sk_machine.proofs.Names.{input_in, looked, looks_of, tags_in}
 use Rattle.sk_machine.proofs.AsProcess.{covers_reads}
 use Rattle.sk_machine.proofs.as_process.reads_within.Goals as goal

@@ -1,4 +1,4 @@
--- Where no guess is open nothing rests on any, and where all are the process's nothing rests on others.
+-- Where no guess is open nothing depends on any, and where all are the process's nothing depends on others.
 use Rattle.sk_machine.proofs.Names.{◌≡◌, [], ap, subst, sym, refl, ◌∙◌, nat_cmp, IsStrictlySortedBy, has, opens_of}
 use Rattle.sk_machine.proofs.Names.{Proc, LogsView, input_in, read_by, looked, looks_of, Covers, tags_in}
 use Rattle.sk_machine.proofs.Names.{RestsAsProcess}

@@ -1,4 +1,4 @@
--- The process rests on just these guesses, and so does the copy that it gets, or the file that it writes.
+-- The process depends on just these guesses, and so does the copy that it gets, or the file that it writes.
 use Rattle.sk_machine.proofs.Names.{Copy, Obj, Proc, tags_in}
 use Rattle.sk_machine.proofs.AsProcess.{alike_two}
 use Rattle.sk_machine.proofs.as_process.writes_alike.Goals as goal

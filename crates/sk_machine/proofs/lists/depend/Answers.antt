@@ -1,4 +1,4 @@
--- It is in them already, or is added to those that it does not rest on, of which none is open where it rests on all that are.
+-- It is in them already, or is added to those that it does not depend on, of which none is open where it depends on all that are.
 use Rattle.sk_machine.proofs.Names.{◌≡◌, ℕ, Bool, true, false, not, cond, filter, ◌&&◌, ◌||◌, List, [], ◌∷◌, refl, sym}
 use Rattle.sk_machine.proofs.Names.{◌∙◌, ap, false≢true, or_left, or_right, entity_cmp, Entity, has, and_both}
 use Rattle.sk_machine.proofs.Names.{OpenGuess, depending, numbers, opens_of, eq-eqb}

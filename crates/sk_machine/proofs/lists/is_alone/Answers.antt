@@ -1,4 +1,4 @@
--- What rests on it is its list.
+-- What depends on it is its list.
 use Rattle.sk_machine.proofs.Names.{◌∷◌, [], subst, Covers, tags_in}
 use Rattle.sk_machine.proofs.lists.is_alone.Goals as goal
 

@@ -1,4 +1,4 @@
--- There is no list, or what is in the lists rests on their guesses.
+-- There is no list, or what is in the lists depends on their guesses.
 use Rattle.sk_machine.proofs.Names.{sym, subst, arith, AllExact, tags_in}
 use Rattle.sk_machine.proofs.Listed.{no_length}
 use Rattle.sk_machine.proofs.lists.relieve_freed.Goals as goal

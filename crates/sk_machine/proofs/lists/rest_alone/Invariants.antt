@@ -1,4 +1,4 @@
--- Each before the loop's place rests on the guess alone.
+-- Each before the loop's place depends on the guess alone.
 use Rattle.sk_machine.proofs.Names.{◌∷◌, [], take, Covers, tags_in}
 use Rattle.sk_machine.proofs.lists.rest_alone.Given as goal
 

@@ -1,4 +1,4 @@
--- The entities that are listed are those that rest on the guess.
+-- The entities that are listed are those that depend on the guess.
 use Rattle.sk_talk.proofs.asked.dependents.Goals as goal
 
 pub returns : goal.returns

@@ -1,4 +1,4 @@
--- No text before the place rests on the guess, and none from it on.
+-- No text before the place depends on the guess, and none from it on.
 use Rattle.sk_terminal.proofs.Names.{◌≡◌, ◌-◌, ◌<◌, suc, length, take, sym, ap, subst, arith, list_any, Held}
 use Rattle.sk_terminal.proofs.HeldTexts.{rests, free_before, none_rests}
 use Rattle.sk_terminal.proofs.terminal.any_rest_on.Goals as goal

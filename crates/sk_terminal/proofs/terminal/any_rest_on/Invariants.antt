@@ -1,4 +1,4 @@
--- The texts gone over do not rest on the guess.
+-- The texts gone over do not depend on the guess.
 use Rattle.sk_terminal.proofs.Names.{◌≡◌, ◌≤◌, length, drop, true, list_all}
 use Rattle.sk_terminal.proofs.HeldTexts.{is_free}
 use Rattle.sk_terminal.proofs.terminal.any_rest_on.Given as goal

@@ -1,4 +1,4 @@
--- A text whose number is below the guess, and those before it, do not rest on it.
+-- A text whose number is below the guess, and those before it, do not depend on it.
 use Rattle.sk_terminal.proofs.Names.{◌≡◌, ◌-◌, ◌<◌, suc, length, sym, subst, arith, Held}
 use Rattle.sk_terminal.proofs.HeldTexts.{free_before}
 use Rattle.sk_terminal.proofs.terminal.may_rest_before.Goals as goal

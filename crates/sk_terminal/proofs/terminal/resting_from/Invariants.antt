@@ -1,4 +1,4 @@
--- The texts gone over rest on the guess.
+-- The texts gone over depend on the guess.
 use Rattle.sk_terminal.proofs.Names.{◌≡◌, ◌≤◌, length, drop, true, list_all}
 use Rattle.sk_terminal.proofs.HeldTexts.{rests}
 use Rattle.sk_terminal.proofs.terminal.resting_from.Given as goal

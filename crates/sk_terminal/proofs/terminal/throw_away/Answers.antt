@@ -1,4 +1,4 @@
--- The texts that stand last rest on the guess and those before them do not, or what stays is a filter.
+-- The texts that stand last depend on the guess and those before them do not, or what stays is a filter.
 use Rattle.sk_terminal.proofs.Names.{◌≡◌, List, drop, take, true, false, sym, ◌∙◌, ap, subst, list_all, list_any}
 use Rattle.sk_terminal.proofs.Names.{texts_of, AreBounded, Held}
 use Rattle.sk_terminal.proofs.HeldTexts.{rests, taken_texts, filtered_texts, bounded_take, bounded_filter}

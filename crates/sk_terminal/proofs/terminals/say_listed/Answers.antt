@@ -1,4 +1,4 @@
--- The terminal is listed for each guess that the text rests on.
+-- The terminal is listed for each guess that the text depends on.
 use Rattle.sk_terminal.proofs.Names.{sym, subst, has, AreListed}
 use Rattle.sk_terminal.proofs.Decided.{said_listed}
 use Rattle.sk_terminal.proofs.Listed.{at_most, on_err_given}

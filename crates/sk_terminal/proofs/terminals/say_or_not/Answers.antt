@@ -1,4 +1,4 @@
--- Refused, it is listed just where a text of it rests on the guess.
+-- Refused, it is listed just where a text of it depends on the guess.
 use Rattle.sk_terminal.proofs.Names.{sym, subst, AreListed}
 use Rattle.sk_terminal.proofs.Decided.{refused_listed}
 use Rattle.sk_terminal.proofs.terminals.say_or_not.Goals as goal

@@ -1,4 +1,4 @@
--- A name rests on the oldest epoch just where one that waits has changed it.
+-- A name depends on the oldest epoch just where one that waits has changed it.
 use Rattle.real_epochs.proofs.Names.{◌≡◌, ◌==◌, Some, refl, sym, ◌∙◌, subst, has, nat_cmp, tags_at, undo_state_of}
 use Rattle.std.proofs.Common.{rules, slice_get}
 use Rattle.real_epochs.specs.Tells.{EpochsView, Tells}

@@ -32,7 +32,7 @@ pub record Marks : Type 0 where
 abbrev pub Allowed : Caused → ℕ → Type 0
 Allowed n y = (q : PendingRequest) → n.cause ≡ For q → (has y q.rests ≡ true) ⊎ (q.guess ≡ Some y)
 
--- a guess that was refused, or that rests on a refused one
+-- a guess that was refused, or that depends on a refused one
 abbrev pub RestsOnRefused : (ℕ → PendingRequest) → (ℕ → Bool) → ℕ → Type 0
 RestsOnRefused made bad x = (y : ℕ) × (bad y ≡ true) × ((y ≡ x) ⊎ (has y (made x).rests ≡ true))
 
@@ -49,7 +49,7 @@ abbrev pub Queue : (ℕ → PendingRequest) → List ℕ → ℕ → ℕ → ℕ
 Queue made us d base a [] = a ≡ d
 Queue made us d base a (q ∷ qs) = Waits made us d base a q qs × Queue made us d base (counted q.guess a) qs
 
--- the server remembers each refused guess that an undecided or a waiting request may rest on
+-- the server remembers each refused guess that an undecided or a waiting request may depend on
 pub record Remembers (bad : ℕ → Bool) (us : List ℕ) (qs : List PendingRequest) (memory : List ℕ) : Type 0 where
   pub undecided : (y : ℕ) → has y us ≡ true → bad y ≡ true → has y memory ≡ true
   pub waiting : (q : PendingRequest) → Contains qs q → (y : ℕ) → has y q.rests ≡ true → bad y ≡ true → has y memory ≡ true
@@ -72,7 +72,7 @@ module _ {E V W F : Type 0} (S : Table E V W F) (start : FinMap S.order V) where
     pub own : (n : Caused) (g : ℕ) → Contains ns n → n.guess ≡ Some g → base < g → (n.cause ≡ For (made g)) × (n.input ≡ Good)
     -- a request's step is its process's
     pub its : (n : Caused) (q : PendingRequest) → Contains ns n → n.cause ≡ For q → n.process ≡ q.process
-    -- the tags of a request's step are among those that the request rests on
+    -- the tags of a request's step are among those that the request depends on
     pub tags : (y : ℕ) → has y us ≡ true → Each (λ n b. b ≡ true → Allowed n y) ns (struck (kernel S) start ns y)
     -- what it sets
     pub sets : Each (λ n f. (q : PendingRequest) → n.cause ≡ For q → n.input ≡ Good → Sets S q.ask Good f.written) ns (effects (kernel S) start ns)
@@ -104,7 +104,7 @@ module _ {E V W F : Type 0} (S : Table E V W F) (start : FinMap S.order V) where
     pub there : get (run (kernel S) start ns) (S.proc q.process) ≡ None → ⊥
     pub covers : (y : ℕ) → has y us ≡ true → tag_at ns q.process (asked_name q.ask) y ≡ true → has y q.rests ≡ true
 
-  -- a new request rests on just the open guesses that its process or its copy depends on, and tells which are decided
+  -- a new request depends on just the open guesses that its process or its copy depends on, and tells which are decided
   pub record IsMadeAt (es : List (Event Caused)) (d : ℕ) (q : PendingRequest) : Type 0 where
     pub opens : (y : ℕ) → has y q.rests ≡ true → has y (undecided_of (kernel S) start es) ≡ true
     pub covers : (y : ℕ) → has y (undecided_of (kernel S) start es) ≡ true → tag_at (record_of (kernel S) start es) q.process (asked_name q.ask) y ≡ true → has y q.rests ≡ true
@@ -215,7 +215,7 @@ pub still_remembered : (q : PendingRequest) (memory : List ℕ) (y : ℕ) → q.
 still_remembered q memory y le there =
     has_filter (λ g. nat_le q.settled g) y memory ∙ (λ i. le-leb q.settled y le i && there i)
 
--- a request that is not dropped rests on no guess that is remembered
+-- a request that is not dropped depends on no guess that is remembered
 pub not_dropped : (q : PendingRequest) (memory : List ℕ) → is_dropped (sent q) memory ≡ false → (y : ℕ) → has y q.rests ≡ true → has y memory ≡ true → ⊥
 not_dropped q memory none y rests there = true≢false (sym (any_of (λ g. has g q.rests) memory y there rests) ∙ none)
 
@@ -809,7 +809,7 @@ module _ {E V W F : Type 0} (S : Table E V W F) (start : FinMap S.order V) (tabl
         let K = kernel S in
         let w = i.queue.0 in
         let base_le = i.base_le in
-        -- a refused guess that the request rests on is remembered
+        -- a refused guess that the request depends on is remembered
         let kept : (ans ≡ Dropped → ⊥) → (y : ℕ) → has y q.rests ≡ true → bad y ≡ false =
         λ yes y carries. false_from_ne_true _ (λ is.
         let le = (w.known y carries).1 in

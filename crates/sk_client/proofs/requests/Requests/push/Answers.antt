@@ -1,4 +1,4 @@
--- It has what it rests on once more, and is counted where its process waits.
+-- It has what it depends on once more, and is counted where its process waits.
 use Rattle.sk_client.proofs.Names.{rules, length-map, requests_in, ℕ, ◌+◌, ◌∷◌, ◌++◌, [], List, Some, sym, ap, subst, Queued, IsQueue}
 use Rattle.sk_client.proofs.Desks.{few, more_is}
 use Rattle.sk_client.proofs.requests.Requests.push.Goals as goal

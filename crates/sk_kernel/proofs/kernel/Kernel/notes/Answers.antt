@@ -1,4 +1,4 @@
--- The notes are those of the machine, whose logs are empty exactly where the trace says that nothing rests on a guess.
+-- The notes are those of the machine, whose logs are empty exactly where the trace says that nothing depends on a guess.
 use Rattle.sk_kernel.proofs.Names.{◌∙◌, ap, subst, KernelView, undecided_at, CanHold, the_view}
 use Rattle.sk_kernel.proofs.Noted.{notes_are, none_undecided}
 use Rattle.sk_kernel.proofs.kernel.Kernel.notes.Goals as goal

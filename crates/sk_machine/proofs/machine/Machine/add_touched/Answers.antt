@@ -1,4 +1,4 @@
--- Where the process rests on all that are open, nothing else that is touched rests on more.
+-- Where the process depends on all that are open, nothing else that is touched depends on more.
 use Rattle.sk_machine.proofs.Names.{◌∙◌, ◌||◌, ◌++◌, ap, sym, has, numbers, Parts, Proc, tags_in, looked, looks_of}
 use Rattle.sk_machine.proofs.Names.{input_in, signals_read, looked_at}
 use Rattle.sk_machine.proofs.Tags.{all_have}

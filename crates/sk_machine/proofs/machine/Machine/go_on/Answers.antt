@@ -1,4 +1,4 @@
--- What its step reads rests on what it rests on, and its log stays as it is.
+-- What its step reads depends on what it depends on, and its log stays as it is.
 use Rattle.sk_machine.proofs.Names.{◌≡◌, true, false, None, Some, refl, sym, ◌∙◌, subst, MergedTakes, Proc, input_in}
 use Rattle.sk_machine.proofs.Names.{look_at, slot_in, on_many, next_in, process_in, plain, AllExact, IsEnough, tags_in}
 use Rattle.sk_machine.proofs.Names.{Parts, machine_of, CanTake, the_view}

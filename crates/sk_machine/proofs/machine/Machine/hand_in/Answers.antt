@@ -1,4 +1,4 @@
--- What is written is listed for the guesses that it rests on, and is what is handed in.
+-- What is written is listed for the guesses that it depends on, and is what is handed in.
 use Rattle.sk_machine.proofs.Names.{◌≡◌, [], ◌∷◌, ◌∙◌, List, Some, refl, sym, subst, Entity, Proc, opens_of, IsProcess}
 use Rattle.sk_machine.proofs.Names.{look_at, Covers, tags_in, HandsInProcess, Parts, IsClean, entities_of}
 use Rattle.sk_machine.proofs.Names.{the_view, IsOrdered, undo_state_of, machine_of, alone_tags, alone_reads, plain, Scripts}

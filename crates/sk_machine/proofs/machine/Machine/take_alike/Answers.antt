@@ -1,4 +1,4 @@
--- What rests on just what its process does leaves the lists as they are.
+-- What depends on just what its process does leaves the lists as they are.
 use Rattle.sk_machine.proofs.Names.{Ok, None, refl, ◌∙◌, subst, sym, input_in, AllExact, tags_in, Parts, CanTake}
 use Rattle.sk_machine.proofs.Names.{MergedTakes, machine_of, plain, the_view, IsOrdered, undo_state_of}
 use Rattle.sk_machine.proofs.AsProcess.{exact_either, taken_either}

@@ -1,4 +1,4 @@
--- All texts are released, since none rests on a guess.
+-- All texts are released, since none depends on a guess.
 use Rattle.sk_plain.proofs.Cites.{◌≡◌, ◌∙◌, sym, rules, texts_at, all_said}
 use Rattle.sk_plain.specs.Plain.{texts_said}
 use Rattle.sk_plain.proofs.Clear.{all_released}

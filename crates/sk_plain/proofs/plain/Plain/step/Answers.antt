@@ -1,4 +1,4 @@
--- A text that is said rests on no guess.
+-- A text that is said depends on no guess.
 use Rattle.sk_plain.proofs.Cites.{subst, sym, input_in, said_by, AllClear, seen_with}
 use Rattle.std.specs.FinMap as map
 use Rattle.sk_plain.proofs.Clear.{said_clear}

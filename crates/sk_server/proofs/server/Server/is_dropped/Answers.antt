@@ -1,4 +1,4 @@
--- The request rests on one of those that are remembered, where it can and does rest on one of all.
+-- The request depends on one of those that are remembered, where it can and does depend on one of all.
 use Rattle.sk_server.proofs.Names.{◌≡◌, ℕ, nat_le, ◌&&◌, ap, sym, ◌∙◌, rules, tests, list_any, YieldsList-from_slice}
 use Rattle.sk_server.proofs.Names.{any_from_yields_List, has, is_dropped, remembered, request_in}
 use Rattle.sk_server.proofs.Remembered.{any_left}

@@ -1,4 +1,4 @@
--- The released texts rest on nothing and stay: from the view, and what `take_out` and `release` say.
+-- The released texts depend on nothing and stay: from the view, and what `take_out` and `release` say.
 use Rattle.sk_terminal.proofs.Names.{◌++◌, map, sym, ◌∙◌, ap, lightened, clear, texts_of}
 use Rattle.sk_terminal.proofs.Views.{lightened-clear}
 use Rattle.sk_terminal.proofs.terminal.Terminal.commit.Goals as goal

@@ -1,4 +1,4 @@
--- The released texts rest on nothing and stay: from the view, and what `throw_away` and `release` say.
+-- The released texts depend on nothing and stay: from the view, and what `throw_away` and `release` say.
 use Rattle.sk_terminal.proofs.Names.{◌++◌, map, sym, ◌∙◌, ap, not_dropped, clear, texts_of}
 use Rattle.sk_terminal.proofs.Views.{not_dropped-clear}
 use Rattle.sk_terminal.proofs.terminal.Terminal.drop_of.Goals as goal

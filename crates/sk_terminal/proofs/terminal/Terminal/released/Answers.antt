@@ -1,4 +1,4 @@
--- The released texts are the longest prefix that rests on no guess: from the view.
+-- The released texts are the longest prefix that depends on no guess: from the view.
 use Rattle.sk_terminal.proofs.Views.{released-clear}
 use Rattle.std.proofs.Common.{sym}
 use Rattle.sk_terminal.proofs.terminal.Terminal.released.Goals as goal

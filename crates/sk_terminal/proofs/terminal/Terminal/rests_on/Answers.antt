@@ -1,4 +1,4 @@
--- The released texts rest on nothing: from the view, and what `any_rest_on` says.
+-- The released texts depend on nothing: from the view, and what `any_rest_on` says.
 use Rattle.sk_terminal.proofs.Names.{List, sym, ◌∙◌, ap, subst, list_any, any_rests, texts_of, AreBounded, Held}
 use Rattle.sk_terminal.proofs.HeldTexts.{rests, rests_texts}
 use Rattle.sk_terminal.proofs.Views.{rests-clear}

@@ -1,4 +1,4 @@
--- The pass from the newest note back is the whole commit, where each note rests on what those before it rest on.
+-- The pass from the newest note back is the whole commit, where each note depends on what those before it depend on.
 use Rattle.sk_undo.proofs.Cites.{sym, ◌∙◌, ap, subst, reverse, FitsBy, undone_by, dropped, CanGoBack}
 use Rattle.sk_undo.proofs.NewestNotes.{whole_pass, commit_can, first_place}
 use Rattle.sk_undo.proofs.log.Log.commit.Goals as goal

@@ -3,7 +3,7 @@
 
     tools/picture.py SCENARIO [--program PATH] [--html PAGE] [--svg FILE]
 
-PATH is the program `speculate`: `build/speculate` where none is given, which `tools/build.py` builds in some two minutes where
+PATH is the program `speculate`: `build/speculate` where none is given, which `tools/build.py` builds in minutes where
 it does not stand. The page stands alone and replays the run by a slider; `PAGE#at=8` opens it after event 8, the keys g and f
 go to the next guess and the next failure (G and F back), + and - draw it larger and smaller. The SVG is its last state, for documents. Where neither is asked for, the page is written to NAME.html in the current folder. The
 status is 1 where the program refuses the scenario, which is one of `steps` or of a `world`. Where SCENARIO is what

@@ -35,7 +35,7 @@ def plain(name):
 def program():
     """The program in build/, which is built where it does not stand."""
     if not os.path.exists(PROGRAM):
-        print("no program is built: tools/build.py builds it, in some two minutes", file=sys.stderr)
+        print("no program is built: tools/build.py builds it, in two to five minutes", file=sys.stderr)
         if subprocess.run([f"{HERE}/build.py", "program"], check=False).returncode:
             sys.exit(1)
     return PROGRAM

@@ -41,7 +41,7 @@ WRONG = {
     "frames where no zeros are": ("disk", [("room.rs", "self.end + bytes <= self.here", "self.end + bytes <= self.segment")]),
     "want of memory is waited for": ("scarce", [("server.rs", "if last.replace(channel) == Some(channel) {",
                                                 "if last.replace(channel) == Some(channel) && last.is_none() {")]),
-    "lock of a file alone": ("lock", [("folder.rs", "folder.try_lock().and_then(|()| file.try_lock())", "file.try_lock()")]),
+    "lock of a file alone": ("lock", [("folder.rs", "system::lock(&folder).and_then(|()| system::lock(&file))", "system::lock(&file)")]),
     "a lack of handles is a failure": ("gone", [("disk.rs", "            Err(error) if is_of_handles(&error) => thread::sleep(NO_HANDLES),\n",
                                                  "            Err(error) if is_of_handles(&error) && NO_HANDLES.is_zero() => (),\n")]),
 }

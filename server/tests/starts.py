@@ -143,7 +143,8 @@ def hosts(server):
     """What the server is asked itself, in its turn among commands."""
     yield "clients' first words", server.ask(b"SET h 1\r\nCLIENT SETNAME x\r\nGET h\r\nSELECT 0\r\nCOMMAND\r\nDEL h\r\n",
                                              b"+OK\r\n+OK\r\n$1\r\n1\r\n+OK\r\n*0\r\n:1\r\n")
-    yield "what isn't known", server.ask(b"NOSUCH 1\r\nSELECT 1\r\nHELLO 3\r\n", b"-ERR unknown command\r\n-ERR DB index is out of range\r\n-NOPROTO")
+    yield "what isn't known", server.ask(b"NOSUCH 1\r\nSELECT 1\r\nHELLO 3\r\n", b"-ERR unknown command 'NOSUCH'\r\n-ERR DB index is out of range\r\n-NOPROTO")
+    yield "a password where none is set", server.line(b"AUTH x\r\n").startswith(b"-ERR AUTH <password> called without any password")
     yield "settings", server.ask(b"CONFIG GET appendonly\r\nCONFIG GET x\r\n", b"*2\r\n$10\r\nappendonly\r\n$3\r\nyes\r\n*0\r\n")
     with socket.create_connection(("127.0.0.1", server.port), timeout=60) as link:
         link.sendall(b"SET i 1\r\nDEL i\r\nINFO\r\nINFO keys\r\nQUIT\r\n")

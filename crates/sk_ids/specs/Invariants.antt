@@ -8,7 +8,7 @@ use Rattle.sk_ids.specs.declared.text.TheConstants.{TEXT_LIMIT}
 pub record IsTidyName (len : ℕ) (cells : List ℕ) : Type 0 where
   -- the bytes are no more than may be
   pub fits : len ≤ NAME_LIMIT
-  -- there is a cell for each that may be
+  -- there is a cell for each byte that may be
   pub count : length cells ≡ NAME_LIMIT
   -- the cells behind the bytes are zeros
   pub zeros : drop len cells ≡ replicate (NAME_LIMIT - len) 0
@@ -19,7 +19,7 @@ pub record IsTidyName (len : ℕ) (cells : List ℕ) : Type 0 where
 pub record IsTidyText (len : ℕ) (cells : List ℕ) : Type 0 where
   -- the bytes are no more than may be
   pub fits : len ≤ TEXT_LIMIT
-  -- there is a cell for each that may be
+  -- there is a cell for each byte that may be
   pub count : length cells ≡ TEXT_LIMIT
   -- the cells behind the bytes are zeros
   pub zeros : drop len cells ≡ replicate (TEXT_LIMIT - len) 0

@@ -7,6 +7,9 @@ use smallvec::SmallVec;
 use std::alloc::{AllocError, Global};
 use std::marker::Model;
 
+/// Room for so many guesses stays, however few there are.
+const FEW: usize = 16;
+
 /// Guesses in a list, of which those at the front that went keep their places. Up to four take no memory.
 #[derive(Drop)]
 pub(crate) struct Fronted {
@@ -55,9 +58,31 @@ impl Fronted {
         SmallVec::from_slice(self.alloc(), self.as_slice())
     }
 
-    /// Takes out the one at a place. This takes no memory.
-    #[tactic(auto, using(crate::proofs::Fronts::removed))]
+    /// Lets go of most of the room, where less than a quarter of it is taken and there is memory for the new list.
+    fn trim(&mut self)
+        ensures { self.new ≡ self.old }
+    {
+        let room = self.list.capacity();
+        if room <= FEW || self.as_slice().len() >= room / 4 {
+            return;
+        }
+        if let Ok(list) = self.copied() {
+            *self = Fronted::of(list);
+        }
+    }
+
+    /// Takes out the one at a place, which wants no memory. Below a quarter of its room it lets most of that go.
     pub(crate) fn remove(&mut self, place: usize)
+        requires { place < length self.old }
+        ensures { self.new ≡ remove self.old place }
+    {
+        self.take_out(place);
+        self.trim();
+    }
+
+    /// Takes out the one at a place.
+    #[tactic(auto, using(crate::proofs::Fronts::removed))]
+    fn take_out(&mut self, place: usize)
         requires { place < length self.old }
         ensures { self.new ≡ remove self.old place }
     {

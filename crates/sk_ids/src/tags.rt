@@ -230,7 +230,7 @@ impl TagSet {
         self.ids.as_slice()
     }
 
-    /// Takes a guess out. This takes no memory.
+    /// Takes a guess out, which wants no memory. A set below a quarter of its room lets most of that go.
     #[inline(always)]
     pub fn without(&mut self, id: GuessId)
         ensures { self.new ≡ without id self.old }

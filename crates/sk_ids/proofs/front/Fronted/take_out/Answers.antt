@@ -2,7 +2,7 @@
 use Rattle.sk_ids.proofs.Names.{rules, ◌<◌, ◌+◌, ◌≤◌, length, arith, sym, ◌∙◌, ap, subst, remove, length-remove}
 use Rattle.std.specs.Prelude.{drop}
 use Rattle.sk_ids.proofs.Fronts.{front_gone, removed, behind}
-use Rattle.sk_ids.proofs.front.Fronted.remove.Goals as goal
+use Rattle.sk_ids.proofs.front.Fronted.take_out.Goals as goal
 
 pub overflow_add-self : goal.overflow_add-self
 overflow_add-self c =

@@ -73,7 +73,7 @@ def guess_with(program, ends, deed="write"):
 
 
 def decision(program, ends, present):
-    """What the decision alone costs, beside so many keys that do not rest on it."""
+    """What the decision alone costs, beside so many keys that do not depend on it."""
     words = [0, 100, "write", ends, 100 + present]
     few, many = (counted([program, guesses, *words], inside="*decide*") for guesses in (1_000, 2_000))
     return (many - few) / 1_000
@@ -92,6 +92,12 @@ def resting(costs, others):
     def run(steps):
         return counted([costs, "costs::beside::beside_others"], OTHERS=others, PRESENT=1_100, GUESSES=1, STEPS=steps)
     return (run(91) - run(1)) / 90
+
+
+def failing(costs, others):
+    """What a key costs, with its step, in a failure of keys that depend on another guess too, beside so many open guesses of others."""
+    few, many = (counted([costs, "costs::beside::failure_beside_others"], OTHERS=others, STEPS=steps) for steps in (1_000, 3_000))
+    return (many - few) / 2_000
 
 
 def byte_keys(costs):
@@ -139,6 +145,8 @@ def main(program, costs=None, library=None):
             ratio = beside(costs, 1_000, 1_100, guesses) / beside(costs, 0, 1_100, guesses)
             rows.row(ratio, limit, f"{name} beside 1,000 open guesses of others / beside none")
         rows.row(resting(costs, 1_000) / resting(costs, 62), 1.1, "a step that rests on a guess beside 1,000 open guesses of others / beside 62")
+        ratio = failing(costs, 1_000) / failing(costs, 62)
+        rows.row(ratio, 1.1, "a failure of keys that depend on another guess too beside 1,000 open guesses of others / beside 62")
     rows.row(a_key(program), 60, "bytes of a present key beyond key and value, nothing open")
     if costs:
         rows.row(byte_keys(costs), 900, "a step over keys of 16 bytes with values of 100")

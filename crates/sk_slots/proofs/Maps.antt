@@ -1,6 +1,6 @@
 -- One slot of all is changed.
 use Rattle.sk_slots.proofs.Names.{arith, same_Some, ◌≡◌, ℕ, List, [], ◌∷◌, Bool, true, false, cond, ◌||◌, not, Option}
-use Rattle.sk_slots.proofs.Names.{Some, None, ◌+◌, ◌<◌, length, drop, refl, sym, ◌∙◌, ap, subst, get_or, is_none}
+use Rattle.sk_slots.proofs.Names.{Some, None, ◌+◌, ◌<◌, length, drop, refl, sym, ◌∙◌, ap, subst, get_or, is_none, is_some}
 use Rattle.sk_slots.proofs.Names.{Result, Ok, Err, OnOk, eq_by_cmp, Ordering, IsTotalOrder, eq_by_cmp_equiv}
 use Rattle.sk_slots.proofs.Names.{Equal-is, FinMap, IsAntisymmetric, get, insert, remove, get-insert, get-remove}
 use Rattle.sk_slots.proofs.Names.{true≢false, is_in, Note, unwound, cut, drop-cons, suc-eq-add-one, and_both}
@@ -48,7 +48,7 @@ module _ {K V : Type 0} {R : K → K → Ordering} (total : IsTotalOrder R) (exa
         | false ↦ λ _. refl
       ] refl
 
-  -- the same, where the slot was changed before
+  -- a slot that was changed and then let go of
   pub same_gone : {A : Type 0} (f : SlotView V → A) (m n : FinMap R (SlotView V)) (k : K) (s w : SlotView V) → get m k ≡ Some s → n ≡ remove (insert m k w) k → f (slot_in None) ≡ f s
       → (q : K) → f (slot_in (get n q)) ≡ f (slot_in (get m q))
   same_gone f m n k s w here all is q =
@@ -73,6 +73,12 @@ module _ {K V : Type 0} {R : K → K → Ordering} (total : IsTotalOrder R) (exa
   ready_at tags m n k w all is =
       subst (λ (x : FinMap R (SlotView V)). HasPrepared tags (get x k)) (sym all)
       (subst (HasPrepared tags) (sym (get-insert total m k w k)) (subst (λ b. HasPrepared tags (cond b (Some w) (get m k))) (sym ((eq_by_cmp_equiv total).refl k)) is))
+
+  -- a key that has a slot keeps one
+  pub still_found : (m n : FinMap R (SlotView V)) (k : K) (w : SlotView V) → n ≡ insert m k w → (q : K) → is_some (get m q) ≡ true → is_some (get n q) ≡ true
+  still_found m n k w all q has =
+      ap (λ (x : FinMap R (SlotView V)). is_some (get x q)) all ∙ ap is_some (get-insert total m k w q)
+      ∙ elim (eq_by_cmp R q k) as (λ b. is_some (cond b (Some w) (get m q)) ≡ true) [ true ↦ refl | false ↦ has ]
 
 -- after a slot let go of its room
 pub settled_of : {V : Type 0} (s : SlotView V) → is_bare s ≡ false → is_settled (record s { ready = None }) ≡ true
@@ -146,14 +152,3 @@ both_more g false false v w x y is log = (is, log)
 
 pub next_of : {K : Type 0} (es : List K) (i : ℕ) (e : K) → i < length es → e ≡ get_or es i e → drop i es ≡ e ∷ drop (i + 1) es
 next_of es i e within is = drop-cons es i e within ∙ (λ k. sym is k ∷ drop (suc-eq-add-one i k) es)
-
--- a key that is left, or the next, depends on no other guess
-pub alone_more : {K V : Type 0} {R : K → K → Ordering} → IsAntisymmetric R → (g : ℕ) (rest : List K) (q k : K)
-    (log : K → List (Note V)) (new : List (Note V)) → is_in R (k ∷ rest) q ≡ true → are_of g (last_tags [] (log k)) ≡ true
-    → new ≡ cond (eq_by_cmp R q k) (cut g (log q)) (log q) → (is_in R rest q ≡ true → are_of g (last_tags [] new) ≡ true)
-    → are_of g (last_tags [] (log q)) ≡ true
-alone_more {R = R} exact g rest q k log new among one is left =
-    elim (eq_by_cmp R q k) as (λ b. eq_by_cmp R q k ≡ b → (b || is_in R rest q) ≡ true → new ≡ cond b (cut g (log q)) (log q) → are_of g (last_tags [] (log q)) ≡ true) [
-      | true ↦ λ e _ _. ap (λ x. are_of g (last_tags [] (log x))) (same_by exact q k e) ∙ one
-      | false ↦ λ _ later same. ap (λ ns. are_of g (last_tags [] ns)) (sym same) ∙ left later
-    ] refl among is

@@ -36,7 +36,7 @@ module _ {V U : Type 0} (undone : U → V → V) (fits : U → V → Type 0) whe
   CanGoBack now [] = Unit {0}
   CanGoBack now (n ∷ ns) = FitsBefore fits n.before (rewound undone now ns) × CanGoBack now ns
 
-  -- they can from something
+  -- there is something from which each write can be put back in its turn
   abbrev pub IsLog : List (Kept V U) → Type 0
   IsLog ns = (now : Option V) × CanGoBack now ns
 

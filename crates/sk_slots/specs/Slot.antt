@@ -36,7 +36,7 @@ module _ {V : Type 0} where
   abbrev pub noted_on : List ℕ → Option V → List (Note V) → List (Note V)
   noted_on tags before log = if goes_unnoted tags log then log else log ++ record { tags = tags; before = before } ∷ []
 
-  -- neither a value nor a note
+  -- a slot with neither a value nor a note
   abbrev pub is_bare : SlotView V → Bool
   is_bare s = is_none s.value && is_empty s.log
 

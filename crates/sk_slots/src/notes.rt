@@ -1,6 +1,7 @@
 //! The notes of what a key has, the newest last.
 ghost use Rattle.std.specs.Prelude.{◌≡◌, false, ◌<◌, ◌≤◌, ◌+◌, [], Option, not, length, take, drop, vec_len, vec_capacity};
 ghost use Rattle.std.specs.List.{list_all, prefix_len, remove};
+ghost use Rattle.std.specs.Option.{option_copied, unwrap_or};
 ghost use Rattle.sk_record.specs.Notes.{has, without, committed};
 ghost use Rattle.sk_record.specs.Merged.{merged, same_tags};
 ghost use Rattle.sk_inversion.specs.Undone.{value_before, CanJoin, FitsBefore};
@@ -37,6 +38,7 @@ impl<V, U> Kept<V, U> {
 }
 
 /// A note puts back a later write, too.
+#[inline(always)]
 fn take_in<V: Drop, I: Inversion<V>>(note: &mut Kept<V, I::Undo>, later: Before<V, I::Undo>)
     requires { CanJoin I.fits later note.old.before }
     ensures tags { note.new.tags ≡ note.old.tags }
@@ -56,6 +58,7 @@ fn take_in<V: Drop, I: Inversion<V>>(note: &mut Kept<V, I::Undo>, later: Before<
 }
 
 /// The notes but the one that is ready, which is the last.
+#[inline(always)]
 pub(crate) fn noted<V, U>(log: &[Kept<V, U>], has_ready: bool) -> &[Kept<V, U>]
     ensures { result.now ≡ without_ready has_ready log.now }
 {
@@ -67,6 +70,7 @@ pub(crate) fn noted<V, U>(log: &[Kept<V, U>], has_ready: bool) -> &[Kept<V, U>]
 }
 
 /// Lets go of the note that is ready, where there is one.
+#[inline(always)]
 pub(crate) fn let_go<V: Drop, I: Inversion<V>>(log: &mut Notes<V, I>, has_ready: &mut bool)
     ensures none { has_ready.new ≡ false }
     ensures log { log.new.items ≡ without_ready has_ready.old log.old.items }
@@ -80,6 +84,7 @@ pub(crate) fn let_go<V: Drop, I: Inversion<V>>(log: &mut Notes<V, I>, has_ready:
 }
 
 /// Puts what puts a write back into the note that is ready for it.
+#[inline(always)]
 pub(crate) fn fill<V: Drop, U: Drop>(note: &mut Kept<V, U>, before: Before<V, U>)
     ensures { note.new ≡ record { tags = note.old.tags; before = before } }
 {
@@ -87,6 +92,7 @@ pub(crate) fn fill<V: Drop, U: Drop>(note: &mut Kept<V, U>, before: Before<V, U>
 }
 
 /// Whether a write with these tags is not noted.
+#[inline(always)]
 pub(crate) fn goes_unnoted<V, U>(log: &[Kept<V, U>], tags: &TagSet) -> bool
     ensures { result ≡ same_tags tags.now (newest_tags [] log.now) }
 {
@@ -96,13 +102,25 @@ pub(crate) fn goes_unnoted<V, U>(log: &[Kept<V, U>], tags: &TagSet) -> bool
     }
 }
 
+/// The tags of the newest note.
+pub(crate) fn newest_of<V, U>(log: &[Kept<V, U>]) -> Option<&TagSet>
+    ensures { unwrap_or (option_copied result) [] ≡ newest_tags [] log.now }
+{
+    match log.last() {
+        Some(newest) => Some(&newest.tags),
+        None => None,
+    }
+}
+
 /// How many notes stand before the first that depends on a guess.
+#[inline(always)]
 pub(crate) fn before_first<V, U>(log: &[Kept<V, U>], id: GuessId) -> usize
     ensures { result ≡ prefix_len (λ n. not (has id n.tags)) log.now }
 {
     log.iter().take_while(|note| is_apart(*note, id)).count()
 }
 
+#[inline(always)]
 fn is_apart<V, U>(note: &Kept<V, U>, id: GuessId) -> bool
     ensures { result ≡ not (has id note.now.tags) }
 {
@@ -124,6 +142,7 @@ pub(crate) fn rest_on_no_other<V, U>(log: &[Kept<V, U>], id: GuessId) -> bool
 }
 
 /// The newest note, where there is one, puts back a later write, too.
+#[inline(always)]
 pub(crate) fn take_in_newest<V: Drop, I: Inversion<V>>(
     log: &mut Notes<V, I>,
     later: Before<V, I::Undo>,
@@ -203,6 +222,7 @@ pub(crate) fn merge<V: Drop, I: Inversion<V>>(log: &mut Notes<V, I>)
 }
 
 /// Lets go of the room of notes, where none is left and it is for more than a few.
+#[inline(always)]
 pub(crate) fn trim<V: Drop, I: Inversion<V>>(log: &mut Notes<V, I>)
     ensures items { log.new.items ≡ log.old.items }
     ensures room { log.new.items ≡ [] → vec_capacity log.new ≤ 4 }

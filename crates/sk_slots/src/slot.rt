@@ -5,11 +5,11 @@ ghost use Rattle.sk_record.specs.Notes.{last_tags, unwound, cut, committed};
 ghost use Rattle.sk_record.specs.Merged.{merged, same_tags};
 ghost use Rattle.sk_inversion.specs.Undone.{value_before, FitsBefore};
 ghost use Rattle.sk_slots.specs.Kept.{newest_tags, ready_tags, seen, without_ready, CanGoBack, CanTakeIn};
-ghost use Rattle.sk_slots.specs.Slot.{are_of, goes_unnoted, noted_on, is_bare, is_settled, IsPrepared};
+ghost use Rattle.sk_slots.specs.Slot.{goes_unnoted, noted_on, is_bare, is_settled, IsPrepared};
 
 use crate::notes::{
-    Kept, Notes, before_first, fill, go_back, goes_unnoted, let_go, lighten, merge, noted,
-    rest_on_no_other, take_in_newest, trim,
+    Kept, Notes, before_first, fill, go_back, goes_unnoted, let_go, lighten, merge, newest_of,
+    noted, rest_on_no_other, take_in_newest, trim,
 };
 use sk_ids::{GuessId, TagSet};
 use sk_inversion::{Before, Inversion, Whole};
@@ -45,6 +45,7 @@ impl<V, I: Inversion<V>> Model for Slot<V, I> {
 }
 
 /// Notes what puts a write back: in the note that is ready, or in the newest one, where that has these tags.
+#[inline(always)]
 fn note<V: Drop, I: Inversion<V>>(
     log: &mut Notes<V, I>,
     has_ready: &mut bool,
@@ -80,7 +81,7 @@ fn note<V: Drop, I: Inversion<V>>(
 }
 
 impl<V, I: Inversion<V>> Slot<V, I> {
-    /// Nothing is there, and nothing is noted.
+    /// A slot with neither a value nor a note.
     pub fn new(alloc: Global) -> Slot<V, I>
         ensures { result ≡ record { value = None; log = []; ready = None } }
     {
@@ -91,6 +92,7 @@ impl<V, I: Inversion<V>> Slot<V, I> {
         }
     }
 
+    #[inline(always)]
     pub fn value(&self) -> Option<&V>
         ensures { option_copied result ≡ self.now.value }
     {
@@ -101,6 +103,7 @@ impl<V, I: Inversion<V>> Slot<V, I> {
     }
 
     /// Whether a value is there.
+    #[inline(always)]
     pub fn is_present(&self) -> bool
         ensures { result ≡ is_some self.now.value }
     {
@@ -108,6 +111,7 @@ impl<V, I: Inversion<V>> Slot<V, I> {
     }
 
     /// The tags of the newest note.
+    #[inline(always)]
     pub fn tags(&self) -> Option<&TagSet>
         ensures { unwrap_or (option_copied result) [] ≡ last_tags [] self.now.log }
     {
@@ -117,17 +121,24 @@ impl<V, I: Inversion<V>> Slot<V, I> {
         }
     }
 
-    /// Whether the newest note depends on no guess but one.
-    pub fn rests_on_no_other(&self, id: GuessId) -> bool
-        ensures { result ≡ are_of id (last_tags [] self.now.log) }
+    /// Whether a write with these tags is not noted.
+    #[inline(always)]
+    pub fn goes_unnoted(&self, tags: &TagSet) -> bool
+        ensures { result ≡ goes_unnoted tags.now self.now.log }
     {
-        match self.tags() {
-            Some(tags) => tags.ids().iter().all(|tag| *tag == id),
-            None => true,
-        }
+        goes_unnoted(noted(self.log.as_slice(), self.has_ready), tags)
+    }
+
+    /// The tags of the note before the first that depends on a guess: of the newest one, where that guess has failed.
+    pub fn tags_without(&self, id: GuessId) -> Option<&TagSet>
+        ensures { unwrap_or (option_copied result) [] ≡ last_tags [] (cut id self.now.log) }
+    {
+        let log = noted(self.log.as_slice(), self.has_ready);
+        newest_of(&log[..before_first(log, id)])
     }
 
     /// Whether there is neither a value nor a note.
+    #[inline(always)]
     fn is_bare(&self) -> bool
         ensures { result ≡ is_bare self.now }
     {
@@ -135,6 +146,7 @@ impl<V, I: Inversion<V>> Slot<V, I> {
     }
 
     /// Whether there is a value or a note, and no room for the next note.
+    #[inline(always)]
     fn is_settled(&self) -> bool
         ensures { result ≡ is_settled self.now }
     {
@@ -177,6 +189,7 @@ impl<V: Drop, I: Inversion<V>> Slot<V, I> {
 
     /// Sets or changes what is there, where what is to be noted has room. An old value is moved into the note. Answers whether
     /// there is a value or a note now, and no room for the next note.
+    #[inline(always)]
     pub fn write(&mut self, tags: &TagSet, write: I::Write) -> bool
         requires { IsPrepared tags.now self.old }
         ensures value { self.new.value ≡ I.written write self.old.value }
@@ -186,6 +199,19 @@ impl<V: Drop, I: Inversion<V>> Slot<V, I> {
     {
         let before = I::write(&mut self.value, write);
         note::<V, I>(&mut self.log, &mut self.has_ready, tags, before);
+        self.is_settled()
+    }
+
+    /// Sets or changes what is there with the tags of the newest note, so that nothing is noted. Answers as `write` does.
+    #[inline(always)]
+    pub fn write_on(&mut self, write: I::Write) -> bool
+        ensures value { self.new.value ≡ I.written write self.old.value }
+        ensures log { self.new.log ≡ self.old.log }
+        ensures settled { result ≡ is_settled self.new }
+    {
+        let_go::<V, I>(&mut self.log, &mut self.has_ready);
+        let before = I::write(&mut self.value, write);
+        take_in_newest::<V, I>(&mut self.log, before);
         self.is_settled()
     }
 

@@ -1,5 +1,5 @@
 //! All keys with their slots.
-ghost use Rattle.std.specs.Prelude.{◌≡◌, ◌<◌, ◌+◌, ◌-◌, ◌∷◌, [], List, Some, length, true, false, is_some, position, OnOk, IfOk, IsOk, if◌then◌else◌};
+ghost use Rattle.std.specs.Prelude.{◌≡◌, ◌<◌, ◌+◌, ◌-◌, ◌∷◌, ◌&&◌, [], List, Some, length, true, false, is_some, position, OnOk, IfOk, IsOk, if◌then◌else◌};
 ghost use Rattle.std.specs.Option.{option_copied, unwrap_or};
 ghost use Rattle.std.specs.Ordering.{eq_by_cmp};
 ghost use Rattle.sk_record.specs.Effects.{is_in};
@@ -9,7 +9,7 @@ ghost use Rattle.std.specs.Map.Iter.{ShowsInOrder, deref};
 ghost use Rattle.sk_record.specs.Merged.{merged};
 ghost use Rattle.sk_record.specs.Notes.{last_tags, unwound, cut, committed};
 ghost use Rattle.sk_slots.specs.Counted.{HasPresent};
-ghost use Rattle.sk_slots.specs.Slot.{SlotView, are_of, goes_unnoted, noted_on};
+ghost use Rattle.sk_slots.specs.Slot.{SlotView, goes_unnoted, noted_on};
 ghost use Rattle.sk_slots.specs.Slots.{found, look_at, log_at, AllSettled, IsReady, SettledBut};
 
 use crate::Slot;
@@ -36,15 +36,6 @@ pub struct Slots<K: Key + Hash, V, I: Inversion<V> = Whole> {
 /// A commit of so many keys does not drop what it leaves of their notes.
 const MANY: usize = 64;
 
-/// What a failure left at a key.
-#[derive(Clone, Copy)]
-struct Unwound {
-    /// Nothing is left to be settled.
-    is_settled: bool,
-    /// The key depended on no other guess.
-    is_alone: bool,
-}
-
 impl<K: Key + Hash, V, I: Inversion<V>> Model for Slots<K, V, I> {
     ghost use Rattle.std.specs.Prelude.{List};
     ghost use Rattle.std.specs.Coded.{coded_list, coded×};
@@ -61,7 +52,8 @@ impl<K: Key + Hash, V, I: Inversion<V>> Model for Slots<K, V, I> {
     ghost invariant = { λ a. HasPresent K.order (look_at K.order a.slots) a.present };
 }
 
-/// A count of the keys that have a value, where one had a value or not, and has one or not now.
+/// The count of the keys that have a value, once one of them got a value, lost it, or neither.
+#[inline(always)]
 fn recounted<K: Key + Hash, V, I: Inversion<V>>(
     slots: &Table<K, Slot<V, I>>,
     count: usize,
@@ -84,6 +76,7 @@ fn recounted<K: Key + Hash, V, I: Inversion<V>>(
 }
 
 /// Keeps the notes of a slot of which the commit of a guess leaves none, where many keys are committed.
+#[inline(always)]
 fn spare<V: Drop, I: Inversion<V>>(
     slot: &mut Slot<V, I>,
     left: &mut Left<V, I::Undo>,
@@ -101,6 +94,7 @@ fn spare<V: Drop, I: Inversion<V>>(
 
 /// Drops as much of what earlier commits left as a commit of so many keys may leave, where they are many: so what is left is at
 /// most what one commit left.
+#[inline(always)]
 fn make_way<V: Drop, U: Drop>(left: &mut Left<V, U>, keys: usize, many: bool) {
     if many {
         left.let_go(keys);
@@ -130,6 +124,7 @@ impl<K: Key + Hash, V, I: Inversion<V>> Slots<K, V, I> {
     }
 
     /// The place of a key that has a slot.
+    #[inline(always)]
     pub fn find(&self, key: &K) -> Option<usize>
         ensures { result ≡ position (eq_by_cmp K.order key.now) (keys_of self.now) }
     {
@@ -160,7 +155,8 @@ impl<K: Key + Hash, V, I: Inversion<V>> Slots<K, V, I> {
         }
     }
 
-    /// The same, for a key that is looked for at a place first.
+    /// As `tags`, for a key that is looked for at a place first.
+    #[inline(always)]
     pub fn tags_near(&self, place: usize, key: &K) -> Option<&TagSet>
         ensures { unwrap_or (option_copied result) [] ≡ last_tags [] (log_at K.order self.now key.now) }
     {
@@ -172,11 +168,34 @@ impl<K: Key + Hash, V, I: Inversion<V>> Slots<K, V, I> {
 }
 
 impl<K: Key + Hash, V, I: Inversion<V>> Slots<K, V, I> {
+    /// The tags that a key has once a guess has failed, where it then has a note.
+    pub fn tags_without(&self, key: &K, id: GuessId) -> Option<&TagSet>
+        ensures { unwrap_or (option_copied result) []
+            ≡ last_tags [] (cut id (log_at K.order self.now key.now)) }
+    {
+        match self.slots.get(key) {
+            Some(slot) => slot.tags_without(id),
+            None => None,
+        }
+    }
+
     /// Whether a key has a slot.
     pub fn has(&self, key: &K) -> bool
         ensures { result ≡ is_some (found K.order self.now key.now) }
     {
         self.slots.get(key).is_some()
+    }
+
+    /// Whether a key has a slot, and a write of it with these tags is not noted. The key is looked for at a place first.
+    #[inline(always)]
+    pub fn goes_unnoted(&self, place: usize, key: &K, tags: &TagSet) -> bool
+        ensures { result ≡ (is_some (found K.order self.now key.now)
+            && goes_unnoted tags.now (log_at K.order self.now key.now)) }
+    {
+        match self.slots.get_near(place, key) {
+            Some(slot) => slot.goes_unnoted(tags),
+            None => false,
+        }
     }
 
     /// The keys that have slots, each once.
@@ -192,6 +211,7 @@ impl<K: Key + Hash, V, I: Inversion<V>> Slots<K, V, I> {
 impl<K: Key + Hash, V: Drop, I: Inversion<V>> Slots<K, V, I> {
     /// Makes room for what a write of a key with these tags notes, and answers whether it is not noted, as the key has just
     /// these tags. The key is looked for at a place first.
+    #[inline(always)]
     pub fn prepare(&mut self, place: usize, key: &K, tags: &TagSet) -> Result<bool, AllocError>
         ensures look { (q : K) → look_at K.order self.new q ≡ look_at K.order self.old q }
         ensures log { (q : K) → log_at K.order self.new q ≡ log_at K.order self.old q }
@@ -216,6 +236,7 @@ impl<K: Key + Hash, V: Drop, I: Inversion<V>> Slots<K, V, I> {
 
     /// Sets or changes what a key has, where what is to be noted has room. The key is looked for at a place first. Answers
     /// whether nothing is left to be settled of it.
+    #[inline(always)]
     pub fn write(&mut self, place: usize, key: &K, tags: &TagSet, write: I::Write) -> bool
         requires { IsReady K.order tags.now self.old key.now }
         ensures look { (q : K) → look_at K.order self.new q
@@ -242,8 +263,36 @@ impl<K: Key + Hash, V: Drop, I: Inversion<V>> Slots<K, V, I> {
         is_settled
     }
 
+    /// Sets or changes what a key has that has a slot, with the tags of its newest note, so that nothing is noted. The key is
+    /// looked for at a place first. Answers as `write` does.
+    #[inline(always)]
+    pub fn write_on(&mut self, place: usize, key: &K, write: I::Write) -> bool
+        requires { is_some (found K.order self.old key.now) ≡ true }
+        ensures look { (q : K) → look_at K.order self.new q
+            ≡ (if eq_by_cmp K.order q key.now then I.written write (look_at K.order self.old q) else
+            look_at K.order self.old q) }
+        ensures log { (q : K) → log_at K.order self.new q ≡ log_at K.order self.old q }
+        ensures slots { (q : K) → is_some (found K.order self.old q) ≡ true
+            → is_some (found K.order self.new q) ≡ true }
+        ensures settled { (keys : List K) → is_in K.order keys key.now ≡ true
+            → SettledBut K.order keys self.old → SettledBut K.order keys self.new }
+        ensures done { result ≡ true
+            → (keys : List K) → SettledBut K.order (key.now ∷ keys) self.old
+            → SettledBut K.order keys self.new }
+    {
+        let Some(slot) = self.slots.get_mut_near(place, key) else {
+            unreachable!()
+        };
+        let had = slot.is_present();
+        let is_settled = slot.write_on(write);
+        let has = slot.is_present();
+        self.present = recounted(&self.slots, self.present, had, has);
+        is_settled
+    }
+
     /// Lets go of the room that was made for a note of a key, and of its slot where nothing is there and nothing is noted.
     /// It takes no memory.
+    #[inline(never)]
     pub fn settle(&mut self, key: &K)
         ensures look { (q : K) → look_at K.order self.new q ≡ look_at K.order self.old q }
         ensures log { (q : K) → log_at K.order self.new q ≡ log_at K.order self.old q }
@@ -261,6 +310,7 @@ impl<K: Key + Hash, V: Drop, I: Inversion<V>> Slots<K, V, I> {
 
     /// Takes a guess out of the notes of one key, and answers whether nothing is left to be settled of it. Where many keys are
     /// committed what is left of their notes is kept.
+    #[inline(always)]
     fn commit_at(&mut self, key: &K, id: GuessId, many: bool) -> bool
         ensures look { (q : K) → look_at K.order self.new q ≡ look_at K.order self.old q }
         ensures log { (q : K) → log_at K.order self.new q
@@ -280,7 +330,8 @@ impl<K: Key + Hash, V: Drop, I: Inversion<V>> Slots<K, V, I> {
         slot.commit(id)
     }
 
-    /// The same, and lets go of the slot where nothing is there and nothing is noted.
+    /// Takes a guess out of the notes of one key, and lets go of its slot where nothing is there and nothing is noted.
+    #[inline(always)]
     fn commit_one(&mut self, key: &K, id: GuessId, many: bool)
         ensures look { (q : K) → look_at K.order self.new q ≡ look_at K.order self.old q }
         ensures log { (q : K) → log_at K.order self.new q
@@ -294,8 +345,9 @@ impl<K: Key + Hash, V: Drop, I: Inversion<V>> Slots<K, V, I> {
         self.settle(key);
     }
 
-    /// Takes back what depends on a guess at one key.
-    fn unwind_at(&mut self, key: &K, id: GuessId) -> Unwound
+    /// Takes back what depends on a guess at one key. Answers whether nothing is left to be settled of it.
+    #[inline(always)]
+    fn unwind_at(&mut self, key: &K, id: GuessId) -> bool
         ensures look { (q : K) → look_at K.order self.new q
             ≡ (if eq_by_cmp K.order q key.now then unwound id (log_at K.order self.old q)
             (look_at K.order self.old q) else look_at K.order self.old q) }
@@ -304,31 +356,23 @@ impl<K: Key + Hash, V: Drop, I: Inversion<V>> Slots<K, V, I> {
             K.order self.old q) }
         ensures settled { (keys : List K) → is_in K.order keys key.now ≡ true
             → SettledBut K.order keys self.old → SettledBut K.order keys self.new }
-        ensures done { result.is_settled ≡ true
+        ensures done { result ≡ true
             → (keys : List K) → SettledBut K.order (key.now ∷ keys) self.old
             → SettledBut K.order keys self.new }
-        ensures alone { result.is_alone ≡ are_of id (last_tags [] (log_at K.order self.old key.now)) }
     {
         let Some(slot) = self.slots.get_mut(key) else {
-            return Unwound {
-                is_settled: false,
-                is_alone: true,
-            };
+            return false;
         };
-        let is_alone = slot.rests_on_no_other(id);
         let had = slot.is_present();
         let is_settled = slot.unwind(id);
         let has = slot.is_present();
         self.present = recounted(&self.slots, self.present, had, has);
-        Unwound {
-            is_settled,
-            is_alone,
-        }
+        is_settled
     }
 
-    /// The same, and lets go of the slot where nothing is there and nothing is noted. Answers whether the key depended on no
-    /// other guess.
-    fn unwind_one(&mut self, key: &K, id: GuessId) -> bool
+    /// Takes back what depends on a guess at one key, and lets go of its slot where nothing is there and nothing is noted.
+    #[inline(always)]
+    fn unwind_one(&mut self, key: &K, id: GuessId)
         ensures look { (q : K) → look_at K.order self.new q
             ≡ (if eq_by_cmp K.order q key.now then unwound id (log_at K.order self.old q)
             (look_at K.order self.old q) else look_at K.order self.old q) }
@@ -336,14 +380,11 @@ impl<K: Key + Hash, V: Drop, I: Inversion<V>> Slots<K, V, I> {
             ≡ (if eq_by_cmp K.order q key.now then cut id (log_at K.order self.old q) else log_at
             K.order self.old q) }
         ensures settled { AllSettled K.order self.old → AllSettled K.order self.new }
-        ensures alone { result ≡ are_of id (last_tags [] (log_at K.order self.old key.now)) }
     {
-        let unwound = self.unwind_at(key, id);
-        if unwound.is_settled {
-            return unwound.is_alone;
+        if self.unwind_at(key, id) {
+            return;
         }
         self.settle(key);
-        unwound.is_alone
     }
 
     /// Takes a guess out of the notes of these keys, and leaves out those that then depend on just what the note before them
@@ -370,8 +411,8 @@ impl<K: Key + Hash, V: Drop, I: Inversion<V>> Slots<K, V, I> {
         self.left.let_go(most)
     }
 
-    /// Takes back what depends on a guess at these keys. It takes no memory. Answers whether they depended on no other guess.
-    pub fn unwind(&mut self, id: GuessId, keys: &[K]) -> bool
+    /// Takes back what depends on a guess at these keys. It takes no memory.
+    pub fn unwind(&mut self, id: GuessId, keys: &[K])
         ensures look { (q : K) → look_at K.order self.new q
             ≡ (if is_in K.order keys.now q then unwound id (log_at K.order self.old q)
             (look_at K.order self.old q) else look_at K.order self.old q) }
@@ -379,13 +420,9 @@ impl<K: Key + Hash, V: Drop, I: Inversion<V>> Slots<K, V, I> {
             ≡ (if is_in K.order keys.now q then cut id (log_at K.order self.old q) else log_at
             K.order self.old q) }
         ensures settled { AllSettled K.order self.old → AllSettled K.order self.new }
-        ensures alone { result ≡ true → (q : K) → is_in K.order keys.now q ≡ true
-            → are_of id (last_tags [] (log_at K.order self.old q)) ≡ true }
     {
-        let mut alone = true;
         for key in keys {
-            alone &= self.unwind_one(key, id);
+            self.unwind_one(key, id);
         }
-        alone
     }
 }

@@ -67,6 +67,7 @@ impl<K: Key + Hash, V> Table<K, V> {
     }
 
     /// The place of a key.
+    #[inline(always)]
     pub(crate) fn find(&self, key: &K) -> Option<usize>
         ensures { result ≡ position (eq_by_cmp K.order key.now) (keys_of self.now) }
     {
@@ -74,6 +75,7 @@ impl<K: Key + Hash, V> Table<K, V> {
     }
 
     /// Whether a key stands at a place.
+    #[inline(always)]
     fn is_at(&self, place: usize, key: &K) -> bool
         ensures key { result ≡ true → slice_get (keys_of self.now) place ≡ Some key.now }
         ensures value { result ≡ true
@@ -86,6 +88,7 @@ impl<K: Key + Hash, V> Table<K, V> {
     }
 
     /// The value of a key, which is looked for at a place first.
+    #[inline(always)]
     pub(crate) fn get_near(&self, place: usize, key: &K) -> Option<&V>
         ensures { option_copied result ≡ map.get (seen K.order self.now) key.now }
     {
@@ -109,7 +112,8 @@ impl<K: Key + Hash, V> Table<K, V> {
         self.entries.get_mut(key)
     }
 
-    /// The same, for a key that is looked for at a place first.
+    /// As `get_mut`, for a key that is looked for at a place first.
+    #[inline(always)]
     pub(crate) fn get_mut_near(&mut self, place: usize, key: &K) -> Option<&mut V>
         ensures* writes_back { sem 𝓛 (LendsSo
             (the_row K.row V.row (record { eq = K.eq }) (record { hash_input = K.hash_input }))

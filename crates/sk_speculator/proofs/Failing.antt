@@ -1,35 +1,51 @@
--- What a failure leaves on the lists of the other guesses, where its keys depended on none of them.
-use Rattle.sk_speculator.proofs.Names.{◌≡◌, refl, ◌==◌, ℕ, Bool, true, false, List, [], ◌∷◌, sym, ◌∙◌, ap, eq-eqb, Ordering}
-use Rattle.sk_speculator.proofs.Names.{Option, or_parts, true≢false, is_in, has, numbers, not_resting, OpenGuess, opens_of, open_in}
-use Rattle.sk_speculator.proofs.Names.{arith, cond, Some, Struck, Open, AllExact, AllAlmostExact, AreStatuses, KeptView, Status, with_failure}
-use Rattle.sk_slots.specs.Slot.{are_of}
+-- What a failure leaves on the lists of the other guesses.
+use Rattle.sk_speculator.proofs.Names.{◌≡◌, ℕ, Bool, true, false, cond, List, [], ◌∷◌, length, map, sym, ◌∙◌, arith}
+use Rattle.sk_speculator.proofs.Names.{is_in, has, OpenGuess, AllExact, AllAlmostExact, left_to, Ordering}
+use Rattle.sk_speculator.proofs.Names.{IsTotalOrder, IsAntisymmetric}
+use Rattle.sk_guesses.specs.Base.{AllByRecursion}
 use Rattle.sk_guesses.specs.Dependents.{IsAlmostExact}
-use Rattle.sk_record.specs.Machine.{rests_on}
-use Rattle.sk_record.specs.declared.status.Status.TheVariants.{Failed}
+use Rattle.sk_guesses.specs.EntitySet.{without_entity}
+use Rattle.sk_guesses.specs.Opens.{relieved_beyond}
+use Rattle.sk_guesses.proofs.Places.{without_in}
 use Rattle.std.proofs.lemmas.Bool.Decides.{nat_tests}
 
--- among the tags of one guess no other is
-only_of : (g h : ℕ) (tags : List ℕ) → are_of g tags ≡ true → (h == g) ≡ false → has h tags ≡ false
-only_of g h [] all apart = refl
-only_of g h (t ∷ tags) all apart = grind (arith, nat_tests, only_of g h tags)
+module _ {K : Type 0} (R : K → K → Ordering) where
+  -- a list has none but keys that depend on its guess
+  abbrev pub IsWithin : (K → List ℕ) → OpenGuess K → Type 0
+  IsWithin tags o = (k : K) → is_in R o.dependents k ≡ true → has o.id (tags k) ≡ true
 
--- a guess that failed is not undecided
-pub failed_gone : (v : KeptView) (os all : List Open) (g : ℕ) (status : ℕ → Option Status)
-    → AreStatuses v os (with_failure g all status) → has g (numbers os) ≡ false
-failed_gone v os all g status are =
-    are.undecided g ∙ ap (λ b. open_in (cond b (Some Failed) (cond (rests_on g all g) (Some Struck) (status g)))) (eq-eqb g g refl)
+  abbrev pub AllWithin : (K → List ℕ) → List (OpenGuess K) → Type 0
+  AllWithin tags os = AllByRecursion (IsWithin tags) os
 
-module _ {K : Type 0} (R : K → K → Ordering) (old new : K → List ℕ) (g : ℕ) (ks : List K)
-    (alone : (k : K) → is_in R ks k ≡ true → are_of g (old k) ≡ true) where
-  none_more : (o : OpenGuess K) → (o.id == g) ≡ false → ((k : K) → is_in R o.dependents k ≡ has o.id (old k))
-      → IsAlmostExact R new ks o → (k : K) → is_in R o.dependents k ≡ has o.id (new k)
-  none_more o apart exactly almost k =
-      grind (arith, nat_tests, alone k, only_of g o.id (old k), exactly k, almost.kept k, almost.others k)
+  pub exact_within : (tags : K → List ℕ) (os : List (OpenGuess K)) → AllExact R tags os → AllWithin tags os
+  exact_within tags [] all = tt
+  exact_within tags (o ∷ os) all = ((λ k here. sym (all.0 k) ∙ here), exact_within tags os all.1)
 
-  -- the lists of the others have no key that depended on the one alone
-  pub failed_exact : (os : List (OpenGuess K)) → has g (numbers (opens_of os)) ≡ false → AllExact R old os
-      → AllAlmostExact R new ks os → AllExact R new os
-  failed_exact [] none exactly almost = tt
-  failed_exact (o ∷ os) none exactly almost =
-      let parts = or_parts _ _ none in
-      (none_more o parts.0 exactly.0 almost.0, failed_exact os parts.1 exactly.1 almost.1)
+  -- where no guess is undecided there is no list
+  pub none_exact : (tags : K → List ℕ) (os : List (OpenGuess K)) → length os ≡ 0 → AllExact R tags os
+  none_exact tags [] none = tt
+  none_exact tags (o ∷ os) none = absurd (omega (arith, none))
+
+  module _ (old new : K → List ℕ) (x : K) (ks : List K) where
+    right_one : (o : OpenGuess K) → IsWithin old o → IsAlmostExact R new ks o → has o.id (old x) ≡ false → is_in R o.dependents x ≡ has o.id (new x)
+    right_one o within almost none = grind (arith, nat_tests, within x, almost.kept x)
+
+    -- the lists of the guesses that a key did not depend on are right
+    pub right_beyond : (os : List (OpenGuess K)) → AllWithin old os → AllAlmostExact R new ks os
+        → AllByRecursion (λ o. has o.id (old x) ≡ false → is_in R o.dependents x ≡ has o.id (new x)) os
+    right_beyond [] within almost = tt
+    right_beyond (o ∷ os) within almost = (right_one o within.0 almost.0, right_beyond os within.1 almost.1)
+
+  -- what is taken out of lists leaves none but keys that depend on their guesses
+  module _ (total : IsTotalOrder R) (exact : IsAntisymmetric R) (tags own : List ℕ) (x : K) (old : K → List ℕ) where
+    left_within : (o : OpenGuess K) (b : Bool) → IsWithin old o → IsWithin old (cond b o (record o { dependents = without_entity R o.dependents x }))
+    left_within o true within = within
+    left_within o false within = λ k here. grind (arith, nat_tests, without_in total exact o.dependents x k, within k)
+
+    one_within : (o : OpenGuess K) (b : Bool) → IsWithin old o → IsWithin old (cond b (left_to R own x o) o)
+    one_within o true within = left_within o (has o.id own) within
+    one_within o false within = within
+
+    pub within_beyond : (os : List (OpenGuess K)) → AllWithin old os → AllWithin old (map (relieved_beyond R tags own x) os)
+    within_beyond [] within = tt
+    within_beyond (o ∷ os) within = (one_within o (has o.id tags) within.0, within_beyond os within.1)

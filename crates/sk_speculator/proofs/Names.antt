@@ -64,6 +64,6 @@ pub use Rattle.sk_speculator.specs.Calls.{next_of, Forgets, FailsIn, Commits, To
 pub use Rattle.sk_speculator.specs.Law.{Returns, Does, IsFirst, Tells, Calls, events_of, OwnRunsAsPlain, Happens, Call}
 pub use Rattle.sk_speculator.specs.Law.{TakesOut}
 pub use Rattle.sk_speculator.specs.Parts.{Performed, IsWhole, IsSame, undo_state_of, any_rests, Parts, machine_of, says}
-pub use Rattle.sk_speculator.specs.Parts.{IsSound, made_by}
+pub use Rattle.sk_speculator.specs.Parts.{IsSound, made_by, first_tags, GoesOn}
 pub use Rattle.sk_speculator.specs.declared.decided.Undone.{Undone}
 pub use Rattle.sk_ids.proofs.Newest.{without_none}

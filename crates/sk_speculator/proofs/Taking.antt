@@ -7,8 +7,10 @@ use Rattle.sk_speculator.proofs.Names.{with_drawn, marks, Open, numbers, Status,
 use Rattle.sk_speculator.proofs.Names.{with_entities, KeptView, AreStatuses, one_drawn, keys_of, OpenGuess, open_in}
 use Rattle.sk_speculator.proofs.Names.{opens_of, exact_as, more_rises, Deed, SlotView, look_at, log_at, AllSettled}
 use Rattle.sk_speculator.proofs.Names.{Said, Parts, any_rests, Performed, IsSame, IsSound, says, next_of, Takes}
+use Rattle.sk_speculator.proofs.Names.{first_tags, made_by, written_value, GoesOn}
 use Rattle.std.proofs.lemmas.List.{nil_from_length}
 use Rattle.std.specs.Prelude.{Result, Ok, Err, OnOk, OnErr}
+use Rattle.sk_speculator.proofs.Writing.{goes_members, keys_made, performed_on, tags_same}
 use Rattle.sk_speculator.proofs.Afterwards.{clean_at, exact_guessed, exact_taken, next_above, next_closed, no_next, not_known, opens_rise, performed_same, tags_are, takes_so, tidy, whole_same, whole_taken}
 
 -- an undecided guess was drawn
@@ -177,3 +179,56 @@ module _ {K V O : Type 0} {R : K → K → Ordering} (total : IsTotalOrder R) (e
         → OnErr r (IsSame R a (record { slots = slots; guesses = a.guesses; opens = opens_of lists; said = said }))
     alone_same (Ok x) look log same = tt
     alone_same (Err why) look log same = same_as look log same
+
+-- ---- a step that goes on where its keys stand
+module _ {K V O W : Type 0} {R : K → K → Ordering} (total : IsTotalOrder R) (exact : IsAntisymmetric R) (a : Parts K V O) (lists : List (OpenGuess K)) (sound : IsSound R a lists) (kept : a.opens ≡ opens_of lists)
+    (made : W → Option V → Option V) (looked : List K) (ws : List (K × W)) (output : Option (ℕ × O)) (goes : GoesOn R a.slots looked (keys_of ws)) (rises : IsStrictlySortedBy nat_cmp (first_tags R a.slots (keys_of ws))) where
+  abbrev tags : List ℕ
+  tags = first_tags R a.slots (keys_of ws)
+
+  abbrev d : Deed K V O
+  d = record { looked = looked; written = made_by R made (look_at R a.slots) ws; said = output }
+
+  keys : keys_of d.written ≡ keys_of ws
+  keys = keys_made R made (look_at R a.slots) ws
+
+  members : AreMembers total exact a lists sound d None tags
+  members g = goes_members {R = R} total a.slots looked (keys_of ws) goes g ∙ ap (λ ks. (false || any_rests R a.slots g looked) || any_rests R a.slots g ks) (sym keys)
+
+  exactly : AllExact R (with_tags R tags (keys_of d.written) (tags_by (log_at R a.slots))) lists
+  exactly =
+      subst (λ ks. AllExact R (with_tags R tags ks (tags_by (log_at R a.slots))) lists) (sym keys)
+      (exact_as total exact (tags_by (log_at R a.slots)) (with_tags R tags (keys_of ws) (tags_by (log_at R a.slots))) (tags_same R (log_at R a.slots) tags (keys_of ws) goes.unnoted) lists sound.exact)
+
+  module _ (slots : List (K × SlotView V)) (said : Said O) (settled : AllSettled R slots) (log : (q : K) → log_at R slots q ≡ log_at R a.slots q) where
+    abbrev on : Parts K V O
+    on = record { slots = slots; guesses = a.guesses; opens = opens_of lists; said = said }
+
+    took_on : ((q : K) → look_at R slots q ≡ written_value R d.written q (look_at R a.slots q)) → said ≡ says output tags a.said → Takes R a d None on × IsSound R on lists
+    took_on look says_so =
+        after_take total exact a lists sound a.slots slots d tags a.guesses lists a.said said (λ q. refl) (λ q. refl) refl (sym kept) refl rises
+        (performed_on R made a.slots slots tags ws (λ q here none. clean total exact a lists sound d None tags members q (ap (λ ks. is_in R ks q) keys ∙ here) none) goes.unnoted look log)
+        says_so settled exactly members
+
+    same_on : slots ≡ a.slots → said ≡ a.said → IsSame R a on
+    same_on same says_so = record { look = λ q. ap (λ m. look_at R m q) same; logs = log; guesses = refl; opens = sym kept; said = says_so }
+
+    -- taken or refused
+    pub on_sound : {A E : Type 0} (r : Result A E) → OnOk r ((q : K) → look_at R slots q ≡ written_value R d.written q (look_at R a.slots q)) → OnOk r (said ≡ says output tags a.said)
+        → OnErr r (slots ≡ a.slots) → OnErr r (said ≡ a.said) → IsSound R (record { slots = slots; guesses = a.guesses; opens = opens_of lists; said = said }) lists
+    on_sound (Ok x) look says_so same told = (took_on look says_so).1
+    on_sound (Err why) look says_so same told = sound_refused total exact a lists sound on lists (same_on same told) settled sound.exact
+
+    pub on_takes : {A E : Type 0} (r : Result A E) → OnOk r ((q : K) → look_at R slots q ≡ written_value R d.written q (look_at R a.slots q)) → OnOk r (said ≡ says output tags a.said)
+        → OnOk r (Takes R a (record { looked = looked; written = made_by R made (look_at R a.slots) ws; said = output }) None (record { slots = slots; guesses = a.guesses; opens = opens_of lists; said = said }))
+    on_takes (Ok x) look says_so = (took_on look says_so).0
+    on_takes (Err why) look says_so = tt
+
+    pub on_same : {A E : Type 0} (r : Result A E) → OnErr r (slots ≡ a.slots) → OnErr r (said ≡ a.said) → OnErr r (IsSame R a (record { slots = slots; guesses = a.guesses; opens = opens_of lists; said = said }))
+    on_same (Ok x) same told = tt
+    on_same (Err why) same told = same_on same told
+
+-- where no guess is undecided no key depends on any
+pub idle_rests : {K V O : Type 0} {R : K → K → Ordering} (total : IsTotalOrder R) (exact : IsAntisymmetric R) (a : Parts K V O) (lists : List (OpenGuess K)) → IsSound R a lists → a.opens ≡ [] → (ks : List K) (g : ℕ)
+    → any_rests R a.slots g ks ≡ false
+idle_rests {R = R} total exact a lists sound none ks g = rests_on_none R a.slots g (not_known total exact a sound.whole g (ap (λ os. has g (numbers os)) none)) ks

@@ -7,7 +7,8 @@ use Rattle.sk_speculator.proofs.Names.{or_right, append-nil, exact_bytes, is_in,
 use Rattle.sk_speculator.proofs.Names.{Merges, all_kept, left_out, SlotView, goes_unnoted, noted_on, look_at, log_at}
 use Rattle.sk_speculator.proofs.Names.{IsReady, noted_again, keys_of, made_by, Performed, AllAlmostExact, OpenGuess}
 use Rattle.std.specs.Prelude.{Result, Ok, Err}
-use Rattle.sk_speculator.proofs.Names.{list_any-append, tags_by, with_tags}
+use Rattle.sk_speculator.proofs.Names.{list_any-append, tags_by, with_tags, any_rests, first_tags, found, has, GoesOn}
+use Rattle.sk_speculator.proofs.Names.{inl, inr, is_some, or_cases}
 
 module _ {V : Type 0} where
   -- a note for a write, or what stands for it
@@ -80,6 +81,81 @@ module _ {K V W : Type 0} (R : K → K → Ordering) (written : W → Option V �
     logs = λ q. write_more tags (eq_by_cmp R q k) (is_in R (keys_of rest) q) (look_at R now q) (look_at R new q) (written one (look_at R now q)) (log_at R now q) (log_at R new q) (look q) (log q) ∙ w.logs q;
     ready = λ q here. ready q (w.ready q (or_right _ _ here));
   }
+
+-- ---- writes of which none is noted
+-- one write more: what is left makes the same from here
+look_more : {K V W : Type 0} (R : K → K → Ordering) (written : W → Option V → Option V) → IsAntisymmetric R → (now new : List (K × SlotView V)) (k : K) (one : W) (rest : List (K × W))
+    → ((q : K) → look_at R new q ≡ cond (eq_by_cmp R q k) (written one (look_at R now q)) (look_at R now q))
+    → (q : K) → written_value R (made_by R written (look_at R new) rest) q (look_at R new q) ≡ written_value R (made_by R written (look_at R now) ((k, one) ∷ rest)) q (look_at R now q)
+look_more {K} {V} R written exact now new k one rest look q =
+    let after : K → Option V = λ x. cond (eq_by_cmp R x k) (written one (look_at R now x)) (look_at R now x) in
+    let own : after q ≡ cond (eq_by_cmp R q k) (written one (look_at R now k)) (look_at R now q) =
+    elim (eq_by_cmp R q k) as (λ b. eq_by_cmp R q k ≡ b → cond b (written one (look_at R now q)) (look_at R now q) ≡ cond b (written one (look_at R now k)) (look_at R now q)) [
+      | true ↦ λ e. ap (λ x. written one (look_at R now x)) (exact q k ((Equal-is (R q k)).0 e))
+      | false ↦ λ _. refl
+    ] refl in
+    (λ i. written_value R (made_by R written (λ x. look x i) rest) q (look q i)) ∙ ap (written_value R (made_by R written after rest) q) own
+
+-- what is left to write
+pub record WritingOn {K V W : Type 0} (R : K → K → Ordering) (written : W → Option V → Option V) (old : List (K × SlotView V)) (all : List (K × W)) (now : List (K × SlotView V)) (rest : List (K × W)) : Type 0 where
+  pub look : (q : K) → written_value R (made_by R written (look_at R now) rest) q (look_at R now q) ≡ written_value R (made_by R written (look_at R old) all) q (look_at R old q)
+  pub log : (q : K) → log_at R now q ≡ log_at R old q
+  pub slots : (q : K) → is_in R (keys_of rest) q ≡ true → is_some (found R now q) ≡ true
+
+module _ {K V W : Type 0} (R : K → K → Ordering) (written : W → Option V → Option V) (old : List (K × SlotView V)) (all : List (K × W)) where
+  pub writing_on_more : IsAntisymmetric R → (now new : List (K × SlotView V)) (k : K) (one : W) (rest : List (K × W)) → WritingOn R written old all now ((k, one) ∷ rest)
+      → ((q : K) → look_at R new q ≡ cond (eq_by_cmp R q k) (written one (look_at R now q)) (look_at R now q)) → ((q : K) → log_at R new q ≡ log_at R now q)
+      → ((q : K) → is_some (found R now q) ≡ true → is_some (found R new q) ≡ true) → WritingOn R written old all new rest
+  writing_on_more exact now new k one rest w look log slots = record {
+    look = λ q. look_more R written exact now new k one rest look q ∙ w.look q;
+    log = λ q. log q ∙ w.log q;
+    slots = λ q here. slots q (w.slots q (or_right _ _ here));
+  }
+
+unnoted_as : {V : Type 0} (b : Bool) (tags : List ℕ) (v : Option V) (log : List (Note V)) → (b ≡ true → goes_unnoted tags log ≡ true) → cond b (noted_on tags v log) log ≡ log
+unnoted_as true tags v log on = ap (λ c. cond c log (log ++ record { tags = tags; before = v } ∷ [])) (on refl)
+unnoted_as false tags v log on = refl
+
+-- what is written so is performed with the tags that the keys have
+pub performed_on : {K V W : Type 0} (R : K → K → Ordering) (written : W → Option V → Option V) (old new : List (K × SlotView V)) (tags : List ℕ) (all : List (K × W))
+    → ((q : K) → is_in R (keys_of all) q ≡ true → tags ≡ [] → log_at R old q ≡ []) → ((q : K) → is_in R (keys_of all) q ≡ true → goes_unnoted tags (log_at R old q) ≡ true)
+    → ((q : K) → look_at R new q ≡ written_value R (made_by R written (look_at R old) all) q (look_at R old q)) → ((q : K) → log_at R new q ≡ log_at R old q)
+    → Performed R old tags (made_by R written (look_at R old) all) new
+performed_on R written old new tags all clean unnoted look log = record {
+  look = look;
+  logs = λ q.
+      subst (λ ks. Merges [] (log_at R old q ++ noted (is_in R ks q) tags (look_at R old q) []) (log_at R new q)) (sym (keys_made R written (look_at R old) all))
+      (subst (Merges [] (log_at R old q ++ noted (is_in R (keys_of all) q) tags (look_at R old q) [])) (unnoted_as (is_in R (keys_of all) q) tags (look_at R old q) (log_at R old q) (unnoted q) ∙ sym (log q))
+      (noted_merges (is_in R (keys_of all) q) tags (look_at R old q) (log_at R old q) (clean q)));
+}
+
+-- keys that have just these tags depend on no other guess
+pub rests_within : {K V : Type 0} {R : K → K → Ordering} → IsTotalOrder R → (m : List (K × SlotView V)) (tags : List ℕ) (g : ℕ) (ks : List K)
+    → ((q : K) → is_in R ks q ≡ true → goes_unnoted tags (log_at R m q) ≡ true) → any_rests R m g ks ≡ true → has g tags ≡ true
+rests_within total m tags g [] on rests = absurd (true≢false (sym rests))
+rests_within {R = R} total m tags g (k ∷ ks) on rests =
+    elim (or_cases _ _ rests) [
+      | inl first ↦ ap (has g) ((exact_bytes tags (last_tags [] (log_at R m k))).0 (on k (or_left _ _ ((eq_by_cmp_equiv total).refl k)))) ∙ first
+      | inr later ↦ rests_within {R = R} total m tags g ks (λ q here. on q (or_right _ _ here)) later
+    ]
+
+first_rests : {K V : Type 0} (R : K → K → Ordering) (m : List (K × SlotView V)) (g : ℕ) (ks : List K) → has g (first_tags R m ks) ≡ true → any_rests R m g ks ≡ true
+first_rests R m g [] here = absurd (true≢false (sym here))
+first_rests R m g (k ∷ ks) here = or_left _ _ here
+
+all_three : (t l w : Bool) → (l ≡ true → t ≡ true) → (w ≡ true → t ≡ true) → (t ≡ true → w ≡ true) → t ≡ ((false || l) || w)
+all_three true true w looked written back = refl
+all_three true false w looked written back = sym (back refl)
+all_three false true w looked written back = looked refl
+all_three false false true looked written back = written refl
+all_three false false false looked written back = refl
+
+-- the tags of a step that goes on are those of the first key that it writes
+pub goes_members : {K V : Type 0} {R : K → K → Ordering} → IsTotalOrder R → (m : List (K × SlotView V)) (looked written : List K) → GoesOn R m looked written
+    → (g : ℕ) → has g (first_tags R m written) ≡ ((false || any_rests R m g looked) || any_rests R m g written)
+goes_members {R = R} total m looked written goes g =
+    all_three (has g (first_tags R m written)) (any_rests R m g looked) (any_rests R m g written) (goes.within g)
+    (rests_within {R = R} total m (first_tags R m written) g written goes.unnoted) (first_rests R m g written)
 
 -- what was written stays where what is seen does
 pub performed_settled : {K V : Type 0} (R : K → K → Ordering) (old mid new : List (K × SlotView V)) (tags : List ℕ) (ws : List (K × Option V)) → ((q : K) → look_at R new q ≡ look_at R mid q) → ((q : K) → log_at R new q ≡ log_at R mid q)

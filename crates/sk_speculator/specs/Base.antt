@@ -12,7 +12,7 @@ pub use Rattle.sk_outputs.specs.Said.{HasRoom, Said, first_of, one_code, said_at
 pub use Rattle.sk_record.specs.Effects.{is_in, is_marked, written_value}
 pub use Rattle.sk_record.specs.Machine.{Fails, IsPlainRun, Machine, released, with_drawn, with_failure, with_status}
 pub use Rattle.sk_record.specs.Merged.{MergedCommits, MergedStands, MergedTakes, Merges}
-pub use Rattle.sk_record.specs.Notes.{has, last_tags, noted, without}
+pub use Rattle.sk_record.specs.Notes.{cut, has, last_tags, noted, without}
 pub use Rattle.sk_record.specs.Run.{System}
 pub use Rattle.sk_record.specs.Step.{perform}
 pub use Rattle.sk_record.specs.Trace.{Commit, Event, Fail, Taken, marks}
@@ -20,7 +20,7 @@ pub use Rattle.sk_record.specs.UndoState.{Open, UndoState, not_struck, numbers, 
 pub use Rattle.sk_record.specs.declared.status.Status.{Status}
 pub use Rattle.sk_slots.specs.Counted.{HasPresent}
 pub use Rattle.sk_slots.specs.Slot.{SlotView, are_of, goes_unnoted, slot_code}
-pub use Rattle.sk_slots.specs.Slots.{AllSettled, IsReady, SettledBut, log_at, look_at}
+pub use Rattle.sk_slots.specs.Slots.{AllSettled, IsReady, SettledBut, found, log_at, look_at}
 pub use Rattle.sk_speculator.specs.declared.decided.Committed.{Committed}
 pub use Rattle.sk_speculator.specs.declared.decided.Failed.{Failed}
 pub use Rattle.sk_speculator.specs.declared.decided.Undone.{Undone}

@@ -62,7 +62,7 @@ module _ {K V O : Type 0} (R : K → K → Ordering) where
   CommitPost old token (Ok Committed.Gone) new = (token.kernel ≡ old.guesses.kernel) × Forgets R old token.id new
   CommitPost old token (Err back) new = IsStranger old token × (back ≡ token) × (new ≡ old)
 
-  -- the same with a failure, which tells what it took back
+  -- an undecided guess fails, and it is told what was taken back; of one that was struck nothing is left; any other token comes back
   abbrev pub FailPost : Parts K V O → Token → Result (Failed K) Token → Parts K V O → Type 0
   FailPost old token (Ok (Failed.Done undone)) new = (token.kernel ≡ old.guesses.kernel) × TookBack R old token.id undone × FailsIn R old token.id new
   FailPost old token (Ok Failed.Gone) new = (token.kernel ≡ old.guesses.kernel) × Forgets R old token.id new

@@ -2,7 +2,7 @@
 use Rattle.std.specs.Prelude.{◌≡◌, [], None}
 use Rattle.sk_speculator.specs.Base.{vec_capacity, Step}
 
--- they are empty, and have their room
+-- the buffers of a step are empty, and have their room
 pub record IsEmptied {K V O I W U : Type 0} (old new : Step K V O I W U) : Type 0 where
   pub looked : new.looked.items ≡ []
   pub written : new.written.items ≡ []

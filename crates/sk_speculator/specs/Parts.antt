@@ -1,10 +1,10 @@
 -- What a kernel keeps, and the machine of records that it is.
-use Rattle.std.specs.Prelude.{◌≡◌, ℕ, Bool, List, [], ◌∷◌, ◌++◌, Option, Some, None, refl, if◌then◌else◌}
+use Rattle.std.specs.Prelude.{◌≡◌, ℕ, Bool, true, List, [], ◌∷◌, ◌++◌, Option, Some, None, is_some, refl, if◌then◌else◌}
 use Rattle.sk_speculator.specs.Base.{eq_by_cmp, list_any, Coded, code_by, coded×, coded_ℕ, coded_list, Ordering}
 use Rattle.sk_speculator.specs.Base.{FinMap, is_in, written_value, has, noted, last_tags, Event, Open, UndoState}
 use Rattle.sk_speculator.specs.Base.{Machine, Merges, MergedStands, Status, tags_by, AllExact, KeptView, AreStatuses}
 use Rattle.sk_speculator.specs.Base.{keys_of, OpenGuess, Deed, Entry, again, Told, with_told, SlotView, slot_code}
-use Rattle.sk_speculator.specs.Base.{look_at, log_at, AllSettled, Said, one_code, said_at}
+use Rattle.sk_speculator.specs.Base.{look_at, log_at, found, goes_unnoted, AllSettled, Said, one_code, said_at}
 
 -- what each key has with its notes, what is kept of guesses, the undecided ones with the guesses that their own steps depend on, and the
 -- outputs that were not taken out
@@ -59,6 +59,18 @@ module _ {K V : Type 0} (R : K → K → Ordering) where
   -- whether one of these keys depends on a guess
   abbrev pub any_rests : List (K × SlotView V) → ℕ → List K → Bool
   any_rests m g ks = list_any (λ k. has g (last_tags [] (log_at R m k))) ks
+
+  -- the tags of the first of these keys
+  abbrev pub first_tags : List (K × SlotView V) → List K → List ℕ
+  first_tags m [] = []
+  first_tags m (k ∷ ks) = last_tags [] (log_at R m k)
+
+  -- a step goes on with the tags of the first key that it writes: each key that it writes has a slot, in which a write with these tags is not
+  -- noted, and what it looked at depends on no other guess
+  pub record GoesOn (m : List (K × SlotView V)) (looked written : List K) : Type 0 where
+    pub slots : (q : K) → is_in R written q ≡ true → is_some (found R m q) ≡ true
+    pub unnoted : (q : K) → is_in R written q ≡ true → goes_unnoted (first_tags m written) (log_at R m q) ≡ true
+    pub within : (g : ℕ) → any_rests m g looked ≡ true → has g (first_tags m written) ≡ true
 
   -- what writes make of what keys have, each after those before it
   abbrev pub made_by : {W : Type 0} → (W → Option V → Option V) → (K → Option V) → List (K × W) → List (K × Option V)

@@ -1,15 +1,16 @@
 //! What a step asks for before it is taken, so that nothing can be refused then, and its taking.
-ghost use Rattle.std.specs.Prelude.{◌≡◌, ◌||◌, ℕ, true, [], None, Some, is_some, length, IfSome, OnErr, OnOk};
+ghost use Rattle.std.specs.Prelude.{◌≡◌, ◌||◌, ℕ, true, false, [], None, Some, is_some, length, IfSome, OnErr, OnOk};
 ghost use Rattle.sk_speculator.specs.Base.{IsStrictlySortedBy, nat_cmp, tags_by, with_tags, AllExact, Covers, keys_of};
 ghost use Rattle.sk_speculator.specs.Base.{HasKeptRoom, opens_of, is_in, is_marked, HasRoom, has, look_at, log_at};
-ghost use Rattle.sk_speculator.specs.Base.{AllSettled, IsReady, SettledBut};
-ghost use Rattle.sk_speculator.specs.Parts.{any_rests, made_by, says, Performed};
+ghost use Rattle.sk_speculator.specs.Base.{AllSettled, IsReady, SettledBut, found, written_value};
+ghost use Rattle.sk_speculator.specs.Parts.{any_rests, first_tags, made_by, says, GoesOn, Performed};
 ghost use Rattle.sk_speculator.specs.Emptied.{IsEmptied};
 
 use crate::Step;
 use crate::lists::{depend_all, relieve_written};
 use crate::writes::{
-    add_tags, add_written_tags, find_all, prepare_all, settle_all, settle_rest, write_all,
+    add_tags, add_written_tags, are_within, first_tags, go_unnoted, prepare_all, settle_all,
+    settle_rest, write_all, write_all_on,
 };
 use sk_guesses::OpenGuesses;
 use sk_ids::{GuessId, TagSet};
@@ -29,6 +30,7 @@ pub(crate) struct StepTags {
 }
 
 /// The set of a step's own guess.
+#[inline(always)]
 fn own_tags(alloc: Global, own: &Option<GuessId>) -> TagSet
     ensures { (g : ℕ) → has g result ≡ is_marked own.now g }
 {
@@ -49,6 +51,7 @@ impl StepTags {
 }
 
 /// The guesses that a step depends on: those of all keys that it touches, and its own.
+#[inline(always)]
 fn tags_of_step<K: Key + Hash, V, O, I: Inversion<V>>(
     alloc: Global,
     slots: &Slots<K, V, I>,
@@ -81,6 +84,7 @@ fn tags_of_step<K: Key + Hash, V, O, I: Inversion<V>>(
 }
 
 /// Makes room for the output of a step.
+#[inline(always)]
 fn reserve_output<O: Drop>(
     said: &mut Outputs<O>,
     output: &Option<(u16, O)>,
@@ -95,6 +99,7 @@ fn reserve_output<O: Drop>(
 }
 
 /// Makes room for the guess of a step.
+#[inline(always)]
 fn reserve_guess<K: Key>(
     guesses: &mut OpenGuesses<K>,
     own: &Option<GuessId>,
@@ -112,6 +117,7 @@ fn reserve_guess<K: Key>(
 
 /// Makes room for the notes of writes, adds their keys to the lists of the guesses that they come to depend on, if they are not
 /// all there already, and makes room for the guess of the step. Without memory the lists have what they had.
+#[inline(always)]
 fn make_ready<K: Key + Hash, V: Drop, I: Inversion<V>>(
     alloc: Global,
     slots: &mut Slots<K, V, I>,
@@ -154,12 +160,13 @@ fn make_ready<K: Key + Hash, V: Drop, I: Inversion<V>>(
 
 /// Finds the guesses that a step depends on, and makes all room that it wants. Nothing that is seen changes. Without memory no
 /// room stays but what is free for all.
+#[inline(always)]
 pub(crate) fn ask<K: Key + Hash, V: Drop, O: Drop, I: Inversion<V>>(
     alloc: Global,
     slots: &mut Slots<K, V, I>,
     guesses: &mut OpenGuesses<K>,
     said: &mut Outputs<O>,
-    places: &mut Vec<usize>,
+    places: &[usize],
     no_tags: &TagSet,
     own: &Option<GuessId>,
     both: &mut StepTags,
@@ -194,8 +201,6 @@ pub(crate) fn ask<K: Key + Hash, V: Drop, O: Drop, I: Inversion<V>>(
     ensures room { OnOk result (IfSome step.now.said (λ w. HasRoom said.new w.0)) }
 {
     let written = step.written.as_slice();
-    find_all(slots, places, written)?;
-    let places = places.as_slice();
     tags_of_step(alloc, slots, both, places, own, step)?;
     reserve_output(said, &step.said)?;
     if make_ready(
@@ -211,6 +216,7 @@ pub(crate) fn ask<K: Key + Hash, V: Drop, O: Drop, I: Inversion<V>>(
 
 /// Makes the writes of a step, for which all is ready, and says its output. The step's buffers are empty then, with their
 /// room. It takes no memory.
+#[inline(always)]
 pub(crate) fn perform<K: Key + Hash, V: Drop, O: Drop, I: Inversion<V>>(
     slots: &mut Slots<K, V, I>,
     said: &mut Outputs<O>,
@@ -246,7 +252,7 @@ where
 fn ask_alone<K: Key + Hash, V: Drop, O: Drop, I: Inversion<V>>(
     slots: &mut Slots<K, V, I>,
     said: &mut Outputs<O>,
-    places: &mut Vec<usize>,
+    places: &[usize],
     no_tags: &TagSet,
     step: &Step<K, V, O, I>,
 ) -> Result<(), AllocError>
@@ -261,9 +267,8 @@ fn ask_alone<K: Key + Hash, V: Drop, O: Drop, I: Inversion<V>>(
     ensures room { OnOk result (IfSome step.now.said (λ w. HasRoom said.new w.0)) }
 {
     let written = step.written.as_slice();
-    find_all(slots, places, written)?;
     reserve_output(said, &step.said)?;
-    prepare_all(slots, no_tags, written, places.as_slice())?;
+    prepare_all(slots, no_tags, written, places)?;
     Ok(())
 }
 
@@ -272,7 +277,7 @@ pub(crate) fn perform_alone<K: Key + Hash, V: Drop, O: Drop, I: Inversion<V>>(
     alloc: Global,
     slots: &mut Slots<K, V, I>,
     said: &mut Outputs<O>,
-    places: &mut Vec<usize>,
+    places: &[usize],
     no_tags: &TagSet,
     step: &mut Step<K, V, O, I>,
 ) -> Result<(), AllocError>
@@ -301,6 +306,109 @@ where
         return Err(AllocError);
     }
     let none = TagSet::new(alloc);
-    perform(slots, said, none, places.as_slice(), step);
+    perform(slots, said, none, places, step);
+    Ok(())
+}
+
+/// Whether a step goes on where its keys stand. Where no guess is undecided none of them depends on any.
+#[inline(always)]
+pub(crate) fn goes_on<K: Key + Hash, V, O, I: Inversion<V>>(
+    slots: &Slots<K, V, I>,
+    no_tags: &TagSet,
+    places: &[usize],
+    step: &Step<K, V, O, I>,
+    idle: bool,
+) -> bool
+    requires no_tags { no_tags.now ≡ [] }
+    requires idle { idle ≡ true → (g : ℕ)
+        → any_rests K.order slots.now g step.now.looked.items ≡ false }
+    ensures { result ≡ true
+        → GoesOn K.order slots.now step.now.looked.items (keys_of step.now.written.items) }
+{
+    let written = step.written.as_slice();
+    let tags = first_tags(slots, no_tags, written, places);
+    if !go_unnoted(slots, tags, written, places) {
+        return false;
+    }
+    idle || are_within(slots, tags, step.looked.as_slice(), written)
+}
+
+/// Says an output with a copy of these tags.
+#[inline(never)]
+fn say_copied<O: Drop>(
+    said: &mut Outputs<O>,
+    tags: &TagSet,
+    output: &mut Option<(u16, O)>,
+) -> Result<(), AllocError>
+    ensures ok { OnOk result (said.new.said ≡ says output.old tags.now said.old.said) }
+    ensures none { OnOk result (output.new ≡ None) }
+    ensures err { OnErr result (said.new.said ≡ said.old.said) }
+    ensures kept { OnErr result (output.new ≡ output.old) }
+{
+    reserve_output(said, output)?;
+    let own = tags.copy()?;
+    if let Some((to, output)) = mem::replace(output, None) {
+        said.say(to, output, own);
+    }
+    Ok(())
+}
+
+/// As `say_copied`; most steps say nothing.
+#[inline(always)]
+fn say_on<O: Drop>(
+    said: &mut Outputs<O>,
+    tags: &TagSet,
+    output: &mut Option<(u16, O)>,
+) -> Result<(), AllocError>
+    ensures ok { OnOk result (said.new.said ≡ says output.old tags.now said.old.said) }
+    ensures none { OnOk result (output.new ≡ None) }
+    ensures err { OnErr result (said.new.said ≡ said.old.said) }
+    ensures kept { OnErr result (output.new ≡ output.old) }
+{
+    match output {
+        None => Ok(()),
+        Some(_) => say_copied(said, tags, output),
+    }
+}
+
+/// Takes a step that goes on where its keys stand: it wants no tags but for its output, no notes, and its keys are in all lists
+/// already. Without memory nothing has changed.
+#[inline(always)]
+pub(crate) fn perform_on<K: Key + Hash, V: Drop, O: Drop, I: Inversion<V>>(
+    slots: &mut Slots<K, V, I>,
+    said: &mut Outputs<O>,
+    no_tags: &TagSet,
+    places: &[usize],
+    step: &mut Step<K, V, O, I>,
+) -> Result<(), AllocError>
+where
+    I::Write: Drop,
+    requires settled { AllSettled K.order slots.old }
+    requires no_tags { no_tags.now ≡ [] }
+    requires slots { (q : K) → is_in K.order (keys_of step.old.written.items) q ≡ true
+        → is_some (found K.order slots.old q) ≡ true }
+    ensures rising { IsStrictlySortedBy nat_cmp
+        (first_tags K.order slots.old (keys_of step.old.written.items)) }
+    ensures settled { AllSettled K.order slots.new }
+    ensures look { OnOk result ((q : K) → look_at K.order slots.new q
+        ≡ written_value K.order
+        (made_by K.order I.written (look_at K.order slots.old) step.old.written.items) q
+        (look_at K.order slots.old q)) }
+    ensures log { (q : K) → log_at K.order slots.new q ≡ log_at K.order slots.old q }
+    ensures says { OnOk result (said.new.said ≡ says step.old.said
+        (first_tags K.order slots.old (keys_of step.old.written.items)) said.old.said) }
+    ensures emptied { OnOk result (IsEmptied step.old step.new) }
+    ensures slots { OnErr result (slots.new ≡ slots.old) }
+    ensures said { OnErr result (said.new.said ≡ said.old.said) }
+    ensures kept { OnErr result (step.new ≡ step.old) }
+{
+    let tags = first_tags(slots, no_tags, step.written.as_slice(), places);
+    let _rising = tags.ids();
+    say_on(said, tags, &mut step.said)?;
+    let written = step.written.as_mut_slice();
+    let done = write_all_on(slots, written, places);
+    settle_rest(slots, written, done);
+    step.looked.clear();
+    step.written.clear();
     Ok(())
 }

@@ -1,11 +1,11 @@
 //! The lists of what depends on each undecided guess, as steps and failures change them.
 ghost use Rattle.std.specs.Prelude.{◌≡◌, ℕ, [], true, IfOk, OnErr, OnOk, IsSorted};
 ghost use Rattle.sk_speculator.specs.Base.{tags_by, with_tags, AllAlmostExact, AllExact, Covers, Depends, keys_of};
-ghost use Rattle.sk_speculator.specs.Base.{is_in, opens_of, goes_unnoted, has, last_tags, log_at};
+ghost use Rattle.sk_speculator.specs.Base.{is_in, opens_of, goes_unnoted, cut, has, last_tags, log_at};
 
 use crate::writes::next_place;
 use sk_guesses::OpenGuesses;
-use sk_ids::TagSet;
+use sk_ids::{GuessId, TagSet};
 use sk_inversion::Inversion;
 use sk_map::Key;
 use sk_slots::Slots;
@@ -30,8 +30,9 @@ pub(crate) fn tags_of<'a, K: Key + Hash, V, I: Inversion<V>>(
     }
 }
 
-/// The same, for a key that is looked for at a place first.
-fn tags_near<'a, K: Key + Hash, V, I: Inversion<V>>(
+/// As `tags_of`, for a key that is looked for at a place first.
+#[inline(always)]
+pub(crate) fn tags_near<'a, K: Key + Hash, V, I: Inversion<V>>(
     slots: &'a Slots<K, V, I>,
     no_tags: &'a TagSet,
     place: usize,
@@ -47,6 +48,7 @@ fn tags_near<'a, K: Key + Hash, V, I: Inversion<V>>(
 }
 
 /// Whether a key is in the lists of all these guesses.
+#[inline(always)]
 fn is_known_to_rest<K: Key + Hash, V, I: Inversion<V>>(
     slots: &Slots<K, V, I>,
     no_tags: &TagSet,
@@ -67,6 +69,7 @@ fn is_known_to_rest<K: Key + Hash, V, I: Inversion<V>>(
 }
 
 /// Adds a key to the lists of these guesses.
+#[inline(always)]
 fn depend<K: Key + Hash, V, I: Inversion<V>>(
     guesses: &mut OpenGuesses<K>,
     slots: &Slots<K, V, I>,
@@ -90,6 +93,7 @@ fn depend<K: Key + Hash, V, I: Inversion<V>>(
 
 /// Adds what a step writes to the lists of the guesses that the step depends on, in the order of its writes. Without memory the
 /// lists have what they had.
+#[inline(always)]
 fn depend_few<K: Key + Hash, V, I: Inversion<V>>(
     guesses: &mut OpenGuesses<K>,
     slots: &Slots<K, V, I>,
@@ -131,6 +135,7 @@ fn depend_few<K: Key + Hash, V, I: Inversion<V>>(
 }
 
 /// The keys of writes, by rising order.
+#[inline(never)]
 fn rising_keys<K: Key, W>(alloc: Global, written: &[(K, W)]) -> Result<Vec<K>, AllocError>
     ensures keys { IfOk result
         (λ keys. (k : K) → is_in K.order keys.items k ≡ is_in K.order (keys_of written.now) k) }
@@ -145,6 +150,7 @@ fn rising_keys<K: Key, W>(alloc: Global, written: &[(K, W)]) -> Result<Vec<K>, A
 }
 
 /// Adds keys to the lists of these guesses. Without memory some of them may be there.
+#[inline(never)]
 fn depend_each<K: Key + Hash, V, I: Inversion<V>>(
     guesses: &mut OpenGuesses<K>,
     slots: &Slots<K, V, I>,
@@ -174,6 +180,7 @@ fn depend_each<K: Key + Hash, V, I: Inversion<V>>(
 /// Adds what a step writes to the lists of the guesses that the step depends on, if it is not there, as all keys have just these
 /// tags. Where it writes many keys these are added by rising order: then each stands behind those that were added, and none
 /// has to move. Without memory the lists have what they had.
+#[inline(always)]
 pub(crate) fn depend_all<K: Key + Hash, V, I: Inversion<V>>(
     alloc: Global,
     guesses: &mut OpenGuesses<K>,
@@ -214,6 +221,7 @@ pub(crate) fn depend_all<K: Key + Hash, V, I: Inversion<V>>(
 }
 
 /// Takes the keys of writes out of the lists of the guesses that they do not depend on.
+#[inline(never)]
 pub(crate) fn relieve_written<K: Key + Hash, V, I: Inversion<V>>(
     guesses: &mut OpenGuesses<K>,
     slots: &Slots<K, V, I>,
@@ -232,46 +240,70 @@ pub(crate) fn relieve_written<K: Key + Hash, V, I: Inversion<V>>(
     }
 }
 
-/// Takes keys out of the lists of the guesses that they do not depend on, the last first: where they rise, each then stands behind
-/// those that are left, and none of these has to move.
+/// The guesses that a key depends on once a guess has failed, where this is the set of none.
+fn tags_without<'a, K: Key + Hash, V, I: Inversion<V>>(
+    slots: &'a Slots<K, V, I>,
+    no_tags: &'a TagSet,
+    key: &K,
+    id: GuessId,
+) -> &'a TagSet
+    requires { no_tags.now ≡ [] }
+    ensures { result.now ≡ last_tags [] (cut id (log_at K.order slots.now key.now)) }
+{
+    match slots.tags_without(key, id) {
+        Some(tags) => tags,
+        None => no_tags,
+    }
+}
+
+/// Takes keys out of the lists of the guesses that they do not depend on once a guess has failed, and visits those alone on
+/// which they depend. The last key comes first: where they rise, each then stands behind those that are left, and none of these
+/// has to move.
 fn relieve_all<K: Key + Hash, V, I: Inversion<V>>(
     guesses: &mut OpenGuesses<K>,
     slots: &Slots<K, V, I>,
     no_tags: &TagSet,
+    id: GuessId,
     keys: &[K],
 )
-    requires almost { AllAlmostExact K.order (tags_by (log_at K.order slots.now)) keys.now
-        guesses.old.opens }
+    requires exact { AllExact K.order (tags_by (log_at K.order slots.now)) guesses.old.opens }
+    requires almost { AllAlmostExact K.order
+        (tags_by (λ k. cut id (log_at K.order slots.now k))) keys.now guesses.old.opens }
     requires no_tags { no_tags.now ≡ [] }
     ensures view { guesses.new.view ≡ guesses.old.view }
     ensures opens { opens_of guesses.new.opens ≡ opens_of guesses.old.opens }
-    ensures exact { AllExact K.order (tags_by (log_at K.order slots.now)) guesses.new.opens }
+    ensures exact { AllExact K.order (tags_by (λ k. cut id (log_at K.order slots.now k)))
+        guesses.new.opens }
 {
     for place in (0..keys.len()).rev() {
         let key = &keys[place];
-        guesses.leave_to(tags_of(slots, no_tags, key), key);
+        let tags = tags_of(slots, no_tags, key);
+        let left = tags_without(slots, no_tags, key, id);
+        guesses.relieve_beyond(tags, left, key);
     }
 }
 
-/// The same behind a failure. Keys that depended on no other guess are in no list.
+/// As `relieve_all`, of the keys that a failure will take back. Where no other guess is undecided there is no list, and nothing
+/// is done.
 pub(crate) fn relieve_rest<K: Key + Hash, V, I: Inversion<V>>(
     guesses: &mut OpenGuesses<K>,
     slots: &Slots<K, V, I>,
     no_tags: &TagSet,
+    id: GuessId,
     keys: &[K],
-    alone: bool,
 )
-    requires almost { AllAlmostExact K.order (tags_by (log_at K.order slots.now)) keys.now
-        guesses.old.opens }
-    requires alone { alone ≡ true
-        → AllExact K.order (tags_by (log_at K.order slots.now)) guesses.old.opens }
+    requires exact { AllExact K.order (tags_by (log_at K.order slots.now)) guesses.old.opens }
+    requires almost { AllAlmostExact K.order
+        (tags_by (λ k. cut id (log_at K.order slots.now k))) keys.now guesses.old.opens }
     requires no_tags { no_tags.now ≡ [] }
     ensures view { guesses.new.view ≡ guesses.old.view }
     ensures opens { opens_of guesses.new.opens ≡ opens_of guesses.old.opens }
-    ensures exact { AllExact K.order (tags_by (log_at K.order slots.now)) guesses.new.opens }
+    ensures exact { AllExact K.order (tags_by (λ k. cut id (log_at K.order slots.now k)))
+        guesses.new.opens }
 {
+    let alone = guesses.undecided() == 0;
     if alone {
         return;
     }
-    relieve_all(guesses, slots, no_tags, keys);
+    relieve_all(guesses, slots, no_tags, id, keys);
 }

@@ -3,13 +3,14 @@ ghost use Rattle.std.specs.Prelude.{◌≡◌, ◌≢◌, ◌==◌, ◌<◌, ◌
 ghost use Rattle.sk_speculator.specs.Base.{IsStrictlySortedBy, non_zero_u16_get, ShowsInOrder, deref, slice_get};
 ghost use Rattle.sk_speculator.specs.Base.{option_copied, option_map, guess_tags, known, none_drawn, AreStatuses, is_in, released};
 ghost use Rattle.sk_speculator.specs.Base.{has, numbers, tags_at, Status, said_at, first_of, waiting_of, look_at};
-ghost use Rattle.sk_speculator.specs.Base.{log_at, IsDistinct, eq_by_cmp, Memory, HasPresent};
+ghost use Rattle.sk_speculator.specs.Base.{log_at, keys_of, IsDistinct, eq_by_cmp, Memory, HasPresent};
 ghost use Rattle.sk_speculator.specs.Calls.{next_of, Commits, CommitPost, FailsIn, FailPost, Refuses, Takes, TookBack};
 ghost use Rattle.sk_speculator.specs.Emptied.{IsEmptied};
-ghost use Rattle.sk_speculator.specs.Parts.{deed, machine_of, made_by, undo_state_of, IsSame};
+ghost use Rattle.sk_speculator.specs.Parts.{deed, machine_of, made_by, undo_state_of, GoesOn, IsSame};
 
-use crate::asking::{StepTags, ask, perform, perform_alone};
+use crate::asking::{StepTags, ask, goes_on, perform, perform_alone, perform_on};
 use crate::lists::{relieve_rest, tags_of};
+use crate::writes::find_all;
 use crate::{Committed, Failed, Refusal, Step, Undone};
 use indexmap::map::Keys;
 use sk_guesses::{Guess, OpenGuesses, Redeemed, Status};
@@ -163,6 +164,7 @@ impl<K: Key + Hash, V, O, I: Inversion<V>> Speculator<K, V, O, I> {
     }
 
     /// Whether no guess is undecided.
+    #[inline(always)]
     fn is_idle(&self) -> bool
         ensures { result ≡ true → self.now.opens ≡ [] }
     {
@@ -261,16 +263,74 @@ impl<K: Key + Hash, V: Drop, O: Drop, I: Inversion<V>> Speculator<K, V, O, I> {
         ensures err { OnErr result (IsSame K.order self.old self.new) }
         ensures kept { OnErr result (step.new ≡ step.old) }
     {
+        if self.goes_on(step) {
+            return self.take_on(step);
+        }
         if self.is_idle() {
             return self.take_alone(step);
         }
+        self.take_apart(step)
+    }
+
+    /// Finds the places of the keys that a step writes, and answers whether it goes on where they stand.
+    #[inline(always)]
+    fn goes_on(&mut self, step: &Step<K, V, O, I>) -> bool
+        ensures same { self.new ≡ self.old }
+        ensures goes { result ≡ true
+            → GoesOn K.order self.old.slots step.now.looked.items (keys_of step.now.written.items) }
+    {
+        let idle = self.is_idle();
+        find_all(&self.slots, &mut self.places, step.written.as_slice());
+        let places = self.places.as_slice();
+        goes_on(&self.slots, &self.no_tags, places, step, idle)
+    }
+
+    /// Takes a step that goes on where its keys stand.
+    #[inline(always)]
+    fn take_on(&mut self, step: &mut Step<K, V, O, I>) -> Result<(), AllocError>
+    where
+        I::Write: Drop,
+        requires { GoesOn K.order self.old.slots step.old.looked.items
+            (keys_of step.old.written.items) }
+        ensures ok { OnOk result
+            (Takes K.order self.old
+            (deed step.old.looked.items
+            (made_by K.order I.written (look_at K.order self.old.slots) step.old.written.items)
+            step.old.said) None self.new) }
+        ensures emptied { OnOk result (IsEmptied step.old step.new) }
+        ensures err { OnErr result (IsSame K.order self.old self.new) }
+        ensures kept { OnErr result (step.new ≡ step.old) }
+    {
+        perform_on(
+            &mut self.slots,
+            &mut self.said,
+            &self.no_tags,
+            self.places.as_slice(),
+            step,
+        )
+    }
+
+    /// Takes a step whose tags are to be found, and whose writes are to be noted.
+    #[inline(never)]
+    fn take_apart(&mut self, step: &mut Step<K, V, O, I>) -> Result<(), AllocError>
+    where
+        I::Write: Drop,
+        ensures ok { OnOk result
+            (Takes K.order self.old
+            (deed step.old.looked.items
+            (made_by K.order I.written (look_at K.order self.old.slots) step.old.written.items)
+            step.old.said) None self.new) }
+        ensures emptied { OnOk result (IsEmptied step.old step.new) }
+        ensures err { OnErr result (IsSame K.order self.old self.new) }
+        ensures kept { OnErr result (step.new ≡ step.old) }
+    {
         let mut both = StepTags::new(self.alloc);
         ask(
             self.alloc,
             &mut self.slots,
             &mut self.guesses,
             &mut self.said,
-            &mut self.places,
+            self.places.as_slice(),
             &self.no_tags,
             &None,
             &mut both,
@@ -288,6 +348,7 @@ impl<K: Key + Hash, V: Drop, O: Drop, I: Inversion<V>> Speculator<K, V, O, I> {
     }
 
     /// Takes a step where no guess is undecided, so that nothing depends on one.
+    #[inline(never)]
     fn take_alone(&mut self, step: &mut Step<K, V, O, I>) -> Result<(), AllocError>
     where
         I::Write: Drop,
@@ -305,7 +366,7 @@ impl<K: Key + Hash, V: Drop, O: Drop, I: Inversion<V>> Speculator<K, V, O, I> {
             self.alloc,
             &mut self.slots,
             &mut self.said,
-            &mut self.places,
+            self.places.as_slice(),
             &self.no_tags,
             step,
         )
@@ -336,13 +397,14 @@ impl<K: Key + Hash, V: Drop, O: Drop, I: Inversion<V>> Speculator<K, V, O, I> {
         let Some(id) = self.guesses.free() else {
             return Err(Refusal::NoNumber);
         };
+        find_all(&self.slots, &mut self.places, step.written.as_slice());
         let mut both = StepTags::new(self.alloc);
         let asked = ask(
             self.alloc,
             &mut self.slots,
             &mut self.guesses,
             &mut self.said,
-            &mut self.places,
+            self.places.as_slice(),
             &self.no_tags,
             &Some(id),
             &mut both,
@@ -394,8 +456,8 @@ impl<K: Key + Hash, V: Drop, O: Drop, I: Inversion<V>> Speculator<K, V, O, I> {
         }
     }
 
-    /// Fails a guess: what depends on it is taken back, in place and without memory, and the guesses whose own steps depend on it are
-    /// struck.
+    /// Fails a guess: what depends on it is taken back, in place and without memory, and the guesses whose own steps depend on it
+    /// are struck.
     pub fn fail(&mut self, guess: Guess) -> Result<Failed<K>, Guess>
         ensures { FailPost K.order self.old guess result self.new }
     {
@@ -426,15 +488,15 @@ impl<K: Key + Hash, V: Drop, O: Drop, I: Inversion<V>> Speculator<K, V, O, I> {
         ensures back { TookBack K.order self.old id result }
     {
         let keys = self.guesses.take_dependents(id);
-        let alone = self.slots.unwind(id, keys.as_slice());
         let struck = self.guesses.fail(id);
         relieve_rest(
             &mut self.guesses,
             &self.slots,
             &self.no_tags,
+            id,
             keys.as_slice(),
-            alone,
         );
+        self.slots.unwind(id, keys.as_slice());
         self.said.drop_of(id);
         Undone {
             keys: keys.into_vec(),

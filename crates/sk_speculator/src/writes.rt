@@ -1,8 +1,10 @@
 //! The writes of a step: the guesses that their keys depend on, the room for their notes, and the writes themselves.
-ghost use Rattle.std.specs.Prelude.{◌≡◌, ◌||◌, ◌∷◌, ℕ, Option, true, [], None, IfOk, OnOk};
+ghost use Rattle.std.specs.Prelude.{◌≡◌, ◌||◌, ◌∷◌, ℕ, Option, true, [], None, IfOk, OnOk, is_some};
 ghost use Rattle.sk_speculator.specs.Base.{keys_of, is_in, has, goes_unnoted, look_at, log_at, AllSettled, IsReady, SettledBut};
-ghost use Rattle.sk_speculator.specs.Parts.{any_rests, made_by, Performed};
+ghost use Rattle.sk_speculator.specs.Base.{found, written_value};
+ghost use Rattle.sk_speculator.specs.Parts.{any_rests, first_tags, made_by, Performed};
 
+use crate::lists::tags_near;
 use sk_ids::TagSet;
 use sk_inversion::Inversion;
 use sk_map::Key;
@@ -27,22 +29,24 @@ fn place_of<K: Key + Hash, V, I: Inversion<V>>(
 }
 
 /// The places of the keys that a step writes. They save searches: a key is looked for at its place first, and found wherever it
-/// is.
+/// is. Without memory there are fewer places.
+#[inline(always)]
 pub(crate) fn find_all<K: Key + Hash, V, I: Inversion<V>>(
     slots: &Slots<K, V, I>,
     places: &mut Vec<usize>,
     written: &[(K, I::Write)],
-) -> Result<(), AllocError> {
+) {
     places.clear();
     let mut next = slots.len();
     for write in written {
-        places.reserve(1)?;
+        if places.reserve(1).is_err() {
+            return;
+        }
         places.push_reserved(place_of(slots, &mut next, &write.0));
     }
-    Ok(())
 }
 
-/// The next place, or one at which nothing is.
+/// The next place, or one at which there is no slot.
 pub(crate) fn next_place(places: &mut Iter<'_, usize>) -> usize {
     match places.next() {
         Some(place) => *place,
@@ -51,6 +55,7 @@ pub(crate) fn next_place(places: &mut Iter<'_, usize>) -> usize {
 }
 
 /// Adds guesses to a set. Most sets are the same.
+#[inline(always)]
 fn with_tags(all: &mut TagSet, more: &TagSet) -> Result<(), AllocError>
     ensures { OnOk result ((g : ℕ) → has g all.new ≡ (has g all.old || has g more.now)) }
 {
@@ -63,6 +68,7 @@ fn with_tags(all: &mut TagSet, more: &TagSet) -> Result<(), AllocError>
 }
 
 /// Adds to a set the guesses that a key depends on.
+#[inline(always)]
 fn add_tags_at<K: Key + Hash, V, I: Inversion<V>>(
     slots: &Slots<K, V, I>,
     all: &mut TagSet,
@@ -79,6 +85,7 @@ fn add_tags_at<K: Key + Hash, V, I: Inversion<V>>(
 }
 
 /// Adds to a set the guesses that these keys depend on.
+#[inline(always)]
 pub(crate) fn add_tags<K: Key + Hash, V, I: Inversion<V>>(
     slots: &Slots<K, V, I>,
     all: &mut TagSet,
@@ -96,6 +103,7 @@ pub(crate) fn add_tags<K: Key + Hash, V, I: Inversion<V>>(
 }
 
 /// Whether a key is the one that was looked at in this turn.
+#[inline(always)]
 fn is_looked<K: Key>(looked: &[K], turn: usize, key: &K) -> bool
     ensures { result ≡ true → is_in K.order looked.now key.now ≡ true }
 {
@@ -106,6 +114,7 @@ fn is_looked<K: Key>(looked: &[K], turn: usize, key: &K) -> bool
 }
 
 /// Adds to a set the guesses that a key depends on which is written. Mostly it was looked at in its turn, and they are there.
+#[inline(always)]
 fn add_written_tags_at<K: Key + Hash, V, I: Inversion<V>>(
     slots: &Slots<K, V, I>,
     all: &mut TagSet,
@@ -125,6 +134,7 @@ fn add_written_tags_at<K: Key + Hash, V, I: Inversion<V>>(
 }
 
 /// Adds to a set the guesses that the keys of writes depend on. Those of the keys that were looked at are in it.
+#[inline(always)]
 pub(crate) fn add_written_tags<K: Key + Hash, V, I: Inversion<V>>(
     slots: &Slots<K, V, I>,
     all: &mut TagSet,
@@ -144,8 +154,103 @@ pub(crate) fn add_written_tags<K: Key + Hash, V, I: Inversion<V>>(
     Ok(())
 }
 
+/// The guesses that the first of the keys depends on that a step writes.
+#[inline(always)]
+pub(crate) fn first_tags<'a, K: Key + Hash, V, I: Inversion<V>>(
+    slots: &'a Slots<K, V, I>,
+    no_tags: &'a TagSet,
+    written: &[(K, I::Write)],
+    places: &[usize],
+) -> &'a TagSet
+    requires { no_tags.now ≡ [] }
+    ensures { result.now ≡ first_tags K.order slots.now (keys_of written.now) }
+{
+    match written.first() {
+        Some(write) => tags_near(slots, no_tags, next_place(&mut places.iter()), &write.0),
+        None => no_tags,
+    }
+}
+
+/// Whether all keys of writes have slots, and no write with these tags is noted.
+#[inline(always)]
+pub(crate) fn go_unnoted<K: Key + Hash, V, I: Inversion<V>>(
+    slots: &Slots<K, V, I>,
+    tags: &TagSet,
+    written: &[(K, I::Write)],
+    places: &[usize],
+) -> bool
+    ensures slots { result ≡ true → (q : K) → is_in K.order (keys_of written.now) q ≡ true
+        → is_some (found K.order slots.now q) ≡ true }
+    ensures unnoted { result ≡ true → (q : K) → is_in K.order (keys_of written.now) q ≡ true
+        → goes_unnoted tags.now (log_at K.order slots.now q) ≡ true }
+{
+    let mut near = places.iter();
+    for write in written {
+        if !slots.goes_unnoted(next_place(&mut near), &write.0, tags) {
+            return false;
+        }
+    }
+    true
+}
+
+/// Whether a key is the one that is written in this turn.
+#[inline(always)]
+fn is_written<K: Key, W>(written: &[(K, W)], turn: usize, key: &K) -> bool
+    ensures { result ≡ true → is_in K.order (keys_of written.now) key.now ≡ true }
+{
+    match written.get(turn) {
+        Some(write) => write.0 == *key,
+        None => false,
+    }
+}
+
+/// Whether a key depends on no guess but these. Mostly it is written in its turn, and its guesses are known.
+#[inline(always)]
+fn is_within<K: Key + Hash, V, I: Inversion<V>>(
+    slots: &Slots<K, V, I>,
+    tags: &TagSet,
+    written: &[(K, I::Write)],
+    turn: usize,
+    key: &K,
+) -> bool
+    requires { (g : ℕ) → any_rests K.order slots.now g (keys_of written.now) ≡ true
+        → has g tags.now ≡ true }
+    ensures { result ≡ true → (g : ℕ) → any_rests K.order slots.now g (key.now ∷ []) ≡ true
+        → has g tags.now ≡ true }
+{
+    if is_written(written, turn, key) {
+        return true;
+    }
+    match slots.tags(key) {
+        Some(own) => tags.covers(own),
+        None => true,
+    }
+}
+
+/// Whether keys that a step looked at depend on no guess but these, as the keys do that it writes.
+#[inline(always)]
+pub(crate) fn are_within<K: Key + Hash, V, I: Inversion<V>>(
+    slots: &Slots<K, V, I>,
+    tags: &TagSet,
+    looked: &[K],
+    written: &[(K, I::Write)],
+) -> bool
+    requires { (g : ℕ) → any_rests K.order slots.now g (keys_of written.now) ≡ true
+        → has g tags.now ≡ true }
+    ensures { result ≡ true → (g : ℕ) → any_rests K.order slots.now g looked.now ≡ true
+        → has g tags.now ≡ true }
+{
+    for (turn, key) in looked.iter().enumerate() {
+        if !is_within(slots, tags, written, turn, key) {
+            return false;
+        }
+    }
+    true
+}
+
 /// Makes room for what writes with these tags note, and answers whether none of them is noted, as their keys have just these
 /// tags.
+#[inline(always)]
 pub(crate) fn prepare_all<K: Key + Hash, V: Drop, I: Inversion<V>>(
     slots: &mut Slots<K, V, I>,
     tags: &TagSet,
@@ -171,6 +276,7 @@ pub(crate) fn prepare_all<K: Key + Hash, V: Drop, I: Inversion<V>>(
 }
 
 /// The key of a write, and what is written, which is moved out.
+#[inline(always)]
 fn take_write<K: Key, W: Default>(write: &mut (K, W)) -> (K, W)
     ensures key { result.0 ≡ write.old.0 }
     ensures value { result.1 ≡ write.old.1 }
@@ -180,6 +286,7 @@ fn take_write<K: Key, W: Default>(write: &mut (K, W)) -> (K, W)
 }
 
 /// Makes writes that are ready, all with these tags, and answers whether nothing is left to be settled. They are moved out.
+#[inline(always)]
 pub(crate) fn write_all<K: Key + Hash, V: Drop, I: Inversion<V>>(
     slots: &mut Slots<K, V, I>,
     tags: &TagSet,
@@ -207,7 +314,37 @@ pub(crate) fn write_all<K: Key + Hash, V: Drop, I: Inversion<V>>(
     done
 }
 
+/// Makes writes of which none is noted, and answers whether nothing is left to be settled. They are moved out.
+#[inline(always)]
+pub(crate) fn write_all_on<K: Key + Hash, V: Drop, I: Inversion<V>>(
+    slots: &mut Slots<K, V, I>,
+    written: &mut [(K, I::Write)],
+    places: &[usize],
+) -> bool
+    requires { (q : K) → is_in K.order (keys_of written.old) q ≡ true
+        → is_some (found K.order slots.old q) ≡ true }
+    ensures look { (q : K) → look_at K.order slots.new q
+        ≡ written_value K.order
+        (made_by K.order I.written (look_at K.order slots.old) written.old) q
+        (look_at K.order slots.old q) }
+    ensures log { (q : K) → log_at K.order slots.new q ≡ log_at K.order slots.old q }
+    ensures keys { keys_of written.new ≡ keys_of written.old }
+    ensures settled { SettledBut K.order (keys_of written.old) slots.old
+        → SettledBut K.order (keys_of written.old) slots.new }
+    ensures done { result ≡ true → SettledBut K.order (keys_of written.old) slots.old
+        → AllSettled K.order slots.new }
+{
+    let mut done = true;
+    let mut near = places.iter();
+    for place in 0..written.len() {
+        let (key, write) = take_write(&mut written[place]);
+        done &= slots.write_on(next_place(&mut near), &key, write);
+    }
+    done
+}
+
 /// Lets go of the room that was made for notes of these keys, and of slots of which there is nothing. It takes no memory.
+#[inline(never)]
 pub(crate) fn settle_all<K: Key + Hash, V: Drop, I: Inversion<V>>(
     slots: &mut Slots<K, V, I>,
     written: &[(K, I::Write)],
@@ -222,7 +359,8 @@ pub(crate) fn settle_all<K: Key + Hash, V: Drop, I: Inversion<V>>(
     }
 }
 
-/// The same behind writes, where something may be left to be settled.
+/// As `settle_all`, of keys that were written; nothing is done where the writes left nothing to be settled.
+#[inline(always)]
 pub(crate) fn settle_rest<K: Key + Hash, V: Drop, I: Inversion<V>>(
     slots: &mut Slots<K, V, I>,
     written: &[(K, I::Write)],

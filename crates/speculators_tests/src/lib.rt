@@ -1,6 +1,7 @@
-//! Tests of the kernels over their user's own keys, numbers and byte strings: writes and what puts them back, keys that are too long, keys that come and go,
-//! numbers that are added to, random runs, each held after each call against a plain record of the steps that depend on no failed
-//! guess, which does them again from nothing, what grows past 70,000 in them, in requests and in commands, with ample memory, and what steps cost beside open guesses of others.
+//! Tests of the kernels over their user's own keys, numbers and byte strings: writes and what puts them back, keys that are too
+//! long, keys that come and go, numbers that are added to, random runs, each held after each call against a plain record of the
+//! steps that depend on no failed guess, which does them again from nothing, what grows past 70,000 in them, in requests and in
+//! commands, with ample memory, and what steps cost beside open guesses of others.
 #![tactic(auto)]
 
 #[cfg(test)]

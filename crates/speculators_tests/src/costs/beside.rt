@@ -84,6 +84,46 @@ fn draw_others(
     Ok(())
 }
 
+/// So many steps, each of which writes a key of its own, behind those of others, and looks at what two guesses wrote.
+fn take_under(kernel: &mut Kernel, step: &mut KernelStep, plan: Plan) -> Result<(), Wrong> {
+    let first = KEYS.wrapping_add(plan.others);
+    for turn in 0..plan.steps {
+        step.looked.push(0)?;
+        step.looked.push(1)?;
+        fill(kernel, step, first.wrapping_add(turn))?;
+        kernel.take(step)?;
+    }
+    Ok(())
+}
+
+/// A failure of so many keys that depend on another guess too.
+fn fail_under(
+    rt: &impl Abort,
+    kernel: &mut Kernel,
+    step: &mut KernelStep,
+    plan: Plan,
+) -> Result<(), Wrong> {
+    fill(kernel, step, 0)?;
+    let kept = kernel.guess(step)?;
+    let went = fail_inner(rt, kernel, step, plan);
+    decide(rt, kernel, kept, true);
+    went
+}
+
+/// The same under a guess that stays.
+fn fail_inner(
+    rt: &impl Abort,
+    kernel: &mut Kernel,
+    step: &mut KernelStep,
+    plan: Plan,
+) -> Result<(), Wrong> {
+    fill(kernel, step, 1)?;
+    let failed = kernel.guess(step)?;
+    let went = take_under(kernel, step, plan);
+    decide(rt, kernel, failed, false);
+    went
+}
+
 /// All of it.
 fn run(
     rt: &impl Abort,
@@ -120,6 +160,23 @@ fn beside_others(rt: HostRuntime) -> Result<(), Wrong> {
     let mut step = Step::new(rt.alloc());
     let mut others = Vec::new(rt.alloc());
     let went = run(&rt, &mut kernel, &mut step, &mut others, plan);
+    end(&rt, &mut kernel, others);
+    drop(kernel);
+    drop(step);
+    went
+}
+
+/// A failure of keys that depend on another guess too, while guesses of others are open.
+#[test]
+fn failure_beside_others(rt: HostRuntime) -> Result<(), Wrong> {
+    let plan = read_plan(&rt);
+    let mut kernel = Speculator::new(rt.alloc(), 7, NonZeroU16::MAX);
+    let mut step = Step::new(rt.alloc());
+    let mut others = Vec::new(rt.alloc());
+    let mut went = draw_others(&mut kernel, &mut step, &mut others, plan);
+    if went.is_ok() {
+        went = fail_under(&rt, &mut kernel, &mut step, plan);
+    }
     end(&rt, &mut kernel, others);
     drop(kernel);
     drop(step);

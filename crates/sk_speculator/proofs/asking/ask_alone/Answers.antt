@@ -1,6 +1,5 @@
 -- What is written is ready.
-use Rattle.sk_speculator.proofs.Names.{◌≡◌, true, subst, OnOk, keys_of, is_in, IsReady, SettledBut}
-use Rattle.sk_speculator.proofs.Writing.{always_ok}
+use Rattle.sk_speculator.proofs.Names.{◌≡◌, true, subst, keys_of, is_in, IsReady, SettledBut}
 use Rattle.sk_speculator.proofs.asking.ask_alone.Goals as goal
 
 pub returns-clause-settled : goal.returns-clause-settled

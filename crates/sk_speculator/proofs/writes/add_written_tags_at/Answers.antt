@@ -1,5 +1,5 @@
 -- What a key depends on that was looked at is in the set.
-use Rattle.sk_speculator.proofs.Names.{◌≡◌, true, ◌∷◌, [], subst, has, IsAntisymmetric, any_rests}
+use Rattle.sk_speculator.proofs.Names.{◌∷◌, [], subst, has, IsAntisymmetric, any_rests}
 use Rattle.sk_speculator.proofs.Writing.{only_one, or_known}
 use Rattle.sk_speculator.proofs.Afterwards.{any_of}
 use Rattle.sk_speculator.proofs.writes.add_written_tags_at.Goals as goal

@@ -1,6 +1,6 @@
 use Rattle.sk_slots.specs.Counted.{HasPresent}
 use Rattle.sk_slots.proofs.Counts.{slot_recounted, slot_counts, present_within}
-use Rattle.sk_slots.proofs.Names.{true, false, [], ◌∷◌, are_of, last_tags, slot_in, cond, refl, sym, ◌∙◌, ap, subst, option_copied_mut, eq_by_cmp, IsTotalOrder, rules}
+use Rattle.sk_slots.proofs.Names.{true, false, [], ◌∷◌, cond, refl, sym, ◌∙◌, ap, subst, option_copied_mut, eq_by_cmp, IsTotalOrder, rules}
 use Rattle.sk_slots.proofs.Names.{IsAntisymmetric, unwound, cut, SlotView, look_at, log_at, SettledBut}
 use Rattle.sk_map.specs.Seen.{seen}
 use Rattle.sk_slots.proofs.Maps.{one_changed, none_changed, settled_kept, settled_set}
@@ -22,8 +22,6 @@ returns g c =
       done = λ is keys settled.
           settled_set total exact keys m _ k c.unwind-is_settled.new.self all (sym c.unwind-is_settled.ensures.settled ∙ is)
           (subst (SettledBut R (k ∷ keys)) (sym c.self.view_is) settled);
-      alone = c.rests_on_no_other-is_alone.ensures
-          ∙ ap (λ ns. are_of c.args.id (last_tags [] ns)) (sym (ap (λ o. (slot_in o).log) here) ∙ ap (λ es. log_at R es k) c.self.view_is);
     }
 
 pub returns-in_default : goal.returns-in_default
@@ -33,14 +31,11 @@ returns-in_default g c =
     let exact = subst IsAntisymmetric g.met.K.Key.same g.met.K.Key.exact in
     let k = c.args.key.now in
     let m = seen R c.self.inside.slots in
-    let none = sym c.get_mut.ensures.value ∙ ap option_copied_mut c.in_default.is in
     record {
       look = λ q. none_changed total exact (λ (s : SlotView _). s.value) (λ (s : SlotView _). unwound c.args.id s.log s.value) m _ k (sym c.get_mut.ensures.value ∙ ap option_copied_mut c.in_default.is) (ap (seen R) c.get_mut.follows.holds-at-none) refl q ∙ ap (λ es. cond (eq_by_cmp R q k) (unwound c.args.id (log_at R es q) (look_at R es q)) (look_at R es q)) c.self.view_is;
       log = λ q. none_changed total exact (λ (s : SlotView _). s.log) (λ (s : SlotView _). cut c.args.id s.log) m _ k (sym c.get_mut.ensures.value ∙ ap option_copied_mut c.in_default.is) (ap (seen R) c.get_mut.follows.holds-at-none) refl q ∙ ap (λ es. cond (eq_by_cmp R q k) (cut c.args.id (log_at R es q)) (log_at R es q)) c.self.view_is;
       settled = search rules;
       done = search rules;
-      alone = sym (ap (λ o. are_of c.args.id (last_tags [] (slot_in o).log)) none)
-          ∙ ap (λ es. are_of c.args.id (last_tags [] (log_at R es k))) c.self.view_is;
     }
 
 pub recounted-self-inside-requires-clause-come : goal.recounted-self-inside-requires-clause-come

@@ -69,8 +69,8 @@ taken g c =
     let exactly = subst (λ ks. AllExact R (with_tags R c.ask-asked.new.both.tags ks (tags_by (log_at R a.slots))) c.ask-asked.new.guesses.opens) (sym keys) c.in-Ok.ensures.exact in
     after_guess total exact a os c.self.invariant.1 c.ask-asked.new.slots c.perform.new.slots d c.ask-asked.new.both.tags c.ask-asked.new.guesses.view c.ask-asked.new.guesses.opens c.ask-asked.new.said.said c.perform.new.said.said
     c.ask-asked.ensures.look c.ask-asked.ensures.log c.ask-asked.ensures.view c.ask-asked.ensures.opens c.ask-asked.ensures.said c.in-Ok.ensures.rising writes c.perform.ensures.says c.perform.ensures.settled exactly
-    c.ask-asked.new.both.own c.in-Some.id c.draw-guess.new.self.view c.draw-guess.new.self.opens (keys_of c.as_slice.result.now) c.in-Some.ensures.0 members (c.in-Ok.ensures.own refl) c.draw-guess.ensures.view
-    c.draw-guess.ensures.opens (ap keys_of c.as_slice.ensures.value ∙ sym keys) c.draw-guess.ensures.statuses
+    c.ask-asked.new.both.own c.in-Some.id c.draw-guess.new.self.view c.draw-guess.new.self.opens (keys_of c.as_slice-3.result.now) c.in-Some.ensures.0 members (c.in-Ok.ensures.own refl) c.draw-guess.ensures.view
+    c.draw-guess.ensures.opens (ap keys_of c.as_slice-3.ensures.value ∙ sym keys) c.draw-guess.ensures.statuses
 
 pub invariant_of-self-2 : goal.invariant_of-self-2
 invariant_of-self-2 g c = (c.self.invariant.0, (taken g (goal.at.invariant_of-self-2 g c).After-perform).1)

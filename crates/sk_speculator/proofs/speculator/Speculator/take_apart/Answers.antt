@@ -4,9 +4,9 @@ use Rattle.sk_speculator.proofs.Names.{Deed, Takes, look_at, log_at, tags_by, wi
 use Rattle.sk_speculator.proofs.Names.{any_rests, made_by, IsSame, IsSound, Parts, Performed}
 use Rattle.sk_speculator.proofs.Writing.{keys_made}
 use Rattle.sk_speculator.proofs.Taking.{after_take, clean, sound_refused}
-use Rattle.sk_speculator.proofs.speculator.Speculator.take.Given.{Over}
-use Rattle.sk_speculator.proofs.speculator.Speculator.take.Goals as goal
-use Rattle.sk_speculator.proofs.speculator.Speculator.take.Goals.{After-perform}
+use Rattle.sk_speculator.proofs.speculator.Speculator.take_apart.Given.{Over}
+use Rattle.sk_speculator.proofs.speculator.Speculator.take_apart.Goals as goal
+use Rattle.sk_speculator.proofs.speculator.Speculator.take_apart.Goals.{After-perform}
 
 pub invariant_of-self : goal.invariant_of-self
 invariant_of-self g c =

@@ -39,7 +39,7 @@ is_long key = nat_lt KEY_LIMIT (length key.items)
 abbrev pub has_long_key : {V O : Type 0} → WholeStep (Vec ℕ) V O → Bool
 has_long_key step = list_any is_long step.looked.items || list_any (λ w. is_long w.0) step.written.items
 
--- the same refusal
+-- the refusal of a step over byte strings, where the kernel over numbers refused it so
 abbrev pub refusal_of : Inner → Refusal
 refusal_of inner.TooMany = TooMany
 refusal_of inner.NoNumber = NoNumber

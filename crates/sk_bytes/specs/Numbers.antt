@@ -22,7 +22,7 @@ pub record Gains (old : Numbered) (loose : List ℕ) (new : Numbered) : Type 0 w
   pub two_way : IsTwoWay new
   pub strings : (n : ℕ) → (string_of new n ≡ string_of old n) ⊎ ((string_of old n ≡ None) × (is_in nat_cmp loose n ≡ true))
 
--- each of these has the number beside it
+-- each of these keys has the number that stands at its place in the list
 abbrev pub AreNames : {B K : Type 0} → (B → Option K) → List B → List K → Type 0
 AreNames key [] [] = Unit {0}
 AreNames key (b ∷ bs) (k ∷ ks) = (key b ≡ Some k) × AreNames key bs ks

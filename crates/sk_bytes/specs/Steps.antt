@@ -9,7 +9,7 @@ module _ {V O : Type 0} where
   byte_deed step = record
       { looked = map vec_items step.looked.items; written = map (λ w. (vec_items w.0, w.1)) step.written.items; said = step.said }
 
-  -- and what one over numbers did
+  -- what a step over numbers did
   abbrev pub deed_in : WholeStep ℕ V O → Deed ℕ V O
   deed_in step = record { looked = step.looked.items; written = step.written.items; said = step.said }
 
@@ -32,7 +32,7 @@ module _ {V O : Type 0} where
     pub left_said : left.said ≡ None
     pub said : told.said ≡ step.said
 
-  -- the same keys and writes, with the room for more, and what it says
+  -- a step has its keys and writes as before, with the room for more, and what it says
   pub record IsAsItWas (old new : WholeStep (Vec ℕ) V O) : Type 0 where
     pub looked : new.looked ≡ old.looked
     pub written : new.written.items ≡ old.written.items

@@ -153,8 +153,8 @@ impl<V, O> Bytes<V, O> {
         self.kernel.present()
     }
 
-    /// A place behind all that keys have. Each key that is there, depends on a guess, or was taken back by the last failure has one
-    /// place before it, and no other key has any.
+    /// A place behind all that keys have. Each key that is there, depends on a guess, or was taken back by the last failure has
+    /// one place before it, and no other key has any.
     pub fn places(&self) -> usize
         ensures behind { (place : ℕ) → result ≤ place → string_of self.now.keys place ≡ None }
         ensures keys { HasPlaces self.now }
@@ -169,7 +169,7 @@ impl<V, O> Bytes<V, O> {
         self.keys.index.string(Number::new(place))
     }
 
-    /// What the key has that has a place; `None` where it is absent.
+    /// What the key at a place has; `None` where it is absent.
     pub fn value_at(&self, place: usize) -> Option<&V>
         ensures { option_copied result
             ≡ at_key None (look_at bytes_cmp self.now.parts.slots) (string_of self.now.keys place) }

@@ -98,7 +98,7 @@ impl<V: Drop, O: Drop> Keys<V, O> {
         self.loose.clear();
     }
 
-    /// The same behind a step that was taken. Where it made no key absent each has something, and keeps its number.
+    /// As `let_go`, behind a step that was taken. Where it made no key absent each has something, and keeps its number.
     pub(crate) fn let_go_taken(&mut self, kernel: &Speculator<Number, V, O>, makes_absent: bool)
         requires two_way { IsTwoWay self.old.index }
         requires rests { (n : ℕ) → AllRest (log_at nat_cmp kernel.now.slots n) }

@@ -1,7 +1,7 @@
 //! Numbers for the keys of a step, and what becomes of them behind it.
 ghost use Rattle.std.specs.Prelude.{◌≡◌, ◌∷◌, ◌++◌, ◌<◌, ℕ, true, [], None, Some, is_none, length, map, IfOk, OnErr, OnOk};
 ghost use Rattle.sk_bytes.specs.Base.{list_any, nat_cmp, vec_capacity, vec_items, vec_len, is_in, at_key, keys_of};
-ghost use Rattle.sk_bytes.specs.Base.{look_at, log_at, number_of};
+ghost use Rattle.sk_bytes.specs.Base.{look_at, log_at, number_of, string_of};
 ghost use Rattle.sk_bytes.specs.Told.{slot_shown, AllRest, IsTwoWay};
 ghost use Rattle.sk_bytes.specs.Numbers.{exchanged, listed, names, AreNames, Gains, LetsGo, ListsAbsent};
 
@@ -154,19 +154,49 @@ fn push_found(numbered: &mut Vec<Number>, found: Option<Number>)
     }
 }
 
+/// Whether a key has a number.
+fn is_numbered(index: &Index, number: Number, key: &[u8]) -> bool
+    ensures { result ≡ true → string_of index.now number ≡ Some key.now }
+{
+    match index.string(number) {
+        Some(own) => own == key,
+        None => false,
+    }
+}
+
+/// The number of a key that a step looked at. Mostly it is the one that the step writes in this turn.
+fn find_looked<V>(
+    index: &Index,
+    written: Option<&(Number, Option<V>)>,
+    key: &[u8],
+) -> Option<Number>
+    requires { IsTwoWay index.now }
+    ensures { result ≡ number_of index.now key.now }
+{
+    if let Some(write) = written {
+        if is_numbered(index, write.0, key) {
+            return Some(write.0);
+        }
+    }
+    index.find(key)
+}
+
 /// The numbers of the keys that a step looked at. One that has none is absent and depends on nothing.
-fn number_looked(
+fn number_looked<V>(
     index: &Index,
     looked: &[Vec<u8>],
+    written: &[(Number, Option<V>)],
     numbered: &mut Vec<Number>,
 ) -> Result<(), AllocError>
-    requires { numbered.old.items ≡ [] }
+    requires two_way { IsTwoWay index.now }
+    requires numbered { numbered.old.items ≡ [] }
     ensures { OnOk result
         (numbered.new.items ≡ keys_of (number_of index.now) (map vec_items looked.now)) }
 {
+    let mut near = written.iter();
     for key in looked {
         numbered.reserve(1)?;
-        push_found(numbered, index.find(key.as_slice()));
+        push_found(numbered, find_looked(index, near.next(), key.as_slice()));
     }
     Ok(())
 }
@@ -193,7 +223,12 @@ pub(crate) fn number_step<V, O>(
     ensures said { numbered.new.said ≡ numbered.old.said }
 {
     number_written(index, step.written.as_slice(), &mut numbered.written, loose)?;
-    number_looked(index, step.looked.as_slice(), &mut numbered.looked)
+    number_looked(
+        index,
+        step.looked.as_slice(),
+        numbered.written.as_slice(),
+        &mut numbered.looked,
+    )
 }
 
 /// Whether a write makes its key absent.

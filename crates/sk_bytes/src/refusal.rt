@@ -20,7 +20,7 @@ pub enum Refusal {
     Memory,
 }
 
-/// The same refusal over byte strings.
+/// The refusal of a step over byte strings where the kernel over numbers refused it so.
 pub(crate) fn named(refusal: Inner) -> Refusal
     ensures { result ≡ refusal_of refusal }
 {

@@ -7,6 +7,7 @@ ghost use Rattle.std.specs.Ordering.{nat_cmp};
 ghost use Rattle.sk_index.specs.Index.{number_of, numbers_in, string_of, Adds, AreApart, Removes};
 
 use crate::Number;
+use crate::hints::Hints;
 use crate::places::Places;
 use slab::Slab;
 use std::alloc::{AllocError, Global};
@@ -23,6 +24,7 @@ pub struct Index {
     strings: Slab<Vec<u8>>,
     /// The place of each string under its hash.
     places: Places,
+    hints: Hints,
 }
 
 impl Model for Index {
@@ -65,11 +67,23 @@ impl Index {
                 firsts: HashMap::new(alloc),
                 others: BTreeSet::new(alloc),
             },
+            hints: Hints::new(alloc),
         }
     }
 
     /// The number of a string, if it has one.
     pub fn find(&self, bytes: &[u8]) -> Option<Number>
+        ensures { result ≡ number_of self.now bytes.now }
+    {
+        if let Some(number) = self.number_at(self.hints.place(bytes), bytes) {
+            return Some(number);
+        }
+        self.search(bytes)
+    }
+
+    /// The number of a string, by its hash.
+    #[inline(never)]
+    fn search(&self, bytes: &[u8]) -> Option<Number>
         ensures { result ≡ number_of self.now bytes.now }
     {
         let hash = hash_of(self.seed, bytes);
@@ -105,7 +119,9 @@ impl Index {
         self.strings.reserve(1)?;
         let place = self.strings.vacant_key();
         self.places.insert(hash, place)?;
-        Ok(Number::new(self.strings.insert_reserved(string)))
+        let number = Number::new(self.strings.insert_reserved(string));
+        self.hints.add(&self.strings, bytes, place);
+        Ok(number)
     }
 
     /// Lets go of the string that has a number, and hands it out. This takes no memory.

@@ -1,6 +1,7 @@
 //! Byte strings, each kept once, with a number for each.
 #![tactic(auto)]
 
+mod hints;
 mod index;
 mod number;
 mod places;

@@ -25,11 +25,11 @@ returns-clause-ok c =
     let items = c.in_ok-string.ensures.items in
     let place = c.vacant_key-place.ensures.value ∙ sym c.insert_reserved.ensures.key in
     let fits : c.insert_reserved.result < 2 ^ 64 = omega (arith, place) in
-    subst (λ es. Adds es c.args.bytes.now c.new.result (numbered 0 c.insert_reserved.new.self.slots)) c.self.view_is
-    (subst (λ b. Adds (numbered 0 c.self.inside.strings.slots) b c.new.result
+    subst (λ es. Adds es c.args.bytes.now c.new-number.result (numbered 0 c.insert_reserved.new.self.slots)) c.self.view_is
+    (subst (λ b. Adds (numbered 0 c.self.inside.strings.slots) b c.new-number.result
     (numbered 0 c.insert_reserved.new.self.slots)) items
     (subst (λ n. Adds (numbered 0 c.self.inside.strings.slots) c.in_ok-string.string.items n
-    (numbered 0 c.insert_reserved.new.self.slots)) (sym c.new.ensures)
+    (numbered 0 c.insert_reserved.new.self.slots)) (sym c.new-number.ensures)
     (kept.adds (λ s. finish (write c.self.inside.seed s)) c.self.inside.strings
     (is_under c.self.inside.places.firsts c.self.inside.places.others) c.self.invariant
     c.reserve.new.self c.insert_reserved.new.self (is_under c.insert.new.self.firsts c.insert.new.self.others)

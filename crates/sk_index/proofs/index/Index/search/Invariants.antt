@@ -1,6 +1,6 @@
 -- A place with this string is among those that are left.
 use Rattle.sk_index.proofs.Names.{◌≡◌, true, Some, list_any, is_at, string_of, place_cmp}
-use Rattle.sk_index.proofs.index.Index.find.Given as goal
+use Rattle.sk_index.proofs.index.Index.search.Given as goal
 
 abbrev pub invariant-loop-place : goal.invariant-loop-place
 invariant-loop-place l =

@@ -5,3 +5,4 @@ pub mod Lines
 pub mod Steps
 pub mod Streams
 pub mod Typed
+pub mod Whole

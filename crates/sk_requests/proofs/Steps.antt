@@ -227,15 +227,15 @@ at_word reader text left behind word place inside = subst (λ p. IsAt p reader t
 pub at_end : (reader : Reader) (text : List ℕ) (left : ℕ) (word : List ℕ) → reader.place ≡ places.End left → InWord reader text left (length word) word (13 ∷ []) → IsAt reader.place reader text
 at_end reader text left word place inside = subst (λ p. IsAt p reader text) (sym place) (word, inside)
 
-bulks-push : (words : List (List ℕ)) (word : List ℕ) → bulks (words ++ word ∷ []) ≡ bulks words ++ bulk word
+pub bulks-push : (words : List (List ℕ)) (word : List ℕ) → bulks (words ++ word ∷ []) ≡ bulks words ++ bulk word
 bulks-push [] word = append-nil (bulk word)
 bulks-push (w ∷ words) word = ap (λ xs. bulk w ++ xs) (bulks-push words word) ∙ sym (append_assoc (bulk w) (bulks words) (bulk word))
 
-total-push : (words : List (List ℕ)) (word : List ℕ) → total (words ++ word ∷ []) ≡ total words + length word
+pub total-push : (words : List (List ℕ)) (word : List ℕ) → total (words ++ word ∷ []) ≡ total words + length word
 total-push [] word = omega arith
 total-push (w ∷ words) word = omega (arith, total-push words word)
 
-each-push : (words : List (List ℕ)) (word : List ℕ) → AreWords words → length word ≤ 2 ^ 29 → AreWords (words ++ word ∷ [])
+pub each-push : (words : List (List ℕ)) (word : List ℕ) → AreWords words → length word ≤ 2 ^ 29 → AreWords (words ++ word ∷ [])
 each-push [] word each short = (short, tt)
 each-push (w ∷ words) word each short = (each.0, each-push words word each.1 short)
 

@@ -17,12 +17,12 @@ RequestsAreApart = (limits : Limits) (us ws : List (List ℕ)) (text text' x y :
 abbrev pub FaultsAreFinal : Type 0
 FaultsAreFinal = (limits : Limits) (fault : Fault) (bytes : List ℕ) → HasFault limits fault bytes → BeginsNone limits bytes
 
--- They have no other fault, whatever follows.
+-- Bytes that have a fault have no other one, whatever follows.
 abbrev pub FaultsAreApart : Type 0
 FaultsAreApart = (limits : Limits) (fault other : Fault) (bytes later : List ℕ)
     → HasFault limits fault bytes → HasFault limits other (bytes ++ later) → fault ≡ other
 
--- What a reader is behind of is no whole request.
+-- What a reader has read of a request, and told nothing of yet, is no whole request.
 abbrev pub PartsAreNone : Type 0
 PartsAreNone = (text : List ℕ) (reader : Reader) → IsBehind text reader → IsPart reader.limits text
 

@@ -6,3 +6,4 @@ pub mod Reading
 pub mod Replies
 pub mod Request
 pub mod Stream
+pub mod Whole

@@ -32,7 +32,7 @@ pub record InArray (reader : Reader) (text : List ℕ) (left size : ℕ) (rest :
   pub array : InWords words text left rest
   pub keeps : Keeps reader.limits (length words + left) size words reader.keeping (words_of reader.words.items) reader.room
 
--- The same within a word, and the bytes of it that came are kept if the words are.
+-- Behind some words the head of a word stands and the bytes of it that came, which are kept if the words are.
 pub record InWord (reader : Reader) (text : List ℕ) (left size : ℕ) (word behind : List ℕ) : Type 0 where
   pub array : InArray reader text left size (head 36 size ++ (word ++ behind))
   pub short : size ≤ 2 ^ 29

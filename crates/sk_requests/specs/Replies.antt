@@ -30,6 +30,6 @@ bulk_text bytes = bulk bytes
 abbrev pub null_text : List ℕ
 null_text = 36 ∷ 45 ∷ 49 ∷ 13 ∷ 10 ∷ []
 
--- what stands before so many replies that are one
+-- what stands before an array of so many replies
 abbrev pub array_text : ℕ → List ℕ
 array_text count = head 42 count

@@ -32,7 +32,7 @@ pub record HasRead (limits : Limits) (told : List (Option (List (List ℕ)))) (s
   pub splits : Splits limits told rest stream
   pub behind : IsBehind rest reader
 
--- The same, with what was found now.
+-- The stream came, and what was found now is the last that was told of it.
 abbrev pub HasFound : Limits → List (Option (List (List ℕ))) → List ℕ → Found → Reader → Type 0
 HasFound limits told stream finds.Part reader = HasRead limits told stream reader
 HasFound limits told stream (finds.Request words) reader = HasRead limits (told ++ Some (words_of words.items) ∷ []) stream reader

@@ -1,7 +1,7 @@
 //! Laws of requests. Each is the contract of a function that does nothing.
 ghost use Rattle.sk_requests.specs.Laws.{RequestsAreApart, FaultsAreFinal, FaultsAreApart, PartsAreNone, StreamsReadOnce, StreamsGoOn, CutsDontMatter};
 
-/// One request stands at the front of bytes at most.
+/// At the front of bytes at most one request stands.
 pub fn one_law()
     ensures { RequestsAreApart }
 {}
@@ -11,12 +11,12 @@ pub fn fault_law()
     ensures { FaultsAreFinal }
 {}
 
-/// They have no other fault, whatever follows them.
+/// Bytes that have a fault have no other one, whatever follows them.
 pub fn one_fault_law()
     ensures { FaultsAreApart }
 {}
 
-/// What a reader is behind of is no whole request.
+/// What a reader has read of a request, and told nothing of yet, is no whole request.
 pub fn part_law()
     ensures { PartsAreNone }
 {}

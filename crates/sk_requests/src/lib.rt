@@ -1,6 +1,7 @@
 //! Requests of existing clients in, and replies to them out, as bytes in any pieces.
 #![tactic(auto)]
 
+mod array;
 pub mod fault;
 pub mod laws;
 pub mod limits;

@@ -1,5 +1,5 @@
 //! Lines, and the numbers and words in them.
-ghost use Rattle.std.specs.Prelude.{◌≡◌, ◌≢◌, ◌+◌, ◌-◌, ◌<◌, ◌≤◌, ◌^◌, ◌↔◌, ◌++◌, ◌∷◌, ℕ, List, length, slice_index, IsTrue, IfOk, IfSome, OnOk};
+ghost use Rattle.std.specs.Prelude.{◌≡◌, ◌≢◌, ◌+◌, ◌-◌, ◌<◌, ◌≤◌, ◌^◌, ◌↔◌, ◌++◌, ◌∷◌, ℕ, List, decimal, length, slice_index, take, IsTrue, IfOk, IfSome, OnOk};
 ghost use Rattle.sk_requests.specs.Inline.{ended, words_from, line_words, without_return};
 ghost use Rattle.sk_requests.specs.Lines.{said, value_from};
 ghost use Rattle.sk_requests.specs.Reading.{words_of};
@@ -62,6 +62,28 @@ pub(crate) fn number_in(line: &[u8], mark: u8, limit: usize) -> Option<usize>
         return None;
     }
     Some(said)
+}
+
+/// The number in decimal at the front of bytes, where it is within the limit: how many digits it has, and the number.
+pub(crate) fn digits_in(bytes: &[u8], limit: usize) -> Option<(usize, usize)>
+    requires { limit < 2 ^ 32 }
+    ensures { IfSome result (λ r. (r.0 ≤ length bytes.now) × (r.1 ≤ limit)
+        × (take r.0 bytes.now ≡ decimal r.1)) }
+{
+    let mut number = 0;
+    for (i, byte) in bytes.iter().enumerate() {
+        if !byte.is_ascii_digit() {
+            return if i > 0 { Some((i, number)) } else { None };
+        }
+        if i > 0 && number == 0 {
+            return None;
+        }
+        number = number * 10 + (*byte - b'0') as usize;
+        if number > limit {
+            return None;
+        }
+    }
+    None
 }
 
 /// Whether the bytes are the same.

@@ -5,18 +5,13 @@ ghost use Rattle.sk_requests.specs.Reading.{has_some, IsBehind, Reads, words_of}
 ghost use Rattle.sk_requests.specs.Stream.{EndsWithin, HasRead, ReadsOn};
 ghost use Rattle.sk_requests.specs.declared.limits.Limits.{Limits};
 
+use crate::array::{COUNT_LIMIT, LENGTH_LIMIT, array_in, ends_line, head_in};
 use crate::fault::{Fault, Refusal};
 use crate::limits::Limits;
 use crate::line::{line_len, number_in, words_in};
 use crate::place::Place;
 use std::alloc::{AllocError, Global};
 use std::mem::replace;
-
-/// A request has at most so many words.
-pub const COUNT_LIMIT: usize = (1 << 31) - 1;
-
-/// A word has at most so many bytes.
-pub const LENGTH_LIMIT: usize = 1 << 29;
 
 /// What was found in the bytes that were taken.
 #[derive(Drop)]
@@ -91,13 +86,13 @@ impl Reader {
         }
     }
 
-    /// Takes bytes from the front: up to the end of a line or of a word, or all.
+    /// Takes bytes from the front: up to the end of a request, of a line or of a word, or all.
     pub fn take(&mut self, bytes: &[u8]) -> Result<Taken, Refusal>
         ensures { (limits : Limits) (told : List (Option (List (List ℕ)))) (stream : List ℕ)
             → HasRead limits told stream self.old
             → ReadsOn limits told stream bytes.now result self.new }
     {
-        self.step(bytes)
+        self.read(bytes)
     }
 
     /// Whether what came ends within a request.
@@ -108,13 +103,31 @@ impl Reader {
         self.has_some()
     }
 
-    /// The same, by its place.
+    /// Whether some of a request came: bytes of its line, or what stands behind that.
     fn has_some(&self) -> bool
         ensures { result ≡ has_some self.now.place self.now.part.items }
     {
         match self.place {
             Place::Front => !self.part.as_slice().is_empty(),
             Place::Length(_) | Place::Word(..) | Place::End(_) => true,
+        }
+    }
+
+    /// Takes a request that is whole in one pass, or bytes of one.
+    fn read(&mut self, bytes: &[u8]) -> Result<Taken, Refusal>
+        ensures read { (text : List ℕ) → IsBehind text self.old
+            → Reads text bytes.now result self.new }
+        ensures limits { self.new.limits ≡ self.old.limits }
+    {
+        if self.has_some() {
+            return self.step(bytes);
+        }
+        match array_in(self.alloc, self.limits, bytes)? {
+            Some((count, words)) => Ok(Taken {
+                count,
+                found: Found::Request(words),
+            }),
+            None => self.step(bytes),
         }
     }
 
@@ -259,7 +272,8 @@ impl Reader {
         Ok(self.word_rest(left, behind - count, count, &bytes[count..]))
     }
 
-    /// Behind so many bytes of a word, at its end or before: what is found with the rest, if that begins with the end of its line.
+    /// Behind so many bytes of a word, at its end or before: what is found with the rest, if that begins with the end of its
+    /// line.
     fn word_rest(&mut self, left: usize, behind: usize, count: usize, rest: &[u8]) -> Taken
         requires place { self.old.place ≡ Place.Word left behind }
         requires some { 0 < count }
@@ -349,19 +363,7 @@ fn whole_size(part: &[u8], bytes: &[u8]) -> Option<(usize, usize)>
     if !part.is_empty() {
         return None;
     }
-    let len = line_len(bytes);
-    if len == bytes.len() {
-        return None;
-    }
-    let size = number_in(&bytes[..len], b'$', LENGTH_LIMIT)?;
-    Some((len + 1, size))
-}
-
-/// Whether bytes begin with the end of a line.
-fn ends_line(bytes: &[u8]) -> bool
-    ensures { result ≡ true → bytes.now ≡ 13 ∷ 10 ∷ drop 2 bytes.now }
-{
-    bytes.starts_with(b"\r\n")
+    head_in(bytes, b'$', LENGTH_LIMIT)
 }
 
 /// Whether a number is within a limit.

@@ -55,7 +55,7 @@ pub fn null(out: &mut Vec<u8>) -> Result<(), AllocError>
     out.extend_from_slice(b"$-1\r\n")
 }
 
-/// Writes what stands before so many replies that are one.
+/// Writes what stands before an array of so many replies.
 pub fn array(out: &mut Vec<u8>, count: usize) -> Result<(), AllocError>
     ensures ok { OnOk result (out.new.items ≡ out.old.items ++ array_text count) }
     ensures err { OnErr result (out.new.items ≡ out.old.items) }

@@ -40,6 +40,6 @@ pub record Entry : Type 0 where
 abbrev pub accounts : System ℕ ℕ (ℕ × ℕ) (Unit {0}) Entry
 accounts = record { order = nat_cmp; act = λ n. act n.order; mark = λ n. n.guess; goes_to = λ w. w.0 }
 
--- this is what an order does on what is there
+-- a deed is what an order does on what accounts have
 abbrev pub IsHonest : List (ℕ × SlotView ℕ) → Order → Deed ℕ ℕ ℕ → Type 0
 IsHonest slots order deed = perform (look_at nat_cmp slots) (act order) ≡ Ok (effect_of (look_at nat_cmp slots) deed)

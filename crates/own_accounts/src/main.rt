@@ -1,10 +1,12 @@
 //! Accounts over a kernel of own keys: a transfer goes on a guess, another depends on it, and the guess is decided.
 #![tactic(auto)]
 
-ghost use Rattle.std.specs.Prelude.{◌≡◌, IfOk, OnOk};
+ghost use Rattle.std.specs.Prelude.{◌≡◌, IfOk, OnOk, Some, None};
 ghost use Rattle.hidewillow.specs.UndoState.{numbers};
 ghost use Rattle.hidewillow.specs.OwnSlots.{look_at};
-ghost use Rattle.hidewillow.specs.OwnLaw.{OwnRunsAsPlain};
+ghost use Rattle.hidewillow.specs.RecordTrace.{Taken};
+ghost use Rattle.hidewillow.specs.OwnCalls.{next_of};
+ghost use Rattle.hidewillow.specs.OwnLaw.{Happens, OwnRunsAsPlain};
 ghost use Rattle.hidewillow.specs.OwnParts.{deed};
 ghost use Rattle.std.specs.Ordering.{nat_cmp};
 ghost use Rattle.own_accounts.specs.Accounts.{accounts, balance, IsHonest};
@@ -72,8 +74,11 @@ fn carry_out(
     Ok(step)
 }
 
-/// Takes an order, which depends on whatever its accounts depend on. No guess is drawn or decided.
+/// Takes an order, which depends on whatever its accounts depend on: what is handed in is what it does, as the law wants it. No
+/// guess is drawn or decided.
 fn take(bank: &mut Speculator<u16, u64, u64>, alloc: Global, order: Order) -> Result<(), Refused>
+    ensures happens { OnOk result
+        (Happens accounts bank.old (Taken (record { order = order; guess = None })) bank.new) }
     ensures guesses { bank.new.guesses ≡ bank.old.guesses }
     ensures opens { numbers bank.new.opens ≡ numbers bank.old.opens }
 {
@@ -88,7 +93,10 @@ fn guess(
     alloc: Global,
     order: Order,
 ) -> Result<Guess, Refused>
-    ensures { IfOk result (λ guess. IsOwn bank.new guess) }
+    ensures happens { OnOk result
+        (Happens accounts bank.old
+        (Taken (record { order = order; guess = Some (next_of bank.old.guesses) })) bank.new) }
+    ensures own { IfOk result (λ guess. IsOwn bank.new guess) }
 {
     let mut step = carry_out(bank, alloc, order)?;
     Ok(bank.guess(&mut step)?)

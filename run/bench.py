@@ -58,6 +58,7 @@ WORKS = {
 }
 WAYS = ["local", "waits", "believed", "stops", "here", "sshfs"]
 OPTIONS = {"waits": ["--strict"], "believed": ["--strict", "--believe-seconds", "3"], "stops": [], "here": []}
+COUNTS = ["guesses", "epochs", "rollbacks", "checkpoints"]
 SFTP = pathlib.Path("/usr/lib/openssh/sftp-server")
 
 
@@ -142,7 +143,7 @@ def once(given, work, way, delay, pinned):
         with runs.Served(given.build, place.there, *slow) as served:
             env = {**os.environ, **runs.FIXED, **({"HIDEWILLOW_RUN_STOPS": "1"} if way == "stops" else {})}
             took = timed(place.command(given.build, served.at, words, *OPTIONS[way]), pinned, given.processor, env=env)
-        return *took, {it: place.counted(it) for it in ("guesses", "epochs", "checkpoints", "rollbacks", "waits")}
+        return *took, {**{it: place.counted(it) for it in COUNTS}, "µs each": place.counted("checkpoints", 3)}
     finally:
         place.away()
 
@@ -195,14 +196,15 @@ def main():
     print(f"{os.uname().release}, {os.cpu_count()} processors, load {os.getloadavg()[0]:.1f}, {time.strftime('%Y-%m-%d %H:%M')}, "
           f"folders in {runs.ROOM}, {given.bandwidth or 'any number of'} bytes/s, least of {given.rounds}"
           f"{', processor time' if given.processor else ''}\n")
-    print("| work | delay, ms | " + " | ".join(ways) + " | guesses | epochs | checkpoints | rollbacks |")
-    print("|---|---|" + "---|" * (len(ways) + 4))
+    columns = ["work", "delay, ms", *ways, *COUNTS, "µs each"]
+    print("| " + " | ".join(columns) + " |")
+    print("|" + "---|" * len(columns))
     for work in works:
         for delay in (int(it) for it in given.delays.split(",")):
             times, counts = measured(given, work, delay, ways, pinned)
             row = [f"{times.get(it, float('nan')):.2f}" for it in ways]
             here = counts.get("here", {})
-            row += [str(here.get(it, "")) for it in ("guesses", "epochs", "checkpoints", "rollbacks")]
+            row += [str(here.get(it, "")) for it in [*COUNTS, "µs each"]]
             print(f"| {work} | {delay} | " + " | ".join(row) + " |", flush=True)
     return 0
 

@@ -224,7 +224,7 @@ pub enum Request {
     Piece { upload: u64, bytes: Bytes },
     /// Falls with an earlier one that was refused, unless said otherwise.
     Epoch { number: u64, falls_with_earlier: bool, steps: Vec<Step> },
-    /// The client knows that this epoch was refused: what comes from here on rests on what it knows now.
+    /// The client knows that this epoch was refused: what comes from here on depends on what it knows now.
     Acknowledge { number: u64 },
 }
 

@@ -4,12 +4,13 @@
     run/tests/runs.py [--build FOLDER] [--wrong FOLDER] [--rounds N] [--seed N] [PART..]
 
 FOLDER of --build has hidewillow-run and hidewillow-files (build/ where it isn't named); that of --wrong has a hidewillow-run that was
-built with the feature `wrong`, for the part of that name. Parts: ways, same, foreign, copy, held, deaths, resume, wrong, appends; all but `wrong`
-where none is named. The last line is 'N passed, M failed'.
+built with the feature `wrong`, for the part of that name. Parts: ways, same, foreign, listing, copy, held, deaths, resume, wrong, appends; all but
+`wrong` where none is named. The last line is 'N passed, M failed'.
 
 ways     over ssh, and over a server that is started here; by another user than root
 same     commands and a build, with epochs refused at random: status, output and each file are as of a local run
 foreign  the same while another program gives the files new versions
+listing  what the server says of a name that a call which waits has moved meanwhile is of before: the name isn't listed once more
 copy     clients that count under a lock folder, and clients that append to one file: nothing is lost or made twice
 held     with a long way nothing is shown, and no outside file appears, before the server has answered
 resume   a server that is killed and comes back: status, output and files are as of a local run
@@ -83,9 +84,9 @@ class Place:
         return [str(it) for it in (build / "hidewillow-run", "--at", at, "--mount", self.mount, f"--stats={self.stats}",
                                    *options, "--", "sh", "-c", inside, "sh", *words)]
 
-    def counted(self, what):
+    def counted(self, what, word=1):
         lines = self.stats.read_text().splitlines() if self.stats.exists() else []
-        values = [it.split()[1] for it in lines if it.startswith(f"{what} ")]
+        values = [it.split()[word] for it in lines if it.startswith(f"{what} ")]
         return int(values[0]) if values else 0
 
     def away(self):
@@ -216,6 +217,17 @@ with os.scandir('many') as it:
 print(len(seen), sorted(seen) == names)
 os.rmdir('many')
 """
+# Files that are open at a checkpoint, and removed behind it.
+REMOVED = """
+import os, time
+for n in range(20):
+    fd = os.open('a', os.O_RDWR | os.O_CREAT, 0o600)
+    time.sleep(0.012)
+    os.mkdir('x'); os.rmdir('x')
+    print(os.readlink(f'/proc/self/fd/{fd}')); os.write(fd, b'more'); os.fchmod(fd, 0o644); os.close(fd)
+    print(oct(os.stat('a').st_mode), open('a').read())
+    os.rename('a', 'b'); os.unlink('b'); os.mkdir('x'); os.rmdir('x')
+"""
 WRITING = """
 import os
 for n in range(20):
@@ -290,6 +302,7 @@ COMMANDS = {
     "files": (c_project(9), ["sh", "-c", FILES], ()),
     "python": ({}, [sys.executable, "-c", PYTHON], ()),
     "odd": ({}, [sys.executable, "-c", ODD], ()),
+    "removed": ({}, [sys.executable, "-c", REMOVED], ()),
     "writing": ({}, [sys.executable, "-c", WRITING], ()),
     "reading": ({}, [sys.executable, "-c", READING], ()),
     "shared": ({}, [sys.executable, "-c", SHARED], ()),
@@ -314,15 +327,15 @@ CONTENTS = {"GIT_CONFIG_COUNT": "1", "GIT_CONFIG_KEY_0": "core.checkStat", "GIT_
 
 
 def change_versions(folder, stop, seed, longest=0.05):
-    """Gives files new versions that change nothing, as where somebody writes the same once more. By a link its file would get the link's
-    mode."""
+    """Gives files new versions that change nothing, as where somebody writes the same once more."""
     dice = random.Random(seed)
     while not stop.wait(dice.uniform(0.001, longest)):
         files = [pathlib.Path(at, it) for at, folders, names in os.walk(folder)
-                 for it in names if ".hidewillow" not in at and ".git" not in at and not os.path.islink(os.path.join(at, it))]
+                 for it in names if ".hidewillow" not in at and ".git" not in at]
         for it in files and [dice.choice(files)]:
             try:
-                os.chmod(it, stat.S_IMODE(it.lstat().st_mode), follow_symlinks=True)
+                # no owner is named: nothing that was seen before can be put back
+                os.chown(it, -1, -1, follow_symlinks=False)
             except OSError:
                 pass
 
@@ -386,6 +399,43 @@ def part_foreign(given, counted):
             back += count
             counted.said(f"foreign: {name}, seed {seed}", bad)
         print(f"runs: foreign: went back {back} times", flush=True)
+
+
+# The file that is read has a new name, so what the server has under its version is asked for once more; just before that is answered it is
+# moved away, by a call that waits.
+LISTING = """
+import os, threading, time
+def read():
+    try: open('b').read()
+    except FileNotFoundError: pass
+os.rename('a', 'b')
+reader = threading.Thread(target=read)
+reader.start()
+time.sleep({0} * 1.5)
+os.rename('b', 'c')
+reader.join()
+print(os.listdir('.'), len(open('c').read()))
+"""
+
+
+def lists(given, delay):
+    # it is longer than what comes along at the start
+    place = Place({"a": "x" * 300_000})
+    words = [sys.executable, "-c", LISTING.format(delay)]
+    try:
+        here = locally(place, words)
+        with Served(given.build, place.there, "--delay-ms", str(int(delay * 1000))) as served:
+            there = ran(place.command(given.build, served.at, words, "--strict"))
+        return compare(place, here, there, ())
+    except subprocess.TimeoutExpired:
+        return ["it did not end"]
+    finally:
+        place.away()
+
+
+def part_listing(given, counted):
+    for at in range(given.rounds):
+        counted.said(f"listing, {at}", lists(given, 0.2))
 
 
 COUNT = """
@@ -749,8 +799,8 @@ def main():
     words.add_argument("--seed", type=int, default=0)
     words.add_argument("parts", nargs="*")
     given = words.parse_args()
-    parts = {"ways": part_ways, "same": part_same, "foreign": part_foreign, "copy": part_copy, "held": part_held, "deaths": part_deaths,
-             "resume": part_resume, "wrong": part_wrong, "appends": part_appends}
+    parts = {"ways": part_ways, "same": part_same, "foreign": part_foreign, "listing": part_listing, "copy": part_copy, "held": part_held,
+             "deaths": part_deaths, "resume": part_resume, "wrong": part_wrong, "appends": part_appends}
     counted = Counted()
     for it in given.parts or [name for name in parts if name != "wrong" or given.wrong]:
         begin = time.time()

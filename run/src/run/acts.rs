@@ -134,7 +134,7 @@ impl Supervisor {
         }
         Ok(())
     }
-    /// Only this machine's files change: that is undone with what it rests on.
+    /// Only this machine's files change: that is undone with what it depends on.
     fn change_scratch(&mut self, pid: Pid, uses: &[Use]) -> Done {
         // [16]
         if !self.epochs.is_quiet() && self.take_name_of_open(uses) {
@@ -251,7 +251,7 @@ impl Supervisor {
         Ok(None)
     }
 
-    /// The looks that these uses rest on; `new`: only those that this epoch has not.
+    /// The looks that these uses depend on; `new`: only those that this epoch has not.
     fn looks(&mut self, uses: &[Use], new: bool) -> Vec<Step> {
         let epoch = self.epochs.current.as_ref().map_or(0, |e| e.number);
         let mut v = Vec::new();

@@ -1,5 +1,6 @@
 //! What a call makes use of.
 use crate::name::Name;
+use crate::run::descriptors::path_of;
 use crate::run::filter::SYS_FCHMODAT2;
 use crate::run::names::Names;
 use crate::run::paths::{Paths, Where};
@@ -68,7 +69,7 @@ impl Use {
     pub fn changes(&self) -> bool {
         !matches!(self, Use::Look(_) | Use::Read(_) | Use::List(_))
     }
-    /// The names whose state a result of it rests on.
+    /// The names whose state a result of it depends on.
     pub fn names(&self) -> Vec<&Name> {
         match self {
             Use::Look(n) | Use::Read(n) | Use::List(n) => vec![n],
@@ -230,7 +231,7 @@ impl Caller<'_> {
     }
     /// The same of what a descriptor is open at.
     fn change_open(&self, fd: u64, v: &mut Vec<Use>, make: &dyn Fn(Target) -> Use) {
-        let Ok(path) = std::fs::read_link(format!("/proc/{}/fd/{}", self.pid, fd as i32)) else { return };
+        let Ok(path) = path_of(format!("/proc/{}/fd/{}", self.pid, fd as i32).as_ref()) else { return };
         match self.paths.place(crate::run::paths::bytes(&path)) {
             Where::Remote(n) => v.push(make(Target::Remote(n))),
             Where::Scratch(p) => v.push(make(Target::Scratch(p))),

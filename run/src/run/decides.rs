@@ -17,7 +17,7 @@ pub trait Decides {
     fn changed(&mut self, name: u64, version: Option<u64>);
     /// Whether an epoch without its reply has changed a name: what the server tells of it then is of before.
     fn has_changed(&mut self, name: u64) -> bool;
-    /// The server told what is known of a name that none of them has changed: that rests on no epoch.
+    /// The server told what is known of a name that none of them has changed: that depends on no epoch.
     fn told(&mut self, name: u64, version: Option<u64>);
     /// A process said something on a stream.
     fn said(&mut self, stream: u16, output: u64);

@@ -1,15 +1,17 @@
 //! What descriptors a process has, and what each is, so that it can be opened once more.
 use crate::run::output::Streams;
+use crate::run::paths::{bytes, os};
 use crate::run::sys::{self, Pid};
 use nix::dir::Dir;
 use nix::fcntl::OFlag;
 use nix::sys::stat::Mode;
 use std::collections::HashMap;
 use std::ffi::{CStr, CString};
-use std::fs;
+use std::fs::{self, Metadata};
+use std::io;
 use std::os::fd::{AsRawFd, OwnedFd, RawFd};
 use std::os::unix::fs::MetadataExt;
-use std::path::PathBuf;
+use std::path::{Path, PathBuf};
 use std::rc::{Rc, Weak};
 
 #[derive(Clone, PartialEq, Eq, Debug)]
@@ -40,13 +42,29 @@ pub struct Descriptor {
     pub offset: u64,
     pub device: u64,
     pub inode: u64,
+    /// Of a file: its name then.
+    pub named: Option<PathBuf>,
 }
 
 impl Descriptor {
     /// What its handle says that it is.
     pub fn path(&self) -> PathBuf {
-        fs::read_link(sys::fd_path(self.handle.as_raw_fd())).unwrap_or_default()
+        path_of(&sys::fd_path(self.handle.as_raw_fd())).unwrap_or_default()
     }
+    /// By what it is opened once more: by the name that it had, where that went and came back, so that it is open under that.
+    pub fn way_back(&self) -> PathBuf {
+        let is_it = |m: Metadata| (m.dev(), m.ino()) == (self.device, self.inode);
+        let named = self.named.as_ref().filter(|p| fs::symlink_metadata(p).is_ok_and(is_it));
+        named.cloned().unwrap_or_else(|| sys::fd_path(self.handle.as_raw_fd()))
+    }
+}
+
+/// The path of what is open, by the kernel's link to it. Where a name went and came back, that calls it deleted still.
+pub fn path_of(link: &Path) -> io::Result<PathBuf> {
+    let path = fs::read_link(link)?;
+    let Some(named) = bytes(&path).strip_suffix(b" (deleted)").map(|p| PathBuf::from(os(p))) else { return Ok(path) };
+    let is_it = |there: Metadata| fs::metadata(link).is_ok_and(|m| (m.dev(), m.ino()) == (there.dev(), there.ino()));
+    Ok(if fs::symlink_metadata(&named).is_ok_and(is_it) { named } else { path })
 }
 
 /// What a descriptor is open at.
@@ -69,6 +87,10 @@ impl Handles {
     fn find(&self, file: (u64, u64)) -> Option<(Rc<OwnedFd>, Status)> {
         let (handle, status) = self.0.get(&file)?;
         Some((handle.upgrade()?, *status))
+    }
+    /// Those that are in use may be of names that went and came back.
+    pub fn forget_all(&mut self) {
+        self.0.clear();
     }
     /// Remembers a handle, where its file system has one inode of each number: some have several, of different parts.
     fn keep(&mut self, file: (u64, u64), handle: &Rc<OwnedFd>, status: Status) {
@@ -121,10 +143,13 @@ fn describe(pid: Pid, fd: RawFd, info: &Info, streams: &Streams, handles: &mut H
         libc::S_IFDIR => Kind::Folder,
         _ => Kind::Other,
     };
+    let is_file = matches!(kind, Kind::File { .. });
+    let named = is_file.then(|| path_of(&sys::fd_path(handle.as_raw_fd())).ok()).flatten();
     Some(Descriptor {
         fd,
         kind,
         handle,
+        named,
         flags: info.flags & !libc::O_CLOEXEC,
         closes_on_exec: info.flags & libc::O_CLOEXEC != 0,
         offset: info.offset,
@@ -183,6 +208,24 @@ fn is_plain_device(device: u64) -> bool {
 #[cfg(test)]
 mod tests {
     use super::*;
+
+    #[test]
+    fn a_name_that_comes_back() {
+        let room = std::env::temp_dir().join(format!("hidewillow-names-{}", std::process::id()));
+        fs::create_dir_all(&room).unwrap();
+        let (path, saved) = (room.join("a"), room.join("saved"));
+        let file = fs::File::create(&path).unwrap();
+        let link = sys::fd_path(file.as_raw_fd());
+        assert_eq!(path_of(&link).unwrap(), path);
+        fs::hard_link(&path, &saved).unwrap();
+        fs::remove_file(&path).unwrap();
+        assert!(bytes(&path_of(&link).unwrap()).ends_with(b" (deleted)"));
+        fs::write(&path, "another").unwrap();
+        assert!(bytes(&path_of(&link).unwrap()).ends_with(b" (deleted)"));
+        fs::rename(&saved, &path).unwrap();
+        assert_eq!(path_of(&link).unwrap(), path);
+        fs::remove_dir_all(room).unwrap();
+    }
 
     #[test]
     fn a_handle_is_remembered() {

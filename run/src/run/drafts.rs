@@ -5,10 +5,10 @@ use crate::run::calls::Use;
 use crate::run::names::{parts, Known};
 use crate::run::supervisor::{Done, Failure, Supervisor};
 use crate::run::sys::{self, Pid};
-use crate::run::tree::State;
+use crate::run::tree::{Process, State};
 use crate::run::undo::{pieces, Pieces};
 use crate::wire::{Body, Content, Entry, Kind, Reply, Request, Step, Version, LONGEST_PIECE};
-use std::collections::HashMap;
+use std::collections::{HashMap, HashSet};
 use std::fs::{self, Metadata, Permissions};
 use std::io;
 use std::os::fd::RawFd;
@@ -220,8 +220,8 @@ impl Supervisor {
         if self.changed_drafts.is_empty() {
             return Ok(());
         }
-        let running = |(pid, p): (&Pid, &crate::run::tree::Process)| (p.state == State::Running).then_some(*pid);
-        let running: Vec<Pid> = self.tree.all.iter().filter_map(running).collect();
+        let stands = |(pid, p): (&Pid, &Process)| matches!(p.state, State::Again | State::Stopped).then_some(*pid);
+        let stood: HashSet<Pid> = self.tree.all.iter().filter_map(stands).collect();
         self.stop_all()?;
         // [20]
         while let Some(name) = self.changed_drafts.pop() {
@@ -232,7 +232,9 @@ impl Supervisor {
                 self.fresh_entry(&entry);
             }
         }
-        self.go_each(&running);
+        // also those that were born, or whose waits ended, while all were being stopped
+        let others: Vec<Pid> = self.tree.all.keys().copied().filter(|pid| !stood.contains(pid)).collect();
+        self.go_each(&others);
         Ok(())
     }
     fn merge_draft(&mut self, e: &Entry, theirs: Vec<u8>) -> Done {

@@ -185,6 +185,7 @@ mod tests {
                 offset: position,
                 device,
                 inode,
+                named: None,
             };
             let reading = Reading::at(1, &of, position).unwrap();
 

@@ -35,6 +35,7 @@ impl Supervisor {
         self.reopened.clear();
         self.forget_undecided(snapshot.said.clone());
         self.undo.take_back_all();
+        self.handles.forget_all();
         self.stored.discard(&self.paths, snapshot.due.clone());
         // [14]
         for (name, version) in back.names {
@@ -189,7 +190,7 @@ impl Supervisor {
         if matches!(d.kind, Kind::File { .. }) {
             not |= libc::O_TMPFILE;
         }
-        let path = sys::fd_path(d.handle.as_raw_fd());
+        let path = d.way_back();
         let non_blocking = if d.kind == Kind::Pipe { d.flags | libc::O_NONBLOCK } else { d.flags };
         let fd = sys::open(&path, non_blocking & !not)
             .map_err(|e| Failure::Broken(format!("descriptor {} of {pid} can't be opened again: {e}", d.fd)))?;

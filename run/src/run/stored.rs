@@ -1,5 +1,6 @@
 //! Which files of the mount were closed after writing, and so have to be stored.
 use crate::name::Name;
+use crate::run::descriptors::path_of;
 use crate::run::names::Names;
 use crate::run::paths::{bytes, Paths, Where};
 use crate::run::sys;
@@ -166,7 +167,7 @@ fn of_events(mut b: &[u8], paths: &Paths) -> Vec<Option<Name>> {
         let number = |at: usize| i32::from_le_bytes(event[at..at + 4].try_into().expect("four bytes"));
         let (len, file) = (number(0) as usize, new_file(number(16)));
         b = b.get(len.max(24)..).unwrap_or_default();
-        let Some(path) = file.and_then(|f| fs::read_link(sys::fd_path(f.as_raw_fd())).ok()) else {
+        let Some(path) = file.and_then(|f| path_of(&sys::fd_path(f.as_raw_fd())).ok()) else {
             v.push(None);
             continue;
         };

@@ -1,5 +1,5 @@
 #!/usr/bin/env python3
-"""Holds the table of what grows, `.ci/growths.table`, against the sources.
+"""Holds the table of what grows, `checks/growths.table`, against the sources.
 
     tools/growths.py            tells what is missing from the table, and what stands there that is not in the sources
     tools/growths.py --calls    prints the public calls that can answer want of memory, by crate
@@ -10,8 +10,8 @@ What has a limit below that goes to it, many times over; what takes the square o
 own keys that rest on each other to 1,500.
 
 A call is a public function of a library whose result can be want of memory: an `AllocError`, or an error or an answer that has it
-among its cases, at any depth. Each has a row, which names what grows past 70,000 through it: rows of `.ci/growths`, tests of the
-crates of tests, scenarios of `.ci/long-runs` and runs of `.ci/own-runs` and `.ci/store-runs`, each by its name in backquotes, or the word `none` and the
+among its cases, at any depth. Each has a row, which names what grows past 70,000 through it: rows of `checks/growths`, tests of the
+crates of tests, scenarios of `checks/long-runs` and runs of `checks/own-runs` and `checks/store-runs`, each by its name in backquotes, or the word `none` and the
 reason. The last line is 'N passed, M failed', a row each.
 """
 import re
@@ -20,7 +20,7 @@ sys.dont_write_bytecode = True
 from kit import listed
 from sources import ROOT, crates
 
-PAGE = ".ci/growths.table"
+PAGE = "checks/growths.table"
 TYPE = re.compile(r"^(?:pub(?:\(crate\))? )?(?:enum|struct) (\w+)[^;{]*?\{(.*?)^\}", re.M | re.S)
 FUNCTION = re.compile(r"^( *)pub (?:const )?fn (\w+)(.*?)(?:\{$|^ *(?:requires|ensures|decreases)\b)", re.M | re.S)
 IMPL = re.compile(r"^impl(?:<[^\n]*?>)? (\w+)(?:<[^\n]*?>)?(?: |$)", re.M)
@@ -85,7 +85,7 @@ def known_rows():
     """The names that a row may name: tests, and runs of scripts."""
     tests = (without_comments(path) for crate in crates() if crate.endswith("_tests") for path in files_of(crate))
     names = {name for text in tests for name in re.findall(r"#\[test\]\nfn (\w+)", text)}
-    for script in (".ci/growths", ".ci/long-runs", ".ci/own-runs", ".ci/store-runs"):
+    for script in ("checks/growths", "checks/long-runs", "checks/own-runs", "checks/store-runs"):
         names |= set(re.findall(r"^def (\w+)", (ROOT / script).read_text(), re.M))
     return names
 

@@ -32,7 +32,7 @@ def is_own(crate):
 
 @functools.cache
 def below(crate):
-    """All crates of this repository that a crate rests on, each once."""
+    """All crates of this repository that a crate depends on, each once."""
     named = [it for it in listed(crate) if is_own(it)]
     return list(dict.fromkeys([*named, *(it for name in named for it in below(name))]))
 
@@ -49,7 +49,7 @@ def root_file(crate):
 
 
 def words(crate):
-    """The words of `rattle` that tell it of a crate, of what that rests on, and of the logic."""
+    """The words of `rattle` that tell it of a crate, of what that depends on, and of the logic."""
     told = ["--crate-name", crate, root_file(crate)]
     if "staticlib" in lines_of_crates()[crate][0]:
         told += ["--crate-type", "staticlib"]
@@ -63,6 +63,11 @@ def words(crate):
 
 def rattle():
     return str(kit() / "bin/rattle")
+
+
+def words_of_build(crate):
+    """What proves and compiles a crate over those libraries, where `rt lib` would build them anew; `-o` and a file follow."""
+    return [rattle(), "build", *words(crate), "--toolchain", str(kit() / "toolchain"), "--backend", "llvm"]
 
 
 def newest(crate):

@@ -136,7 +136,7 @@ class Layout:
         return self.xs[number - 1] if number else LEFT - 8
 
     def touched(self, event):
-        """What a step reads or writes but its own process: its own signals and status where it changes them or rests on them."""
+        """What a step reads or writes but its own process: its own signals and status where it changes them or depends on them."""
         own = (f"sig {event.process}", f"exit {event.process}")
         state = self.run.states[event.number - 1]
         for key in sorted({*event.reads, *event.writes}):
@@ -171,7 +171,7 @@ class Layout:
         self.bottom = y
 
     def span(self, key):
-        """For each guess, from the event on which a lane rests on it to the one on which it no longer does, and its row."""
+        """For each guess, from the event on which a lane depends on it to the one on which it no longer does, and its row."""
         begun, spans = {}, []
         for number, state in enumerate(self.run.states):
             tags = state.tags(key)

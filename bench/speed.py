@@ -26,10 +26,10 @@ LOOSE = 1.25
 TWICE = 2.2
 # A decision looks at each other open guess, of which there are 63 at most.
 BESIDE_OPEN = 1.5
-# A decision visits what rests on its guess, and nothing else.
+# A decision visits what depends on its guess, and nothing else.
 BESIDE_OTHERS = 1.05
-# A step that rests on all open guesses, with its share of their decisions: where it leaves the tags of
-# what it writes as they are, and where an entity comes to rest on them.
+# A step that depends on all open guesses, with its share of their decisions: where it leaves the tags of
+# what it writes as they are, and where an entity comes to depend on them.
 SAME_TAGS = 2
 NEW_TAGS = 4
 # A long computation under a guess, in instructions and in peak memory.
@@ -172,7 +172,7 @@ def step_limit(name, guesser):
 
 
 def step_rows(meter):
-    """Steps of a process that rests on none of the open guesses, and of one that rests on all of them. What
+    """Steps of a process that depends on none of the open guesses, and of one that depends on all of them. What
     the latter cost is with the share of the decisions that end the run."""
     for guesser, drawn, whose in ((2, OPEN, "of others"), (1, 1, "its own"), (1, OPEN, "its own")):
         for name, before, body in kinds():
@@ -182,7 +182,7 @@ def step_rows(meter):
 
 def coming_to_rest(count, guesses, reads):
     """Rounds of process 2: a guess, a write of a file and the commit; between these process 1 reads the file, where it does, and
-    so comes to rest on that guess, beside 62 of its own or none."""
+    so comes to depend on that guess, beside 62 of its own or none."""
     own = OPEN - 1
     lead = ["look r1 r7 f", "set r2 0"]
     first = ["fetch /x"] * own + lead + looping(["read r1 r2"], count + 1)
@@ -196,7 +196,7 @@ def coming_to_rest(count, guesses, reads):
 
 
 def rest_rows(meter):
-    """A read that changes what its process rests on, with its share of the commit: the rounds with it less those without."""
+    """A read that changes what its process depends on, with its share of the commit: the rounds with it less those without."""
     rounds = lambda guesses, reads: meter.each(lambda n: coming_to_rest(n, guesses, reads), 200, 400, 3 + reads)
     read = lambda guesses: rounds(guesses, True) - rounds(guesses, False)
     yield f"step, a read that comes to rest on one guess more: {OPEN - 1} open (its own) / none", read(True), read(False), NEW_TAGS
@@ -227,7 +227,7 @@ def decision_rows(meter):
 
 
 def held_rounds(count, decision, held, amount):
-    """Small guesses of process 1, where a kernel holds much that does not rest on them."""
+    """Small guesses of process 1, where a kernel holds much that does not depend on them."""
     first = looping(["fetch /x"], 1) if decision == "commit" else ["fetch /x"]
     turn = lambda number: ["guess 1 good", f"{decision} {number}"] + (["step 1 none"] if decision == "commit" else [])
     others, before, drawn = [], [], 0
@@ -255,7 +255,7 @@ def held_rounds(count, decision, held, amount):
 
 
 def held_rows(meter):
-    """What is held, beside nothing; and what rests on another guess, beside as much that rests on nothing."""
+    """What is held, beside nothing; and what depends on another guess, beside as much that depends on nothing."""
     limits = {"open guesses": BESIDE_OPEN}
     for decision in ("commit", "fail"):
         lines = 3 if decision == "commit" else 2
@@ -266,7 +266,7 @@ def held_rows(meter):
             costs[held] = cost(held, amount)
             if held != "files, one guess open":
                 yield f"guess and {decision}: {amount} {held} held / none", costs[held], none, limits.get(held, LOOSE)
-        # one guess of another process is open on both sides: 1,000 files rest on it on the left, none on the right
+        # one guess of another process is open on both sides: 1,000 files depend on it on the left, none on the right
         yield f"guess and {decision}: 1000 noted files / 1000 files, one guess open", costs["noted files"], costs["files, one guess open"], BESIDE_OTHERS
         yield f"guess and {decision}: 1000 noted files / 1000 files, no guess open", costs["noted files"], costs["files"], BESIDE_OTHERS
 
@@ -482,7 +482,7 @@ BLOCK = "b" * 512
 
 
 def writing(size, body, count, guesses, decision=None):
-    """A file of so many bytes, and then `count` writes of `body` at its front, which rest on a guess or on none."""
+    """A file of so many bytes, and then `count` writes of `body` at its front, which depend on a guess or on none."""
     filling = [line for at in range(0, size, 512) for line in (f"set r2 {at}", "write r1 r2")]
     lead = ["look r1 r7 f", f'text "{BLOCK}"'] + filling + [f'text "{body}"', "set r2 0", "fetch /x", f'text "{body}"']
     before = ["step 1 none"] * (len(lead) - 2) + [f"{'guess' if guesses else 'step'} 1 good", "step 1 none"]
@@ -515,7 +515,7 @@ LARGE, SMALL, WRITES = 32_768, 512, 2048
 
 
 def block_write(meter, guesses, size=LARGE, body=BLOCK):
-    """One of many writes of a file, which rest on a guess or on none."""
+    """One of many writes of a file, which depend on a guess or on none."""
     return meter.each(lambda n: writing(size, body, n, guesses), WRITES, 2 * WRITES, 1)
 
 

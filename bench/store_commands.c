@@ -1,5 +1,5 @@
 /* A store that takes as many commands as it is asked for, through the library for C, from one client, with a disk that is always
- * well. bench/store.py counts what that takes, and `.ci/store-runs` looks that nothing wants memory which is there.
+ * well. bench/store.py counts what that takes, and `checks/store-runs` looks that nothing wants memory which is there.
  *
  *     cc -std=c11 -O2 -Ic bench/store_commands.c build/libhidewillow_c.a -o store_commands
  *     ./store_commands set|get|recover|connect COUNT KEYS PRESENT BATCH

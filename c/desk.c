@@ -86,7 +86,7 @@ static file *file_of(const hidewillow_request *request)
     return NULL;
 }
 
-/* The guesses that were refused, on which a later request may rest. */
+/* The guesses that were refused, on which a later request may depend. */
 static uint64_t refused[64];
 static size_t refused_count;
 

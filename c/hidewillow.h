@@ -129,7 +129,7 @@ hidewillow_told hidewillow_report(hidewillow_handle *handle, uint8_t *room, size
 hidewillow_told hidewillow_value(hidewillow_handle *handle, const uint8_t *name, size_t name_bytes,
                                  uint8_t *room, size_t room_bytes);
 
-/* Shows the undecided guesses that an entity rests on, as `1,3`, or `-`. Told: as of its value. */
+/* Shows the undecided guesses that an entity depends on, as `1,3`, or `-`. Told: as of its value. */
 hidewillow_told hidewillow_tags(hidewillow_handle *handle, const uint8_t *name, size_t name_bytes,
                                 uint8_t *room, size_t room_bytes);
 
@@ -166,7 +166,7 @@ hidewillow_told hidewillow_lease(hidewillow_handle *handle, const uint8_t *name,
 hidewillow_told hidewillow_counts(hidewillow_handle *handle, hidewillow_counted *counts);
 
 /* Ends what the handle holds, if anything, and frees its memory. Guesses that are left undecided
- * fail: closing commits nothing, and no text or output that rests on one comes out. The handle
+ * fail: closing commits nothing, and no text or output that depends on one comes out. The handle
  * holds nothing then. */
 void hidewillow_close(hidewillow_handle *handle);
 
@@ -180,14 +180,14 @@ void hidewillow_close(hidewillow_handle *handle);
  * 3 as many guesses are undecided as may be, 4 the last number is drawn; of hidewillow_own_open 5 the
  * limit is 0. Want of memory is MEMORY. Each call tells CLOSED where the handle holds nothing.
  *
- * What is promised rests on one thing that no call can see: a step is made of what its keys have when it is
+ * What is promised depends on one thing that no call can see: a step is made of what its keys have when it is
  * taken. Read them (hidewillow_own_value), look at each of them, write, and take the step, with no decision
  * and no other step between: what was made of a value that is gone meanwhile would stand without its guess. */
 
 typedef struct { void *at; } hidewillow_own;
 
 typedef struct {
-    size_t keys;      /* that are there, rest on a guess, or were taken back by the last failure */
+    size_t keys;      /* that are there, depend on a guess, or were taken back by the last failure */
     size_t undecided; /* guesses */
     size_t struck;    /* guesses whose tokens have not come back */
     uint64_t settled; /* each guess below this number is decided */
@@ -222,13 +222,13 @@ hidewillow_told hidewillow_own_take(hidewillow_own *own);
  * as `number`, REFUSED or MEMORY. */
 hidewillow_told hidewillow_own_guess(hidewillow_own *own);
 
-/* Commits a guess: nothing rests on it any more. Told: DONE; GONE where another's failure had struck
+/* Commits a guess: nothing depends on it any more. Told: DONE; GONE where another's failure had struck
  * it; NO_TOKEN where it was never drawn or is decided. */
 hidewillow_told hidewillow_own_commit(hidewillow_own *own, uint64_t guess);
 
-/* Fails a guess: what rests on it is taken back. Told: DONE, where `number` is how many keys it took
+/* Fails a guess: what depends on it is taken back. Told: DONE, where `number` is how many keys it took
  * back and `bytes` how many guesses it struck, of which hidewillow_own_status tells each; GONE or NO_TOKEN.
- * Outputs that rest on it are dropped: of a channel as many as waited before (hidewillow_own_waiting), less
+ * Outputs that depend on it are dropped: of a channel as many as waited before (hidewillow_own_waiting), less
  * those that may go out since and those that wait still. It takes no memory. */
 hidewillow_told hidewillow_own_fail(hidewillow_own *own, uint64_t guess);
 
@@ -241,12 +241,12 @@ hidewillow_told hidewillow_own_undone(hidewillow_own *own, size_t place, uint8_t
 hidewillow_told hidewillow_own_value(hidewillow_own *own, const uint8_t *key, size_t key_bytes,
                                      uint8_t *room, size_t room_bytes);
 
-/* Tells the undecided guess at a place among those that a key rests on, from 0 on, by rising number.
+/* Tells the undecided guess at a place among those that a key depends on, from 0 on, by rising number.
  * Told: SHOWN with the guess as `number`, or ABSENT past the last. */
 hidewillow_told hidewillow_own_tag(hidewillow_own *own, const uint8_t *key, size_t key_bytes,
                                    size_t place);
 
-/* Shows the next output of a channel that rests on nothing and behind which nothing older waits. It is
+/* Shows the next output of a channel that depends on nothing and behind which nothing older waits. It is
  * gone then if the room has all of it; else it stays, and the next of these calls of this channel shows
  * it again. Told: SHOWN, ABSENT where none can go out, or MEMORY. */
 hidewillow_told hidewillow_own_released(hidewillow_own *own, uint16_t channel, uint8_t *room,
@@ -255,14 +255,14 @@ hidewillow_told hidewillow_own_released(hidewillow_own *own, uint16_t channel, u
 /* Counts keys and guesses, in constant time. Told: SHOWN. */
 hidewillow_told hidewillow_own_counts(hidewillow_own *own, hidewillow_own_counted *counts);
 
-/* Keys have places: each that is there, rests on a guess, or was taken back by the last failure has one,
+/* Keys have places: each that is there, depends on a guess, or was taken back by the last failure has one,
  * which it keeps as long, and no other has any. Told: SHOWN with a `number` behind all places. */
 hidewillow_told hidewillow_own_places(hidewillow_own *own);
 
 /* Shows the key that has a place. Told: SHOWN, or ABSENT where none has it. */
 hidewillow_told hidewillow_own_key(hidewillow_own *own, size_t place, uint8_t *room, size_t room_bytes);
 
-/* Shows the key at a place among those that rest on a guess, from 0 on, each once: its failure would take
+/* Shows the key at a place among those that depend on a guess, from 0 on, each once: its failure would take
  * just these back. Told: SHOWN, or ABSENT past the last. */
 hidewillow_told hidewillow_own_dependent(hidewillow_own *own, uint64_t guess, size_t place, uint8_t *room,
                                          size_t room_bytes);
@@ -273,7 +273,7 @@ hidewillow_told hidewillow_own_dependent(hidewillow_own *own, uint64_t guess, si
  * ABSENT where it was never drawn or is decided. */
 hidewillow_told hidewillow_own_status(hidewillow_own *own, uint64_t guess);
 
-/* Tells how many outputs of a channel wait: the first that rests on a guess, and all behind it. Told: SHOWN
+/* Tells how many outputs of a channel wait: the first that depends on a guess, and all behind it. Told: SHOWN
  * with that `number`. */
 hidewillow_told hidewillow_own_waiting(hidewillow_own *own, uint16_t channel);
 
@@ -282,7 +282,7 @@ hidewillow_told hidewillow_own_waiting(hidewillow_own *own, uint16_t channel);
 hidewillow_told hidewillow_own_channel(hidewillow_own *own);
 
 /* Ends what the handle holds, if anything, and frees its memory. Guesses that are left undecided
- * fail: closing commits nothing, and no text or output that rests on one comes out. The handle
+ * fail: closing commits nothing, and no text or output that depends on one comes out. The handle
  * holds nothing then. */
 void hidewillow_own_close(hidewillow_own *own);
 
@@ -340,7 +340,7 @@ static inline hidewillow_told hidewillow_own_step(hidewillow_own *own, const hid
  * or 4, the others by 1, 2 or 4; a file that was never written has version 0 and no bytes.
  *
  * The server answers requests in their order. It remembers the guesses that it refused (by 2, or by 4),
- * and drops (4) each request that rests on one of them; those below the third number it may forget. */
+ * and drops (4) each request that depends on one of them; those below the third number it may forget. */
 
 typedef struct { void *at; } hidewillow_desk;
 
@@ -485,9 +485,9 @@ static inline size_t hidewillow_reply_to(uint8_t *room, uint64_t number, uint64_
     return HIDEWILLOW_REPLY_HEAD + byte_count;
 }
 
-/* ---- A store of byte strings whose replies wait for exactly what they rest on. Commands come as bytes on
+/* ---- A store of byte strings whose replies wait for exactly what they depend on. Commands come as bytes on
  * channels, in the protocol that its clients speak, and are carried out at once, in memory, under the guess
- * that the batch which logs them reaches the disk. A reply goes out once all that it rests on is there. No
+ * that the batch which logs them reaches the disk. A reply goes out once all that it depends on is there. No
  * call reads or writes a file or a socket: the host moves bytes, writes frames where it is told, and says
  * what the disk said.
  *
@@ -622,7 +622,7 @@ hidewillow_told hidewillow_store_feed(hidewillow_store *store, uint16_t channel,
                                       size_t byte_count);
 
 /* As feed; and of a request that was carried out the answer is shown by hidewillow_store_ahead, as it is
- * under what it rests on: it goes out in its turn, unless nothing of the command is done, which is then told
+ * under what it depends on: it goes out in its turn, unless nothing of the command is done, which is then told
  * in its place. */
 hidewillow_told hidewillow_store_feed_ahead(hidewillow_store *store, uint16_t channel,
                                             const uint8_t *bytes, size_t byte_count);
@@ -706,17 +706,17 @@ hidewillow_told hidewillow_store_cut(hidewillow_store *store, uint32_t made);
  * Then a part may be done, and it may be called again. */
 hidewillow_told hidewillow_store_lost(hidewillow_store *store, uint8_t *room, size_t room_bytes);
 
-/* Decides the oldest batch, if it can be: what rests on it may go out, or is taken back. To be called until
+/* Decides the oldest batch, if it can be: what depends on it may go out, or is taken back. To be called until
  * it tells ABSENT, after each word of the disk and each cut. It takes no memory. Told: COMMITTED with the
  * batch, where it is logged; FAILED with the batch, where it was cut off, and `bytes` is how many keys were
  * taken back; ABSENT. */
 hidewillow_told hidewillow_store_decide(hidewillow_store *store);
 
-/* Shows what a key has now, whatever it rests on. Told: SHOWN or ABSENT. */
+/* Shows what a key has now, whatever it depends on. Told: SHOWN or ABSENT. */
 hidewillow_told hidewillow_store_value(hidewillow_store *store, const uint8_t *key, size_t key_bytes,
                                        uint8_t *room, size_t room_bytes);
 
-/* Tells the undecided batch at a place among those that a key rests on, from 0 on, by rising number. Told:
+/* Tells the undecided batch at a place among those that a key depends on, from 0 on, by rising number. Told:
  * SHOWN with the batch, or ABSENT past the last. */
 hidewillow_told hidewillow_store_rests_on(hidewillow_store *store, const uint8_t *key, size_t key_bytes,
                                           size_t place);

@@ -118,7 +118,7 @@ static void decide(hidewillow_own *own, uint64_t guess) {
     printf(", %zu struck\n", told.bytes);
 }
 
-/* Prints what all keys have and rest on, what goes out, and the counts. */
+/* Prints what all keys have and depend on, what goes out, and the counts. */
 static void look_at_all(hidewillow_own *own) {
     static uint8_t room[ROOM];
     hidewillow_own_counted counts = {0};

@@ -32,7 +32,7 @@ fn receive(stream: &mut UnixStream, head: usize, left: impl Fn(&[u8]) -> Option<
 #[derive(Default)]
 struct Server {
     files: HashMap<Vec<u8>, Content>,
-    /// The guesses that were refused, on which a later request may rest.
+    /// The guesses that were refused, on which a later request may depend.
     refused: HashSet<u64>,
 }
 

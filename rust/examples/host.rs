@@ -1,5 +1,5 @@
 //! A host of a store in a hundred lines: what it does between the bytes of clients and a disk, here of memory. Each reply waits for the frame
-//! that it rests on; a frame that fails is cut off, and what rested on it is refused.
+//! that it depends on; a frame that fails is cut off, and what depended on it is refused.
 use hidewillow::store::{FramePlace, Next, Recovery, Refusal, Request, Store, StoreLimits, HEAD};
 use std::collections::BTreeMap;
 use std::error::Error;
@@ -109,7 +109,7 @@ fn main() -> Result<(), Box<dyn Error + Send + Sync>> {
         let (ann, bob) = (host.store.connect()?, host.store.connect()?);
         host.feed(ann, b"SET price 10\r\nINCRBY price 5\r\n")?;
         host.send()?;
-        host.feed(bob, b"GET price\r\nGET other\r\n")?; // carried out at once, and held: it rests on ann's writes
+        host.feed(bob, b"GET price\r\nGET other\r\n")?; // carried out at once, and held: it depends on ann's writes
         host.show(bob)?;
         host.hear(true)?;
         host.show(ann)?;

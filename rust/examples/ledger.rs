@@ -42,7 +42,7 @@ fn main() -> io::Result<()> {
     println!("bob pays ann 50: {}", transfer(&ledger, "bob", "ann", 50)?);
     show(&ledger)?;
 
-    // Interest, a thousand times: each rests on the one before, and none waits for the disk.
+    // Interest, a thousand times: each depends on the one before, and none waits for the disk.
     let mut night = ledger.ahead()?;
     for _ in 0..1000 {
         night.transaction(|t| {

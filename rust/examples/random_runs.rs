@@ -95,7 +95,7 @@ fn decide(dice: &mut Dice, kernel: &mut Speculator, guess: Guess) -> Result<(), 
     Ok(())
 }
 
-/// Prints what all keys have and rest on, what goes out, and the counts.
+/// Prints what all keys have and depend on, what goes out, and the counts.
 fn look_at_all(kernel: &mut Speculator) -> Result<(), Refusal> {
     for place in 0..KEYS.len() {
         match kernel.value(key(place))?.as_deref() {

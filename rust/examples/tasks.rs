@@ -67,7 +67,7 @@ fn main() -> Result<(), Box<dyn Error + Send + Sync>> {
     for customer in 1..=3 {
         let (shop, bank) = (shop.clone(), bank.clone());
         clerks.push(thread::spawn(move || wait_for(ships(shop, bank, customer))));
-        tokens.push(asked.recv()?); // one after the other, so that each rests on those before
+        tokens.push(asked.recv()?); // one after the other, so that each depends on those before
     }
     let letters = {
         let shop = shop.clone();

@@ -68,7 +68,7 @@ pub enum Turn {
 pub enum Given {
     /// This guess holds.
     Committed(u64),
-    /// This guess failed, and what rested on it is taken back.
+    /// This guess failed, and what depended on it is taken back.
     Failed(u64),
     /// The failure of another had struck this guess.
     Gone(u64),
@@ -267,7 +267,7 @@ impl Desk {
         self.named(hidewillow_desk_value, name)
     }
 
-    /// The undecided guesses that such an entity rests on, as `1,3`, or `-`.
+    /// The undecided guesses that such an entity depends on, as `1,3`, or `-`.
     ///
     /// # Errors
     /// [`Error::Memory`].
@@ -355,7 +355,7 @@ pub struct Request<'a> {
     pub name: &'a [u8],
     /// What is asked.
     pub ask: Ask<'a>,
-    /// The guesses on which it rests.
+    /// The guesses on which it depends.
     pub rests: Vec<u64>,
 }
 
@@ -420,7 +420,7 @@ pub enum Answer {
     No(Content),
     /// The content of the file.
     Copy(Content),
-    /// The request rests on a guess that was refused.
+    /// The request depends on a guess that was refused.
     Dropped,
 }
 

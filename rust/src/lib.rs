@@ -1,4 +1,4 @@
-//! Programs that don't wait: they go on from a guess, and what rested on a wrong guess is taken back. Safe Rust over a library
+//! Programs that don't wait: they go on from a guess, and what depended on a wrong guess is taken back. Safe Rust over a library
 //! whose every call is proved against its contract.
 //!
 //! - [`speculator::Speculator`]: a kernel over keys and values of your own. A step is a closure that gets, puts and says.
@@ -118,7 +118,7 @@ struct Own {
 #[repr(C)]
 #[derive(Debug, Default, Clone, Copy, PartialEq, Eq)]
 pub struct OwnCounts {
-    /// The keys that are there, rest on a guess, or were taken back by the last failure.
+    /// The keys that are there, depend on a guess, or were taken back by the last failure.
     pub keys: usize,
     /// The undecided guesses.
     pub undecided: usize,
@@ -470,7 +470,7 @@ impl Play {
         self.named(hidewillow_value, name)
     }
 
-    /// The undecided guesses that such an entity rests on, as `1,3`, or `-`.
+    /// The undecided guesses that such an entity depends on, as `1,3`, or `-`.
     ///
     /// # Errors
     /// [`Error::Memory`].

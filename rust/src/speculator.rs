@@ -151,7 +151,7 @@ pub enum Status {
 pub enum Decided<K = Vec<u8>> {
     /// The guess was committed.
     Committed {
-        /// Whether it rests on no other guess that is undecided, and so stands for good. Else the failure of one of those takes it back,
+        /// Whether it depends on no other guess that is undecided, and so stands for good. Else the failure of one of those takes it back,
         /// and tells so.
         firm: bool,
     },
@@ -166,9 +166,9 @@ pub enum Decided<K = Vec<u8>> {
 pub struct Failure<K = Vec<u8>> {
     /// The keys that have what they had before the guess, each once, in no order of their own.
     pub keys: Vec<K>,
-    /// The numbers of the undecided guesses that rested on it, which are struck.
+    /// The numbers of the undecided guesses that depended on it, which are struck.
     pub struck: Vec<u64>,
-    /// The numbers of the guesses that were committed, but not firm, and rested on it.
+    /// The numbers of the guesses that were committed, but not firm, and depended on it.
     pub committed: Vec<u64>,
     /// How many outputs of which channels will never be said.
     pub outputs: BTreeMap<u16, usize>,
@@ -179,7 +179,7 @@ struct Inner {
     /// It is of zeros or as the last call left it, since none but these methods pass it.
     own: Own,
     room: Vec<u8>,
-    /// The guesses whose tokens are out, those of them that are struck, what rests on them, who watches which, and who waits for outputs.
+    /// The guesses whose tokens are out, those of them that are struck, what depends on them, who watches which, and who waits for outputs.
     out: BTreeSet<u64>,
     struck: BTreeSet<u64>,
     standing: Standing,
@@ -248,7 +248,7 @@ impl Inner {
         told.answer == DONE
     }
 
-    /// The undecided guesses that one of these keys rests on, each once.
+    /// The undecided guesses that one of these keys depends on, each once.
     fn rests<'a>(&mut self, keys: impl Iterator<Item = &'a [u8]>) -> Vec<u64> {
         let mut rests = Vec::new();
         for key in keys {
@@ -259,7 +259,7 @@ impl Inner {
         rests
     }
 
-    /// Adds the undecided guesses that a key rests on, by rising number.
+    /// Adds the undecided guesses that a key depends on, by rising number.
     fn add_tags(&mut self, key: &[u8], tags: &mut Vec<u64>) {
         for place in 0.. {
             // SAFETY: as `Inner::own` says; the key is apart from the handle.
@@ -276,7 +276,7 @@ impl Inner {
         self.waiting.drain(..).for_each(Waker::wake);
     }
 
-    /// What is known of a guess, and on how many undecided ones its own step rests, itself among them.
+    /// What is known of a guess, and on how many undecided ones its own step depends, itself among them.
     fn known(&mut self, id: u64) -> Told {
         // SAFETY: as `Inner::own` says.
         unsafe { hidewillow_own_status(&raw mut self.own, id) }
@@ -297,7 +297,7 @@ impl Inner {
         self.shown(|own, room| unsafe { hidewillow_own_key(own, place, room.as_mut_ptr(), room.len()) })
     }
 
-    /// One of the keys that rest on a guess.
+    /// One of the keys that depend on a guess.
     fn dependent(&mut self, id: u64, place: usize) -> Result<Option<&[u8]>, Refusal> {
         // SAFETY: as `Inner::own` says; the room is set, and apart from the handle.
         self.shown(|own, room| unsafe { hidewillow_own_dependent(own, id, place, room.as_mut_ptr(), room.len()) })
@@ -364,7 +364,7 @@ impl<K: ?Sized, V: ?Sized> fmt::Debug for Step<'_, K, V> {
 }
 
 impl<K: ?Sized + Data, V: ?Sized + Data> Step<'_, K, V> {
-    /// What a key has, which the step rests on from now on; `None` where it is absent.
+    /// What a key has, which the step depends on from now on; `None` where it is absent.
     ///
     /// # Errors
     /// [`Refusal::Memory`], and [`Refusal::Form`] where the bytes are no `V`.
@@ -406,7 +406,7 @@ impl<K: ?Sized + Data, V: ?Sized + Data> Step<'_, K, V> {
         self.written.push((key.like().bytes().into_owned(), None));
     }
 
-    /// Says this to a channel. It goes out once nothing that the step rests on is undecided.
+    /// Says this to a channel. It goes out once nothing that the step depends on is undecided.
     ///
     /// # Errors
     /// [`Refusal::SaidTwice`] where this step said something before, which stays.
@@ -418,7 +418,7 @@ impl<K: ?Sized + Data, V: ?Sized + Data> Step<'_, K, V> {
         Ok(())
     }
 
-    /// Writes the step into the kernel's draft: what it says, and on what it rests, as far as somebody asks for that.
+    /// Writes the step into the kernel's draft: what it says, and on what it depends, as far as somebody asks for that.
     fn hand_over(self, is_guess: bool) -> Result<Taken, Refusal> {
         let mut taken = Taken { rests: Vec::new(), channel: self.said.as_ref().map(|(channel, _)| *channel) };
         if is_guess || taken.channel.is_some() {
@@ -451,7 +451,7 @@ impl<K: ?Sized + Data, V: ?Sized + Data> Step<'_, K, V> {
     }
 }
 
-/// What is known of a step that is handed over: the undecided guesses that it rests on, and to which channel it says something.
+/// What is known of a step that is handed over: the undecided guesses that it depends on, and to which channel it says something.
 struct Taken {
     rests: Vec<u64>,
     channel: Option<u16>,
@@ -459,8 +459,8 @@ struct Taken {
 
 /// A speculative kernel over keys and values of your own, `[u8]` where no types are named.
 ///
-/// What a step looks at, writes and says rests on the guesses that are undecided in what it looked at and wrote. A guess that
-/// fails takes back just what rests on it; output waits until what it rests on is decided. Where the kernel is dropped the
+/// What a step looks at, writes and says depends on the guesses that are undecided in what it looked at and wrote. A guess that
+/// fails takes back just what depends on it; output waits until what it depends on is decided. Where the kernel is dropped the
 /// guesses that are undecided fail. It may go to another thread ([`Shared`](crate::shared::Shared) is for several at once).
 ///
 /// ```no_run
@@ -620,7 +620,7 @@ impl<K: ?Sized + Data, V: ?Sized + Data> Speculator<K, V> {
         Ok(result)
     }
 
-    /// Draws a guess with its step, which rests on it.
+    /// Draws a guess with its step, which depends on it.
     ///
     /// # Errors
     /// As of [`step`](Self::step), and [`Refusal::TooMany`] and [`Refusal::NoNumber`].
@@ -652,7 +652,7 @@ impl<K: ?Sized + Data, V: ?Sized + Data> Speculator<K, V> {
         Ok((result, Guess { id, dropped: Arc::clone(&self.dropped), spent: false }))
     }
 
-    /// Commits a guess of this kernel: nothing rests on it any more, and whether it stands for good.
+    /// Commits a guess of this kernel: nothing depends on it any more, and whether it stands for good.
     ///
     /// # Errors
     /// A guess of another kernel is given back.
@@ -664,7 +664,7 @@ impl<K: ?Sized + Data, V: ?Sized + Data> Speculator<K, V> {
         Ok(firm.map_or(Decided::Gone, |firm| Decided::Committed { firm }))
     }
 
-    /// Fails a guess of this kernel: what rests on it is taken back. Keys whose bytes are no `K`, or for which there is no
+    /// Fails a guess of this kernel: what depends on it is taken back. Keys whose bytes are no `K`, or for which there is no
     /// memory, are not told.
     ///
     /// # Errors
@@ -682,7 +682,7 @@ impl<K: ?Sized + Data, V: ?Sized + Data> Speculator<K, V> {
         Ok(Decided::Failed(Failure { keys, struck, committed, outputs }))
     }
 
-    /// What a key has; `None` where it is absent. A step that is to rest on it gets it itself ([`Step::get`]).
+    /// What a key has; `None` where it is absent. A step that is to depend on it gets it itself ([`Step::get`]).
     ///
     /// # Errors
     /// [`Refusal::Memory`], and [`Refusal::Form`] where the bytes are no `V`.
@@ -697,7 +697,7 @@ impl<K: ?Sized + Data, V: ?Sized + Data> Speculator<K, V> {
         there.map(|bytes| V::read(bytes).ok_or(Refusal::Form)).transpose()
     }
 
-    /// The undecided guesses that a key rests on, by rising number.
+    /// The undecided guesses that a key depends on, by rising number.
     pub fn tags(&self, key: impl Like<K>) -> Vec<u64> {
         let mut tags = Vec::new();
         self.settled().add_tags(&key.like().bytes(), &mut tags);
@@ -726,7 +726,7 @@ impl<K: ?Sized + Data, V: ?Sized + Data> Speculator<K, V> {
         K::read(&key).zip(V::read(value)).map(Some).ok_or(Refusal::Form)
     }
 
-    /// The keys that rest on a guess, each once: its failure would take just these back. Those whose bytes are no `K` are left out.
+    /// The keys that depend on a guess, each once: its failure would take just these back. Those whose bytes are no `K` are left out.
     ///
     /// # Errors
     /// [`Refusal::Memory`].
@@ -766,7 +766,7 @@ impl<K: ?Sized + Data, V: ?Sized + Data> Speculator<K, V> {
         inner.watches.watch(guess.id, known)
     }
 
-    /// How many outputs of a channel wait: the first that rests on a guess, and all behind it.
+    /// How many outputs of a channel wait: the first that depends on a guess, and all behind it.
     pub fn waiting(&self, channel: u16) -> u64 {
         // SAFETY: as `Inner::own` says.
         unsafe { hidewillow_own_waiting(&raw mut self.settled().own, channel) }.number
@@ -787,7 +787,7 @@ impl<K: ?Sized + Data, V: ?Sized + Data> Speculator<K, V> {
         }
     }
 
-    /// The next output of a channel that rests on nothing and behind which nothing older waits. It is gone from the kernel then.
+    /// The next output of a channel that depends on nothing and behind which nothing older waits. It is gone from the kernel then.
     ///
     /// # Errors
     /// [`Refusal::Memory`]; the output stays.

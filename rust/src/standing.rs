@@ -1,8 +1,8 @@
-//! What else rests on undecided guesses, beside keys: other guesses, and outputs. The library takes back what rests on one that fails; this
-//! tells of it, and which committed guesses came to stand for good.
+//! What else depends on undecided guesses, beside keys: other guesses, and outputs. The library takes back what depends on one that
+//! fails; this tells of it, and which committed guesses came to stand for good.
 use std::collections::HashMap;
 
-/// What rests on guesses.
+/// What depends on guesses.
 #[derive(Debug, Clone, Copy, PartialEq, Eq, Hash)]
 pub(crate) enum Item {
     /// A guess, by its number.
@@ -11,23 +11,23 @@ pub(crate) enum Item {
     Output { channel: u16, number: u64 },
 }
 
-/// What rests on undecided guesses: each on all of them that what its step looked at and wrote did.
+/// What depends on undecided guesses: each on all of them that what its step looked at and wrote did.
 #[derive(Default)]
 pub(crate) struct Standing {
-    /// On how many it rests, and by each guess what rests on it, or did until a failure took it away.
+    /// On how many it depends, and by each guess what depends on it, or did until a failure took it away.
     on: HashMap<Item, usize>,
     by: HashMap<u64, Vec<Item>>,
     outputs: u64,
 }
 
 impl Standing {
-    /// An output that rests on these guesses.
+    /// An output that depends on these guesses.
     pub(crate) fn output(&mut self, channel: u16, on: &[u64]) {
         self.outputs += 1;
         self.add(Item::Output { channel, number: self.outputs }, on);
     }
 
-    /// Something that rests on these guesses.
+    /// Something that depends on these guesses.
     pub(crate) fn add(&mut self, item: Item, on: &[u64]) {
         if on.is_empty() {
             return;
@@ -38,7 +38,7 @@ impl Standing {
         }
     }
 
-    /// A guess is committed: what rests on nothing undecided since.
+    /// A guess is committed: what depends on nothing undecided since.
     pub(crate) fn committed(&mut self, guess: u64) -> Vec<Item> {
         let mut items = self.by.remove(&guess).unwrap_or_default();
         items.retain(|item| {
@@ -55,7 +55,7 @@ impl Standing {
         let mut items = self.by.remove(&guess).unwrap_or_default();
         items.retain(|item| self.on.remove(item).is_some());
         for item in &items {
-            // What rests on this one rests on that one too.
+            // What depends on this one depends on that one too.
             if let Item::Guess(other) = item {
                 self.by.remove(other);
             }

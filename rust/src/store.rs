@@ -1,4 +1,4 @@
-//! A store of byte strings whose replies wait for exactly what they rest on.
+//! A store of byte strings whose replies wait for exactly what they depend on.
 //!
 //! - [`File`] is such a store in a folder of this program's own: get, set, transactions, each answer durable; or ahead of that.
 //! - [`Store`] and [`Recovery`] are the store alone, for a host that brings sockets and a disk of its own: bytes of clients go in,
@@ -316,9 +316,9 @@ impl Fed {
 /// What became of the oldest batch.
 #[derive(Debug, Clone, Copy, PartialEq, Eq)]
 pub enum Decision {
-    /// It is logged: what rests on it may go out.
+    /// It is logged: what depends on it may go out.
     Logged(u64),
-    /// It was cut off, and what rested on it is taken back.
+    /// It was cut off, and what depended on it is taken back.
     CutOff {
         /// The batch.
         batch: u64,
@@ -392,7 +392,7 @@ impl Store {
         Fed::of(unsafe { hidewillow_store_feed_ahead(&raw mut self.0, channel, bytes.as_ptr(), bytes.len()) })
     }
 
-    /// The answer to the request that the last `feed_ahead` carried out, as it is under what it rests on.
+    /// The answer to the request that the last `feed_ahead` carried out, as it is under what it depends on.
     pub fn ahead<'a>(&mut self, room: &'a mut Vec<u8>) -> Option<&'a [u8]> {
         // SAFETY: as above.
         shown(room, |room| unsafe { hidewillow_store_ahead(&raw mut self.0, room.as_mut_ptr(), room.len()) })
@@ -571,7 +571,7 @@ impl Store {
         }
     }
 
-    /// What a key has now, whatever it rests on.
+    /// What a key has now, whatever it depends on.
     pub fn value<'a>(&mut self, key: &[u8], room: &'a mut Vec<u8>) -> Option<&'a [u8]> {
         shown(room, |room| {
             let (to, of) = (room.as_mut_ptr(), room.len());
@@ -587,7 +587,7 @@ impl Store {
         unsafe { hidewillow_store_value(&raw mut self.0, key.as_ptr(), key.len(), room.as_mut_ptr(), 0) }.bytes
     }
 
-    /// One of the undecided batches that a key rests on, by its place among them, by rising number.
+    /// One of the undecided batches that a key depends on, by its place among them, by rising number.
     pub fn rests_on(&mut self, key: &[u8], place: usize) -> Option<u64> {
         // SAFETY: as above.
         let it = unsafe { hidewillow_store_rests_on(&raw mut self.0, key.as_ptr(), key.len(), place) };

@@ -9,7 +9,7 @@ use std::task::{Context, Poll, Waker};
 /// What became of a guess in the end.
 #[derive(Debug, Clone, Copy, PartialEq, Eq)]
 pub enum Fate {
-    /// It was committed, and rests on nothing undecided any more: it stands for good.
+    /// It was committed, and depends on nothing undecided any more: it stands for good.
     Committed,
     /// It failed, by its token, as that was dropped, or with its kernel.
     Failed,

@@ -1,5 +1,5 @@
-//! Random runs of a kernel over byte strings, each held against a plain list of the steps that stand: what every key has and rests
-//! on, what goes out, and what a failure tells. `RUNS` says how many runs there are, `SEED` with which one they begin.
+//! Random runs of a kernel over byte strings, each held against a plain list of the steps that stand: what every key has and
+//! depends on, what goes out, and what a failure tells. `RUNS` says how many runs there are, `SEED` with which one they begin.
 use hidewillow::speculator::{Decided, Failure, Guess, Refusal, Speculator, Status, Stranger};
 use hidewillow::watch::{Fate, Watch};
 use std::collections::{BTreeMap, BTreeSet, HashMap, VecDeque};
@@ -57,7 +57,7 @@ impl Plain {
         last.and_then(|(_, value)| value.clone())
     }
 
-    /// What a key rests on: what its last writer does.
+    /// What a key depends on: what its last writer does.
     fn rests(&self, key: &[u8]) -> BTreeSet<u64> {
         let last = self.steps.iter().rev().find(|it| it.written.iter().any(|(k, _)| k == key));
         last.map(|it| it.rests.clone()).unwrap_or_default()
@@ -83,7 +83,7 @@ impl Plain {
         firm
     }
 
-    /// Takes out what rests on a guess.
+    /// Takes out what depends on a guess.
     fn fail(&mut self, guess: u64) -> Fallen {
         let (gone, stay): (Vec<_>, Vec<_>) = self.steps.drain(..).partition(|it| it.rests.contains(&guess));
         self.steps = stay;
@@ -391,7 +391,7 @@ fn runs_stand_as_the_plain_list_does() {
     }
 }
 
-/// A shop whose orders each rest on those before: who is told that his order stands for good gets its letter too, and nobody else.
+/// A shop whose orders each depend on those before: who is told that his order stands for good gets its letter too, and nobody else.
 #[test]
 fn nobody_is_told_committed_for_what_is_taken_back() -> Result<(), Box<dyn std::error::Error + Send + Sync>> {
     let (mut dice, mut shop) = (Dice(3), Speculator::<str, u64>::open(64, 1)?);

@@ -338,7 +338,7 @@ class Client(threading.Thread):
                 tell(link.ask(*words))
 
     def quiet(self, link):
-        """Reads what it wrote before, once that is acknowledged: such a read rests on nothing, and isn't to wait for what others write."""
+        """Reads what it wrote before, once that is acknowledged: such a read depends on nothing, and isn't to wait for what others write."""
         key = f"own:{self.who}"
         while True:
             token = self.book.token(self.who)

@@ -322,7 +322,7 @@ class Trial:
         raise Wrong("nobody leads on this log" if self.said(REFUSES) else NOBODY)
 
     def reads(self, host, patience=1.0):
-        """Whether a host answers a read that rests on nothing."""
+        """Whether a host answers a read that depends on nothing."""
         try:
             with contextlib.closing(host.link()) as link:
                 link.socket.settimeout(patience)
@@ -336,7 +336,7 @@ class Trial:
         link.socket.settimeout(20)
 
         def reply():
-            """What a read rests on may be refused, where the host leads no more: then another is looked at."""
+            """What a read depends on may be refused, where the host leads no more: then another is looked at."""
             told = link.reply()
             if crashes.is_refused(told):
                 raise ConnectionError("refused")

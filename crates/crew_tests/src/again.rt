@@ -26,7 +26,6 @@ impl Peer {
         }
     }
 
-    /// The server.
     pub fn server(&self) -> &Server {
         &self.server
     }

@@ -1,8 +1,8 @@
 //! `crew_tests WORKERS TURNS CREWS [AHEAD] < SCENARIO`: crews run the processes of a scenario, one crew after the other, and each
-//! is judged: each worker makes the turns that are its own, in its rounds, and passes the gate before each of them, where in every
-//! second crew all meet; a fresh desk and a fresh server answer each call as the crew's did and come to the same trace and files;
-//! and the kernel stands as the plain kernel does. A worker runs up to AHEAD private instructions before a turn, 64 where the
-//! word is not there.
+//! is judged: each worker makes the turns that are its own, in its rounds, and passes the gate before each of them, where in
+//! every second crew all meet; a fresh desk and a fresh server answer each call as the crew's did and come to the same trace and
+//! files; and the kernel stands as the plain kernel does. A worker runs up to AHEAD private instructions before a turn, 64 where
+//! the word is not there.
 #![tactic(auto)]
 
 ghost use Rattle.std.specs.Prelude.{◌≤◌, IfOk, IfSome};

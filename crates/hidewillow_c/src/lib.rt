@@ -269,7 +269,7 @@ pub extern "C" fn hidewillow_own_look(alloc: Global, own: &mut Own, key: &[u8]) 
     with!(own, alloc, held => look(&mut held, key))
 }
 
-/// It sets what a key has.
+/// The step that is being written sets what a key has.
 #[unsafe(no_mangle)]
 pub extern "C" fn hidewillow_own_put(alloc: Global, own: &mut Own, key: &[u8], value: &[u8]) -> Told
     ensures { Does (Puts key.now value.now) (Unit {0}) result own.old.held own.new.held }
@@ -277,7 +277,7 @@ pub extern "C" fn hidewillow_own_put(alloc: Global, own: &mut Own, key: &[u8], v
     with!(own, alloc, held => put_value(&mut held, key, value))
 }
 
-/// It makes a key absent.
+/// The step that is being written makes a key absent.
 #[unsafe(no_mangle)]
 pub extern "C" fn hidewillow_own_remove(alloc: Global, own: &mut Own, key: &[u8]) -> Told
     ensures { Does (Removes key.now) (Unit {0}) result own.old.held own.new.held }
@@ -285,7 +285,7 @@ pub extern "C" fn hidewillow_own_remove(alloc: Global, own: &mut Own, key: &[u8]
     with!(own, alloc, held => remove(&mut held, key))
 }
 
-/// It says this to a channel, and nothing that was said in it before.
+/// The step that is being written says this to a channel, in place of whatever it said before.
 #[unsafe(no_mangle)]
 pub extern "C" fn hidewillow_own_say(
     alloc: Global,
@@ -806,8 +806,8 @@ pub extern "C" fn hidewillow_store_cut(alloc: Global, store: &mut Durable, made:
     with!(store, alloc, held => store_calls::cut(&mut held, made))
 }
 
-/// The host says that the leadership is over by which its log lies in an engine, once each frame that was sent has its word: what was open is
-/// refused, from the first frame on that failed. The room is as long as a frame of all that is undecided.
+/// The host says that the leadership is over by which its log lies in an engine, once each frame that was sent has its word: what
+/// was open is refused, from the first frame on that failed. The room is as long as a frame of all that is undecided.
 #[unsafe(no_mangle)]
 pub extern "C" fn hidewillow_store_lost(alloc: Global, store: &mut Durable, room: &mut [u8]) -> Told
     ensures { Does (WindsUp room.old) (room.new ≡ room.old) result store.old.held store.new.held }
@@ -1049,7 +1049,8 @@ pub extern "C" fn hidewillow_desk_close(alloc: Global, desk: &mut DeskHandle)
     let _client = take_out(desk, alloc);
 }
 
-/// Tells a host whose log lies in a consensus engine what an answer to a try of a batch means, which was to be put under its number.
+/// Tells a host whose log lies in a consensus engine what an answer to a try of a batch means, which was to be put under its
+/// number.
 #[unsafe(no_mangle)]
 pub extern "C" fn hidewillow_engine_batch(
     leadership: u64,
@@ -1094,8 +1095,8 @@ pub extern "C" fn hidewillow_engine_round(
     tell_round(Round { leadership, number }, answer, leader)
 }
 
-/// Tells it what an answer to one of its tries to lead means, by a word that nobody else puts: of which leadership it is, where it was put;
-/// else that of the leader that was seen, and whether it has this word.
+/// Tells it what an answer to one of its tries to lead means, by a word that nobody else puts: of which leadership it is, where
+/// it was put; else that of the leader that was seen, and whether it has this word.
 #[unsafe(no_mangle)]
 pub extern "C" fn hidewillow_engine_lead(answer: u32, leadership: u64, held: u32) -> Told
     ensures { result ≡ word_told (lead_told (lead_answer_of answer leadership held)) }
@@ -1103,7 +1104,8 @@ pub extern "C" fn hidewillow_engine_lead(answer: u32, leadership: u64, held: u32
     tell_lead(answer, leadership, held)
 }
 
-/// Something was carried out for a host whose log lies in a consensus engine, and waits for a round that is taken later. This is its mark.
+/// Something was carried out for a host whose log lies in a consensus engine, and waits for a round that is taken later. This is
+/// its mark.
 #[unsafe(no_mangle)]
 pub extern "C" fn hidewillow_rounds_carried_out(rounds: &mut Rounds) -> u64
     ensures { RoundDoes rounds.old (CarriesOut result) rounds.new }

@@ -38,7 +38,7 @@ abbrev pub IsTold : Told → Option Back → Session → Session → Type 0
 IsTold told None old new = (told ≡ place_told DONE None) × (new.undone ≡ old.undone)
 IsTold told (Some back) old new = (told ≡ record (just DONE back.checkpoint) { names = length back.names.items }) × (new.undone ≡ back.names)
 
--- it is refused, and all others with it, if one waits
+-- the oldest epoch is refused, and all others with it, if one waits
 abbrev pub RefusesTold : Told → Session → Session → Type 0
 RefusesTold told old new = (did : Option Back) × IsTold told did old new × TakenBack did old.epochs new.epochs
 
@@ -56,7 +56,7 @@ AsksUndone place told s = told ≡ place_told SHOWN (slice_get s.undone.items pl
 abbrev pub AsksVersion : ℕ → Told → Session → Type 0
 AsksVersion name told s = (story : Story) → Tells story s.epochs → told ≡ place_told SHOWN (known_of story name)
 
--- whether it is so
+-- what a question is told
 abbrev pub asked : Bool → Told
 asked is_so = if is_so then just YES 0 else just NO 0
 
@@ -78,7 +78,7 @@ CountsWaiting told s = (story : Story) → Tells story s.epochs → told ≡ jus
 
 -- ---- of what a handle holds
 
--- what is held does this; where nothing is held, that is told
+-- what a handle holds does this; where it holds nothing, that is told
 abbrev pub Does : (Told → Session → Session → Type 0) → Told → Option Session → Option Session → Type 0
 Does does told (Some old) (Some new) = does told old new
 Does does told (Some old) None = ⊥

@@ -9,7 +9,7 @@ use Rattle.hidewillow_epochs.specs.declared.told.TheConstants.{DONE, NONE, REFUS
 abbrev pub just : ℕ → ℕ → Told
 just answer number = record { answer = answer; number = number; names = 0 }
 
--- what is there, or that there is none
+-- what a call is told of what may be there: this answer with its number, or that there is none
 abbrev pub place_told : ℕ → Option ℕ → Told
 place_told answer None = just NONE 0
 place_told answer (Some number) = just answer number
@@ -27,7 +27,7 @@ abbrev pub number_told : Result ℕ Refused → Told
 number_told (Ok number) = just DONE number
 number_told (Err why) = refused why
 
--- that it has happened, or why not
+-- what a call is told by which something was to happen: that it has, or why not
 abbrev pub step_told : Result (Unit {0}) Refused → Told
 step_told (Ok done) = just DONE 0
 step_told (Err why) = refused why

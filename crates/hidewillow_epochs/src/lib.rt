@@ -135,8 +135,8 @@ pub extern "C" fn hidewillow_epochs_accepted(alloc: Global, epochs: &mut Handle)
     with!(epochs, alloc, held => held.accepted())
 }
 
-/// The server refused the oldest epoch, and with it all others. The checkpoint that all goes back to is told, and how many names are
-/// undone.
+/// The server refused the oldest epoch, and with it all others. The checkpoint that all goes back to is told, and how many names
+/// are undone.
 #[unsafe(no_mangle)]
 pub extern "C" fn hidewillow_epochs_refused(alloc: Global, epochs: &mut Handle) -> Told
     ensures { Does RefusesTold result epochs.old.held epochs.new.held }

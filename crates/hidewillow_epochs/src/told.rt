@@ -4,15 +4,15 @@ ghost use Rattle.hidewillow_epochs.specs.Told.{just, number_told, place_told, re
 
 use real_epochs::Refused;
 
-/// It is done; told is the number of the epoch that began, or the checkpoint of the one that has its reply.
+/// What was called for is done; told is the number of the epoch that began, or the checkpoint of the one that has its reply.
 pub const DONE: u32 = 0;
-/// This is what was asked for.
+/// What was asked for is told.
 pub const SHOWN: u32 = 1;
-/// There is none.
+/// Of what was asked for there is nothing.
 pub const NONE: u32 = 2;
 /// What was asked is so.
 pub const YES: u32 = 3;
-/// It is not so.
+/// What was asked is not so.
 pub const NO: u32 = 4;
 /// Refused, with the number of the reason; nothing has changed.
 pub const REFUSED: u32 = 5;
@@ -43,14 +43,14 @@ impl Told {
         }
     }
 
-    /// It with so many names.
+    /// This answer, of a refusal that took back so many names.
     pub fn with_names(self, names: usize) -> Told
         ensures { result ≡ record self { names = names } }
     {
         Told { names, ..self }
     }
 
-    /// Of what can be there or not.
+    /// What a call is told of what may be there: this answer with its number, or `NONE`.
     pub fn of_place(place: Option<u64>, answer: u32) -> Told
         ensures { result ≡ place_told answer place }
     {
@@ -60,7 +60,7 @@ impl Told {
         }
     }
 
-    /// Of a question.
+    /// What a question is told: `YES` or `NO`.
     pub fn of_answer(is_so: bool) -> Told
         ensures { result ≡ if is_so then just YES 0 else just NO 0 }
     {
@@ -71,7 +71,7 @@ impl Told {
         }
     }
 
-    /// Of an epoch that was to begin.
+    /// What a call that begins an epoch is told: its number, or why it is refused.
     pub fn of_number(did: Result<u64, Refused>) -> Told
         ensures { result ≡ number_told did }
     {
@@ -81,7 +81,7 @@ impl Told {
         }
     }
 
-    /// Of something that was to happen.
+    /// What a call is told by which something was to happen: that it has, or why it is refused.
     pub fn of_step(did: Result<(), Refused>) -> Told
         ensures { result ≡ step_told did }
     {

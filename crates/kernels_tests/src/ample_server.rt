@@ -17,7 +17,7 @@ fn refuses(alloc: Global, server: &mut Server, guess: u64) -> Result<bool, Wrong
     asks(alloc, server, check, ground, ToldAnswer::No(3, b"old"))
 }
 
-/// Whether a request that rests on this guess is dropped.
+/// Whether a request that depends on this guess is dropped.
 fn drops(alloc: Global, server: &mut Server, guess: u64) -> Result<bool, Wrong> {
     let ground = Ground {
         rests: &[guess],
@@ -28,7 +28,7 @@ fn drops(alloc: Global, server: &mut Server, guess: u64) -> Result<bool, Wrong> 
     asks(alloc, server, get, ground, ToldAnswer::Dropped)
 }
 
-/// Refuses many guesses, and drops what rests on the first, on one between and on the last.
+/// Refuses many guesses, and drops what depends on the first, on one between and on the last.
 fn refuses_and_drops(alloc: Global, server: &mut Server) -> Result<(), Wrong> {
     for number in 1..3_000 {
         comes(0, refuses(alloc, server, number))?;

@@ -40,7 +40,7 @@ pub fn answer_of(told: ToldAnswer<'_>) -> Result<Answer, Wrong> {
     }
 }
 
-/// What a request rests on, and the guess that it is made with.
+/// What a request depends on, and the guess that it is made with.
 #[derive(Clone, Copy)]
 pub struct Ground<'a> {
     pub rests: &'a [u64],
@@ -48,7 +48,7 @@ pub struct Ground<'a> {
     pub guess: Option<u64>,
 }
 
-/// A request that rests on nothing and was made without a guess.
+/// A request that depends on nothing and was made without a guess.
 pub const LOOSE: Ground<'static> = Ground {
     rests: &[],
     settled: 1,

@@ -1,4 +1,4 @@
-//! What rests on a guess, through files, until the guess is decided.
+//! What depends on a guess, through files, until the guess is decided.
 use crate::plays::{Decision, KernelPlay, Thing, plays_until};
 use crate::start::{BARE, Start, passes};
 use sk_script::ObjectKind;
@@ -22,7 +22,7 @@ const START: &Start<'static> = &Start {
     ..BARE
 };
 
-/// Process 1 guesses and writes a file, and process 2 copies it to the next: both and the files rest on
+/// Process 1 guesses and writes a file, and process 2 copies it to the next: both and the files depend on
 /// the guess.
 const REST: &[KernelPlay] = &[
     KernelPlay::Steps(1, 1, Ok(())),

@@ -67,7 +67,7 @@ fn hands_in(
     holds(2, answer == want)
 }
 
-/// The same with a new desk, which has so many events then.
+/// A new desk leases and hands in as in `hands_in`, and its trace has so many events then.
 fn leaves(
     alloc: Global,
     between: Pid,

@@ -86,7 +86,7 @@ fn hands_in(kernel: &mut Kernel, between: Pid, count: u32) -> Result<HandedIn, W
     }
 }
 
-/// The same in a new kernel.
+/// In a new kernel process 1 is leased, and handed in with so many steps of a process between.
 fn handed_in(alloc: Global, between: u16, steps: u32) -> Result<HandedIn, Wrong> {
     let between = pid(between)?;
     let mut kernel = kernel_of(alloc, START)?;

@@ -1,5 +1,5 @@
-//! The tests of records, kernels, servers and a client's desks over those public calls that no door shows; and whatever can grow in
-//! them is grown past 70,000.
+//! The tests of records, kernels, servers and a client's desks over those public calls that no door shows; and whatever can grow
+//! in them is grown past 70,000.
 #![tactic(auto)]
 
 #[cfg(test)]

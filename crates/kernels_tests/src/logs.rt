@@ -79,7 +79,7 @@ fn unwinds(
     Ok(bytes(value) == Text::new(want))
 }
 
-/// Whether the newest note of a log rests on these guesses.
+/// Whether the newest note of a log depends on these guesses.
 fn rests_on(log: &ObjectLog, guesses: &[GuessId]) -> bool {
     log.tags().ids() == guesses
 }
@@ -134,7 +134,7 @@ fn comes_back(log: &mut ObjectLog, value: &mut Option<Value>) -> Result<(), Wron
     holds(2, rests_on(log, &[]))
 }
 
-/// The same of a file that goes in a log that has no notes.
+/// A file goes, noted in a log that has no other notes, and comes back.
 fn comes_back_when_gone(
     alloc: Global,
     log: &mut ObjectLog,
@@ -232,7 +232,7 @@ fn both(alloc: Global) -> Result<TagSet, Wrong>
     }
 }
 
-/// Notes a step on guess 1, of a process at this place, where nothing rests on another guess.
+/// Notes a step on guess 1, of a process at this place, where nothing depends on another guess.
 #[tactic(auto, using(crate::proofs::Covered::covers_none, crate::proofs::Covered::covers_same, crate::proofs::Covered::covers_that, crate::proofs::Covered::covered_by))]
 fn note_one(alloc: Global, log: &mut ProcessLog, at: u32) -> Result<(), Wrong>
     requires { Covers (1 ∷ []) (last_tags [] (runs_of log.old.log.notes.items)) }

@@ -128,7 +128,7 @@ fn notes_of_two_guesses(rt: HostRuntime) {
     passes(&rt, plays(&rt, rt.alloc(), TWO_GUESSES, TWO_NOTES));
 }
 
-/// Where the newer of two guesses is committed, the notes of a process rest on the same, and one of them is left.
+/// Where the newer of two guesses is committed, the notes of a process depend on the same, and one of them is left.
 const ONE_IS_LEFT: &[KernelPlay] = &[
     KernelPlay::Guesses(1, 1, 2),
     KernelPlay::Steps(1, 5, Ok(())),

@@ -34,7 +34,7 @@ pub enum Count {
     Notes,
 }
 
-/// Something that can rest on a guess.
+/// Something that can depend on a guess.
 #[derive(Clone, Copy)]
 pub enum Thing {
     Process(u16),
@@ -57,7 +57,7 @@ pub enum KernelPlay {
     DecidesNewest(Decision, Outcome),
     /// How much there is.
     Has(Count, usize),
-    /// Just these rest on the guess of this number, by rising order.
+    /// Just these depend on the guess of this number, by rising order.
     Rests(u64, &'static [Thing]),
     /// A new epoch: how many events are handed out, and how many texts of terminal 1; or why there is none.
     Epoch(Result<(usize, usize), EpochRefusal>),
@@ -203,7 +203,7 @@ fn are_things(entities: &[Entity], things: &[Thing]) -> Result<bool, Wrong> {
     Ok(entities.len() == things.len())
 }
 
-/// Whether just these rest on a guess, by rising order.
+/// Whether just these depend on a guess, by rising order.
 fn rests(kernel: &Kernel, number: u64, want: &[Thing]) -> Result<bool, Wrong> {
     are_things(kernel.dependents(guess(number)?), want)
 }

@@ -199,7 +199,6 @@ fn writer_before_the_guess(rt: HostRuntime) {
     passes(&rt, strikes(rt.alloc(), WRITER_BEFORE_THE_GUESS));
 }
 
-/// An object of the boot.
 fn boot_object(count: u32) -> ObjId {
     ObjId { maker: None, count }
 }
@@ -274,7 +273,6 @@ fn adds_two(trace: &mut Trace, step: &Entry) -> Result<(), Wrong> {
     Ok(())
 }
 
-/// Both events.
 fn both_events(alloc: Global, step: &Entry) -> Result<[Event; 2], Wrong> {
     let (pid, commit) = (step.pid, guess(1)?);
     let input = KeptInput::keep(alloc, InputRef::of(&step.input))?;

@@ -23,7 +23,7 @@ const REFUSED: ServerTurn<'static> = ServerTurn::Asks(
     OLD,
 );
 
-/// Then a store rests on it, where it is not settled.
+/// Then a store depends on it, where it is not settled.
 const UNSETTLED: &[ServerTurn<'static>] = &[
     REFUSED,
     ServerTurn::Asks(

@@ -118,7 +118,6 @@ fn declares_objects(boot: &mut Boot, objects: &[Made<'_>]) -> Result<(), Wrong> 
     Ok(())
 }
 
-/// Declares all.
 pub fn declares_all(alloc: Global, boot: &mut Boot, start: &Start<'_>) -> Result<(), Wrong> {
     declares_copies(boot, start.copies)?;
     declares_processes(alloc, boot, start.scripts)?;
@@ -133,7 +132,6 @@ fn boots(alloc: Global, boot: &mut Boot, start: &Start<'_>) -> Result<Kernel, Wr
     Ok(Kernel::boot(alloc, start.number, boot, start.limit)?)
 }
 
-/// The kernel.
 pub fn kernel_of(alloc: Global, start: &Start<'_>) -> Result<Kernel, Wrong>
     ensures { IfOk result (λ kernel. undecided_at kernel ≡ []) }
 {

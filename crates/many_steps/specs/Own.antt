@@ -5,6 +5,6 @@ use Rattle.hidewillow.specs.UndoState.{numbers}
 use Rattle.hidewillow.specs.Token.{Token}
 use Rattle.hidewillow.specs.OwnParts.{Parts}
 
--- it is of this kernel, and of an undecided guess
+-- a token of this kernel, and of an undecided guess
 abbrev pub IsOwn : {K V O : Type 0} → Parts K V O → Token → Type 0
 IsOwn m token = (token.kernel ≡ m.guesses.kernel) × (has token.id (numbers m.opens) ≡ true)

@@ -101,7 +101,8 @@ fn fill(
     Ok(())
 }
 
-/// Decides a guess of this kernel, which is undecided. It stays a function of its own, so that what it takes can be counted alone.
+/// Decides a guess of this kernel, which is undecided. It stays a function of its own, so that what it takes can be counted
+/// alone.
 #[inline(never)]
 fn decide(kernel: &mut Kernel, guess: Guess, is_right: bool)
     requires { IsOwn kernel.old guess }

@@ -8,7 +8,7 @@ pub(crate) enum Deed {
     Mixed,
     /// Looks at one key and writes it.
     Write,
-    /// The same, and says something.
+    /// Looks at one key, writes it, and says something.
     Say,
 }
 

@@ -98,7 +98,7 @@ fn tells<W: Write>(what: &str, value: &Value, out: &mut W) -> Result<(), Finding
     Ok(())
 }
 
-/// The same, and that a call begins.
+/// Tells the size of a file, and that a call begins.
 fn tells_before<W: Write>(what: &str, value: &Value, out: &mut W) -> Result<(), Finding> {
     tells(what, value, out)?;
     begins(out)

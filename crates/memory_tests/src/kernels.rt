@@ -39,7 +39,7 @@ fn calls<W: Write>(
     tries(alloc, session, call, &before)
 }
 
-/// The same, and tells what the call is answered.
+/// Makes a call, twice where memory was wanted, and tells what it is answered.
 fn calls_and_tells<W: Write>(
     alloc: Global,
     session: &mut Session,

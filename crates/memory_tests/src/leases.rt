@@ -223,7 +223,7 @@ fn lends_all<L: Lender, W: Write>(
     shows(alloc, lender.kernel(), to)
 }
 
-/// The same, and gives up the lease that is out at the end.
+/// Makes the calls with leases between them, and gives up the lease that is out at the end.
 fn lends_between<L: Lender, W: Write>(
     alloc: Global,
     lender: &mut L,
@@ -306,7 +306,7 @@ fn plays_on_a_desk<W: Write>(
     played
 }
 
-/// The same on both.
+/// Plays the turns with leases between them on a kernel, and then on a desk.
 fn plays_on_both<W: Write>(
     alloc: Global,
     declarations: &Declarations,

@@ -40,7 +40,7 @@ fn happens<W: Write>(
     tries(alloc, world, event, &before)
 }
 
-/// The same, and tells what comes of the event.
+/// Lets an event happen, twice where memory was wanted, and tells what comes of it.
 fn happens_and_tells<W: Write>(
     alloc: Global,
     world: &mut World,

@@ -11,7 +11,7 @@ const KERNEL: u64 = 7;
 /// What becomes of a guess by its decision.
 const DECIDED: [Status; 3] = [Status::Committed, Status::Failed, Status::Struck];
 
-/// Draws a guess whose step rests on itself alone, and on which these entities rest.
+/// Draws a guess whose step depends on itself alone, and on which these entities depend.
 fn draw(
     alloc: Global,
     guesses: &mut Guesses<Entity>,
@@ -57,7 +57,7 @@ fn spend(rt: &impl Abort, guesses: &Guesses<Entity>, token: Guess) -> GuessId {
     id
 }
 
-/// Draws a guess on which nothing rests, and spends its token.
+/// Draws a guess on which nothing depends, and spends its token.
 fn draws(rt: &impl Abort, alloc: Global, guesses: &mut Guesses<Entity>) -> GuessId {
     let token = drawn(rt, alloc, guesses, &[]);
     spend(rt, guesses, token)
@@ -191,7 +191,7 @@ fn decided_once(rt: HostRuntime) {
     decides_all_again(&rt, rt.alloc(), &mut guesses);
 }
 
-/// Draws a guess on which these entities rest, and spends its token.
+/// Draws a guess on which these entities depend, and spends its token.
 fn draws_with(rt: &impl Abort, alloc: Global, guesses: &mut Guesses<Entity>, entities: &[Entity]) {
     let token = drawn(rt, alloc, guesses, entities);
     spend(rt, guesses, token);
@@ -220,7 +220,7 @@ fn are(entities: &[Entity], processes: &[u16]) -> bool {
     entities.len() == processes.len()
 }
 
-/// Just these processes rest on the guess of a number.
+/// Just these processes depend on the guess of a number.
 fn rest(rt: &impl Abort, guesses: &Guesses<Entity>, number: u64, processes: &[u16]) {
     check(
         rt,
@@ -237,7 +237,7 @@ fn draws_two(rt: &impl Abort, alloc: Global, guesses: &mut Guesses<Entity>) {
     draws_with(rt, alloc, guesses, &[process(rt, 2)]);
 }
 
-/// The third process comes to rest on both guesses, which is told twice. Nothing rests on a guess that was not drawn.
+/// The third process comes to depend on both guesses, which is told twice. Nothing depends on a guess that was not drawn.
 fn rests_on_both(rt: &impl Abort, alloc: Global, guesses: &mut Guesses<Entity>) {
     let (both, third) = (tags(rt, alloc, &[1, 2]), process(rt, 3));
     guesses.depend(&both, &third).expect(rt, "memory");
@@ -247,7 +247,7 @@ fn rests_on_both(rt: &impl Abort, alloc: Global, guesses: &mut Guesses<Entity>) 
     rest(rt, guesses, 3, &[]);
 }
 
-/// The second process rests on the second guess no more, and the third on that alone.
+/// The second process depends on the second guess no more, and the third on that alone.
 fn relieves(rt: &impl Abort, alloc: Global, guesses: &mut Guesses<Entity>) {
     let second = TagSet::of(alloc, guess(rt, 2));
     guesses.relieve(&second, &process(rt, 2));
@@ -274,7 +274,7 @@ fn decides_both(rt: &impl Abort, guesses: &mut Guesses<Entity>) {
     check(rt, 18, guesses.oldest().is_none());
 }
 
-/// Two guesses are drawn, and what rests on them changes until both are decided.
+/// Two guesses are drawn, and what depends on them changes until both are decided.
 fn lists_change(rt: &impl Abort, alloc: Global, guesses: &mut Guesses<Entity>) {
     draws_two(rt, alloc, guesses);
     rests_on_both(rt, alloc, guesses);
@@ -331,7 +331,7 @@ fn keep_theirs(rt: &impl Abort, guesses: &mut Guesses<Entity>) {
     check(rt, 20, guesses.next() == 31);
 }
 
-/// The same through epochs of so many guesses.
+/// Thirty guesses are decided in epochs of so many, and each keeps its status.
 fn epochs_of(rt: &impl Abort, alloc: Global, count: u64) {
     let mut guesses = Guesses::new(alloc, KERNEL);
     decides_thirty(rt, alloc, &mut guesses, count);

@@ -42,7 +42,7 @@ fn join(rt: &impl Abort, one: &TagSet, other: &TagSet, want: &[u64]) {
     check(rt, 3, has(&both, want));
 }
 
-/// The same of the sets of these guesses.
+/// The sets of these guesses together are just the wanted ones.
 fn joins(rt: &impl Abort, alloc: Global, one: &[u64], other: &[u64], want: &[u64]) {
     let one = tags(rt, alloc, one);
     let other = tags(rt, alloc, other);

@@ -1,5 +1,6 @@
-//! The tests of the parts of a kernel over their public calls: identifiers, values and changes, scripts, what is read and printed,
-//! traces, terminals and guesses. Tests stand in crates of their own, since the checker proves a crate anew for its tests.
+//! The tests of the parts of a kernel over their public calls: identifiers, values and changes, scripts, what is read and
+//! printed, traces, terminals and guesses. Tests stand in crates of their own, since the checker proves a crate anew for its
+//! tests.
 #![tactic(auto)]
 
 #[cfg(test)]

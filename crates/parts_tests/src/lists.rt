@@ -104,7 +104,7 @@ impl Lists {
         }
     }
 
-    /// The same once more.
+    /// A copy, with lists of its own.
     pub fn copy(&self, rt: &impl Abort, alloc: Global) -> Lists {
         let mut copy = Lists::empty(alloc, self.kind);
         add(rt, &mut copy.items, &self.items);
@@ -161,7 +161,7 @@ impl Lists {
         value.kind() == self.kind && self.is_told_by(value)
     }
 
-    /// The same of a value of this kind.
+    /// Whether the readers of a value of this kind tell just this.
     fn is_told_by(&self, value: &Value) -> bool {
         match self.kind {
             Kind::File => are_read(&self.items, value),

@@ -5,17 +5,14 @@ use sk_objects::Content;
 use std::alloc::Global;
 use std::process::Abort;
 
-/// A name.
 pub fn name(rt: &impl Abort, bytes: &[u8]) -> Name {
     Name::new(bytes).expect(rt, "a name")
 }
 
-/// A text.
 pub fn text(rt: &impl Abort, bytes: &[u8]) -> Text {
     Text::new(bytes).expect(rt, "a text")
 }
 
-/// A content.
 pub fn content(rt: &impl Abort, version: u64, bytes: &[u8]) -> Content {
     Content::new(version, text(rt, bytes)).expect(rt, "a content")
 }
@@ -30,7 +27,6 @@ pub fn child(rt: &impl Abort, pid: Pid, number: u16) -> Pid {
     pid.child(number).expect(rt, "a child")
 }
 
-/// A guess.
 pub fn guess(rt: &impl Abort, number: u64) -> GuessId {
     GuessId::new(number).expect(rt, "a guess")
 }

@@ -20,7 +20,7 @@ fn decide(rt: &impl Abort, terminal: &mut Terminal, decision: Decision) {
     }
 }
 
-/// Says a text of one letter, which rests on these guesses.
+/// Says a text of one letter, which depends on these guesses.
 fn say(rt: &impl Abort, alloc: Global, terminal: &mut Terminal, letter: u8, on: &[u64]) {
     let text = text(rt, &[letter]);
     terminal.say(text, tags(rt, alloc, on)).expect(rt, "memory");

@@ -23,7 +23,7 @@ Happened event (Err why) a b = ((s : Story) → Tells s a → RefusesEvent s eve
 abbrev pub Accepted : Option ℕ → EpochsView → EpochsView → Type 0
 Accepted told a b = ((s : Story) → Tells s a → told ≡ oldest_checkpoint s.waiting) × Goes Accepts a b
 
--- it is refused, and all others with it; told is where all goes back to
+-- the oldest epoch is refused, and all others with it; told is where all goes back to
 abbrev pub TakenBack : Option Back → EpochsView → EpochsView → Type 0
 TakenBack told a b = ((s : Story) → Tells s a → GoesBack s.waiting told) × Goes Refuses a b
 

@@ -12,7 +12,7 @@ goes_along (Does (Changes name version)) = true
 goes_along (Does (Told name version)) = false
 goes_along (Does (Says stream output)) = true
 
--- the steps that do not
+-- the steps that do not go with the oldest epoch
 abbrev pub staying : List Entry → List Entry
 staying [] = []
 staying (n ∷ ns) = if goes_along n then staying ns else n ∷ staying ns

@@ -8,12 +8,12 @@ use Rattle.real_epochs.specs.declared.begun.Begun.{Begun}
 abbrev pub ids_of : List Begun → List ℕ
 ids_of bs = map (λ b. b.token.id) bs
 
--- each is of the kernel and of a struck guess, and none is of the same as another
+-- the token of each of these epochs is of the kernel and of a struck guess, and no two are of one guess
 abbrev pub AreOut : KeptView → List Begun → Type 0
 AreOut v [] = Unit {0}
 AreOut v (b ∷ bs) = (b.token.kernel ≡ v.kernel) × (has b.token.id v.struck ≡ true) × (has b.token.id (ids_of bs) ≡ false) × AreOut v bs
 
--- and no guess is undecided
+-- no guess is undecided, and the tokens of these epochs are of struck ones
 abbrev pub AreForgotten : Parts ℕ ℕ ℕ → List Begun → Type 0
 AreForgotten p bs = (p.opens ≡ []) × AreOut p.guesses bs
 

@@ -44,13 +44,13 @@ in_batch number d = record d { looked = d.looked ++ batch_key number ∷ [] }
 abbrev pub is_touched : {V O : Type 0} → Parts (List ℕ) V O → Deed (List ℕ) V O → ℕ → Bool
 is_touched m d g = list_any (λ k. has g (tags_at (undo_state_of bytes_cmp m) k)) (d.looked ++ map (λ w. w.0) d.written)
 
--- the step is as it was
+-- a step that was refused is as it was
 pub record IsKept {V O : Type 0} (old new : WholeStep (Vec ℕ) V O) : Type 0 where
   pub looked : new.looked.items ≡ old.looked.items
   pub written : new.written.items ≡ old.written.items
   pub said : new.said ≡ old.said
 
--- nothing is left of it
+-- a step of which nothing is left
 pub record IsEmpty {V O : Type 0} (step : WholeStep (Vec ℕ) V O) : Type 0 where
   pub looked : step.looked.items ≡ []
   pub written : step.written.items ≡ []

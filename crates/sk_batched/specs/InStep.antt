@@ -19,7 +19,7 @@ alone ns = map (λ n. (n, n ∷ [])) ns
 abbrev pub tokens_of : ℕ → List ℕ → List Token
 tokens_of kernel ns = map (λ n. record { kernel = kernel; id = n }) ns
 
--- each is one more than the one before it, up to the last
+-- these numbers are in a row, up to the last
 abbrev pub AreInRow : List ℕ → ℕ → Type 0
 AreInRow [] last = Unit {0}
 AreInRow (n ∷ ns) last = (n + length ns ≡ last) × AreInRow ns last

@@ -52,7 +52,7 @@ pub data Call (N O : Type 0) : Type 0 where
   Decides : (decision : Decision) → Call N O
   LetsOut : (channel : ℕ) → (output : O) → Call N O
 
--- what it leaves of the queue alone
+-- what a call leaves of the queue, where it is about the queue alone
 abbrev pub Heard : {N O : Type 0} → Call N O → QueueView → QueueView → Type 0
 Heard (Hears frame stage) q r = r ≡ after_word frame stage q
 Heard (Cuts cut) q r = (cut_due q ≡ Some cut) × (r ≡ after_cut cut q)

@@ -63,7 +63,7 @@ impl<V, O> Model for Batched<V, O> {
         × HasNoneBarred b.kernel.parts };
 }
 
-/// No more than may be in flight.
+/// How many frames are in flight at most: what was asked for, but no more than may be.
 fn capped(most: NonZeroU16) -> NonZeroU16
     ensures { non_zero_u16_get result ≡ capped (non_zero_u16_get most) }
 {
@@ -117,9 +117,9 @@ fn fail<V: Drop, O: Drop>(kernel: &mut Bytes<V, O>, token: Guess) -> usize
 }
 
 impl<V, O> Batched<V, O> {
-    /// No key is there, and nothing has happened, in the kernel of this number. So many frames may be in flight, and so many bytes
-    /// undecided; the next frame has this number. A seed that users of the keys don't know keeps them from choosing keys that are
-    /// found slowly.
+    /// No key is there, and nothing has happened, in the kernel of this number. So many frames may be in flight, and so many
+    /// bytes undecided; the next frame has this number. A seed that users of the keys don't know keeps them from choosing keys
+    /// that are found slowly.
     pub fn new(
         alloc: Global,
         number: u64,
@@ -140,14 +140,12 @@ impl<V, O> Batched<V, O> {
         }
     }
 
-    /// The kernel.
     pub fn kernel(&self) -> &Bytes<V, O>
         ensures { result.now ≡ self.now.kernel }
     {
         &self.kernel
     }
 
-    /// The queue.
     pub fn queue(&self) -> &Queue
         ensures { result.now ≡ self.now.queue }
     {
@@ -161,8 +159,8 @@ impl<V, O> Batched<V, O> {
         self.queue.cut_due()
     }
 
-    /// For each undecided batch a key that depends on it, where one does that is no batch's. They stand for all keys: none but those of
-    /// batches depends on more, and no key is there that is a batch's, or too long.
+    /// For each undecided batch a key that depends on it, where one does that is no batch's. They stand for all keys: none but
+    /// those of batches depends on more, and no key is there that is a batch's, or too long.
     pub fn resting(&self) -> Result<Vec<Vec<u8>>, AllocError>
         ensures keys { IfOk result
             (λ keys. StandForAll self.now.kernel.parts (map vec_items keys.items)) }
@@ -208,9 +206,9 @@ impl<V: Drop, O: Drop> Batched<V, O> {
         }
     }
 
-    /// Takes a step in the open batch, and logs it with these bytes: answers the batch's number. The step depends on the guess of the
-    /// batch, which is drawn before, and its record on what it touches. After a refusal the step is as it was, and nothing has
-    /// changed but that, without memory, the guess of the open batch may be drawn.
+    /// Takes a step in the open batch, and logs it with these bytes: answers the batch's number. The step depends on the guess of
+    /// the batch, which is drawn before, and its record on what it touches. After a refusal the step is as it was, and nothing
+    /// has changed but that, without memory, the guess of the open batch may be drawn.
     pub fn log(&mut self, step: &mut ByteStep<V, O>, bytes: &[u8]) -> Result<u64, Refusal>
         ensures { LogPost result step.old step.new bytes.now self.old self.new }
     {
@@ -228,8 +226,8 @@ impl<V: Drop, O: Drop> Batched<V, O> {
         }
     }
 
-    /// Takes the next frame whole into a room, and says where it is to be written. The guess of each batch in it is drawn. After a
-    /// refusal nothing has changed but that, without memory, the guess of the open batch may be drawn.
+    /// Takes the next frame whole into a room, and says where it is to be written. The guess of each batch in it is drawn. After
+    /// a refusal nothing has changed but that, without memory, the guess of the open batch may be drawn.
     pub fn take_frame(
         &mut self,
         places: &mut Places,

@@ -10,7 +10,7 @@ use sk_ids::GuessId;
 use sk_reserved::is_reserved;
 use std::alloc::{AllocError, Global};
 
-/// The guesses but one that a key depends on which the step looks at or writes, each once.
+/// The guesses that the keys depend on which a step looks at or writes, each once, without the batch's own.
 pub(crate) fn rests_of<V, O>(
     alloc: Global,
     kernel: &Bytes<V, O>,
@@ -30,7 +30,7 @@ pub(crate) fn rests_of<V, O>(
     Ok(rests)
 }
 
-/// Adds each of these guesses but one, where it is not there.
+/// Adds those of these guesses that are not there, but never the batch's own.
 fn add_all(rests: &mut Vec<u64>, ids: &[GuessId], own: u64) -> Result<(), AllocError>
     ensures { OnOk result ((g : ℕ) → has g rests.new.items
         ≡ (has g rests.old.items || (has g ids.now && not (g == own)))) }
@@ -41,7 +41,7 @@ fn add_all(rests: &mut Vec<u64>, ids: &[GuessId], own: u64) -> Result<(), AllocE
     Ok(())
 }
 
-/// Adds a guess, where it is not that one and not there.
+/// Adds a guess, where it is not there and not the batch's own.
 fn add(rests: &mut Vec<u64>, number: u64, own: u64) -> Result<(), AllocError>
     ensures { OnOk result ((g : ℕ) → has g rests.new.items
         ≡ (has g rests.old.items || ((number == g) && not (g == own)))) }

@@ -34,7 +34,7 @@ AreDense first next number (b ∷ bs) =
     (b.number + length (b ∷ bs) ≡ number) × (is_kept b.stage ≡ false → IsBetween first next b)
     × AllByRecursion (IsBehind b) bs × AreDense first next number bs
 
--- so they stand after any calls of a new queue
+-- after any calls of a new queue its batches stand so
 abbrev pub FramesAreDense : Type 0
 FramesAreDense = (most most_bytes frame : ℕ) (cs : List Call) (q : QueueView) (s : Story)
     → Runs (new_queue most most_bytes frame) no_story cs q s

@@ -16,7 +16,7 @@ abbrev pub frame_refused : QueueView → PlacesView → ℕ → Option Refusal
 frame_refused q p room =
     option_or (take_refused q (room - 24)) (if nat_lt room 24 then Some Short else if has_room p (length (next_payload q)) then None else Some Full)
 
--- its number, and where it is to be written
+-- the next frame: its number, and where it is to be written
 abbrev pub sealed_of : QueueView → PlacesView → Sealed
 sealed_of q p = record { frame = q.frame; segment = p.segment; offset = p.offset; len = 24 + length (next_payload q) }
 

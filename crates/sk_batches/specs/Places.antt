@@ -19,7 +19,7 @@ end_of p len = p.offset + (24 + len)
 abbrev pub has_room : PlacesView → ℕ → Bool
 has_room p len = nat_lt (24 + len) (2 ^ 28) && nat_le (end_of p len) p.length
 
--- where it begins, and what is left behind it
+-- where the next frame begins
 abbrev pub place_of : PlacesView → Place
 place_of p = record { segment = p.segment; offset = p.offset }
 
@@ -30,7 +30,7 @@ behind p len = record p { offset = end_of p len }
 abbrev pub next_segment : PlacesView → Option ℕ
 next_segment p = if nat_le (2 ^ 28) (p.segment + 1) then None else Some (p.segment + 1)
 
--- it stands where the one before ended, within its segment; else nothing has changed
+-- the next frame stands where the one before ended, within its segment; else nothing has changed
 abbrev pub NextPost : Result Place Refusal → ℕ → PlacesView → PlacesView → Type 0
 NextPost (Ok place) len old new =
     (end_of old len ≤ old.length) × (place ≡ place_of old) × (new ≡ behind old len)

@@ -123,7 +123,7 @@ left (b ∷ bs) = if is_decided b.stage then bs else b ∷ bs
 
 -- ---- a cut
 
--- the last of these batches that is in a frame, or that one
+-- the number of the last of these batches that is in a frame; this number, where none is
 abbrev pub last_in : ℕ → ℕ → List Batch → ℕ
 last_in frame number [] = number
 last_in frame number (b ∷ bs) = if b.frame == frame then last_in frame b.number bs else last_in frame number bs

@@ -16,7 +16,7 @@ pub data Call : Type 0 where
   Cuts : (cut : Cut) → Call
   Stops : Call
 
--- what it leaves
+-- what a call leaves of the queue
 abbrev pub Happens : QueueView → Call → QueueView → Type 0
 Happens q (Appends added) m = m ≡ record q { records = q.records ++ added ∷ [] }
 Happens q Withdraws m = m ≡ record q { records = but_last q.records }

@@ -109,14 +109,14 @@ impl Batch {
         }
     }
 
-    /// Whether it is in this frame, of which nothing was told.
+    /// Whether the batch is in this frame, of which nothing was told.
     pub(crate) fn awaits(&self, frame: u64) -> bool
         ensures { result ≡ awaits frame self.now }
     {
         self.is_sent() && self.frame == frame
     }
 
-    /// It is sent, if it was to be sent again.
+    /// The batch goes out with this frame, if it was cut off and is to be sent again.
     pub(crate) fn send(&mut self, frame: u64)
         ensures { self.new ≡ send frame self.old }
     {
@@ -126,7 +126,7 @@ impl Batch {
         }
     }
 
-    /// A frame was told of.
+    /// The host told of a frame: the batch comes to this stage, if it is in that frame.
     pub(crate) fn tell(&mut self, frame: u64, stage: Stage)
         ensures { self.new ≡ tell frame stage self.old }
     {
@@ -135,7 +135,8 @@ impl Batch {
         }
     }
 
-    /// The log was cut.
+    /// The log was cut: a batch of the frame that failed is refused, and one behind it is to be sent again, with the records that
+    /// don't depend on what was cut off.
     pub(crate) fn cut_off(&mut self, cut: &Cut)
         ensures { self.new ≡ cut_off cut.now self.old }
     {

@@ -25,7 +25,7 @@ pub(crate) fn tell_all(batches: &mut Vec<Batch>, frame: u64, stage: Stage)
     }
 }
 
-/// The log was cut.
+/// The log was cut, and each batch is told so.
 pub(crate) fn cut_all(batches: &mut Vec<Batch>, cut: &Cut)
     ensures { batches.new.items ≡ map (cut_off cut.now) batches.old.items }
 {
@@ -34,7 +34,7 @@ pub(crate) fn cut_all(batches: &mut Vec<Batch>, cut: &Cut)
     }
 }
 
-/// Whether one is in this frame, of which nothing was told.
+/// Whether some batch is in this frame, of which nothing was told.
 pub(crate) fn is_any_awaited(batches: &[Batch], frame: u64) -> bool
     ensures { result ≡ list_any (awaits frame) batches.now }
 {
@@ -94,7 +94,7 @@ pub(crate) fn first_taken(batches: &[Batch]) -> Option<u64>
     None
 }
 
-/// The number of the last that is in a frame, or that one.
+/// The number of the last batch that is in a frame; this number, where none is.
 fn last_in(batches: &[Batch], frame: u64, number: u64) -> u64
     ensures { result ≡ last_in frame number batches.now }
 {
@@ -107,7 +107,7 @@ fn last_in(batches: &[Batch], frame: u64, number: u64) -> u64
     last
 }
 
-/// What is decided of the oldest.
+/// What is decided of the oldest batch, if anything is.
 pub(crate) fn decided(batches: &[Batch]) -> Option<Decision>
     ensures { result ≡ decided batches.now }
 {

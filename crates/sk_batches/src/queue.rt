@@ -123,8 +123,8 @@ impl Queue {
         bytes_of(self.batches.as_slice(), self.most_bytes) + self.records.len()
     }
 
-    /// Adds a record to the open batch, and answers that batch's number: its bytes, and the numbers of the batches that it rests
-    /// on beside the open one.
+    /// Adds a record to the open batch: its bytes, and the numbers of the batches that it depends on beside the open one. Answers
+    /// the number of the open batch.
     pub fn append(&mut self, rests: &[u64], bytes: &[u8]) -> Result<u64, Refusal>
         ensures { AppendPost result rests.now bytes.now self.old self.new }
     {

@@ -25,7 +25,7 @@ impl Model for Records {
 }
 
 impl Records {
-    /// None.
+    /// No records.
     pub(crate) fn new(alloc: Global) -> Records
         ensures { result ≡ [] }
     {

@@ -82,7 +82,7 @@ both_open limits asked other stream inlet inlet' one two had had' =
     open_asks limits asked stream inlet one had ∙ ap (λ ts. asks_of None (with_words ts)) same.0
     ∙ sym (open_asks limits other stream inlet' two had')
 
--- The same fault is told.
+-- Two faults at the front of one stream are one fault.
 same_fault : (limits : Limits) (f g : Fault) (xs a ys b : List ℕ) → HasFault limits f xs → HasFault limits g ys
     → xs ++ a ≡ ys ++ b → f ≡ g
 same_fault limits f g xs a ys b has has' is = elim (fronts xs a ys b is) [

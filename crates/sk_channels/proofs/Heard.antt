@@ -14,7 +14,7 @@ use Rattle.sk_channels.proofs.Asks.{ask_on, words_more, none_more, empty_more, t
 abbrev pub IsHosts : Option Queue → Option (List (List ℕ)) → Type 0
 IsHosts queue posed = IfSome posed (λ words. is_for_host queue words ≡ true)
 
--- The same, with what is asked for now.
+-- The inlet heard the stream, and what is asked for now stands behind what was.
 abbrev pub HasHeardOn : Limits → List Ask → List ℕ → Option Asked → Inlet → Type 0
 HasHeardOn limits asked stream one inlet = HoldsWith (λ asked stream. HasHeard limits asked stream inlet) asked stream one
 

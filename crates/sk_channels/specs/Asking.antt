@@ -41,7 +41,7 @@ with_words [] = []
 with_words (Some [] ∷ told) = with_words told
 with_words (one ∷ told) = one ∷ with_words told
 
--- The same for requests, one after another.
+-- Requests come to these, one after another, each with the queue that the one before it left.
 abbrev pub AskInTurn : Option Queue → Requests → List Ask → Option Queue → Type 0
 AskInTurn old [] [] new = new ≡ old
 AskInTurn old (t ∷ told) (a ∷ asked) new = (next : Option Queue) × ComesTo (is_hosts old t) old t a next × AskInTurn next told asked new

@@ -17,7 +17,7 @@ pub record IsOpen (limits : Limits) (asked : List Ask) (stream : List ℕ) (inle
   pub asks : AskInTurn None (with_words told) asked inlet.session.queue
   pub hosts : IfSome inlet.posed (λ words. is_for_host inlet.session.queue words ≡ true)
 
--- It is requests for which this was asked, then bytes with a fault, for which it is rejected, and whatever follows.
+-- The stream is requests for which this was asked, then bytes with a fault, for which it is rejected, and whatever follows.
 pub record IsClosed (limits : Limits) (asked : List Ask) (stream : List ℕ) : Type 0 where
   pub told : Requests
   pub before : List Ask

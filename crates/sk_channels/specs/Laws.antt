@@ -6,7 +6,7 @@ use Rattle.sk_channels.specs.Asking.{Requests, with_words, asks_of, untold, HadM
 use Rattle.sk_channels.specs.Telling.{Told, told_text}
 use Rattle.sk_channels.specs.Serving.{HasServed}
 
--- with what the host is asked, if it is
+-- what was asked for, with what the host is asked behind it, if it is
 abbrev pub with_ask : List Ask → Option (List (List ℕ)) → List Ask
 with_ask asked None = asked
 with_ask asked (Some words) = asked ++ Do (Say (Error Unknown)) ∷ []

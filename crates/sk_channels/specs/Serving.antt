@@ -28,7 +28,7 @@ ReplyPost limits asked stream told handed ticket text (Err Full) channel =
     HasServed limits asked stream told handed channel × (channel.outlet.most < length channel.outlet.waiting)
 ReplyPost limits asked stream told handed ticket text (Err Memory) channel = HasServed limits asked stream told handed channel
 
--- Only those before it are told.
+-- The tickets before this one that were told nothing are told that their writes did not reach the disk.
 abbrev pub RefusePost : Limits → List Ask → List ℕ → Told → List ℕ → ℕ → Result (Unit {0}) Refusal → Channel → Type 0
 RefusePost limits asked stream told handed ticket (Ok _) channel =
     (ticket ≤ length asked + 1) × HasServed limits asked stream (told ++ refused_up_to told ticket) handed channel

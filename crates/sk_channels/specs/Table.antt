@@ -24,16 +24,16 @@ abbrev pub hung_up : Option (Option Channel) → Option (Option Channel)
 hung_up None = None
 hung_up (Some place) = Some None
 
--- what was hung up is no more
+-- the place of a channel that was hung up is free
 abbrev pub released : Option (Option Channel) → Option (Option Channel)
 released (Some None) = None
 released place = place
 
--- with this channel at the number
+-- the channels with this one at the number
 abbrev pub with_channel : Channels → ℕ → Channel → Channels
 with_channel channels number channel = record channels { places = with_value channels.places number (Some channel) }
 
--- The others have what they had.
+-- The places of all other numbers have what they had.
 abbrev pub KeepsOthers : ℕ → Channels → Channels → Type 0
 KeepsOthers number old new = (other : ℕ) → other ≢ number → place_at new other ≡ place_at old other
 

@@ -15,7 +15,7 @@ told_text None = error_text (codes "IOERR the write did not reach the disk, noth
 abbrev pub refused : ℕ → Told
 refused count = replicate count None
 
--- those from the next on that are before this one
+-- what tickets are told, from the next on, that stand before this one: that their writes did not reach the disk
 abbrev pub refused_up_to : Told → ℕ → Told
 refused_up_to told ticket = refused (ticket - (length told + 1))
 

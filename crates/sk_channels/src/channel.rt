@@ -19,8 +19,8 @@ pub struct Channel {
 }
 
 impl Channel {
-    /// No byte came. No reply is taken while more bytes than these wait to be handed over, and no command is queued where the queue
-    /// would take more than four times the bytes that a request may have.
+    /// No byte came. No reply is taken while more bytes than these wait to be handed over, and no command is queued where the
+    /// queue would take more than four times the bytes that a request may have.
     pub fn new(alloc: Global, limits: Limits, most_waiting: usize) -> Channel
         requires { 16 ≤ limits.line }
         ensures served { HasServed limits [] [] [] [] result }
@@ -102,8 +102,8 @@ impl Channel {
         self.inlet.tell();
     }
 
-    /// Takes bytes from the front: up to the end of a request, or all; fewer where there is no memory for more, and none while the
-    /// host is asked.
+    /// Takes bytes from the front: up to the end of a request, or all; fewer where there is no memory for more, and none while
+    /// the host is asked.
     pub fn feed(&mut self, bytes: &[u8]) -> Result<Fed, Refusal>
         ensures served { (limits : Limits) (asked : List Ask) (stream : List ℕ) (told : Told)
             (handed : List ℕ) → HasServed limits asked stream told handed self.old

@@ -16,9 +16,9 @@ const QUEUED_REQUESTS: usize = 4;
 /// What is to be done for a request.
 #[derive(Drop)]
 pub enum Ask {
-    /// This work.
+    /// This work is to be done.
     Do(Work),
-    /// Only this is to be replied.
+    /// Nothing is to be done, and why is to be replied.
     Reject(Rejection),
 }
 
@@ -27,7 +27,7 @@ pub enum Ask {
 pub struct Asked {
     /// Tickets are 1, 2 and so on.
     pub ticket: u64,
-    /// What is to be done.
+    /// What is to be done for the request.
     pub ask: Ask,
 }
 
@@ -36,7 +36,7 @@ pub struct Asked {
 pub struct Fed {
     /// How many bytes were taken, from the front.
     pub count: usize,
-    /// What is to be done, where they end a request that is not the host's to answer.
+    /// What is to be done, where the bytes end a request that is not the host's to answer.
     pub asked: Option<Asked>,
 }
 
@@ -289,8 +289,8 @@ impl Inlet {
         fed.asked.is_some() || self.is_posed()
     }
 
-    /// Takes bytes from the front: up to the end of a request, or all; fewer where there is no memory for more, and none while the
-    /// host is asked.
+    /// Takes bytes from the front: up to the end of a request, or all; fewer where there is no memory for more, and none while
+    /// the host is asked.
     pub(crate) fn feed(&mut self, bytes: &[u8]) -> Result<Fed, Refusal>
         ensures { (limits : Limits) (asked : List Ask) (stream : List ℕ)
             → HasHeard limits asked stream self.old

@@ -6,7 +6,7 @@ ghost use Rattle.sk_channels.specs.Rejections.{fault_words, rejection_words};
 use sk_requests::{Fault, reply};
 use std::alloc::{AllocError, Global};
 
-/// Why what came is not carried out.
+/// Why a request is not carried out.
 #[derive(Clone, Copy, Debug, PartialEq, Eq)]
 pub enum Rejection {
     /// No request begins so: the channel is closed.
@@ -28,7 +28,6 @@ fn mark_words(alloc: Global, mark: u8) -> Result<Vec<u8>, AllocError>
     Ok(words)
 }
 
-/// The words of a fault.
 fn fault_words(alloc: Global, fault: Fault) -> Result<Vec<u8>, AllocError>
     ensures { IfOk result (λ words. words.items ≡ fault_words fault) }
 {

@@ -63,7 +63,7 @@ fn copy_front(bytes: &[u8], room: &mut [u8]) -> usize
 }
 
 impl Waiting {
-    /// None.
+    /// Nothing waits.
     pub(crate) fn new(alloc: Global) -> Waiting
         ensures { result ≡ [] }
     {

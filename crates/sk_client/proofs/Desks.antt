@@ -208,7 +208,7 @@ module _ (d : DeskView) (free : ℕ) (is : free ≡ room d.kernel - asked_count 
       let kernels : trace_full d.kernel 1 ≡ None = ap (λ b. cond b (Some TraceFull) None) large in
       ap (or_else (step_misfit d.kernel (entry pid input None))) (kernels ∙ sym (enough 1 least))
 
-  -- the same of a guess, with two places and a number
+  -- with two places and a number, a guess is refused as by the kernel
   pub same_guess_refusal : (pid : ℕ) → 2 ≤ free → no_number d ≡ None → guess_refused_at d pid ≡ guess_refused d.kernel (entry pid Input.Good (Some (next_guess d.kernel)))
   same_guess_refusal pid least numbered =
       let misfit = guess_misfits Input.Good (effect_at d.kernel (entry pid Input.Good (Some (next_guess d.kernel)))) in

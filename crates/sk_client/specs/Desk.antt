@@ -69,7 +69,7 @@ forgotten pid ks = filter (λ k. not (k.process == pid)) ks
 
 -- ---- which rule a turn takes
 
--- it takes a step with this input; or it guesses that the cached copy is good, and asks whether it is; or it asks, and takes no step
+-- a turn takes a step with this input; or it guesses that the cached copy is good, and asks whether it is; or it asks, and takes no step
 pub data Rule : Type 0 where
   Steps : Input → Rule
   Guesses : Ask → Rule
@@ -222,7 +222,7 @@ lost_by (Some Status.Undecided) = false
 lost_by (Some Status.Committed) = false
 lost_by s = true
 
--- a guess on which the request rests failed or was struck
+-- a guess on which the request depends failed or was struck
 abbrev pub is_void : KernelView → PendingRequest → Bool
 is_void k q = list_any (is_lost k) q.rests
 

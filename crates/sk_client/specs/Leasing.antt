@@ -41,7 +41,7 @@ abbrev pub DeskHandInPost : Result (Unit {0}) (LeaseView × HandIn) → LeaseVie
 DeskHandInPost (Ok u) l old new = DeskTakesIn (Ok u) l old new
 DeskHandInPost (Err back) l old new = (back.0 ≡ l) × DeskTakesIn (Err back.1) l old new
 
--- the same of the desk of a world, of which all else stays
+-- what a hand-in at the desk of a world answers and leaves; all else of the world stays
 abbrev pub WorldTakesIn : Result (Unit {0}) HandIn → LeaseView → WorldView → WorldView → Type 0
 WorldTakesIn handed l old new = DeskTakesIn handed l old.desk new.desk × (new ≡ record old { desk = new.desk })
 

@@ -10,7 +10,7 @@ pub record PendingRequest : Type 0 where
   pub ask : Ask
   -- the guess that its reply decides; `None` where the process waits for the reply
   pub guess : Option ℕ
-  -- the guesses that were undecided when it was made, and on which it rests, its own apart
+  -- the guesses that were undecided when it was made, and on which it depends, its own apart
   pub rests : List ℕ
   -- every guess below this number was decided when it was made
   pub settled : ℕ

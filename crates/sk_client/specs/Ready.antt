@@ -13,7 +13,7 @@ pub record WasBooted (k : KernelView) : Type 0 where
   pub sound : HasSoundTrace k
   pub place : length k.trace + length (undecided_at k) ≤ k.limit
 
--- it can begin a world: all its guesses are decided
+-- a kernel can begin a world: all its guesses are decided
 abbrev pub IsReady : KernelView → Type 0
 IsReady k = WasBooted k × (undecided_at k ≡ [])
 

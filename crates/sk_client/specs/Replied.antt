@@ -45,7 +45,7 @@ pub record StepsAreReplied (before : ℕ) (served : Exchanges) (earlier v : Worl
       (place : ℕ) (n : EntryView) (f : MarkedEffect Entity EntityState Saying) → before ≤ place → slice_get (steps_at v.desk.kernel) place ≡ Some (n, f)
       → n.input ≡ Input.Good → Counts v.desk.kernel n
       → (r : Replied served v) × (request_at place ≡ Some r.request.number) × IsStepOf v.desk.kernel place r.request
-  -- and each such request has its step
+  -- each accepted request whose reply was given has its step
   pub replies : (r : Replied served v) → (place : ℕ) × (request_at place ≡ Some r.request.number) × IsStepOf v.desk.kernel place r.request
   -- so has each asked request whose reply was given and that was not dropped
   pub asked : (q : Sent) (r : Reply) → Contains served (q, r) → IsGiven v q → q.guess ≡ None → IsSome (input_of r.answer) → (place : ℕ) × (request_at place ≡ Some q.number)

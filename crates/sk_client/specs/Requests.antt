@@ -14,7 +14,7 @@ pub record RequestsView : Type 0 where
 abbrev pub requests_in : List Queued → List PendingRequest
 requests_in qs = map (λ q. q.request) qs
 
--- it can be sent: what it depends on is there once more
+-- a request can be sent: what it depends on is there once more
 abbrev pub IsWhole : Queued → Type 0
 IsWhole q = q.again ≡ Some q.request.rests
 

@@ -11,7 +11,7 @@ Bytes = List ℕ
 abbrev pub copy_of : ContentView → EntityState
 copy_of c = EntityState.Value (Value.Copy c)
 
--- and its version; none of what is no copy
+-- the version of a cached copy; none of what is no copy
 abbrev pub version_of : Option EntityState → Option ℕ
 version_of (Some (EntityState.Value (Value.Copy c))) = Some c.version
 version_of _ = None

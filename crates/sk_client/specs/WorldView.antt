@@ -53,13 +53,13 @@ Serves result w new None = (result ≡ Err Cause.Idle) × (new ≡ w)
 Serves (Ok told) w new (Some q) = (told ≡ WorldAnswer.Served (reply_to w.server q)) × (new ≡ served w q)
 Serves (Err why) w new (Some q) = (why ≡ Cause.Memory) × (new ≡ w)
 
--- the same, where the reply is behind the others
+-- the server answers the request that comes first, as in `Serves`, and the reply is behind the others
 abbrev pub ServesNext : Result (Unit {0}) Cause → WorldView → WorldView → Option Request → Type 0
 ServesNext result w new None = (result ≡ Err Cause.Idle) × (new ≡ w)
 ServesNext (Ok done) w new (Some q) = new ≡ served w q
 ServesNext (Err why) w new (Some q) = (why ≡ Cause.Memory) × (new ≡ w)
 
--- the same for server and replies alone
+-- the server answers a request, told of server and replies alone
 abbrev pub AnswersWith : Result (Unit {0}) Cause → ServerView → List Reply → Request → ServerView → List Reply → Type 0
 AnswersWith (Ok done) s rs q t all = (t ≡ answered s q (answer_to s q)) × (all ≡ rs ++ reply_to s q ∷ [])
 AnswersWith (Err why) s rs q t all = (why ≡ Cause.Memory) × (t ≡ s) × (all ≡ rs)
@@ -88,7 +88,7 @@ EventPost result w WorldEvent.Serve new = let t = taken_by w w.back in Serves re
 EventPost result w WorldEvent.Reply new = Replies result w new w.replies
 EventPost result w (WorldEvent.Edit name expected bytes) new = EditsFile result w name expected bytes new
 
--- the same in a few words: what was served is the newest of the replies
+-- an event is done as in `EventPost`, and told in a few words: what was served is the newest of the replies
 abbrev pub NewsPost : Result WorldNews Cause → WorldView → WorldEvent → WorldView → Type 0
 NewsPost (Ok (WorldNews.Turn turn)) w e new = EventPost (Ok (WorldAnswer.Turn turn)) w e new
 NewsPost (Ok WorldNews.Served) w e new = (reply : Reply) × (older : List Reply) × (new.replies ≡ older ++ reply ∷ []) × EventPost (Ok (WorldAnswer.Served reply)) w e new

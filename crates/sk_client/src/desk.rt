@@ -153,7 +153,7 @@ fn unless_kept<'a>(kept: Option<&Input>, wish: Wish<'a>) -> Wish<'a>
     }
 }
 
-/// Whether a guess failed or was struck; true of one that an earlier epoch made, on which nothing rests.
+/// Whether a guess failed or was struck; true of one that an earlier epoch made, on which nothing depends.
 fn is_lost(kernel: &Kernel, id: GuessId) -> bool
     ensures { result ≡ is_lost kernel.now id }
 {
@@ -300,7 +300,6 @@ impl Desk {
         self.first
     }
 
-    /// The kernel.
     pub fn kernel(&self) -> &Kernel
         ensures { result.now ≡ self.now.kernel }
     {
@@ -388,7 +387,7 @@ impl Desk {
         Ok(unless_kept(kept_for(&self.kept, pid), wish))
     }
 
-    /// The wish of a turn where this is what the process does next, or why it does nothing.
+    /// What a turn is to do, by what the process does next; or why it does nothing.
     #[inline(always)]
     fn wish_behind<'a>(
         &self,
@@ -614,7 +613,7 @@ impl Desk {
         self.requests.first_waiting()
     }
 
-    /// Takes the oldest request that waits where nothing is to be sent of it, if there is one.
+    /// Takes the oldest request that waits, if there is one, without a copy of it to send.
     pub(crate) fn take_unsent(&mut self)
         ensures { self.new ≡ first_taken self.old self.old.waiting }
     {
@@ -681,7 +680,7 @@ impl Desk {
         }
     }
 
-    /// The same with a reply that is lent.
+    /// As `give_reply`, with a reply that is lent, and so not handed back.
     #[inline(always)]
     pub(crate) fn give_lent(&mut self, reply: &Reply) -> Result<Given, ReplyRefusal>
         ensures { ReplyPost (handed_back reply.now result) self.old reply.now self.new }

@@ -70,13 +70,13 @@ pub fn apart()
     ensures { AlwaysLater (λ w served v more last. StandApart served v last) }
 {}
 
-/// The steps that a record has since the world began, that were given Good and that were asked or whose guess committed, and
-/// the accepted requests whose reply was given, are one for one: each of the steps is that of such a request, each such
-/// request has its step, and no two have one. A store's step sets the copy, a check's writes no copy at all, and no fetch of a
-/// copy that is not there has one. No two steps are one request's, also of those that were given something else than Good or
-/// whose guess is undecided; and each asked request whose reply was given has its step, with what the reply gives, but those
-/// that the server dropped. A step is by its request's process: said of the requests that were pending after the first list. No
-/// request has two replies (`replies`), whatever they answer.
+/// Steps and accepted requests are one for one. Of the steps that a record has since the world began those are meant that were
+/// given Good and were asked, or whose guess committed; of the accepted requests those whose reply was given. Each such step
+/// is that of such a request, each such request has its step, and no two have one. A store's step sets the copy, a check's
+/// writes no copy at all, and no fetch of a copy that is not there has one. No two steps are one request's, also of those that
+/// were given something else than Good or whose guess is undecided. Each asked request whose reply was given has its step,
+/// with what the reply gives, but those that the server dropped. A step is by its request's process, which is said of the
+/// requests that were pending after the first list. No request has two replies (`replies`), whatever they answer.
 pub fn replied()
     ensures steps { AlwaysLater (λ w served v more last.
         StepsAreReplied (length (record_at w.desk.kernel)) (served ++ more) v last) }

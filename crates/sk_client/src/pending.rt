@@ -27,7 +27,7 @@ pub(crate) struct BoxedRequest {
     pub(crate) ask: BoxedAsk,
     /// The guess that its reply decides; `None` where the process waits for the reply.
     pub(crate) guess: Option<GuessId>,
-    /// The guesses that were undecided when it was made, and on which it rests, its own apart.
+    /// The guesses that were undecided when it was made, and on which it depends, its own apart.
     pub(crate) rests: TagSet,
     /// Every guess below this number was decided when it was made.
     pub(crate) settled: u64,
@@ -78,7 +78,7 @@ impl BoxedAsk {
         }
     }
 
-    /// The same, as it is sent.
+    /// What is asked, in a copy that can be sent.
     fn sent(&self) -> Ask
         ensures { result ≡ ask_of self.now }
     {
@@ -139,7 +139,7 @@ impl BoxedRequest {
         }
     }
 
-    /// The same as it is sent, with what it depends on.
+    /// A copy of the request that can be sent, with these guesses as what it depends on.
     pub(crate) fn sent(&self, rests: TagSet) -> Request
         requires { rests ≡ self.now.rests }
         ensures { result ≡ sent self.now }

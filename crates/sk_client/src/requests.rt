@@ -109,7 +109,7 @@ impl Requests {
         self.queue.reserve(1)
     }
 
-    /// One request more, for which there is room, with what it depends on once more.
+    /// Adds a request, for which there is room, with a second list of what it depends on.
     pub(crate) fn push(&mut self, request: BoxedRequest, again: TagSet)
         requires room { length (self.old.taken ++ self.old.waiting) < self.old.room }
         requires again { again ≡ request.rests }

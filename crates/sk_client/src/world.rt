@@ -132,7 +132,6 @@ impl World {
         }
     }
 
-    /// The desk.
     pub fn desk(&self) -> &Desk
         ensures { result.now ≡ self.now.desk }
     {
@@ -146,7 +145,6 @@ impl World {
         self.desk.hand_in(lease)
     }
 
-    /// The server.
     pub fn server(&self) -> &Server
         ensures { result.now ≡ self.now.server }
     {
@@ -172,7 +170,7 @@ impl World {
         self.take(event.lent())
     }
 
-    /// The same with an event that is lent.
+    /// As `event`, with an event that is lent.
     pub fn take(&mut self, event: EventRef<'_>) -> Result<WorldAnswer, Cause>
         ensures { EventPost result self.old (event_in event.entry) self.new }
     {
@@ -305,8 +303,8 @@ impl World {
         }
     }
 
-    /// Begins a new epoch of the desk where no request is pending; the server keeps its files, and the world begins anew. Refusals
-    /// are those of the desk, and nothing has changed.
+    /// Begins a new epoch of the desk where no request is pending; the server keeps its files, and the world begins anew.
+    /// Refusals are those of the desk, and nothing has changed.
     pub fn new_epoch(&mut self) -> Result<(Trace, Texts), EpochRefusal>
         ensures { WorldEpochPost result self.old self.new }
     {

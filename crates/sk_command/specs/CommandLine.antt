@@ -54,11 +54,11 @@ instructions_command = on_top (λ s. record s { arg_required_else_help = true })
 abbrev pub bare_command_line : App
 bare_command_line = on_top (λ s. record s { has_version = true; subcommand_required = true }) (new_app (codes "speculate"))
 
--- with those that play what a scenario declares
+-- the command line with the commands that play what a scenario declares
 abbrev pub with_players : App
 with_players = with_subcommand (with_subcommand bare_command_line play_command.top) (file_command (codes "talk")).top
 
--- and those that take a trace
+-- the command line with those and the commands that take a trace
 abbrev pub with_readers : App
 with_readers = with_subcommand (with_subcommand with_players (file_command (codes "plain")).top) (file_command (codes "replay")).top
 
@@ -93,7 +93,7 @@ shows_found rows = record {
 abbrev pub number_said : ℕ → Text → Option ℕ
 number_said most text = if is_unsigned_in 1 most text then Some (digits_value 10 (without_leading_plus text)) else None
 
--- and the one that an argument was found with
+-- the number that an argument was found with
 abbrev pub number_found : ℕ → Text → List Row → Option ℕ
 number_found most argument rows = option_and_then (number_said most) (first_of argument rows)
 
@@ -110,7 +110,7 @@ task_for command rows =
     else if bytes_eq command (codes "replay") then Some Task.Replay
     else if bytes_eq command (codes "work") then work_for rows else None
 
--- the same with the file that it names
+-- what a command of this name is to do, with the file that it names
 abbrev pub wish_for : Text → List Row → Option Wish
 wish_for command rows =
     option_and_then (λ file. option_map (λ task. record { file = file; task = task }) (task_for command rows)) (first_of (codes "FILE") rows)

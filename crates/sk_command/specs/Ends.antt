@@ -36,7 +36,7 @@ IsFlushed End.Done buffer = buffer ≡ []
 IsFlushed End.Refused buffer = buffer ≡ []
 IsFlushed _ buffer = ⊤
 
--- ends so, and the output is as it was
+-- a run ends so, and the output is as it was
 abbrev pub EndsUnwritten : End → End → Option (List ℕ) → Option (List ℕ) → Type 0
 EndsUnwritten wanted end old new = (end ≡ wanted) × Keeps old new
 

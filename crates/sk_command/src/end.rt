@@ -40,7 +40,7 @@ impl End {
         }
     }
 
-    /// The same end, but where all is done and this refusal is to be told.
+    /// This end; but `Refused` where all is done and a refusal is to be told.
     pub fn with_refusal(self, is_refused: bool) -> End
         ensures { result ≡ with_refusal is_refused self }
     {

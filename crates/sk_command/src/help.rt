@@ -1,31 +1,31 @@
 //! What the help of the command line says.
 
-/// Of the whole command line.
+/// What the whole command line is about.
 pub const COMMAND_LINE: &str =
     "A kernel that runs ahead on guesses, and takes back what a wrong one touched.";
 
-/// Of `play`.
+/// What `play` does.
 pub const PLAY: &str =
     "Plays the events of a scenario and prints each answer, and then the report.";
 
-/// Of `talk`.
+/// What `talk` does.
 pub const TALK: &str = "Answers the events of standard input one by one, each at once.";
 
-/// Of `plain`.
+/// What `plain` does.
 pub const PLAIN: &str =
     "Strikes a trace, runs what it leaves without guesses and prints the report.";
 
-/// Of `replay`.
+/// What `replay` does.
 pub const REPLAY: &str = "Takes the events of a trace anew and prints the report.";
 
-/// Of `work`.
+/// What `work` does.
 pub const WORK: &str =
     "Lets workers take turns of a scenario's processes on one desk and prints the report.";
 
-/// Of `instructions`.
+/// What `instructions` does.
 pub const INSTRUCTIONS: &str = "Prints the table of the instructions of scripts.";
 
-/// Of the flags of `play`.
+/// What each flag of `play` does.
 pub const TRACE_FLAG: &str = "Prints the trace behind the report";
 
 pub const STEPS_FLAG: &str = "Prints what each step reads, writes and rests on below its answer";

@@ -27,7 +27,7 @@ use std::io::{BufWriter, Write};
 /// What `play` prints beside the answers and the report.
 #[derive(Clone, Copy)]
 pub struct Shows {
-    /// What each step reads, writes and rests on, below its answer.
+    /// What each step reads, writes and depends on, below its answer.
     pub steps: bool,
     /// The line of each event, and the place of its process, below these.
     pub explains: bool,
@@ -184,7 +184,7 @@ fn with_players<'a>(alloc: Global) -> Result<Command<'a>, AllocError>
         .subcommand(of_file(alloc, "talk", TALK, TALK_FORMS)?)
 }
 
-/// The same with those that take a trace.
+/// The command line with those commands, and with those that take a trace.
 fn with_readers<'a>(alloc: Global) -> Result<Command<'a>, AllocError>
     ensures { IfOk result (λ command. app_of command ≡ with_readers) }
 {
@@ -325,7 +325,6 @@ pub fn explain<W: Write + Drop, E: Write>(
     }
 }
 
-/// Prints the help.
 fn print_help<H: fmt::Display, W: Write + Drop>(
     alloc: Global,
     help: &H,

@@ -13,7 +13,7 @@ asking_for (key ∷ keys) comes channel has = Ask key (λ answer. asking_for key
 abbrev pub act : ℕ → List (List ℕ) → Work → Step (List ℕ) (List ℕ) (ℕ × Answer) (Unit {0})
 act channel known work = asking_for (looks_at known work) (comes_to known work) channel (λ key. None)
 
--- what it did, where keys have this
+-- what work did, where keys have this
 abbrev pub deed : ℕ → List (List ℕ) → Work → Have → Deed (List ℕ) (List ℕ) Answer
 deed channel known work has = record
     { looked = looks_at known work; written = (comes_to known work has).written; said = Some (channel, (comes_to known work has).reply) }

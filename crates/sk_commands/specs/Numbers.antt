@@ -7,7 +7,7 @@ abbrev pub fits : ℤ → Bool
 fits (pos n) = nat_lt n (2 ^ 63)
 fits (negsuc n) = nat_lt n (2 ^ 63)
 
--- the integer, if it has
+-- an integer, if it has 64 bits
 abbrev pub fitting : ℤ → Option ℤ
 fitting z = if fits z then Some z else None
 
@@ -19,6 +19,6 @@ said_as z text = if fits z && bytes_eq text (signed_decimal z) then Some z else 
 unfoldable pub number_of : List ℕ → Option ℤ
 number_of text = said_as (signed_digits_value 10 text) text
 
--- it is the decimal text of none
+-- a text that is the decimal text of no integer of 64 bits
 abbrev pub IsNoNumber : List ℕ → Type 0
 IsNoNumber text = (z : ℤ) → fits z ≡ true → text ≡ signed_decimal z → ⊥

@@ -11,13 +11,13 @@ abbrev pub made : {A : Type 0} → (A → Command) → Result A Fault → Result
 made make (Ok a) = Ok (make a)
 made make (Err fault) = Err fault
 
--- and that it is to be run
+-- the order that a command is to be run, or the fault
 abbrev pub runs : Result Command Fault → Result Order Fault
 runs (Ok command) = Ok (Run command)
 runs (Err fault) = Err fault
 
 module _ (name : Name) where
-  -- no word
+  -- an order that takes no word behind its name
   abbrev pub alone : Order → List (List ℕ) → Result Order Fault
   alone order [] = Ok order
   alone order (word ∷ words) = Err (WrongNumber name)
@@ -51,14 +51,14 @@ subtract_of key (Some by) = add_or Overflow key (fitting (neg_ℤ by))
 abbrev pub plainly : Options
 plainly = record { when = When.Always; gives = false }
 
--- so, and only where the key is absent, or there: not both
+-- the options, by which a key is set only where it is absent, or only where it is there; none where the other one was said before
 abbrev pub only : When → Options → When → Option Options
 only wanted options When.Always = Some (record options { when = wanted })
 only When.Absent options When.Absent = Some options
 only When.Present options When.Present = Some options
 only wanted options other = None
 
--- with what one word more says
+-- the options with what one word more says
 abbrev pub with_option : List ℕ → Options → Option Options
 with_option word options =
     if is_alike word (codes "nx") then only When.Absent options options.when

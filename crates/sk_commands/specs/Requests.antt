@@ -60,7 +60,7 @@ log_text work = flat_map array (requests_of work)
 abbrev pub IsSaid : Command → Type 0
 IsSaid command = (words : List (List ℕ)) × (order_of words ≡ Ok (Run command))
 
--- Each of these commands is.
+-- Each of these commands is what some request says.
 abbrev pub AreSaid : List Command → Type 0
 AreSaid commands = AllByRecursion IsSaid commands
 

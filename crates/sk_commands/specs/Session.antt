@@ -3,7 +3,7 @@ use Rattle.std.specs.Prelude.{◌≡◌, ℕ, ◌+◌, ◌-◌, ◌^◌, min, le
 use Rattle.sk_commands.specs.Base.{AllocError, Command, Order, Run, Multi, Exec, Discard, Fault, Nested, ExecAlone}
 use Rattle.sk_commands.specs.Base.{DiscardAlone, Aborted, Word, Simple, Error, Queue, Work, Say, One, Each}
 
--- the queue that is open then, and what is to be done
+-- what a request comes to: the queue that is open behind it, and what is to be done
 pub record Turn : Type 0 where
   pub queue : Option Queue
   pub work : Work

@@ -31,7 +31,7 @@ puts key value reply = record { written = (key, Some value) ∷ []; reply = repl
 abbrev pub counts : ℕ → Reply
 counts n = Integer (pos n)
 
--- what a key has, or nothing
+-- the reply of what a key has, or of nothing
 abbrev pub shown : Option (List ℕ) → Reply
 shown None = Null
 shown (Some value) = Bulk value
@@ -44,7 +44,7 @@ bytes_of has = unwrap_or has []
 abbrev pub is_among : List ℕ → List (List ℕ) → Bool
 is_among key keys = list_any (bytes_eq key) keys
 
--- these, and one more where it is there and not among them
+-- the keys that were found, and this one where it is there and not among them
 abbrev pub with_key : Have → List ℕ → List (List ℕ) → List (List ℕ)
 with_key has key found = if is_some (has key) && not (is_among key found) then found ++ key ∷ [] else found
 
@@ -108,7 +108,7 @@ pairs_of other = []
 abbrev pub begins_with : List ℕ → List ℕ → Bool
 begins_with prefix key = starts_with (λ a b. a == b) key prefix
 
--- those of the keys that begin so and are there
+-- those of the keys that begin with this prefix and are there
 abbrev pub listed : List ℕ → Have → List (List ℕ) → List (List ℕ)
 listed prefix has keys = filter (λ key. begins_with prefix key && is_some (has key)) keys
 
@@ -116,7 +116,7 @@ listed prefix has keys = filter (λ key. begins_with prefix key && is_some (has 
 abbrev pub present : Have → List (List ℕ) → List (List ℕ)
 present has keys = filter (λ key. is_some (has key)) keys
 
--- they become absent
+-- all these keys become absent, and the reply is OK
 abbrev pub flushed : List (List ℕ) → Outcome Reply
 flushed keys = record { written = removals keys; reply = Simple Word.Ok }
 
@@ -175,7 +175,7 @@ may_write (MSet words) = true
 may_write FlushAll = true
 may_write other = false
 
--- the same writes, where keys are kept as vectors
+-- the writes that are kept with keys as vectors
 abbrev pub told : List (Vec ℕ × Option (List ℕ)) → Written
 told ws = map (λ w. (w.0.items, w.1)) ws
 
@@ -183,7 +183,7 @@ told ws = map (λ w. (w.0.items, w.1)) ws
 abbrev pub one_more : Bool → Vec ℕ → List (Vec ℕ × Option (List ℕ)) → List (Vec ℕ × Option (List ℕ))
 one_more is_there key ws = if is_there && not (list_any (bytes_eq key.items) (map (λ w. w.0.items) ws)) then (key, None) ∷ [] else []
 
--- It came to this: the writes stand behind those that were there; without memory nothing has changed.
+-- A command came to this outcome: its writes stand behind those that were there; without memory nothing has changed.
 abbrev pub CarriesOut : {R : Type 0} → Outcome R → List (Vec ℕ × Option (List ℕ)) → Result R AllocError → List (Vec ℕ × Option (List ℕ)) → Type 0
 CarriesOut outcome old (Ok reply) new = (reply ≡ outcome.reply) × (told new ≡ told old ++ outcome.written)
 CarriesOut outcome old (Err out_of_memory) new = new ≡ old

@@ -4,7 +4,7 @@ use Rattle.sk_commands.specs.Base.{nat_cmp, slice_cmp, by_order, Vec, vec_items,
 use Rattle.sk_commands.specs.Base.{Answer}
 use Rattle.sk_commands.specs.Table.{asks, is_told_of_all, may_write, outcome, Have, Outcome, Written}
 
--- a key has this, and the others what they have
+-- what keys have, once this one has this
 abbrev pub with_value : List ℕ → Option (List ℕ) → Have → Have
 with_value key value has k = if bytes_eq k key then value else has k
 
@@ -29,7 +29,7 @@ abbrev pub known_after : Written → List (List ℕ) → List (List ℕ)
 known_after [] known = known
 known_after (w ∷ ws) known = known_after ws (with_known known w.0)
 
--- what came of a command, and then of others
+-- the outcome of a command and of those behind it together
 abbrev pub followed : Outcome Reply → Outcome (List Reply) → Outcome (List Reply)
 followed one others = record { written = one.written ++ others.written; reply = one.reply ∷ others.reply }
 

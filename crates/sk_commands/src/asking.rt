@@ -6,7 +6,7 @@ ghost use Rattle.sk_commands.specs.Table.{asks, is_seen, is_told_of_all, may_wri
 use crate::{Command, Options, When};
 use std::alloc::{AllocError, Global};
 
-/// A copy of a key stands behind those that are listed.
+/// Lists a copy of a key behind those that are listed.
 pub(crate) fn copy_key(
     alloc: Global,
     key: &[u8],
@@ -22,7 +22,7 @@ pub(crate) fn copy_key(
     Ok(())
 }
 
-/// Copies of keys stand behind those that are listed. Without memory for all, none does.
+/// Lists copies of keys behind those that are listed; without memory for all, of none.
 pub(crate) fn copy_keys(
     alloc: Global,
     keys: &[Vec<u8>],
@@ -54,7 +54,7 @@ fn is_seen(options: Options) -> bool
     }
 }
 
-/// A copy of a key that is set stands behind those that are listed, where it matters what it has.
+/// Lists a copy of a key that is to be set, where it matters what it has.
 fn copy_seen(
     alloc: Global,
     key: &[u8],

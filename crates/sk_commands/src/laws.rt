@@ -9,8 +9,8 @@ ghost use Rattle.sk_commands.specs.Parsing.{order_of};
 ghost use Rattle.sk_commands.specs.Session.{turn};
 ghost use Rattle.sk_commands.specs.Requests.{log_text, requests_of, words_for, work_for, AreAsked, AreWithin, IsReplyOrAsked, WaitsSaid};
 
-/// For whatever keys have, and whatever keys are known: the step of a command, or of a queue, asks for just the keys that are looked
-/// at, and then writes and says what comes of them.
+/// For whatever keys have, and whatever keys are known: the step of a command, or of a queue, asks for just the keys that are
+/// looked at, and then writes and says what comes of them.
 pub fn commands_act()
     ensures { (channel : ℕ) (known : List (List ℕ)) (work : Work) (has : Have)
         → perform has (act channel known work) ≡ Ok (effect_of has (deed channel known work has)) }

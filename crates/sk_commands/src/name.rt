@@ -28,7 +28,7 @@ pub enum Name {
     Echo,
 }
 
-/// All of them.
+/// The names of all commands.
 const NAMES: [Name; 21] = [
     Name::Get,
     Name::Set,

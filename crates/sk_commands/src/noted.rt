@@ -40,7 +40,7 @@ pub(crate) struct Places {
 }
 
 impl Places {
-    /// None.
+    /// An empty table of places.
     fn new(alloc: Global) -> Places
         ensures { AreKept result [] }
     {
@@ -120,7 +120,7 @@ impl Model for Noted {
 }
 
 impl Noted {
-    /// None.
+    /// No write is noted.
     pub(crate) fn new(alloc: Global) -> Noted
         ensures { result ≡ [] }
     {

@@ -8,7 +8,7 @@ use crate::name::is_alike;
 use crate::number::negative_of;
 use crate::{ByteString, Command, Fault, Keys, Name, Options, Order, When, number_of};
 
-/// No word.
+/// An order that takes no word behind its name.
 fn alone(name: Name, order: Order, words: &[Vec<u8>]) -> Result<Order, Fault>
     ensures { result ≡ alone name order (map vec_items words.now) }
 {
@@ -18,7 +18,7 @@ fn alone(name: Name, order: Order, words: &[Vec<u8>]) -> Result<Order, Fault>
     Ok(order)
 }
 
-/// The only word.
+/// The word of a command that takes one.
 fn one(name: Name, mut words: Vec<Vec<u8>>) -> Result<ByteString, Fault>
     ensures { result ≡ one_of name (map vec_items words.items) }
 {
@@ -28,7 +28,7 @@ fn one(name: Name, mut words: Vec<Vec<u8>>) -> Result<ByteString, Fault>
     }
 }
 
-/// The only two words.
+/// The words of a command that takes two.
 fn two(name: Name, mut words: Vec<Vec<u8>>) -> Result<(ByteString, ByteString), Fault>
     ensures { result ≡ two_of name (map vec_items words.items) }
 {
@@ -74,7 +74,7 @@ fn subtract(key: ByteString, text: &ByteString) -> Command
     }
 }
 
-/// With what one word more says.
+/// The options of a SET with what one word more says, where that is an option and none that was there is against it.
 fn with_option(word: &[u8], options: Options) -> Option<Options>
     ensures { result ≡ with_option word.now options }
 {

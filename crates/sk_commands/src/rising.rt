@@ -22,7 +22,7 @@ pub(crate) fn are_rising(keys: &[Vec<u8>]) -> bool
     true
 }
 
-/// A copy of a key comes to those of a set.
+/// Adds a copy of a key to a set.
 fn add_copy(alloc: Global, key: &[u8], all: &mut BTreeSet<Vec<u8>>) -> Result<(), AllocError>
     ensures { OnOk result
         (map vec_items all.new.keys ≡ with_known (map vec_items all.old.keys) key.now) }

@@ -233,7 +233,7 @@ fn gone_of<S: Look>(alloc: Global, store: &S, keys: Keys) -> Result<Noted, Alloc
     Ok(gone)
 }
 
-/// The same for any number of keys, in a time that grows as their number does.
+/// Makes any number of keys absent, and replies how many were there, in a time that grows as their number does.
 fn delete_many<S: Look>(
     alloc: Global,
     store: &S,
@@ -286,7 +286,7 @@ fn is_listed<S: Look>(store: &S, prefix: &[u8], key: &[u8]) -> bool
     key.starts_with(prefix) && store.value(key).is_some()
 }
 
-/// Those of the keys that begin so and are there.
+/// Replies with those of the keys that begin with a prefix and are there.
 fn list<S: Look>(
     alloc: Global,
     store: &S,

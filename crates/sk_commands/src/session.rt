@@ -142,7 +142,7 @@ impl Session {
         weighed(words, self.bytes) <= most
     }
 
-    /// The queue that is open, if one is, is not to be carried out.
+    /// If a queue is open, its commands are not to be carried out any more.
     pub fn spoil(&mut self)
         ensures queue { self.new.queue ≡ option_map spoilt self.old.queue }
         ensures bytes { self.new.bytes ≡ self.old.bytes }

@@ -29,7 +29,6 @@ fn write_values(text: &mut Vec<u8>, values: &[Option<ByteString>]) -> Result<(),
     Ok(())
 }
 
-/// Writes a reply.
 fn write_reply(text: &mut Vec<u8>, reply: &Reply) -> Result<(), AllocError>
     ensures { OnOk result (text.new.items ≡ text.old.items ++ reply_text reply.now) }
 {
@@ -45,7 +44,7 @@ fn write_reply(text: &mut Vec<u8>, reply: &Reply) -> Result<(), AllocError>
     }
 }
 
-/// Writes replies that are one.
+/// Writes an array of replies.
 fn write_replies(text: &mut Vec<u8>, replies: &[Reply]) -> Result<(), AllocError>
     ensures { OnOk result (text.new.items ≡ text.old.items
         ++ (array_text (length replies.now) ++ flat_map reply_text replies.now)) }

@@ -33,7 +33,7 @@ impl Model for Commands {
 }
 
 impl Commands {
-    /// None.
+    /// No commands.
     pub fn new(alloc: Global) -> Commands
         ensures { result ≡ [] }
     {
@@ -42,7 +42,7 @@ impl Commands {
         }
     }
 
-    /// One more, behind the others.
+    /// Adds a command behind the others.
     pub fn push(&mut self, command: Command) -> Result<(), AllocError>
         ensures ok { OnOk result (self.new ≡ self.old ++ command ∷ []) }
         ensures err { OnErr result (self.new ≡ self.old) }
@@ -104,14 +104,14 @@ impl Replies {
 /// What is done for a request, as one step.
 #[derive(Drop)]
 pub enum Work {
-    /// This is replied, and nothing else is done.
+    /// Nothing is done but to reply this.
     Say(Reply),
     One(Command),
     /// EXEC: the commands of a queue, one after another, all or none.
     Each(Commands),
 }
 
-/// What is replied to it.
+/// What is replied to a request's work.
 #[derive(Drop)]
 pub enum Answer {
     One(Reply),
@@ -184,7 +184,8 @@ fn place_each(
     Ok(all)
 }
 
-/// The same for any number of writes: keys that stand in the order of their bytes are looked through once for all of them.
+/// Copies of all keys when this is written, as of `place_each`. Keys that stand in the order of their bytes are looked through
+/// once for many writes.
 fn known_after(
     alloc: Global,
     written: &[(Vec<u8>, Option<ByteString>)],

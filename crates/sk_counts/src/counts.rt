@@ -28,8 +28,8 @@ pub struct Counts {
 }
 
 impl Counts {
-    /// The counts of a kernel, in one pass over its trace, and the notes that it holds. Each failure costs a run of the steps behind
-    /// the oldest guess that was undecided there, and no other. Refused only for want of memory.
+    /// The counts of a kernel, in one pass over its trace, and the notes that it holds. Each failure costs a run of the steps
+    /// behind the oldest guess that was undecided there, and no other. Refused only for want of memory.
     pub fn of(alloc: Global, kernel: &Kernel) -> Result<Counts, AllocError>
         ensures { IfOk result (λ counts. AreCounts kernel.now counts) }
     {

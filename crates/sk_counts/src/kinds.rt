@@ -17,7 +17,7 @@ pub(crate) fn is_step(event: &Event) -> bool
     }
 }
 
-/// Whether it makes a guess.
+/// Whether an event makes a guess.
 pub(crate) fn is_guess(event: &Event) -> bool
     ensures { result ≡ is_guess event.now }
 {
@@ -27,7 +27,7 @@ pub(crate) fn is_guess(event: &Event) -> bool
     }
 }
 
-/// Whether it commits one.
+/// Whether an event commits a guess.
 pub(crate) fn is_commit(event: &Event) -> bool
     ensures { result ≡ is_commit event.now }
 {
@@ -37,7 +37,7 @@ pub(crate) fn is_commit(event: &Event) -> bool
     }
 }
 
-/// Whether it fails one.
+/// Whether an event fails a guess.
 pub(crate) fn is_failure(event: &Event) -> bool
     ensures { result ≡ is_failure event.now }
 {

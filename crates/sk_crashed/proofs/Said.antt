@@ -80,7 +80,7 @@ all_said count n ps works (inr all) say = record {
   say = subst (λ qs. SayAll qs works) (take_all n ps all ∙ sym (take_all (n + count) ps (omega (arith, all)))) say;
 }
 
--- the same, where a front part of them was cut off by an empty frame
+-- as `all_said`, where just a front part of the frames stands before an empty frame that cut the others off
 pub cut_said : (count n d : ℕ) (ps : List (List ℕ)) (works : List Work) → d ≤ length ps → count ≤ d
     → Reaches count n (take d ps ++ [] ∷ []) → SayAll (take n (take d ps ++ [] ∷ [])) works → AreSaid count ps works
 cut_said count n d ps works within enough reach say =

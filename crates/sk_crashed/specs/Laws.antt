@@ -29,7 +29,7 @@ pub record IsLeftOf (start : Entries) (next : Next) (cs : List Call) (s : StoreV
   pub untold : (count : ℕ) → AreSynced next.frame count cs → NotTold (next.frame + count) found
   pub recovered : IsRecovered start cs s found.store
 
--- So it is of what is found in the segments of a store, at whatever moment the crash comes.
+-- What is found in the segments of a store is such, at whatever moment the crash comes.
 abbrev pub DisksAreRecovered : Type 0
 DisksAreRecovered = (limits : Limits) (next : Next) (start : Entries) (cs : List Call) (s : StoreView) → HasDone limits next start cs s
     → IsFront next → (disk : List Stored) (heads : List Head) (bytes : List (List ℕ)) (left : ℕ) (found : Found)

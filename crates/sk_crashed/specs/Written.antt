@@ -26,7 +26,7 @@ begun next =
     if next.offset == 0 then record { segment = next.segment; first = next.frame; head = 0; payloads = [] }
     else record { segment = next.segment; first = next.frame - 1; head = 1; payloads = [] ∷ [] }
 
--- a frame stands behind the others
+-- what is written, with a frame of these records behind the others
 abbrev pub with_frame : List RecordView → Written → Written
 with_frame records w = record w { payloads = w.payloads ++ payload records ∷ [] }
 

@@ -7,19 +7,19 @@ pub fn places_law()
     ensures frames { FramesAreBehind }
 {}
 
-/// Whatever a crash leaves of the segments of a store, at whatever moment, no damage is told of what is found in them, and
-/// it is what the first of the logged commands leave, with all that a batch logs which was told as logged.
+/// Whatever a crash leaves of the segments of a store, at whatever moment, is read without damage, and what is found is what
+/// the first of the logged commands leave: among these is all of each batch that was told as logged.
 pub fn recovery_law()
     ensures { DisksAreRecovered }
 {}
 
-/// The same holds of a store that goes on behind what was found of earlier ones, as long as their segments are kept.
+/// A store that goes on behind what was found of earlier ones is recovered as well, as long as their segments are kept.
 pub fn lives_law()
     ensures { LivesAreRecovered }
 {}
 
-/// What is found of a snapshot and the later segments is what is found of all; so a store whose first segments a snapshot stands for is
-/// recovered as one that has them all.
+/// What is found of a snapshot and the later segments is what is found of all; so a store whose first segments a snapshot stands
+/// for is recovered as one that has them all.
 pub fn snapshots_law()
     ensures same { SnapshotsStandFor }
     ensures lives { SnapshotsAreRecovered }

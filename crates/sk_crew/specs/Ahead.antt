@@ -7,11 +7,11 @@ use Rattle.sk_crew.specs.Base.{begins_turn, Rounds}
 abbrev pub IsLent : ℕ → LeaseView → Type 0
 IsLent pid l = (l.count ≡ 0) × (l.lent.pid ≡ pid)
 
--- such a one of the process that was asked for
+-- a lease of the process that was asked for, which did no instruction yet
 abbrev pub IsLentFor : Option ℕ → LeaseView → Type 0
 IsLentFor pid l = (l.count ≡ 0) × (pid ≡ Some l.lent.pid)
 
--- such a one of the process whose turn is due, where one is
+-- a lease of the process whose turn is due, where one is, which did no instruction yet
 abbrev pub IsLentNext : List ℕ → Rounds → LeaseView → Type 0
 IsLentNext processes r l = (l.count ≡ 0) × (r.is_over ≡ false → slice_get processes r.at ≡ Some l.lent.pid)
 

@@ -44,7 +44,7 @@ OnlyReplies w w' =
 
 -- ---- workers before and after their rounds
 
--- it has made no call yet
+-- a worker that has made no call yet
 abbrev pub IsNew : WorkerView → Type 0
 IsNew w = w ≡ fresh w.number
 
@@ -58,14 +58,14 @@ WorksOn plan processes w w' =
     × (KeepsTo plan processes w → KeepsTo plan processes w')
     × (IsNew w → TookTurns plan.workers plan.turns processes w')
 
--- the same of one that carries too, where it is worker 0
+-- as `WorksOn`, of a worker that carries too, where it is worker 0
 abbrev pub LeadsOn : CrewPlan → List ℕ → WorkerView → WorkerView → Type 0
 LeadsOn plan processes w w' =
     (w'.number ≡ w.number)
     × (w.number ≡ 0 → KeepsTo plan processes w → KeepsTo plan processes w')
     × (IsNew w → TookTurns plan.workers plan.turns processes w')
 
--- the same of all of some workers, in their order
+-- as `WorksOn`, of each of some workers, in their order
 abbrev pub AllWorkOn : CrewPlan → List ℕ → List WorkerView → List WorkerView → Type 0
 AllWorkOn plan processes ws ws' =
     (numbers ws' ≡ numbers ws)

@@ -55,7 +55,7 @@ fn run_served<L: Ledger + Send + Sync, R: Threads + Wait + Sync, G: Gate + Sync>
         → AllKeepTo plan setup.processes.items back.0.items) }
     ensures turns { IfOk result (λ back. AreFresh plan.workers workers.items
         → AllTookTurns plan setup.processes.items back.0.items) }
-    // Or there was no memory.
+    // Where no workers come back there was no memory.
     ensures fault { IfErr result (λ fault. fault ≡ CrewFault.Memory) }
 {
     let Setup {
@@ -128,7 +128,7 @@ pub fn run_crew<L: Ledger + Send + Sync, R: Threads + Wait + Sync, G: Gate + Syn
     ensures legal { IfOk result (λ done. desk.kernel.earlier ≡ []
         → Runs desk done.0.entries.items done.0.desk) }
     ensures settled { IfOk result (λ done. pending done.0.desk ≡ []) }
-    // Or why there is none.
+    // Where there is no history it is told why.
     ensures fault { IfErr result (HasCause plan desk) }
 {
     let setup = match Setup::new(alloc, &desk) {

@@ -40,7 +40,7 @@ impl<T: HasNumber + Drop> WireEnds<T> {
 impl<T: HasNumber + Drop> Passes<T> {
     /// Both ends of the wire.
     pub(crate) fn ends<'a>(self, wire: &'a Wire<T>) -> (SendingEnd<'a, T>, ReceivingEnd<'a, T>)
-        // They are the passes of this wire.
+        // Both passes are of this wire.
         requires sends { IsSending wire.now self.sending
             × (view self.sending ≡ sender self.first) }
         requires receives { IsReceiving wire.now self.receiving }

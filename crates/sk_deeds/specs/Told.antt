@@ -16,11 +16,11 @@ pub data Call (N O : Type 0) : Type 0 where
 abbrev pub Told : Type 0 → Type 0
 Told O = ℕ → List (ℕ × O)
 
--- with one output more
+-- what was taken out, with one output more
 abbrev pub told_more : {O : Type 0} → ℕ → O → Told O → Told O
 told_more t output told u = if t == u then told u ++ (t, output) ∷ [] else told u
 
--- outputs that rest on nothing
+-- outputs that depend on nothing
 abbrev pub untagged : {O : Type 0} → List (ℕ × O) → List (Tagged (ℕ × O))
 untagged ws = map (λ w. (w, [])) ws
 
@@ -28,7 +28,7 @@ untagged ws = map (λ w. (w, [])) ws
 abbrev pub with_told : {K V O : Type 0} → Told O → Machine K V (ℕ × O) → Machine K V (ℕ × O)
 with_told told m = record { state = m.state; status = m.status; texts = λ t. untagged (told t) ++ m.texts t }
 
--- the first output of a channel is taken out, which rests on nothing; all else stays
+-- the first output of a channel is taken out, which depends on nothing; all else stays
 pub record TakenOut {K V O : Type 0} (a : Machine K V (ℕ × O)) (t : ℕ) (output : O) (b : Machine K V (ℕ × O)) : Type 0 where
   pub look : (k : K) → b.state.look k ≡ a.state.look k
   pub logs : (k : K) → b.state.logs k ≡ a.state.logs k

@@ -10,7 +10,8 @@ pub fn plain_run<K: Ord, V, O, F, N>()
     ensures { (own : System K V (ℕ × O) F N) → RunsAsPlain own }
 {}
 
-/// The same where outputs are taken out of their channels between the calls: what was taken out stands before what is there.
+/// As `plain_run`, where outputs may be taken out of their channels between the calls: in the plain run's channels what was
+/// taken out stands before what is there.
 pub fn told_run<K: Ord, V, O, F, N>()
     ensures { (own : System K V (ℕ × O) F N) → TellsAsPlain own }
 {}

@@ -49,7 +49,7 @@ said_all t fails (r ∷ log) quiet =
       runs_work r.entry,
     )
 
--- the same outputs, whatever they depend on
+-- whatever guesses are left of what they depend on, outputs stay the same
 firsts : (guesses : List ℕ) (xs : List (Tagged (ℕ × (ℕ × Answer))))
     → map (λ x. x.0) (resting_among guesses xs) ≡ map (λ x. x.0) xs
 firsts guesses [] = refl

@@ -49,7 +49,7 @@ SameLog a b = (b.limits ≡ a.limits) × (b.places ≡ a.places)
 
 -- ---- channels
 
--- a channel goes from its past to this one
+-- the past of a channel changes so
 abbrev pub Passes : (Past → Past) → ℕ → StoreView → StoreView → Type 0
 Passes change t a b = (before : Channel) × (after : Channel) × Becomes t before after a.channels b.channels × Goes change before after
 
@@ -85,7 +85,7 @@ pub record IsDone (b : Batches) (ask : Ask) (asked : Asked) (answer : Answer) (r
   pub carries : CarriesOut seen (record asked { batch = None }) c
   pub told : IsTold seen asked answer rests
 
--- nothing of it is done
+-- nothing of what was asked for is done, for this reason
 abbrev pub LeavesIt : Batches → Asker → Ask → NotDone → Batches → Type 0
 LeavesIt b asker ask why c = (seen : Batches) × Stays b seen × (work : Work) × IsFor b asker ask work × IsNotDone why seen asker work c
 
@@ -127,7 +127,7 @@ Does a Stops b = (a.batched.queue.stopped ≡ false) × ((cut : Cut) × (cut_due
 Does a (Decides outcome) b = DecidePost (Some outcome) a.batched b.batched × SameChannels a b × (b.places ≡ a.places)
 Does a Rests b = Stays a.batched b.batched × KeepsAll a.channels b.channels × SameLog a b
 
--- any of these, one after another
+-- any calls of a store, one after another
 abbrev pub Serves : StoreView → List Call → StoreView → Type 0
 Serves a [] b = a ≡ b
 Serves a (c ∷ cs) b = (m : StoreView) × Does a c m × Serves m cs b

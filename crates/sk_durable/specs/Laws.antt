@@ -86,7 +86,7 @@ abbrev pub ChannelsLetGoJustWhatMay : Type 0
 ChannelsLetGoJustWhatMay = (limits : Limits) (next : Next) (start : Entries) (cs : List Call) (s : StoreView) → HasDone limits next start cs s
     → (t : ℕ) (channel : Channel) → channel_at s.channels t ≡ Some channel → LetsGoJustWhatMay t cs channel s
 
--- ---- 3. What a reply depends on that went out lies in frames that were told as synced, with all before them.
+-- ---- 3. What a batch logged that was told as logged lies in a frame that was told as synced, with all frames before it.
 
 -- The frame has all that the batch logs.
 abbrev pub HasAll : ℕ → List Call → ℕ → ℕ → Type 0

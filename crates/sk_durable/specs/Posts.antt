@@ -95,7 +95,7 @@ has_refused a = list_any (λ b. is_refused b.stage) a.batched.queue.batches
 abbrev pub is_at_limit : StoreView → Bool
 is_at_limit a = nat_le a.limits.undecided (undecided a.batched.queue) || nat_le a.limits.commands (length a.batched.kernel.parts.said)
 
--- none was, and there is room for more
+-- no batch was cut off without being decided, and there is room for more
 abbrev pub MayFeed : StoreView → Type 0
 MayFeed a = (has_refused a ≡ false) × (is_at_limit a ≡ false)
 
@@ -154,7 +154,7 @@ IsHeldUp NoTicket t s = IsStray t s
 IsHeldUp Memory t s = Unit {0}
 IsHeldUp DecisionDue t s = ⊥
 
--- nothing was told any more, and where there is the channel nothing of it is seen to have changed
+-- no more is told: where there is the channel nothing of it is seen to have changed, else nothing has
 abbrev pub StopsThere : Refusal → ℕ → StoreView → StoreView → Type 0
 StopsThere NoChannel t a b = b ≡ a
 StopsThere other t a b = Does a (Hands t []) b
@@ -198,7 +198,7 @@ LetsGo other = ⊥
 abbrev pub Sweeps : StoreView → StoreView → Type 0
 Sweeps a b = (cs : List Call) × Serves a cs b × AllByRecursion LetsGo cs
 
--- what it has for this channel: tickets that are told that nothing was done, or an answer that may go out
+-- the store has something for this channel: tickets that are told that nothing was done, or an answer that may go out
 abbrev pub IsReady : ℕ → StoreView → Type 0
 IsReady t s = (channel : Channel) × (channel_at s.channels t ≡ Some channel)
     × ((has_refusals (Some channel) (first_answer s t) ≡ true) ⊎ (HasNoneReady t s → ⊥))

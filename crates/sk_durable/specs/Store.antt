@@ -74,11 +74,11 @@ was_refused ticket p = record p { told = p.told ++ refused_up_to p.told ticket }
 abbrev pub was_handed : List ℕ → Past → Past
 was_handed bytes p = record p { handed = p.handed ++ bytes }
 
--- whatever its past was, a channel has this one then
+-- a channel whose past changes so, whatever it was
 abbrev pub Goes : (Past → Past) → Channel → Channel → Type 0
 Goes change before after = (limits : Requests) (p : Past) → HasPast limits p before → HasPast limits (change p) after
 
--- a channel is another one, and all others are as they were
+-- the channel at a number becomes another, and all other channels stay
 pub record Becomes (t : ℕ) (before after : Channel) (old new : Channels) : Type 0 where
   pub there : channel_at old t ≡ Some before
   pub left : new ≡ with_channel old t after

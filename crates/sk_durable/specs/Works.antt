@@ -37,7 +37,7 @@ KnowsIfTold kernel work known = wants_all work ≡ true → LacksNone kernel kno
 abbrev pub asked_by : Asker → List (List ℕ) → Work → Asked
 asked_by asker known work = record { channel = asker.channel; ticket = asker.ticket; known = known; batch = None; work = work }
 
--- what it does now
+-- what the work does now
 abbrev pub deed_now : Kernel → Asked → Deed (List ℕ) (List ℕ) (ℕ × Answer)
 deed_now kernel asked = deed (Runs asked) (has_now kernel)
 
@@ -70,13 +70,13 @@ against b asked =
     else if may_write_some asked.work then log_against b asked
     else None
 
--- in the open batch, or in none
+-- the work is taken in the open batch, which logs it, or in none
 abbrev pub TakenIn : Bool → Batches → Asked → Batches → Type 0
 TakenIn true b asked c = (is_full b ≡ false) × Logs b (deed_now b.kernel asked) (log_text asked.work) c
 TakenIn false b asked c =
     Takes bytes_cmp b.kernel.parts (deed_now b.kernel asked) None c.kernel.parts × (c.queue ≡ b.queue) × (c.begun ≡ b.begun)
 
--- it is carried out by what keys have: in the open batch where it may write
+-- a command is carried out by what keys have: in the open batch where it may write
 pub record CarriesOut (b : Batches) (asked : Asked) (c : Batches) : Type 0 where
   pub knows : KnowsIfTold b.kernel asked.work asked.known
   pub plain : list_any is_reserved (touched (deed_now b.kernel asked)) ≡ false
@@ -86,7 +86,7 @@ pub record CarriesOut (b : Batches) (asked : Asked) (c : Batches) : Type 0 where
 abbrev pub MayDraw : Batches → Batches → Type 0
 MayDraw b c = Stays b c ⊎ ((is_full b ≡ false) × Begins b c)
 
--- nothing of it is done
+-- nothing of the work is done, for this reason
 abbrev pub IsNotDone : NotDone → Batches → Asker → Work → Batches → Type 0
 IsNotDone Memory b asker work c = MayDraw b c
 IsNotDone why b asker work c =
@@ -97,12 +97,12 @@ abbrev pub ahead_of : Bool → Answer → Option (List ℕ)
 ahead_of true answer = Some (answer_text answer)
 ahead_of false answer = None
 
--- that of what is said
+-- the text of what is said, where it is looked at ahead
 abbrev pub ahead_in : Bool → Option (ℕ × (ℕ × Answer)) → Option (List ℕ)
 ahead_in looks None = None
 ahead_in looks (Some said) = ahead_of looks said.1.1
 
--- it is told ahead of what is carried out
+-- the answer of what is carried out is told ahead, where it is looked at
 abbrev pub IsAhead : Bool → Batches → Asked → Option (List ℕ) → Type 0
 IsAhead looks b asked ahead = ahead ≡ ahead_of looks (comes_to asked.known asked.work (has_now b.kernel)).reply
 
@@ -133,7 +133,7 @@ LetsOut t (Some told) b c = TakesOut b.kernel.parts t told c.kernel.parts × (c.
 
 -- ---- work that is in the log already
 
--- it is carried out in no batch
+-- work that is in the log already is carried out in no batch
 pub record TakesAlone (asker : Asker) (work : Work) (b c : Batches) : Type 0 where
   pub known : List (List ℕ)
   pub knows : KnowsIfTold b.kernel work known

@@ -8,8 +8,8 @@ ghost use Rattle.sk_durable.specs.Laws.{
   TicketsAreToldRight,
 };
 
-/// All is as in a plain store that carries out the commands that came, in order, without those that depend on a failed batch: what
-/// keys have, and each answer at its place.
+/// All is as in a plain store that carries out the commands that came, in order, without those that depend on a failed batch:
+/// what keys have, and each answer at its place.
 pub fn plain_law()
     ensures map { MapIsPlain }
     ensures answers { AnswersArePlain }
@@ -26,13 +26,14 @@ pub fn output_law()
     ensures { ChannelsLetGoJustWhatMay }
 {}
 
-/// What a batch logged that a reply depends on which went out lies in frames that the host said are synced, with all before them.
+/// What a batch logged that was told as logged lies in a frame that the host told as synced, with all frames before it. A reply
+/// that went out depends on such batches alone.
 pub fn synced_law()
     ensures { LoggedIsOnDisk }
 {}
 
-/// Whatever a crash leaves, what is read again is the plain store after the first of the logged commands, with all that a reply
-/// depends on which went out, and none that was refused.
+/// Whatever a crash leaves, what is read again is the plain store after the first of the logged commands: among these is all
+/// on which a reply that went out depends, and nothing that was refused.
 pub fn crash_law()
     ensures { CrashesAreRecovered }
 {}

@@ -57,7 +57,7 @@ pub struct Next {
     pub offset: u64,
 }
 
-/// What is told where so many bytes were moved out, and this came of what was brought: where none was, for want of memory, that.
+/// What `output` tells: how many bytes were moved out; or `Memory`, where none was since there was no memory to bring some.
 fn moved(brought: Result<(), Refusal>, count: usize) -> Result<usize, Refusal>
     ensures { result ≡ moved brought count }
 {
@@ -178,8 +178,8 @@ impl Store {
         }
     }
 
-    /// How many bytes the commands take that wait for EXEC on a channel, at most four times as many as a request may have; none where
-    /// no queue is open.
+    /// How many bytes the commands take that wait for EXEC on a channel, at most four times as many as a request may have; none
+    /// where no queue is open.
     pub fn queued(&self, channel: u16) -> usize
         ensures { result ≡ queued (channel_at self.now.channels channel) }
     {
@@ -191,9 +191,10 @@ impl Store {
 
     // ---- the way in
 
-    /// Takes bytes that came on a channel, from the front, up to the end of a request, which is carried out, or all. `DecisionDue`
-    /// where a batch was cut off and `decide` has not told so yet: what depends on it must not be logged. `Full` where as many bytes
-    /// are undecided as may be, or as many commands wait for their answers. After a refusal nothing has changed.
+    /// Takes bytes that came on a channel, from the front, up to the end of a request, which is carried out, or all.
+    /// `DecisionDue` where a batch was cut off and `decide` has not told so yet: what depends on it must not be logged. `Full`
+    /// where as many bytes are undecided as may be, or as many commands wait for their answers. After a refusal nothing has
+    /// changed.
     pub fn feed(&mut self, channel: u16, bytes: &[u8]) -> Result<Fed, Refusal>
         ensures { FeedPost channel bytes.now result self.old self.new }
     {
@@ -208,8 +209,8 @@ impl Store {
         self.take(channel, bytes, true)
     }
 
-    /// The text of the answer to the request that the last `feed_ahead` carried out, which goes out in its turn, unless nothing of
-    /// it is done; `None` where none was.
+    /// The text of the answer to the request that the last `feed_ahead` carried out, which goes out in its turn, unless nothing
+    /// of it is done; `None` where none was.
     pub fn ahead(&self) -> Option<&[u8]>
         ensures { option_map (λ s. s.now) result ≡ self.now.ahead }
     {
@@ -326,9 +327,9 @@ impl Store {
         }
     }
 
-    /// The host tells the reply to what it is asked on a channel: these bytes, as they are, which go out in their turn. `NoTicket`
-    /// where it is not asked. After a refusal nothing has changed but that, without memory, the guess of the open batch may be
-    /// drawn.
+    /// The host tells the reply to what it is asked on a channel: these bytes, as they are, which go out in their turn.
+    /// `NoTicket` where it is not asked. After a refusal nothing has changed but that, without memory, the guess of the open
+    /// batch may be drawn.
     pub fn tell(&mut self, channel: u16, reply: &[u8]) -> Result<(), Refusal>
         ensures { TellPost channel reply.now result self.old self.new }
     {
@@ -410,9 +411,9 @@ impl Store {
         }
     }
 
-    /// Moves bytes that may go out on a channel into the front of the room, and says how many: answers that depend on nothing, and
-    /// refusals of what was not done, in the order of their tickets. It is to be called until it says 0. Nothing is lost without
-    /// memory, which is told where no byte was moved.
+    /// Moves bytes that may go out on a channel into the front of the room, and says how many: answers that depend on nothing,
+    /// and refusals of what was not done, in the order of their tickets. It is to be called until it says 0. Nothing is lost
+    /// without memory, which is told where no byte was moved.
     pub fn output(&mut self, channel: u16, room: &mut [u8]) -> Result<usize, Refusal>
         ensures { OutputPost channel result room.old room.new self.old self.new }
     {
@@ -535,8 +536,8 @@ impl Store {
         Ok(())
     }
 
-    /// The oldest batch, if it is decided: it is let go of, and what depends on it may go out, or is taken back. This takes no memory,
-    /// and is to be called until it says `None`.
+    /// The oldest batch, if it is decided: it is let go of, and what depends on it may go out, or is taken back. This takes no
+    /// memory, and is to be called until it says `None`.
     pub fn decide(&mut self) -> Option<Outcome>
         ensures { DecidePost result self.old self.new }
     {

@@ -33,14 +33,12 @@ impl Told {
         Told { ticket, answer }
     }
 
-    /// The ticket.
     pub fn ticket(&self) -> u64
         ensures { result ≡ self.now.0 }
     {
         self.ticket
     }
 
-    /// The answer.
     pub fn answer(&self) -> &Answer
         ensures { result.now ≡ self.now.1 }
     {

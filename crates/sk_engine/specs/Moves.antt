@@ -73,7 +73,7 @@ abbrev pub WasLost : World → Batch → Type 0
 WasLost w b = (value : List ℕ) × (answer : BatchAnswer)
     × Has (record { batch = b; value = value; answer = answer }) w.batches × (batch_told b answer ≡ Lost b.number)
 
--- It has decided all up to this number: what it found as it began, and from the gap on what was told as synced.
+-- A leadership has decided all up to this number: what it found as it began, and from the gap on what was told as synced.
 abbrev pub HasDecided : World → ℕ → ℕ → ℕ → Type 0
 HasDecided w leadership gap last = ServesFrom w leadership gap
     × ((i : ℕ) → gap ≤ i → i ≤ last → WasSynced w (batch_of leadership i))
@@ -125,7 +125,7 @@ Needs w (Sends b value) = MaySend w b value
 Needs w (Tries b value) = Has (record { batch = b; value = value }) w.sent
 Needs w (Cuts leadership gap last) = HasDecided w leadership gap last
 
--- what it leaves
+-- what a move leaves
 abbrev pub after_move : World → Move → World
 after_move w (Leads leadership) = record w { engine = record w.engine { leader = Some leadership; newest = leadership } }
 after_move w Ends = record w { engine = record w.engine { leader = None } }

@@ -46,7 +46,7 @@ IsKnown leadership h round =
     ((answer : RoundAnswer) × Has (record { round = round; answer = answer }) h.answered × (round_told (round_of leadership round) answer ≡ Still round))
     ⊎ ((number : ℕ) × Has (record { number = number; round = round }) h.rides × WasSynced h.world (batch_of leadership number))
 
--- It says only of such a round that it has held.
+-- The host says only of a round of which it was told so that it has held.
 abbrev pub IsHeeded : ℕ → Hosted → RoundCall → Type 0
 IsHeeded leadership h (Holds round) = IsKnown leadership h round
 IsHeeded leadership h other = Unit {0}

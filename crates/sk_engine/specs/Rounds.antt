@@ -36,7 +36,7 @@ take_refused r =
     else if nat_le ROUND_LIMIT r.taken then Some NoNumber
     else None
 
--- it is known that the host led after this round
+-- the rounds, once it is known that the host led after this one
 abbrev pub after_still : ℕ → RoundsView → RoundsView
 after_still round r = if nat_lt r.held round then record r { held = round } else r
 

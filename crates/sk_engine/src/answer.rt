@@ -5,7 +5,7 @@ ghost use Rattle.sk_engine.specs.Told.{held_of};
 /// What stands under the key of a batch.
 #[derive(Clone, Copy, PartialEq, Eq)]
 pub enum Held {
-    /// Nothing.
+    /// Nothing is known: a time out, a lost connection, any error.
     Absent,
     /// Just the bytes that were to be put there.
     Mine,
@@ -13,8 +13,8 @@ pub enum Held {
     Another,
 }
 
-/// What the engine saw as it did not put a batch: of which leadership the leader is, what stands under the number, and up to where the
-/// log was cut.
+/// What the engine saw as it did not put a batch: of which leadership the leader is, what stands under the number, and up to
+/// where the log was cut.
 #[derive(Clone, Copy, PartialEq, Eq)]
 pub struct BatchSeen {
     pub leader: Option<u64>,
@@ -25,9 +25,9 @@ pub struct BatchSeen {
 /// What is known of a try of a batch.
 #[derive(Clone, Copy, PartialEq, Eq)]
 pub enum BatchAnswer {
-    /// It was put.
+    /// The batch was put.
     Done,
-    /// It was not put, and this was seen at that moment.
+    /// The batch was not put, and this was seen at that moment.
     Not(BatchSeen),
     /// Nothing: a time out, a lost connection, any error.
     Unknown,
@@ -47,12 +47,11 @@ pub enum FenceAnswer {
     Done,
     /// Nothing was deleted, and this was seen at that moment.
     Not(FenceSeen),
-    /// Nothing.
+    /// Nothing is known: a time out, a lost connection, any error.
     Unknown,
 }
 
-/// What the engine saw as it did not put a leader: of which leadership the one is that there was, and whether it has the word that was to
-/// be put there.
+/// What the engine saw as it did not put a leader: of which leadership the leader was, and whether it had put the same word.
 #[derive(Clone, Copy, PartialEq, Eq)]
 pub struct LeadSeen {
     pub leadership: u64,
@@ -66,7 +65,7 @@ pub enum LeadAnswer {
     Done(u64),
     /// There was a leader, and this was seen at that moment.
     Not(LeadSeen),
-    /// Nothing.
+    /// Nothing is known: a time out, a lost connection, any error.
     Unknown,
 }
 
@@ -74,12 +73,12 @@ pub enum LeadAnswer {
 #[derive(Clone, Copy, PartialEq, Eq)]
 pub enum RoundAnswer {
     Seen(Option<u64>),
-    /// Nothing.
+    /// Nothing is known: a time out, a lost connection, any error.
     Unknown,
 }
 
-/// Whether what stands under a number is what was to be put there. The bytes of a batch tell whose they are, so another's are never taken
-/// for them.
+/// Whether what stands under a number is what was to be put there. The bytes of a batch tell whose they are, so another's are
+/// never taken for them.
 pub fn held_under(mine: &[u8], there: &[u8]) -> Held
     ensures { result ≡ held_of mine.now (Some there.now) }
 {

@@ -4,7 +4,8 @@ ghost use Rattle.sk_engine.specs.Laws.{DecidedIsRead, DecidedIsSent, DecidedStay
 ghost use Rattle.sk_engine.specs.Newest.{ToldIsNewest};
 ghost use Rattle.sk_engine.specs.Rounds.{ToldBehindARound};
 
-/// What was decided holds the same bytes for ever, in the log or in the snapshot; from the gap on it is what was sent.
+/// What was decided under a number stays the same bytes for ever, in the log or in the snapshot; from the gap on these are the
+/// bytes that were sent.
 pub fn decided_law()
     ensures stays { DecidedStays }
     ensures sent { DecidedIsSent }
@@ -30,7 +31,8 @@ pub fn rounds_law()
     ensures { ToldBehindARound }
 {}
 
-/// Where it may be told, the host had found all that any other leadership decided before it was carried out.
+/// Where what was carried out may be told, the host had found all that any other leadership decided before that was carried
+/// out.
 pub fn newest_law()
     ensures { ToldIsNewest }
 {}

@@ -25,8 +25,9 @@ pub enum RoundRefusal {
     Unknown,
 }
 
-/// The rounds of one leadership, by rising numbers. What was carried out has a mark; it may be told once the host is known to have led
-/// at some moment after a round that was taken later. A batch that is sent is as good as a round, where one was taken just before.
+/// The rounds of one leadership, by rising numbers. What was carried out has a mark; it may be told once the host is known to
+/// have led at some moment after a round that was taken later. A batch that is sent is as good as a round, where one was taken
+/// just before.
 #[repr(C)]
 #[derive(Drop)]
 pub struct Rounds {
@@ -109,7 +110,8 @@ impl Rounds {
         Ok(())
     }
 
-    /// The host leads no more: no round is taken, and nothing begins to wait. What is known of rounds that were taken may still be said.
+    /// The host leads no more: no round is taken, and nothing begins to wait. What is known of rounds that were taken may still
+    /// be said.
     pub fn lost(&mut self)
         ensures { self.new ≡ lost self.old }
     {

@@ -31,7 +31,7 @@ abbrev pub IsAtFound : Option Found → List ℕ → ℕ → List ℕ → Type 0
 IsAtFound (Some f) line start word = IsAt line f.index start word
 IsAtFound None line start word = (start ≡ length line) × (word ≡ [])
 
--- at the word that is found, if one is
+-- at the word that is found, which there has to be
 abbrev pub IsAtWord : Option Found → List ℕ → ℕ → List ℕ → Type 0
 IsAtWord (Some f) line start word = IsAt line f.index start word
 IsAtWord None line start word = ⊥

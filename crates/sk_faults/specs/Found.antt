@@ -112,6 +112,6 @@ Agrees ws (Ok a) (Some f) = ⊥
 Agrees ws (Err e) None = IsOther e
 Agrees ws (Err e) (Some f) = e ≡ kind_of f ws
 
--- the same of a line with these words, which stands in a part
+-- what is found in a line with these words, which stands in a part, agrees with what its reading says
 abbrev pub IsToldIn : {A : Type 0} → Part → List (List ℕ) → Result A FaultKind → Type 0
 IsToldIn part ws said = Agrees (drop 1 ws) said (found_of part (first_of ws))

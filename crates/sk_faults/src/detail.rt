@@ -56,7 +56,7 @@ pub(crate) fn place_at(line: &[u8], index: usize) -> Place<'_>
     }
 }
 
-/// The same, of some word.
+/// As `place_at`, of which a caller needs no more than that it is a place in the line.
 pub(crate) fn somewhere(line: &[u8], index: usize) -> Place<'_>
     ensures { IsSomewhere line.now result.start result.word.now }
 {
@@ -141,7 +141,7 @@ fn has_process(text: &[u8], number: u64, line: &[u8]) -> bool {
     false
 }
 
-/// The index of a name that is declared twice or not at all, and which of both.
+/// The index of a name that is declared twice or not at all, and which of the two it is.
 #[derive(Clone, Copy)]
 struct Named {
     index: usize,

@@ -171,7 +171,7 @@ fn is_wide(input: Option<InputWord>) -> bool
     }
 }
 
-/// An input that is none.
+/// What is found where a word that should be an input is none.
 fn unknown_input(input: Option<InputWord>) -> Option<Found>
     ensures { result ≡ unknown_input input }
 {

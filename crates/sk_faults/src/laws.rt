@@ -5,31 +5,31 @@ ghost use Rattle.sk_faults.specs.Base.{step_line, Declared, line_said, is_end, w
 ghost use Rattle.sk_faults.specs.Base.{World, Trace};
 ghost use Rattle.sk_faults.specs.Found.{IsToldIn};
 
-/// In a line of a script.
+/// What is found in a line of a script is what its reading tells.
 pub fn script_lines()
     ensures { (s : ScriptState) (line : List ℕ) → is_end line ≡ false
         → IsToldIn Script (words line) (script_line s line) }
 {}
 
-/// In a declaration, whatever is declared.
+/// What is found in a declaration is what its reading tells, whatever is declared.
 pub fn declarations()
     ensures { (d : Declared) (line : List ℕ)
         → IsToldIn Declarations (words line) (line_said d (first_of (words line))) }
 {}
 
-/// In an event of a world.
+/// What is found in an event of a world is what its reading tells.
 pub fn world_lines()
     ensures { (before : List WorldEvent) (line : List ℕ)
         → IsToldIn World (words line) (world_line before line) }
 {}
 
-/// In an event of steps.
+/// What is found in an event of steps is what its reading tells.
 pub fn step_lines()
     ensures { (before : List Call) (line : List ℕ)
         → IsToldIn Steps (words line) (step_line before line) }
 {}
 
-/// In an event of a trace.
+/// What is found in an event of a trace is what its reading tells.
 pub fn trace_lines()
     ensures { (before : List Event) (line : List ℕ)
         → IsToldIn Trace (words line) (event_line before line) }

@@ -117,7 +117,7 @@ fn process_and_input(wide: bool) -> Forms
     }
 }
 
-/// The same, with the number of a guess before it.
+/// Behind the number of a guess: the process and the input.
 fn guess_and_input(wide: bool) -> Forms
     ensures { result.now ≡ Guess ∷ Process ∷ input_forms wide }
 {

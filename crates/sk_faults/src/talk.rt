@@ -39,7 +39,7 @@ fn count_wrong<'a>(
     Some((index.saturating_add(1), Reason::Surplus { word, first }))
 }
 
-/// The first of the words behind that of this index that is not what is wanted there.
+/// Behind the word of this index, the first word that is not what is wanted at its place.
 fn form_wrong<'a>(index: usize, wants: Wants, words: &Words<'a>) -> Option<Wrong<'a>>
     ensures { IfSome result (λ wrong. 0 < wrong.0) }
 {

@@ -93,7 +93,7 @@ module _ {K : Type 0} {R : K → K → Ordering} (total : IsTotalOrder R) (exact
     left_more tags same [] all = tt
     left_more tags same (o ∷ os) all = grind (arith, nat_tests, stays_one o, goes_one o, left_more tags same os all.1)
 
-    -- the same, where only those are visited outside of which its lists are right
+    -- the entity is taken out so too where only the lists are visited that may be wrong: outside of these its lists are right
     pub left_beyond : (tags own : List ℕ) → own ≡ base x → (os : List (OpenGuess K)) → AllByRecursion (λ o. has o.id tags ≡ false → is_in R o.dependents x ≡ has o.id (base x)) os
         → AllAlmostExact R base (x ∷ ks) os → AllAlmostExact R base ks (map (relieved_beyond R tags own x) os)
     left_beyond tags own same [] right all = tt

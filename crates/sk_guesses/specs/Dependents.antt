@@ -8,7 +8,7 @@ abbrev pub tags_by : {K V : Type 0} → (K → List (Note V)) → K → List ℕ
 tags_by logs k = last_tags [] (logs k)
 
 module _ {K : Type 0} (R : K → K → Ordering) where
-  -- the same, where these keys depend on these guesses
+  -- the guesses that each key depends on, where these keys depend on these guesses, and the others on what they did
   abbrev pub with_tags : List ℕ → List K → (K → List ℕ) → K → List ℕ
   with_tags tags ks before k = if is_in R ks k then tags else before k
 
@@ -16,7 +16,7 @@ module _ {K : Type 0} (R : K → K → Ordering) where
   abbrev pub AllExact : (K → List ℕ) → List (OpenGuess K) → Type 0
   AllExact tags os = AllByRecursion (λ o. (k : K) → is_in R o.dependents k ≡ has o.id (tags k)) os
 
-  -- it has them, and no others but some of these
+  -- a list has the keys that depend on its guess, and no others but some of these
   pub record IsAlmostExact (tags : K → List ℕ) (ks : List K) (o : OpenGuess K) : Type 0 where
     pub kept : (k : K) → has o.id (tags k) ≡ true → is_in R o.dependents k ≡ true
     pub others : (k : K) → is_in R ks k ≡ false → is_in R o.dependents k ≡ has o.id (tags k)

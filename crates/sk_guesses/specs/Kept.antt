@@ -19,8 +19,8 @@ pub record KeptView : Type 0 where
 abbrev pub none_drawn : ℕ → ℕ → KeptView
 none_drawn kernel limit = record { kernel = kernel; limit = limit; drawn = 0; struck = [] }
 
--- the same with what is known of the undecided ones, and for how many of them, of struck ones, and of entities that depend on the next
--- one there is memory
+-- what is kept, with what is known of the undecided guesses, and for how many of them, of struck ones, and of entities that depend on the
+-- next one there is memory
 pub record Kept (E : Type 0) : Type 0 where
   pub view : KeptView
   pub opens : List (OpenGuess E)
@@ -34,7 +34,7 @@ HasKeptRoom g count = (length g.opens < g.places) × (length g.view.struck + len
 
 -- ---- what is known of a guess
 
--- it is undecided, or struck with its token out; of any other nothing is known
+-- the status of a guess: undecided, or struck with its token out; of any other nothing is known
 abbrev pub known : KeptView → List Open → ℕ → Option Status
 known v os g = if has g (numbers os) then Some Undecided else (if has g v.struck then Some Struck else None)
 
@@ -67,7 +67,7 @@ keys_of ws = map (λ w. w.0) ws
 
 -- ---- the statuses of all guesses, which nobody keeps
 
--- they agree with what is kept: just the open ones are undecided, those that are kept as struck are, and none from the next number on was drawn
+-- statuses that agree with what is kept: just the open guesses are undecided, those that are kept as struck are, and none from the next number on was drawn
 pub record AreStatuses (v : KeptView) (os : List Open) (status : ℕ → Option Status) : Type 0 where
   pub undecided : (g : ℕ) → has g (numbers os) ≡ open_in (status g)
   pub struck : (g : ℕ) → has g v.struck ≡ true → status g ≡ Some Struck
@@ -86,7 +86,7 @@ pub record AreKept {E : Type 0} (v : KeptView) (ls : List (Listing E)) (next : L
   pub rising : IsStrictlySortedBy nat_cmp (numbers (opens_of (map (λ l. l.guess) ls)))
   pub own : AllByRecursion (λ o. has o.id o.tags ≡ true) (map (λ l. l.guess) ls)
   pub below : (g : ℕ) → has g (numbers (opens_of (map (λ l. l.guess) ls))) ≡ true → g ≤ v.drawn
-  -- no more than may be
+  -- no more guesses are undecided than may be
   pub few : length ls ≤ v.limit
   -- each that was drawn has a number
   pub numbered : v.drawn ≤ LAST_GUESS

@@ -25,14 +25,14 @@ AreReady n os = AllByRecursion (IsReady n) os
 abbrev pub AreRising : {E : Type 0} → List (Sharing E) → Type 0
 AreRising os = IsStrictlySortedBy nat_cmp (map (λ o. o.guess.id) os)
 
--- those that share have numbers from one to another
+-- a guess that shares the list has a number from the first to the last
 abbrev pub IsWithin : {E : Type 0} → ℕ → ℕ → Sharing E → Type 0
 IsWithin first last o = o.shares ≡ true → (first ≤ o.guess.id) × (o.guess.id ≤ last)
 
 abbrev pub AreWithin : {E : Type 0} → ℕ → ℕ → List (Sharing E) → Type 0
 AreWithin first last os = AllByRecursion (IsWithin first last) os
 
--- a guess is among some, or it is not
+-- whether a guess is named: as one of these, or as none of them
 abbrev pub is_named : Bool → List ℕ → ℕ → Bool
 is_named within tags g = if within then has g tags else not (has g tags)
 
@@ -52,7 +52,7 @@ pub record IsRoomier {E : Type 0} (n : ℕ) (o new : Sharing E) : Type 0 where
   pub shares : new.shares ≡ o.shares
   pub ready : IsReady n o → IsReady n new
 
--- and there is a place
+-- nothing is seen of new room, and there is a place
 pub record IsPlaced {E : Type 0} (c : ℕ → Bool) (n : ℕ) (o new : Sharing E) : Type 0 where
   pub same : IsRoomier n o new
   pub place : HasPlace c n new

@@ -75,7 +75,7 @@ pub(crate) const FEW: usize = 8;
 /// So many entities are copied at once. A longer run is copied byte by byte.
 const PART: usize = 56;
 
-/// The same, part by part.
+/// Adds entities behind those of a list, as `extend` does, part by part.
 fn extend_by_parts<E: Key>(list: &mut Vec<E>, entities: &[E])
     requires { length list.old.items + length entities.now ≤ vec_capacity list.old }
     ensures items { list.new.items ≡ list.old.items ++ entities.now }
@@ -160,14 +160,14 @@ impl<E: Key> EntitySet<E> {
         self.entities.as_slice()
     }
 
-    /// Whether there are just these.
+    /// Whether the set has just these entities.
     pub(crate) fn is_just(&self, entities: &[E]) -> bool
         ensures { result ≡ true → self.now.entities ≡ entities.now }
     {
         are_same(self.entities.as_slice(), entities)
     }
 
-    /// For how many there is memory.
+    /// For how many entities there is memory.
     pub(crate) fn places(&self) -> usize
         ensures { result ≡ length self.now.entities + self.now.room }
     {
@@ -193,7 +193,7 @@ impl<E: Key> EntitySet<E> {
         self.entities.clear();
     }
 
-    /// Takes these in, where there is none, into room that is there.
+    /// Fills an empty set with these entities, for which there is room.
     pub(crate) fn fill(&mut self, entities: &[E])
         requires empty { self.old.entities ≡ [] }
         requires rising { IsStrictlySortedBy E.order entities.now }
@@ -223,7 +223,7 @@ impl<E: Key> EntitySet<E> {
         }
     }
 
-    /// The same. An empty list may take the place of this one.
+    /// As `add`; but this list and an empty one may change places.
     pub(crate) fn add_over(&mut self, entity: &E, spare: &mut EntitySet<E>)
         requires room { 0 < self.old.room }
         requires empty { spare.old.entities ≡ [] }

@@ -276,7 +276,7 @@ impl<E: Key> Guesses<E> {
         Ok(self.draw_reserved(tags, entities))
     }
 
-    /// The same, where there is room for it.
+    /// As `draw`, where there is room for the guess, so that nothing is refused.
     pub fn draw_reserved(&mut self, tags: TagSet, entities: &[E]) -> Guess
         requires free { is_full self.old.view ≡ false }
         requires room { HasRoom self.old (length entities.now) }

@@ -104,7 +104,7 @@ fn strike_all<E: Key>(struck: &mut Vec<GuessId>, opens: &Opens<E>, from: usize, 
     }
 }
 
-/// Whether no guess of a set was drawn after one, where it was so of all before.
+/// Whether `below` still holds with one guess more: that the step of no guess depends on a later one.
 pub(crate) fn stays_below(below: bool, tags: &TagSet, id: GuessId) -> bool
     ensures before { result ≡ true → below ≡ true }
     ensures drawn { result ≡ true → (g : ℕ) → has g tags.now ≡ true → g ≤ id }

@@ -53,7 +53,7 @@ fn search<E: Key>(opens: &Opens<E>, id: GuessId) -> usize
     opens.len()
 }
 
-/// The same. Mostly it is the newest.
+/// How many undecided guesses stand before one. Mostly it is the newest, which is looked at first.
 pub(crate) fn place_of<E: Key>(opens: &Opens<E>, id: GuessId) -> usize
     requires { IsStrictlySortedBy nat_cmp
         (numbers (opens_of (map (λ l. l.guess) opens.now.items))) }
@@ -185,7 +185,8 @@ fn any_rests_on<E: Key>(opens: &Opens<E>, id: GuessId) -> bool
     false
 }
 
-/// The same, if no tag of theirs is above their own number. Mostly all were drawn before that guess.
+/// As `any_rests_on`, where no tag of theirs is above their own number. Mostly all were drawn before that guess, and none is
+/// looked at.
 pub(crate) fn is_rested_on<E: Key>(opens: &Opens<E>, below: bool, id: GuessId) -> bool
     requires rising { IsStrictlySortedBy nat_cmp
         (numbers (opens_of (map (λ l. l.guess) opens.now.items))) }

@@ -74,7 +74,7 @@ pub(crate) struct Span {
     newest: GuessId,
 }
 
-/// Guesses that span these, and one more where it is wanted.
+/// A span with one guess more, where that is wanted.
 fn spanning(span: Span, id: GuessId, wanted: bool) -> Span
     ensures wider { (result.oldest ≤ span.oldest) × (span.newest ≤ result.newest) }
     ensures one { wanted ≡ true → (result.oldest ≤ id) × (id ≤ result.newest) }
@@ -96,7 +96,7 @@ fn spanning(span: Span, id: GuessId, wanted: bool) -> Span
     }
 }
 
-/// Undecided guesses in their order. Guesses of which the same entities rest share one list.
+/// Undecided guesses in their order. Guesses on which the same entities depend share one list.
 #[derive(Drop)]
 pub(crate) struct Opens<E: Key> {
     row: Row<OpenGuess<E>>,
@@ -225,7 +225,7 @@ fn any_named<E: Key>(row: &Row<OpenGuess<E>>, tags: &TagSet, within: bool) -> bo
     false
 }
 
-/// Of those that share the list, all that are not named have a list of their own from then on.
+/// Each guess that shares the list and is not named gets a list of its own.
 fn part_others<E: Key>(
     row: &mut Row<OpenGuess<E>>,
     shared: &[E],
@@ -248,7 +248,7 @@ fn part_others<E: Key>(
     }
 }
 
-/// One that shares the list and is not named has a list of its own from then on.
+/// A guess that shares the list and is not named gets a list of its own.
 fn part_other<E: Key>(open: &mut OpenGuess<E>, shared: &[E], tags: &TagSet, within: bool)
     requires rising { IsStrictlySortedBy E.order shared.now }
     requires ready { IsReady (length shared.now) open.old }
@@ -313,8 +313,7 @@ fn leave_own<E: Key>(row: &mut Row<OpenGuess<E>>, tags: &TagSet, within: bool, e
     }
 }
 
-/// Takes an entity out of the lists of those of some guesses that are not among others. Each that shared the list has its own
-/// from then on.
+/// Takes an entity out of the lists of the guesses of a set that are not in another. Each that shared the list gets its own.
 fn relieve_seen<E: Key>(
     row: &mut Row<OpenGuess<E>>,
     shared: &[E],
@@ -388,7 +387,7 @@ fn begun<E: Key>(id: GuessId, tags: TagSet, dependents: EntitySet<E>, shares: bo
     open
 }
 
-/// Moves out the list of a guess, which is this where it shares one.
+/// Moves out the list of a guess: a copy of the shared one, where it shares that.
 fn take_seen<E: Key>(open: &mut OpenGuess<E>, shared: &[E], alloc: Global) -> EntitySet<E>
     requires rising { IsStrictlySortedBy E.order shared.now }
     requires ready { IsReady (length shared.now) open.old }
@@ -632,7 +631,7 @@ impl<E: Key> Opens<E> {
         leave_own(&mut self.row, tags, within, entity);
     }
 
-    /// Takes an entity out of the lists of those of some guesses that are not among others, and visits no more than the former.
+    /// Takes an entity out of the lists of the guesses of a set that are not in another, and visits those of the set alone.
     pub(crate) fn relieve_beyond(&mut self, tags: &TagSet, own: &TagSet, entity: &E)
         requires { IsStrictlySortedBy nat_cmp
             (numbers (opens_of (map (λ l. l.guess) self.old.items))) }

@@ -43,7 +43,7 @@ Reads (Ok (Some v)) text = text ≡ Some v.items
 Reads (Ok None) text = text ≡ None
 Reads (Err why) text = ⊤
 
--- it is in the room
+-- the text that was read is in the room, and its length is told; or there is none, or no memory
 abbrev pub ShowsRead : Told → Result (Option (Vec ℕ Global)) Stop → List ℕ → List ℕ → Type 0
 ShowsRead told (Ok (Some v)) old new = (told ≡ texted (just SHOWN 0) v.items) × (new ≡ put v.items old)
 ShowsRead told (Ok None) old new = (told ≡ just ABSENT 0) × (new ≡ old)

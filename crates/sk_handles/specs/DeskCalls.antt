@@ -39,7 +39,7 @@ abbrev pub taken : Client → Option Request → Client
 taken c (Some q) = c
 taken c None = taken_from c c.desk.waiting
 
--- it is gone where the room has all of it
+-- the request that was shown is gone where the room has all of it; else it is shown again
 abbrev pub shown_of : Request → List ℕ → Client → Client
 shown_of q room c = if nat_le (length (request_bytes q)) (length room) then record c { back = None } else c
 
@@ -102,6 +102,6 @@ BeginsEpoch told old new =
 abbrev pub left_text : ℕ → ℕ → Client → Option (List ℕ)
 left_text number place c = option_and_then (λ texts. slice_get (released_at texts number) place) c.left
 
--- of what it has that is asked
+-- the kernel of the desk, of which calls ask
 abbrev pub desk_kernel : Client → KernelView
 desk_kernel c = c.desk.kernel

@@ -13,7 +13,7 @@ leader_of leader = if leader == 0 then None else Some leader
 abbrev pub held_by : ℕ → Held
 held_by held = if held == 0 then Absent else if held == 1 then Mine else Another
 
--- it was carried out; it was not, and this was seen; nothing is known
+-- the answer of a try to put a batch: it was carried out; it was not, and this was seen; or nothing is known
 abbrev pub batch_answer_of : ℕ → ℕ → ℕ → ℕ → BatchAnswer
 batch_answer_of answer leader held snap =
     if answer == CARRIED_OUT then BatchAnswer.Done

@@ -3,7 +3,7 @@ use Rattle.std.specs.Prelude.{◌≡◌, ℕ, Option, Some, None, Result, Ok, Er
 use Rattle.sk_handles.specs.Base.{FaultKind, CLOSED, Told}
 use Rattle.sk_handles.specs.Told.{faulty, just, kind_number}
 
--- what is held does this; where nothing is held, that is told, and this is so
+-- what a handle holds does this; where it holds nothing, that is told, and `same` holds
 abbrev pub Does : {S : Type 0} → (Told → S → S → Type 0) → Type 0 → Told → Option S → Option S → Type 0
 Does does same told (Some old) (Some new) = does told old new
 Does does same told (Some old) None = ⊥

@@ -70,7 +70,7 @@ abbrev pub ShowsBytes : Told → Option (List ℕ) → List ℕ → List ℕ →
 ShowsBytes told None old new = (told ≡ just ABSENT 0) × (new ≡ old)
 ShowsBytes told (Some bytes) old new = (told ≡ texted (just SHOWN 0) bytes) × (new ≡ put bytes old)
 
--- they are of what is held
+-- bytes of what is held are in the room, or there are none
 abbrev pub ShowsKept : {S : Type 0} → (S → Option (List ℕ)) → List ℕ → List ℕ → Told → S → Type 0
 ShowsKept bytes room_old room_new told held = ShowsBytes told (bytes held) room_old room_new
 

@@ -9,7 +9,7 @@ abbrev pub TellsLine : Told → LineTold → List ℕ → List ℕ → Type 0
 TellsLine told t old new =
     ((told ≡ texted (told_of_line t) (line_text t)) × (new ≡ put (line_text t) old)) ⊎ ((told ≡ told_of_line t) × (new ≡ old))
 
--- and what it does
+-- a line is taken: what it does, and what it is told, with its text in the room
 abbrev pub TakesLine : List ℕ → List ℕ → List ℕ → Told → Play → Play → Type 0
 TakesLine line room_old room_new told old new = (t : LineTold) × LineTaken t line old new × TellsLine told t room_old room_new
 

@@ -29,13 +29,13 @@ abbrev pub FindsOf : Segment → Found → Type 0
 FindsOf s found = (found.is_damaged ≡ is_damaged 0 0 found)
     × ((bytes : List ℕ) → HasCome s bytes → IsFound [] 1 snapshot_heads (bytes ∷ []) 0 found)
 
--- It sets these entries; or it is damaged, or something stands behind its frames, and it is none.
+-- A snapshot sets these entries; or it is damaged, or something stands behind its frames, and it is none.
 abbrev pub Sets : Segment → Result Entries Anew → Type 0
 Sets s (Ok entries) = (found : Found) × FindsOf s found × (found.is_damaged ≡ false) × (entries ≡ found.store)
 Sets s (Err Anew.NoSnapshot) = (found : Found) × FindsOf s found × (found.is_damaged ≡ true)
 Sets s (Err Anew.Memory) = Unit {0}
 
--- a piece more of a snapshot of which this came
+-- a piece of a snapshot came behind what came of it; or, without memory, all begins anew
 abbrev pub StartsOn : (List ℕ → Type 0) → List ℕ → Told → Reading → Reading → Type 0
 StartsOn came piece told old new =
     ((told ≡ just DONE 0) × ((s : Segment) × (new ≡ record old { stage = Stage.Start s })
@@ -60,7 +60,7 @@ BeginsAt Stage.Nothing did old new = BeginsOf (Ok []) did old new
 BeginsAt (Stage.Start s) did old new = (set : Result Entries Anew) × Sets s set × BeginsOf set did old new
 BeginsAt other did old new = (did ≡ Ok tt) × (new ≡ old)
 
--- where it is refused, that is told, and this is so; else this is done next
+-- after what was done first, the next is done; where the first was refused, that is told, nothing has changed, and `same` holds
 abbrev pub Then : Result (Unit {0}) Anew → (Told → Reading → Reading → Type 0) → Type 0 → Told → Reading → Reading → Type 0
 Then (Ok _) next same told old new = next told old new
 Then (Err why) next same told old new = (told ≡ anew_told why) × (new ≡ old) × same
@@ -165,7 +165,7 @@ Comes segment piece old new heads bytes left more more_left =
     ⊎ ((old.segment < segment) × IfSome (next_number heads (length bytes)) (λ next. segment < next) × (more ≡ bytes)
     × (new.segment ≡ old.segment) × Leaves (next_number heads (length bytes)) segment piece left more_left old new)
 
--- It came; or it is not its turn; or, without memory, all begins anew.
+-- A piece of a segment came; or it is not its turn; or, without memory, all begins anew.
 abbrev pub TakesAt : ℕ → List ℕ → Told → Reading → Reading → Type 0
 TakesAt segment piece told old new =
     ((told ≡ just DONE 0) × (new.last ≡ old.last) × ((start : Entries) (heads : List Head) (bytes : List (List ℕ)) (left : ℕ)
@@ -205,7 +205,7 @@ Finds in_flight known old found = (found.is_damaged ≡ is_damaged in_flight kno
 abbrev pub found_at : ℕ → Found → Reading → Reading
 found_at last found read = record read { stage = Stage.Found found.store; last = last; next = found.number }
 
--- It is kept; or it is damaged, and is not; without memory it is not told either.
+-- What was found is told and kept; or it is damaged, and is told and not kept; without memory it is not told either.
 abbrev pub Keeps : Found → ℕ → ReadCounts → ReadCounts → Told → Reading → Reading → Type 0
 Keeps found last counts counted told old new =
     ((counted ≡ counts_of found)
@@ -242,7 +242,7 @@ pub record Begin (entry : List ℕ × List ℕ) (entries : Entries) : Type 0 whe
   pub rest : Entries
   pub are : entries ≡ entry ∷ rest
 
--- so it is for the next entry; or none is left
+-- how many bytes of entries have room with the next entry, or that it has none; or no entry is left
 abbrev pub NextIs : Entries → ℕ → Result ℕ NoPiece → Type 0
 NextIs entries room (Ok most) = (entry : List ℕ × List ℕ) × Begin entry entries × MostIs entry room (Some most)
 NextIs entries room (Err NoPiece.Short) = (entry : List ℕ × List ℕ) × Begin entry entries × MostIs entry room None
@@ -261,7 +261,7 @@ pub record IsGiven (number most len : ℕ) (entries left : Entries) (room filled
   pub fits : len ≤ length room
   pub written : filled ≡ frame 0 number payload ++ drop len room
 
--- It is shown; or there is no number for it, or no memory, and nothing has changed.
+-- The next piece of a snapshot is shown; or there is no number for it, or no memory, and nothing has changed.
 abbrev pub GivesBy : Result ℕ NoPiece → Entries → List ℕ → List ℕ → Told → Reading → Reading → Type 0
 GivesBy (Err why) entries room filled told old new = (told ≡ no_piece why) × (new ≡ old) × (filled ≡ room)
 GivesBy (Ok most) entries room filled told old new =

@@ -15,7 +15,7 @@ use Rattle.sk_handles.specs.Told.{just, told_by}
 
 -- ---- what is told
 
--- of channels
+-- the refusals of calls of channels
 abbrev pub store_refused : Refusal → Told
 store_refused Refusal.NoChannel = just REFUSED 1
 store_refused Refusal.DecisionDue = just REFUSED 2
@@ -23,7 +23,7 @@ store_refused Refusal.Full = just REFUSED 3
 store_refused Refusal.NoTicket = just REFUSED 4
 store_refused Refusal.Memory = just MEMORY 0
 
--- of frames
+-- the refusals of calls of frames
 abbrev pub queue_refused : Queued → Told
 queue_refused queued.Full = just REFUSED 3
 queue_refused queued.Stopped = just REFUSED 5
@@ -73,7 +73,7 @@ may_write_told None = just ABSENT 0
 abbrev pub place_of : Sealed → FramePlace
 place_of s = record { frame = s.frame; segment = s.segment; offset = s.offset; len = s.len }
 
--- it is told, or why there is none
+-- the place of a frame is told, or why there is no frame
 abbrev pub IsDone : Result Sealed Queued → Told → FramePlace → FramePlace → Type 0
 IsDone (Ok sealed) told old new = (told ≡ just DONE 0) × (new ≡ place_of sealed)
 IsDone (Err why) told old new = (told ≡ queue_refused why) × (new ≡ old)

@@ -12,7 +12,7 @@ just answer number = record { answer = answer; number = number; bytes = 0 }
 abbrev pub texted : Told → List ℕ → Told
 texted told text = record told { bytes = length text }
 
--- of a call that may be refused
+-- what a call is told that may be refused
 abbrev pub told_by : {A E : Type 0} → (A → Told) → (E → Told) → Result A E → Told
 told_by done refused (Ok it) = done it
 told_by done refused (Err why) = refused why
@@ -46,7 +46,7 @@ told_of_turn Turn.Stepped = just STEPPED 0
 told_of_turn (Turn.Guessed id) = just GUESSED id
 told_of_turn (Turn.Asked request) = just ASKED request
 
--- of a content its version
+-- what a reply is told as: of a content its version
 abbrev pub told_of_reply : ServerAnswer → Told
 told_of_reply Answer.Yes = just YES 0
 told_of_reply (Answer.No content) = just NO content.version

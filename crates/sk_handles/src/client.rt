@@ -68,7 +68,7 @@ fn client_with(
     }))
 }
 
-/// The same of a section; nothing where it is none of a world.
+/// A desk as of `client_with`, where a section says no event of a world; nothing where it is none of a world.
 fn client_in(
     alloc: Global,
     declarations: &Declarations,

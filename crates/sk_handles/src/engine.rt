@@ -1,4 +1,5 @@
-//! What the answers of a consensus engine tell a host whose log lies in one. Nothing is held: each call is told by its arguments alone.
+//! What the answers of a consensus engine tell a host whose log lies in one. Nothing is held: each call is told by its arguments
+//! alone.
 ghost use Rattle.std.specs.Prelude.{◌≡◌};
 ghost use Rattle.sk_engine.specs.Told.{batch_told, fence_told, lead_told, round_told};
 ghost use Rattle.sk_handles.specs.EngineCalls.{batch_answer_of, fence_answer_of, held_by, lead_answer_of, leader_of, round_answer_of, word_told};

@@ -115,15 +115,15 @@ fn order_refused() -> Told
 
 /// Where a segment comes next.
 enum Way {
-    /// Its bytes are of the segment that comes.
+    /// The piece is of the segment that comes.
     On(Segment),
-    /// It has no head, and counts for nothing.
+    /// The segment has no head, and counts for nothing.
     Past(Recovered),
-    /// Another comes first, or it came already.
+    /// Another segment comes first, or this one came already.
     Not(Stage),
 }
 
-/// The same, where the segments so far came whole, and this one is behind them.
+/// Where a segment comes next behind segments that came whole.
 fn next_way(read: Recovered, segment: u64) -> Way
     ensures { GoesOn segment read result }
 {
@@ -214,7 +214,7 @@ fn most_of(entry: &(ByteString, ByteString), room: usize) -> Option<usize>
     Some(room - HEAD)
 }
 
-/// The same for the next entry.
+/// How many bytes of entries the next piece may have in a room of so many, or why there is none.
 fn next_piece(entries: &Snapshot, room: usize) -> Result<usize, NoPiece>
     ensures { NextIs entries.now room result }
 {
@@ -324,7 +324,7 @@ impl Reading {
         }
     }
 
-    /// The same, where nothing else came. Without memory all begins anew.
+    /// A piece of a snapshot comes, and nothing else came. Without memory all begins anew.
     fn feed_snapshot(&mut self, alloc: Global, piece: &[u8]) -> Told
         ensures { TakesStartAt self.old.stage piece.now result self.old self.new }
     {
@@ -357,7 +357,7 @@ impl Reading {
         self.add_head(segment, bytes)
     }
 
-    /// The same, where no piece of a snapshot comes any more.
+    /// The head of the next segment comes, and no piece of a snapshot any more.
     fn add_head(&mut self, segment: u64, bytes: &[u8]) -> Told
         ensures { AddsTo self.old.stage segment bytes.now result self.old self.new }
     {
@@ -373,7 +373,7 @@ impl Reading {
         }
     }
 
-    /// The segment that comes is done, where one of a greater number comes.
+    /// The heads are done, and so is the segment that comes, where one of a greater number is next.
     fn closed(&self, alloc: Global, stage: Stage, segment: u64) -> Result<Stage, AllocError>
         ensures { IfOk result (λ now. (start : Entries) (heads : List Head) (bytes : List (List ℕ))
             (left : ℕ) → HoldsFrom self.now.first stage start heads bytes left
@@ -412,7 +412,7 @@ impl Reading {
         self.feed_segment(alloc, segment, piece)
     }
 
-    /// The same, where no piece of a snapshot comes any more.
+    /// A piece of a segment comes, and none of a snapshot any more. Without memory all begins anew.
     fn feed_segment(&mut self, alloc: Global, segment: u64, piece: &[u8]) -> Told
         ensures { TakesAt segment piece.now result self.old self.new }
     {
@@ -485,7 +485,7 @@ impl Reading {
         self.end_segments(alloc, in_flight, known, counts)
     }
 
-    /// The same, where no piece of a snapshot comes any more.
+    /// All segments came, and no piece of a snapshot comes any more: answers as `end` does.
     fn end_segments(
         &mut self,
         alloc: Global,

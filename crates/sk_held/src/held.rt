@@ -48,8 +48,8 @@ impl Model for Held {
 }
 
 impl Held {
-    /// No key is there, and nothing has happened, in the kernel of this number, of whose guesses so many may be undecided at once;
-    /// with a seed that users of the keys don't know.
+    /// No key is there, and nothing has happened, in the kernel of this number, of whose guesses so many may be undecided at
+    /// once; with a seed that users of the keys don't know.
     pub fn new(alloc: Global, number: u64, limit: NonZeroU16, seed: u64) -> Held
         ensures { IsNew number (non_zero_u16_get limit) result }
     {
@@ -62,7 +62,6 @@ impl Held {
         }
     }
 
-    /// The kernel.
     pub fn kernel(&self) -> &Bytes<Vec<u8>, Vec<u8>>
         ensures { result.now ≡ self.now.kernel }
     {
@@ -110,7 +109,7 @@ impl Held {
         }
     }
 
-    /// The step says this, and nothing that was said in it before.
+    /// The step says this, in place of whatever it said before.
     pub fn say(&mut self, channel: u16, output: &[u8]) -> Result<(), Refusal>
         ensures { SaysPost result channel output.now self.old self.new }
     {
@@ -136,8 +135,8 @@ impl Held {
         self.kernel.take(&mut self.step)
     }
 
-    /// Draws the next guess with the step that was written, of which nothing is left then, and keeps its token. After a refusal the
-    /// step is as it was.
+    /// Draws the next guess with the step that was written, of which nothing is left then, and keeps its token. After a refusal
+    /// the step is as it was.
     pub fn guess(&mut self) -> Result<GuessId, Refusal>
         ensures { GuessPost result self.old self.new }
     {
@@ -175,8 +174,8 @@ impl Held {
         }
     }
 
-    /// Takes the next output out of a channel, if it depends on nothing, and keeps it until it is handed over; nothing, where one of
-    /// the channel is kept.
+    /// Takes the next output out of a channel, if it depends on nothing, and keeps it until it is handed over; nothing, where one
+    /// of the channel is kept.
     pub fn bring(&mut self, channel: u16) -> Result<(), AllocError>
         ensures brings { OnOk result (MayBring self.old channel self.new) }
         ensures none { OnOk result
@@ -201,7 +200,7 @@ impl Held {
         first_of(self.out.as_slice(), channel)
     }
 
-    /// It was handed over: lets go of it.
+    /// The output of a channel was handed over: lets go of it.
     pub fn handed_over(&mut self, channel: u16)
         ensures { self.new ≡ record self.old { out = but_first channel self.old.out } }
     {

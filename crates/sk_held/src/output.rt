@@ -11,7 +11,7 @@ pub struct Output {
     pub bytes: Vec<u8>,
 }
 
-/// How many stand before the first of a channel; all, where there is none.
+/// How many outputs stand before the first of a channel; all, where it has none.
 fn place_of(outputs: &[Output], channel: u16) -> usize
     ensures { result ≡ prefix_len (λ o. not (o.channel == channel)) outputs.now }
 {

@@ -31,7 +31,6 @@ pub(crate) fn check_value(value: &[u8]) -> Result<(), Refusal>
     Ok(())
 }
 
-/// A copy.
 pub(crate) fn copy_of(alloc: Global, bytes: &[u8]) -> Result<Vec<u8>, Refusal>
     ensures ok { IfOk result (λ copy. copy.items ≡ bytes.now) }
     ensures err { IfErr result (λ why. why ≡ Memory) }

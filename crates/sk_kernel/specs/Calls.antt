@@ -16,7 +16,7 @@ pub record IsNew (old new : KernelView) : Type 0 where
   pub above : (h : ℕ) → IsDrawn (plain old.scripts) (events_of old) h → h < next_guess old
   pub undecided : HasStatus new (next_guess old) Undecided
 
--- the same for a guess, whose token is of this kernel and of the next number
+-- what a guess answers, whose token is of this kernel and of the next number
 abbrev pub GuessPost : Result Token Refusal → Option Refusal → ℕ → Input → KernelView → KernelView → Type 0
 GuessPost (Ok token) refused pid input old new =
     (refused ≡ None) × (token ≡ record { kernel = old.number; id = next_guess old }) × (new ≡ with_event old (Event.Guess (next_guess old) pid input)) × IsNew old new

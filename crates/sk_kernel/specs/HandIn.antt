@@ -25,7 +25,7 @@ TakesIn (Err Stale) l old new = (IsAsLent old l → ⊥) × (new ≡ old)
 TakesIn (Err TraceFull) l old new = IsAsLent old l × (room old < l.count) × (new ≡ old)
 TakesIn (Err Memory) l old new = IsAsLent old l × (l.count ≤ room old) × (0 < l.count) × (new ≡ old)
 
--- the same where the lease comes back after a refusal
+-- a lease is taken in, as in `TakesIn`, or comes back after a refusal
 abbrev pub HandInPost : Result (Unit {0}) (LeaseView × HandIn) → LeaseView → KernelView → KernelView → Type 0
 HandInPost (Ok u) l old new = TakesIn (Ok u) l old new
 HandInPost (Err back) l old new = (back.0 ≡ l) × TakesIn (Err back.1) l old new

@@ -14,7 +14,7 @@ use Rattle.sk_plain.specs.declared.refusal.Refusal.TheVariants.{TraceFull}
 -- a kernel as contracts see it
 pub record KernelView : Type 0 where
   pub number : ℕ
-  -- what it was booted with
+  -- the scripts that it was booted with
   pub scripts : ScriptMap
   -- where its trace begins
   pub start : State
@@ -31,7 +31,7 @@ kernel_code =
     (λ k. (k.number, (k.scripts, (k.start, (k.limit, (k.earlier, k.trace))))))
     (λ p. record { number = p.0; scripts = p.1.0; start = p.1.1.0; limit = p.1.1.1.0; earlier = p.1.1.1.1.0; trace = p.1.1.1.1.1 }) (λ _. refl)
 
--- at its start
+-- a kernel that was just booted
 abbrev pub booted : ℕ → BootView → ℕ → KernelView
 booted number boot limit = record { number = number; scripts = boot.scripts; start = start_of boot; limit = limit; earlier = []; trace = [] }
 
@@ -61,7 +61,7 @@ HasStatus k id s = StatusSince (plain k.scripts) k.start k.earlier (events_of k)
 abbrev pub RestsOn : KernelView → Entity → ℕ → Type 0
 RestsOn k e id = IsTagOf (plain k.scripts) k.start (events_of k) e id
 
--- the same, computed: the undecided guesses that an entity depends on, by rising number
+-- the undecided guesses that an entity depends on, by rising number, as they are computed
 abbrev pub tags_at : KernelView → Entity → List ℕ
 tags_at k e = deps (plain k.scripts) k.start (all_recorded (plain k.scripts) k.start no_record (events_of k)) e
 

@@ -66,7 +66,6 @@ impl Holder {
         }
     }
 
-    /// The kernel.
     pub fn kernel(&self) -> &Kernel
         ensures { result.now ≡ self.now.kernel }
     {
@@ -214,8 +213,8 @@ impl Holder {
         kernel.shut()
     }
 
-    /// Spends the tokens by failures, the oldest first: nothing is committed. Where no guess is undecided they are of struck ones, and
-    /// nothing fails.
+    /// Spends the tokens by failures, the oldest first: nothing is committed. Where no guess is undecided they are of struck
+    /// ones, and nothing fails.
     fn spend(&mut self)
         ensures held { self.new.held ≡ [] }
         ensures fails { FailsSome self.old.kernel self.new.kernel }

@@ -30,7 +30,7 @@ HostActs leadership h (Does call mark) g = calls.Does h.store call g.store × Ma
     × (g.hosted ≡ record h.hosted { rounds = g.hosted.rounds })
 HostActs leadership h (Goes step) g = HostDoes leadership h.hosted step g.hosted × (g.store ≡ h.store) × (g.marks ≡ h.marks)
 
--- any of these, one after another
+-- any acts of a host, one after another
 abbrev pub AllActs : ℕ → Host → List Act → Host → Type 0
 AllActs leadership h [] last = h ≡ last
 AllActs leadership h (a ∷ acts) last = (g : Host) × HostActs leadership h a g × AllActs leadership g acts last

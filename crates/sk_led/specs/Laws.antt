@@ -27,7 +27,7 @@ LoggedIsInEngine = (payload_in : List ℕ → List ℕ) (moves : List Move) (w :
     (start : Entries) (cs : List Call) (s : StoreView) → Moves new_world moves w → HasDone limits next start cs s
     → IsLed payload_in w leadership gap next cs → (batch : ℕ) → IsLogged cs batch → IsInEngine payload_in w leadership cs batch
 
--- A reply that went out rests only on such batches.
+-- A reply that went out depends on such batches alone: each of them stands in the engine for ever.
 abbrev pub RepliesRestOnEngine : Type 0
 RepliesRestOnEngine = (payload_in : List ℕ → List ℕ) (moves : List Move) (w : World) (leadership gap : ℕ) (limits : Limits) (next : Next)
     (start : Entries) (cs : List Call) (s : StoreView) → Moves new_world moves w → HasDone limits next start cs s
@@ -51,7 +51,7 @@ pub record Reign : Type 0 where
   pub values : List (List ℕ)
   pub works : List Work
 
--- It began with these entries, and had its log in the engine.
+-- A leadership that began with these entries, and had its log in the engine.
 pub record IsReign (payload_in : List ℕ → List ℕ) (w : World) (start : Entries) (r : Reign) : Type 0 where
   pub done : HasDone r.limits r.next start r.calls r.store
   pub led : IsLed payload_in w r.leadership r.gap r.next r.calls

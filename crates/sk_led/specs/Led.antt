@@ -38,7 +38,7 @@ IsWoundUp w leadership [] = Unit {0}
 IsWoundUp w leadership (Cuts cut ∷ cs) = IsGivenUp w leadership cut.frame × NoneSynced cs
 IsWoundUp w leadership (c ∷ cs) = ⊥
 
--- It did the first of this with its log in the engine, and the rest once its leadership was over.
+-- A store did the first of these calls with its log in the engine, and the rest once its leadership was over.
 pub record IsLed (payload_in : List ℕ → List ℕ) (w : World) (leadership gap : ℕ) (next : Next) (cs : List Call) : Type 0 where
   pub leading : List Call
   pub ending : List Call

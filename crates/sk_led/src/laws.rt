@@ -9,18 +9,18 @@ pub fn logged_law()
     ensures { LoggedIsInEngine }
 {}
 
-/// So does what each batch logs that a reply depends on which went out.
+/// A reply that went out depends on such batches alone: what each of them logs stands in the engine for ever.
 pub fn replies_law()
     ensures { RepliesRestOnEngine }
 {}
 
-/// What is found of a leadership is what the first of its logged commands leave of the store that it began with, with all that a batch
-/// logs which was told as logged.
+/// What is found of a leadership is what the first of its logged commands leave of the store that it began with: among these is
+/// all of each batch that was told as logged.
 pub fn found_law()
     ensures { LeadersGoOn }
 {}
 
-/// What was refused, also as the leadership was over, is not among what is found of it.
+/// No command that was refused, be it since the leadership was over, is among what is found of that leadership.
 pub fn refused_law()
     ensures { RefusedIsNowhere }
 {}
@@ -35,13 +35,13 @@ pub fn newest_law()
     ensures { RepliesAreNewest }
 {}
 
-/// Over any number of leaderships there is one order of commands, of each the first that it logged, with all that are settled, and the
-/// last begins with what a plain store has behind it.
+/// Over any number of leaderships there is one order of commands, of each the first that it logged, with all that are settled,
+/// and the last begins with what a plain store has behind it.
 pub fn order_law()
     ensures { OneOrder }
 {}
 
-/// However a store is wound up that led, whose lost frames alone were told as failed, all of this is said of it still.
+/// However a store that led is wound up, all of this holds of it still, if of its frames just lost ones were told as failed.
 pub fn wound_up_law()
     ensures { WoundUpIsLed }
 {}

@@ -6,9 +6,9 @@ ghost use Rattle.sk_led.specs.Winding.{DecidesAll, FailPost, TakePost, WindUpPos
 use sk_batches::{Refusal, Sealed};
 use sk_durable::Store;
 
-/// Winds a store up whose leadership is over, once each frame that was sent has its word, and those that are lost were told as failed: the
-/// first of these is cut off with all behind it, and so is what was never sent. All of it is refused. The room is as long as the
-/// next frame, and what is in it then is nothing. After a refusal it may be called again.
+/// Winds a store up whose leadership is over, once each frame that was sent has its word, and those that are lost were told as
+/// failed: the first of these is cut off with all behind it, and so is what was never sent. All of it is refused. The room is as
+/// long as the next frame, and what is in it then is nothing. After a refusal it may be called again.
 pub fn wind_up(store: &mut Store, room: &mut [u8]) -> Result<(), Refusal>
     ensures { WindUpPost result (length room.old) store.old store.new }
 {
@@ -27,7 +27,8 @@ fn decide_all(store: &mut Store)
     while let Some(_outcome) = store.decide() {}
 }
 
-/// Whether a frame has failed that is to be cut off: one that was lost, or else the next, which is taken for that, if anything waits for it.
+/// Whether a frame has failed that is to be cut off: one that was lost, or else the next, which is taken for that, if anything
+/// waits for it.
 fn has_failed(store: &mut Store, room: &mut [u8]) -> Result<bool, Refusal>
     requires { decided store.old.batched.queue.batches ≡ None }
     ensures { FailPost result (length room.old) store.old store.new }

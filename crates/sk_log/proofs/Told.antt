@@ -66,7 +66,7 @@ no_first segment number said_number len total bytes long says_len says_total say
     let c : sum p ≡ total = sym (says_total segment number (length p) (sum p) made.light there) in
     differ (there ∙ (λ i. head_of segment (a i) (b i) (c i)))
 
--- The same of all bytes that begin as these do.
+-- Where no head of this segment stands at the front of some bytes, the log ends with all bytes that begin as these do.
 pub no_first_as : (segment number said_number len total : ℕ) (bytes left : List ℕ) → BeginsAs left bytes → 24 ≤ length bytes → SaidLen (take 24 bytes) len → SaidTotal (take 24 bytes) total
     → ((segment number len total : ℕ) → number < 2 ^ 56 → take 24 bytes ≡ head_of segment number len total → said_number ≡ number)
     → (take 24 bytes ≡ head_of segment said_number len total → ⊥) → Ends segment number left

@@ -40,7 +40,7 @@ pub record Blanked (kept : ℕ) (before after : List ℕ) : Type 0 where
   pub faded : IsFaded before after
   pub keeps : Keeps kept before after
 
--- The same frames are read again.
+-- Whatever a crash leaves while zeros are written behind the frames that were read, just these frames are read again.
 abbrev pub BlankingKeeps : Type 0
 BlankingKeeps = (segment number synced : ℕ) (payloads read : List (List ℕ)) (before after : List ℕ)
     → Crashed segment number payloads synced before → IsLog segment number read before
@@ -63,7 +63,7 @@ pub record WrittenOn (segment number : ℕ) (read more : List (List ℕ)) (synce
       ⊎ (slice_index left i ≡ slice_index (log segment number (read ++ more)) i)
   pub kept : Keeps (length (log segment number (take synced (read ++ more)))) (log segment number (read ++ more)) left
 
--- That is a crash of one log with all these frames.
+-- What is left then is what a crash of one log with all these frames may leave.
 abbrev pub GoesOn : Type 0
 GoesOn = (segment number synced : ℕ) (read more : List (List ℕ)) (before left : List ℕ)
     → WrittenOn segment number read more synced before left → Crashed segment number (read ++ more) synced left
@@ -80,7 +80,7 @@ abbrev pub WholeBytesFade : Type 0
 WholeBytesFade = (written left : List ℕ)
     → ((i : ℕ) → (slice_index left i ≡ 0) ⊎ (slice_index left i ≡ slice_index written i)) → IsFaded written left
 
--- So does one that leaves each bit as it was before, which is 0, or as it was written.
+-- A disk that leaves each bit as it was before, which is 0, or as it was written, leaves at most what was written.
 abbrev pub SomeBitsFade : Type 0
 SomeBitsFade = (written left : List ℕ)
     → ((i : ℕ) → slice_index left i ≡ bit_and (slice_index left i) (slice_index written i)) → IsFaded written left

@@ -10,7 +10,7 @@ pub record BeginsFrame (segment number : ℕ) (bytes : List ℕ) (n : ℕ) : Typ
   pub within : 24 + n ≤ length bytes
   pub begins : bytes ≡ frame segment number (take n (drop 24 bytes)) ++ drop (24 + n) bytes
 
--- There are fewer than n bytes, and a frame that begins so has at least n: as many as a head, or as a head says.
+-- These bytes are fewer than n, and a frame that begins with them has at least n: as many as a head, or as a head says.
 pub record IsShort (segment number : ℕ) (bytes : List ℕ) (n : ℕ) : Type 0 where
   pub lacking : length bytes < n
   pub wanted : (payload later more : List ℕ) → IsFrame segment number payload
@@ -25,7 +25,7 @@ pub record SaysNumber (segment : ℕ) (bytes : List ℕ) (number : ℕ) : Type 0
   pub total : ℕ
   pub head : take 24 bytes ≡ head_of segment number len total
 
--- These are the first 24 of some bytes, or all that there are.
+-- Two lists of bytes begin with the same 24 bytes, or with as many as there are.
 abbrev pub BeginsAs : List ℕ → List ℕ → Type 0
 BeginsAs left bytes = take 24 left ≡ take 24 bytes
 

@@ -7,7 +7,8 @@ pub fn crash_law()
     ensures { CrashKeepsPrefix }
 {}
 
-/// The same holds where a start crashed before, however often.
+/// What a crash leaves of a start that reads or blanks is what a crash of the writing may leave: so starts may crash, however
+/// often.
 pub fn again_law()
     ensures { CrashesAgain }
 {}
@@ -17,7 +18,8 @@ pub fn blank_law()
     ensures { BlankingKeeps }
 {}
 
-/// It holds of what is written on behind them, over zeros that were told as synced.
+/// Frames that are written on behind those that were read, over zeros that were told as synced, are one log with these: what
+/// a crash leaves of them is what the crash law is about.
 pub fn on_law()
     ensures { GoesOn }
 {}
@@ -27,7 +29,8 @@ pub fn damage_law()
     ensures { CrashesAreShort }
 {}
 
-/// Of two segments just what the later one goes on from counts, and all that was told as synced.
+/// What counts of two segments, the frames of the earlier up to where the later goes on, and those of the later, is a front
+/// part of what was written so, and has all of it that was told as synced.
 pub fn segments_law()
     ensures { SegmentsJoin }
 {}

@@ -54,7 +54,7 @@ pub struct End {
     pub number: u64,
     /// Where it would begin, in bytes from the front of the segment.
     pub place: u64,
-    /// What stands from there on.
+    /// What stands behind the frames.
     pub rest: Rest,
 }
 
@@ -113,7 +113,7 @@ fn settle(unread: &mut Unread, segment: u64, number: u64) -> (Front, u64)
     (front, 0)
 }
 
-/// How many of the bytes there are up to the last that is not 0, where a piece is added to some that were counted so.
+/// How many bytes there are up to the last that is not 0, once a piece stands behind some that were counted so.
 fn used_with(used: u64, behind: u64, piece: &[u8]) -> u64
     requires { behind + length piece.now < 2 ^ 64 }
     ensures { (rest : List ℕ) → length rest ≡ behind → UsesFront used rest

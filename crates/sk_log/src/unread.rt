@@ -39,7 +39,7 @@ impl Unread {
         &self.buffer.as_slice()[self.start..]
     }
 
-    /// Adds bytes behind them, over the room of those that were read.
+    /// Adds bytes behind those that are unread, over the room of those that were read.
     pub(crate) fn push(&mut self, piece: &[u8]) -> Result<(), AllocError>
         ensures ok { OnOk result (self.new ≡ self.old ++ piece.now) }
         ensures err { OnErr result (self.new ≡ self.old) }
@@ -57,7 +57,7 @@ impl Unread {
         self.start += count;
     }
 
-    /// Lets all of them go.
+    /// Goes past all bytes.
     pub(crate) fn clear(&mut self)
         ensures { self.new ≡ [] }
     {

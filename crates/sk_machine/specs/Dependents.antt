@@ -20,7 +20,7 @@ pub record IsOrdered (s : UndoState Entity EntityState) : Type 0 where
 abbrev pub AllExact : (Entity → List ℕ) → List (OpenGuess Entity) → Type 0
 AllExact = lists.AllExact entity_cmp
 
--- it has them, and no others but some of these
+-- each list has the entities that depend on its guess, and no others but some of these
 abbrev pub AllAlmostExact : (Entity → List ℕ) → List Entity → List (OpenGuess Entity) → Type 0
 AllAlmostExact = lists.AllAlmostExact entity_cmp
 

@@ -30,7 +30,7 @@ pub record CanPerformWith (m : SlotMap) (tags : List ℕ) (scripts : Scripts) (p
   pub can : CanPerform (look_at m) scripts pid input plan
   pub clean : IsClean m tags (entities_of (planned_writes m scripts pid input plan))
 
--- it was performed, and its text said, which has these tags; without memory nothing has changed
+-- a plan was performed, and its text said, which has these tags; without memory nothing has changed
 pub record HasPerformed (result : Result (Unit {0}) AllocError) (old : SlotMap) (tags : List ℕ) (scripts : Scripts) (pid : ℕ) (input : Input) (plan : Plan) (new : SlotMap) (before after : TerminalMap) : Type 0 where
   pub writes : OnOk result (Performed old tags (planned_writes old scripts pid input plan) new)
   pub says : OnOk result (after ≡ texts_after before tags (said_by (seen_with (look_at old) scripts pid input plan)))

@@ -1,5 +1,5 @@
-//! Private steps of a process that depends on all that its step reads depends on: it is changed where it stands, and neither notes
-//! nor lists change.
+//! Private steps of a process that depends on all that its step reads depends on: it is changed where it stands, and neither
+//! notes nor lists change.
 ghost use Rattle.std.specs.Prelude.{◌≡◌, IfSome, None, true, false};
 ghost use Rattle.sk_machine.specs.Base.{MergedTakes, input_in, plain, DoesNext, look_at};
 ghost use Rattle.sk_machine.specs.Dependents.{IsEnough, IsOrdered};
@@ -14,8 +14,8 @@ use sk_plain::{InputRef, Plan};
 use sk_script::{Instruction, Scripts};
 
 impl Machine {
-    /// So many guesses a process has to depend on at least, for its signals to depend on no others: all that are undecided, or none
-    /// where the signals depend on none. The last step tells which is looked for. `None` where neither is known.
+    /// So many guesses a process has to depend on at least, for its signals to depend on no others: all that are undecided, or
+    /// none where the signals depend on none. The last step tells which is looked for. `None` where neither is known.
     fn least_tags(&self, pid: Pid) -> Option<usize>
         requires { IsOrdered (undo_state_of self.now) }
         ensures { IfSome result (λ least. IsEnough least pid self.now.slots) }

@@ -159,7 +159,8 @@ pub(crate) fn is_alone(
     rest_alone(logs, untagged, id, guesses.dependents(id))
 }
 
-/// Takes what depended on a failed guess out of the lists of the guesses that it does not depend on. Mostly it is in none of them.
+/// Takes what depended on a failed guess out of the lists of the others on which it does not depend. Mostly it is in none of
+/// these.
 pub(crate) fn relieve_freed(
     guesses: &mut Guesses<Entity>,
     logs: &Logs,

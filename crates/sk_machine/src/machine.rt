@@ -119,7 +119,7 @@ fn put_all(plan: &Plan, pid: Pid, all: &mut Entities)
     *all = plan.writes(pid);
 }
 
-/// The same, where the list has the process alone. Most guesses write nothing else.
+/// Puts the entities that a plan writes into a list that has the process alone. Most guesses write nothing else.
 #[inline(always)]
 fn put_written(plan: &Plan, pid: Pid, all: &mut Entities)
     requires { all.old ≡ Proc pid ∷ [] }
@@ -304,7 +304,8 @@ impl Machine {
         self.take_apart(scripts, pid, input, plan)
     }
 
-    /// Takes the step where it depends on just what its process does. Answers whether; else, and without memory, nothing has changed.
+    /// Takes the step where it depends on just what its process does. Answers whether; else, and without memory, nothing has
+    /// changed.
     fn take_alike(
         &mut self,
         scripts: &Scripts,

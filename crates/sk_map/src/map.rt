@@ -99,7 +99,7 @@ impl<K: Key, V> Map<K, V> {
         self.entries.get(key)
     }
 
-    /// The same as `get`, for a key that is mostly the first one: at that nothing is searched.
+    /// As `get`, for a key that is mostly the first one, at which nothing is searched.
     #[inline(always)]
     pub fn get_first(&self, key: &K) -> Option<&V>
         ensures { option_copied result ≡ map.get (seen K.order self.now) key.now }
@@ -112,7 +112,7 @@ impl<K: Key, V> Map<K, V> {
         self.entries.get(key)
     }
 
-    /// The same as `get`, for a key that stands late: at the last one and behind it nothing is searched.
+    /// As `get`, for a key that stands late: at the last one and behind it nothing is searched.
     pub fn get_late(&self, key: &K) -> Option<&V>
         ensures { option_copied result ≡ map.get (seen K.order self.now) key.now }
     {

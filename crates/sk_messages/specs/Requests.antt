@@ -41,6 +41,6 @@ request_head q =
     q.number ∷ guess_of q.guess ∷ q.settled ∷ kind_of q.ask ∷ version_of q.ask
     ∷ length (name_of q.ask) ∷ length (stored_by q.ask) ∷ length q.rests ∷ []
 
--- behind them the name, the bytes, and the guesses on which it rests
+-- behind them the name, the bytes, and the guesses on which it depends
 abbrev pub request_bytes : Request → List ℕ
 request_bytes q = number_bytes (request_head q) ++ name_of q.ask ++ stored_by q.ask ++ number_bytes q.rests

@@ -48,7 +48,7 @@ fn number_of(bytes: &[u8]) -> u64
     u64::from_le_bytes(number)
 }
 
-/// The number before which so many stand.
+/// The number at a place, from 0 on, among numbers of 8 bytes each.
 #[tactic(auto, unfolding(crate::specs::Numbers::number_at))]
 pub(crate) fn number_at(bytes: &[u8], place: usize) -> u64
     requires { 8 * place + 8 ≤ length bytes.now }

@@ -54,7 +54,7 @@ fn reply_from(number: u64, kind: u64, version: u64, count: u64, content: &[u8]) 
     Some(Reply { number, answer })
 }
 
-/// The reply that these bytes are, all of them; `None` where they are none.
+/// The reply of just these bytes; `None` where they are none.
 pub fn read_reply(bytes: &[u8]) -> Option<Reply>
     ensures { result ≡ reply_of bytes.now }
 {

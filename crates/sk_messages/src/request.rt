@@ -36,7 +36,7 @@ fn name_of(ask: &Ask) -> &Name
     }
 }
 
-/// The bytes of a store.
+/// The bytes that a store writes; none for any other ask.
 fn stored_by(ask: &Ask) -> &[u8]
     ensures { result.now ≡ stored_by ask.now }
 {

@@ -21,6 +21,6 @@ cut f n = take n f ++ replicate (n - length f) 0
 abbrev pub blocks_of : ℕ → ℕ
 blocks_of size = (size + 511) / 512
 
--- up to so many from a place on
+-- up to so many of a list from a place on
 abbrev pub part : {A : Type 0} → List A → ℕ → ℕ → List A
 part f at count = take count (drop at f)

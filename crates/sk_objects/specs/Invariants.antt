@@ -17,7 +17,7 @@ pub record IsTidyPipe (cells : List ℕ) (head len : ℕ) : Type 0 where
 pub record IsTidyQueue (signals : List ℕ) (room : ℕ) : Type 0 where
   -- the signals are no more than may be
   pub few : length signals ≤ SIGNALS_LIMIT
-  -- there is room for each that may be
+  -- there is room for as many signals as may be
   pub keeps : SIGNALS_LIMIT ≤ room
   -- each is a signal's number
   pub numbers : All IsSignal signals

@@ -13,7 +13,7 @@ pub record AreSlots (slots : List (List ℕ)) (size : ℕ) : Type 0 where
   pub covers : size ≤ 512 * length slots
   pub rest : IsZeroFrom size (joined slots)
 
--- the same, where there is room for all slots that may be
+-- the slots of a file of so many bytes, with room for all slots that may be
 pub record AreTidySlots (slots : List (List ℕ)) (size room : ℕ) : Type 0 where
   pub are : AreSlots slots size
   pub keeps : 64 ≤ room

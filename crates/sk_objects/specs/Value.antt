@@ -43,7 +43,7 @@ held_bytes (Pipe p) = Some p.bytes
 held_bytes (Copy c) = Some c.bytes
 held_bytes _ = None
 
--- up to so many of them from a place on, and at most 512
+-- up to so many bytes of a value from a place on, and at most 512
 abbrev pub bytes_from : Value → ℕ → ℕ → Option (List ℕ)
 bytes_from v offset count = option_map (λ held. part held offset (min count TEXT_LIMIT)) (held_bytes v)
 

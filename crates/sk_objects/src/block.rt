@@ -88,14 +88,14 @@ impl Eq for Block {
 }
 
 impl Default for Block {
-    /// The block in which none was written.
+    /// A block in which no byte was written.
     fn default() -> Block {
         Block::new()
     }
 }
 
 impl Block {
-    /// The block in which none was written.
+    /// A block in which no byte was written: all are zeros.
     #[tactic(auto, unfolding(crate::specs::Blocks::blank))]
     pub fn new() -> Block
         ensures { result ≡ blank }
@@ -130,8 +130,8 @@ impl Block {
         Block::of(alloc, cells)
     }
 
-    /// Writes bytes over a part of it where they stand, if it has its bytes and shares them with no other; answers whether it
-    /// is so. Else nothing has changed.
+    /// Writes bytes over a part of the block in place, if it holds bytes and shares them with no other, and answers whether it
+    /// does. Else nothing has changed.
     fn overwrite_own(&mut self, at: usize, bytes: &[u8]) -> bool
         requires { at + length bytes.now ≤ 512 }
         ensures { self.new ≡ (if result then overwritten self.old at bytes.now else self.old) }

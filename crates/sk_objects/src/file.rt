@@ -127,7 +127,7 @@ impl File {
         text
     }
 
-    /// The same bytes, read into a text that is there.
+    /// Reads up to `count` bytes from a place on into a text that is there.
     pub fn part_into(&self, at: usize, count: usize, text: &mut Text)
         requires { count ≤ TEXT_LIMIT }
         ensures { text.new ≡ part self.now at count }

@@ -51,7 +51,6 @@ impl HeldContent {
         Ok(HeldContent { content })
     }
 
-    /// The content.
     pub fn content(&self) -> &Content
         ensures { result.now ≡ self.now }
     {

@@ -114,7 +114,7 @@ fn overwrite_blocks(
     Ok(())
 }
 
-/// The same of those of a file.
+/// Writes bytes over slots of a file. Without memory nothing changes.
 #[inline(always)]
 pub(crate) fn overwrite(slots: &mut Vec<Block>, at: usize, bytes: &[u8]) -> Result<(), AllocError>
     requires slots { length slots.old.items ≤ 64 }

@@ -111,7 +111,6 @@ impl Value {
         })
     }
 
-    /// The kind.
     pub fn kind(&self) -> Kind
         ensures { result ≡ kind_of self.now }
     {
@@ -137,7 +136,7 @@ impl Value {
         }
     }
 
-    /// The same bytes; none for another kind.
+    /// The bytes that `bytes_at` tells; none for another kind.
     pub fn text_at(&self, offset: u64, count: usize) -> Text
         ensures { result ≡ unwrap_or (bytes_from self.now offset count) [] }
     {
@@ -146,7 +145,7 @@ impl Value {
         text
     }
 
-    /// The same bytes, read into a text that is there.
+    /// Reads the bytes of `text_at` into a text that is there.
     pub fn read_into(&self, offset: u64, count: usize, text: &mut Text)
         ensures { text.new ≡ unwrap_or (bytes_from self.now offset count) [] }
     {

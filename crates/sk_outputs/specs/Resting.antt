@@ -1,4 +1,4 @@
--- On which guesses outputs rest.
+-- On which guesses outputs depend.
 use Rattle.std.specs.Prelude.{◌≡◌, ◌<◌, ◌||◌, ℕ, Bool, false, [], ◌∷◌}
 use Rattle.sk_record.specs.Notes.{has}
 use Rattle.sk_outputs.specs.Said.{Said}

@@ -13,7 +13,7 @@ pub record SaidView (O : Type 0) : Type 0 where
   pub room : ℕ
   pub counted : ℕ
 
--- there is room for one more of a channel
+-- there is room for one more output of a channel
 abbrev pub HasRoom : {O : Type 0} → SaidView O → ℕ → Type 0
 HasRoom v t = (0 < v.room) × (t < v.counted)
 
@@ -25,11 +25,11 @@ said_code {O} code =
     code_by (Said O × (ℕ × ℕ)) (coded× (coded_list (one_code code)) (coded× coded_ℕ coded_ℕ))
     (λ s. (s.said, (s.room, s.counted))) (λ p. record { said = p.0; room = p.1.0; counted = p.1.1 }) (λ _. refl)
 
--- those of one channel
+-- the outputs of one channel
 abbrev pub said_at : {O : Type 0} → Said O → ℕ → List (Tagged (ℕ × O))
 said_at xs t = filter (λ x. x.0.0 == t) xs
 
--- the first of these, if any is there
+-- the first of some outputs, if there is one
 abbrev pub first_of : {O : Type 0} → List (Tagged (ℕ × O)) → Option O
 first_of [] = None
 first_of (x ∷ xs) = Some x.0.1

@@ -35,7 +35,7 @@ impl Channels {
         }
     }
 
-    /// One of them.
+    /// The first channel of the set.
     pub(crate) fn first(&self) -> Option<u16>
         ensures some { IfSome result (λ channel. has channel self.now.channels ≡ true) }
         ensures none { result ≡ None → self.now.channels ≡ [] }
@@ -49,7 +49,7 @@ impl Channels {
         self.list.binary_search(&channel).is_ok()
     }
 
-    /// Makes room for so many in all, and for one more than there are.
+    /// Makes room for so many channels in all, and for one more than there are.
     pub(crate) fn reserve(&mut self, count: usize) -> Result<(), AllocError>
         ensures channels { self.new.channels ≡ self.old.channels }
         ensures places { self.old.places ≤ self.new.places }

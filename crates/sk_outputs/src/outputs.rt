@@ -387,7 +387,7 @@ impl<O: Drop> Outputs<O> {
         id.number() <= self.newest
     }
 
-    /// A guess is committed. It takes no memory, and goes over no output where the guess is newer than each on which one rests.
+    /// A guess is committed. It takes no memory, and goes over no output where the guess is newer than each on which one depends.
     pub fn commit(&mut self, id: GuessId)
         ensures { self.new.said ≡ lightened id self.old.said }
     {
@@ -398,8 +398,8 @@ impl<O: Drop> Outputs<O> {
         find_ready(&mut self.ready, &self.said);
     }
 
-    /// Throws away what depends on a guess. It takes no memory, and goes over no output where the guess is newer than each on which
-    /// one rests.
+    /// Throws away what depends on a guess. It takes no memory, and goes over no output where the guess is newer than each on
+    /// which one depends.
     pub fn drop_of(&mut self, id: GuessId)
         ensures { self.new.said ≡ not_dropped id self.old.said }
     {

@@ -7,12 +7,12 @@ abbrev pub directory_of : Entity → Option ObjId
 directory_of (Link d name) = Some d
 directory_of _ = None
 
--- of the first of these writes that has a name be there, which is written so only where it is absent
+-- the directory of the first name that these writes have be there, which is written so only where it is absent
 abbrev pub adds_in : List (Entity × Option EntityState) → Option ObjId
 adds_in [] = None
 adds_in (w ∷ ws) = option_or (option_and_then (λ _. directory_of w.0) w.1) (adds_in ws)
 
--- the same of a plan
+-- the directory of the name that a plan has be there beside the process, if it does
 abbrev pub adds_beside : Beside → Option ObjId
 adds_beside Beside.Nothing = None
 adds_beside (Beside.One e w) = directory_of e

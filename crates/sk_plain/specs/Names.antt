@@ -11,7 +11,7 @@ no_directory (Some (EntityState.Value (Value.File bytes))) = Some NotDirectory
 no_directory (Some (EntityState.Value (Value.Pipe held))) = Some NotDirectory
 no_directory _ = Some BadObject
 
--- a row that goes on where there is no error
+-- a row where there is no error; else the process goes on with that error alone
 abbrev pub unless_error : ℕ → Process → StepTree → Option Errno → StepTree
 unless_error pid p row None = row
 unless_error pid p row (Some error) = alone pid (failed p error)

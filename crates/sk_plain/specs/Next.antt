@@ -55,7 +55,7 @@ heading (Some (Instruction.Fetch name)) = Next.Fetch name
 heading (Some (Instruction.Store name)) = Next.Store name
 heading i = Next.Other
 
--- the same without what takes a plan to tell: a signal, a fetch and a store are told apart, and all else is `Other`
+-- what is next, without what takes a plan to tell: a signal, a fetch and a store are told apart, and all else is `Other`
 abbrev pub unplanned : Result Next Refusal → Result Next Refusal
 unplanned (Err why) = Err why
 unplanned (Ok Next.Signal) = Ok Next.Signal

@@ -22,7 +22,7 @@ plain_code =
     code_by (ScriptMap × (State × TerminalMap)) (coded× script_map_code (coded× state_code terminals_code))
     (λ k. (k.scripts, (k.state, k.texts))) (λ p. record { scripts = p.0; state = p.1.0; texts = p.1.1 }) (λ _. refl)
 
--- at its start
+-- a plain kernel that was just booted
 abbrev pub plain_start : BootView → PlainView
 plain_start boot = record { scripts = boot.scripts; state = start_of boot; texts = maps.empty }
 

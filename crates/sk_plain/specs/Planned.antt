@@ -71,7 +71,7 @@ signals_read pid _ = []
 abbrev pub effect_of : (Entity → Option EntityState) → ℕ → Input → PlanView → Effect Entity EntityState Saying
 effect_of look pid input plan = effect_after (Proc pid ∷ signals_read pid input) look pid plan
 
--- what this makes of what there is, or the refusal
+-- a function of what was not refused, or the refusal
 abbrev pub or_refused : {A B : Type 0} → (A → B) → Result A Refusal → Result B Refusal
 or_refused f (Ok x) = Ok (f x)
 or_refused f (Err why) = Err why

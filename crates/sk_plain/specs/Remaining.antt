@@ -6,7 +6,7 @@ use Rattle.sk_plain.specs.Act.{Scripts, plain}
 use Rattle.sk_plain.specs.Planned.{read_by, refusal_of}
 use Rattle.sk_plain.specs.Seen.{looked, looks_of, written_in}
 
--- the same entities are in both
+-- two lists have the same entities
 abbrev pub AreAlike : List Entity → List Entity → Type 0
 AreAlike one other = (e : Entity) → is_in entity_cmp one e ≡ is_in entity_cmp other e
 

@@ -16,11 +16,11 @@ module _ (scripts : Scripts) (start : State) where
       IsErr (outcome (plain scripts) (run (plain scripts) start (record_of (plain scripts) start before)) n)
   IsRefused before _ = ⊥
 
-  -- it does not, but the event names a guess that is not undecided after these events, or a new one whose number is not above all before
+  -- the step is not refused, but the event names a guess that is not undecided after these events, or a new one whose number is not above all before
   abbrev pub IsUnknown : List (Happens EntryView) → Happens EntryView → Type 0
   IsUnknown before e = (¬ (IsRefused before e)) × (¬ (IsAllowed (plain scripts) start before e))
 
-  -- it has no fault: the step is not refused, and each guess that it names may stand there
+  -- an event without a fault: its step is not refused, and each guess that it names may stand there
   abbrev pub IsTaken : List (Happens EntryView) → Happens EntryView → Type 0
   IsTaken before e = (¬ (IsRefused before e)) × IsAllowed (plain scripts) start before e
 
@@ -91,7 +91,7 @@ pub record HasDecided (scripts : Scripts) (old : Replay) (g : ℕ) (event : Even
   pub now : new.now ≡ s
   pub greatest : new.greatest ≡ old.greatest
 
--- or why not
+-- why an event decides no guess
 abbrev pub DecisionFault : Replay → ℕ → EventFault → Type 0
 DecisionFault old g EventFault.Refused = ⊥
 DecisionFault old g EventFault.Unknown = has g old.standing.undecided.items ≡ false

@@ -24,7 +24,7 @@ over_copy pid p name (Some (EntityState.Value (Value.Copy content))) =
     else Refuse Mismatch
 over_copy pid p name _ = Refuse Mismatch
 
--- with Good
+-- the step of an instruction whose cached copy is said to be good
 abbrev pub good : ℕ → Process → Option Instruction → StepTree
 good pid p (Some (Instruction.Fetch name)) = Ask (Copy name) (from_copy pid p)
 good pid p (Some (Instruction.Store name)) = Ask (Copy name) (over_copy pid p name)

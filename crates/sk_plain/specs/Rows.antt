@@ -14,15 +14,15 @@ StepTree = Step Entity EntityState Saying Refusal
 
 -- ---- what becomes of the process
 
--- it moves on to the next instruction and has a number in r0
+-- the process moves on to the next instruction, and has a number in r0
 abbrev pub answered : Process → ℕ → Process
 answered p n = given p 0 (Val.Num (pos n))
 
--- and has an error in r0
+-- the process moves on, and has an error in r0
 abbrev pub failed : Process → Errno → Process
 failed p e = given p 0 (Val.Num (neg_ℤ (pos (error_number e))))
 
--- and has a text in its buffer and a number in r0
+-- the process moves on, and has a text in its buffer and a number in r0
 abbrev pub filled : Process → List ℕ → ℕ → Process
 filled p text n = record p { place = p.place + 1; buffer = text; registers = slice_set p.registers 0 (Val.Num (pos n)) }
 
@@ -58,7 +58,7 @@ alone pid p = Done ((Proc pid, Some (EntityState.Process p)) ∷ []) None
 abbrev pub with_write : ℕ → Entity → Value → Process → StepTree
 with_write pid e v p = Done ((e, Some (EntityState.Value v)) ∷ (Proc pid, Some (EntityState.Process p)) ∷ []) None
 
--- another entity is made absent after it
+-- the process is written, and after it another entity is made absent
 abbrev pub with_removal : ℕ → Entity → Process → StepTree
 with_removal pid e p = Done ((Proc pid, Some (EntityState.Process p)) ∷ (e, None) ∷ []) None
 

@@ -11,7 +11,7 @@ use Rattle.sk_terminal.specs.Same.{same_terminals}
 use Rattle.sk_terminal.specs.SameLemma.{exact_terminals}
 use Rattle.sk_plain.specs.Plain.{PlainView}
 
--- the same scripts, the same that entities have, and the same texts
+-- whether two plain kernels have the same scripts, entities that have the same, and the same texts
 abbrev pub same_plain : PlainView → PlainView → Bool
 same_plain k l = same_scripts k.scripts l.scripts && (same_state k.state l.state && same_terminals k.texts l.texts)
 

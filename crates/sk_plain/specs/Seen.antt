@@ -38,7 +38,7 @@ abbrev pub text_at : Option EntityState → ℕ → ℕ → List ℕ
 text_at (Some (EntityState.Value v)) at count = unwrap_or (bytes_from v at count) []
 text_at _ at count = []
 
--- of the entity that is looked at
+-- the bytes that are read of the entity that is looked at; none where no entity is
 abbrev pub text_in : (Entity → Option EntityState) → Looks → ℕ → ℕ → List ℕ
 text_in look (Looks.At e) at count = text_at (look e) at count
 text_in look _ at count = []
@@ -119,7 +119,7 @@ process_given p (Input.Fresh content) = fetched p content
 process_given p (Input.Stale content) = failed p StaleCopy
 process_given p _ = p
 
--- and that content
+-- the content that an input brings
 abbrev pub content_in : Input → ContentView
 content_in (Input.Fresh content) = content
 content_in (Input.Stale content) = content
@@ -180,7 +180,7 @@ module _ (look : Entity → Option EntityState) (i : Option Instruction) (input 
 abbrev pub PlansAny : (Entity → Option EntityState) → Process → ℕ → StepTree → Plan → Type 0
 PlansAny look p pid step plan = (i : Option Instruction) → PlansAfter look i Input.None p [] pid step (Ok plan)
 
--- that of a step whose input is a reply
+-- a plan is that of a step whose input is a reply
 abbrev pub PlansReply : (Entity → Option EntityState) → Option Instruction → Input → Process → ℕ → Result Plan Refusal → Type 0
 PlansReply look i input p pid result = PlansAfter look i input p [] pid (with_input pid p i input) result
 
@@ -193,7 +193,7 @@ abbrev pub told : {X : Type 0} → Result X Refusal → Plan → Result Plan Ref
 told (Ok done) plan = Ok plan
 told (Err why) plan = Err why
 
--- that of a row of the table
+-- a row is what a step of the table does, which can be done, or the refusal is that step's
 pub record PlansRow (look : Entity → Option EntityState) (p : Process) (pid : ℕ) (step : StepTree) (result : Result Row Refusal) : Type 0 where
   pub plans : perform look step ≡ planned [] look pid (or_refused (row_seen look p) result)
   pub can : IfOk result (λ r. CanDo look (beside_of p r.beside))

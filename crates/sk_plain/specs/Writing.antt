@@ -22,7 +22,7 @@ pub record HasBecome {A S : Type 0} (result : Result A AllocError) (old new afte
   pub ok : OnOk result (new ≡ after)
   pub err : OnErr result (new ≡ old)
 
--- the same of one write, which can be taken back
+-- a state has become this by one write, which can be taken back; without memory it is as it was
 pub record HasWritten {B S : Type 0} (can_take_back : S → B → Type 0) (taken_back : S → B → S) (result : Result B AllocError) (old new after : S) : Type 0 where
   pub ok : OnOk result (new ≡ after)
   pub can : IfOk result (can_take_back new)

@@ -293,7 +293,8 @@ fn link_beside<K: Keeper, C: Becoming>(
     link_apart(keeper, pid, entity, object, by)
 }
 
-/// The same for a value of a kind with nothing in it.
+/// A new value of a kind, with nothing in it, and then the process changes. Nothing is kept that takes the value back where
+/// nothing is noted of the process.
 #[inline(never)]
 #[tactic(auto, using(crate::proofs::Others::apart_from))]
 fn make_beside<K: Keeper, C: Becoming>(
@@ -323,8 +324,8 @@ fn buffer_behind(process: &Process) -> Change
     Change::Put(process.buffer)
 }
 
-/// It is put at the end of a pipe, and then the process changes. Where nothing is noted of the process, nothing is kept
-/// that takes the first back; so it is at the next.
+/// The process's buffer is put at the end of a pipe, and then the process changes. Where nothing is noted of the process,
+/// nothing is kept that takes the write of the pipe back.
 #[tactic(auto, using(crate::proofs::Others::apart_from))]
 fn write_behind<K: Keeper, C: Becoming>(
     keeper: &mut K,
@@ -428,7 +429,7 @@ fn fill_any<K: Keeper>(
     write_beside(keeper, pid, &row.beside, &filling)
 }
 
-/// The same. What an object or a copy has is read where it stands.
+/// A row that fills the process's buffer. What an object or a copy has is read where it stands.
 fn fill<K: Keeper>(
     keeper: &mut K,
     pid: Pid,

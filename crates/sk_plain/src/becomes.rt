@@ -18,9 +18,9 @@ use sk_store::{Becoming, BecomingBy, EntityState};
 pub enum Becomes {
     /// It goes on to its next instruction.
     Moves,
-    /// And has a value in a register.
+    /// It goes on to its next instruction, and has a value in a register.
     Gives(Register, Val),
-    /// And its handler begins at this place.
+    /// It goes on to its next instruction, and its handler begins at this place.
     Handler(u32),
     /// It goes on where it was before its handler; the error 22 where it was at none.
     Returns,

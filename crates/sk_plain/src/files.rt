@@ -48,7 +48,7 @@ pub(crate) fn made<S: Look>(
     wrote(change, Entity::Obj(object), Writes::Empty(kind))
 }
 
-/// The same, put into a plan. A frequent row stands by itself, so that no other one has a place in its frame.
+/// Puts the row of `made` into a plan. It is frequent and so stands by itself: no other row has a place in its frame.
 #[inline(never)]
 #[tactic(auto, using(crate::proofs::Plans::rows))]
 pub(crate) fn put_made<S: Look>(
@@ -95,7 +95,7 @@ fn put_answer(plan: &mut Plan, answer: i64, object: ObjId)
     *plan = Plan::Acts(looked(change, Entity::Obj(object)));
 }
 
-/// No object was there to look at.
+/// Plans the error 9, where no object was there to look at.
 #[inline(never)]
 fn put_missing(plan: &mut Plan)
     ensures { plan.new ≡ Plan.Acts (row_of (ProcessChange.Does (Becomes.Gives 0 (vals.Num (neg_ℤ

@@ -64,7 +64,7 @@ fn put_any_look<S: Look>(
     });
 }
 
-/// The same. A frequent row stands by itself, so that no other one has a place in its frame.
+/// Puts the row of `look rA rD NAME` into a plan. The frequent one is made here, with no place of the others in its frame.
 #[inline(never)]
 #[tactic(auto, using(crate::proofs::Plans::rows))]
 pub(crate) fn put_look<S: Look>(
@@ -154,7 +154,7 @@ fn put_any_link<S: Look>(
     });
 }
 
-/// The same. A frequent row stands by itself, so that no other one has a place in its frame.
+/// Puts the row of `link rD NAME rA` into a plan. The frequent one is made here, with no place of the others in its frame.
 #[inline(never)]
 #[tactic(auto, using(crate::proofs::Plans::rows))]
 pub(crate) fn put_link<S: Look>(
@@ -224,7 +224,7 @@ fn put_any_unlink<S: Look>(
     });
 }
 
-/// The same. A frequent row stands by itself, so that no other one has a place in its frame.
+/// Puts the row of `unlink rD NAME` into a plan. The frequent one is made here, with no place of the others in its frame.
 #[inline(never)]
 #[tactic(auto, using(crate::proofs::Plans::rows))]
 pub(crate) fn put_unlink<S: Look>(

@@ -114,8 +114,8 @@ fn heading(scripts: &Scripts, process: &Process) -> Next
     }
 }
 
-/// The same without a plan: a signal, a fetch and a store are told apart, and all else is `Other`. Refused with
-/// `NoProcess` or `Ended`. This takes no memory.
+/// What a process does next, without a plan: a signal, a fetch and a store are told apart, and all else is `Other`. Refused
+/// with `NoProcess` or `Ended`. This takes no memory.
 #[tactic(auto, using(crate::proofs::Headings::unplanned_is))]
 pub fn heading_of<S: Look>(store: &S, scripts: &Scripts, pid: Pid) -> Result<Next, Refusal>
     ensures { result ≡ unplanned (next_of (S.look store.now) scripts.now pid) }

@@ -41,7 +41,7 @@ pub enum Writes {
     Exited(u8),
     /// The first version of a cached copy.
     First,
-    /// A later one.
+    /// A later version of a cached copy.
     Over(u64),
     /// A file of another size.
     Cut(u32),

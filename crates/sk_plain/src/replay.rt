@@ -235,7 +235,7 @@ pub fn strike(alloc: Global, boot: &Boot, trace: &Trace) -> Result<Vec<Entry>, T
     strike_at(alloc, start, boot.scripts(), trace)
 }
 
-/// The same where the trace begins at the state of a plain kernel, with its scripts.
+/// As `strike`, where the trace begins at the state of a plain kernel, with its scripts.
 pub fn strike_from(alloc: Global, from: &Plain, trace: &Trace) -> Result<Vec<Entry>, TraceFault>
     ensures sound { OnOk result
         (IsSound (plain from.now.scripts) from.now.state (map image trace.now.events)) }

@@ -124,7 +124,8 @@ fn put_any_good<S: Look>(
     Ok(())
 }
 
-/// The same. The frequent row stands by itself, so that no other one has a place in its frame.
+/// Puts a step whose cached copy is said to be good into a plan. The frequent row, of a fetch, is made here, with no place of
+/// the others in its frame.
 #[inline(always)]
 #[tactic(auto, using(crate::proofs::Plans::rows))]
 pub(crate) fn put_good<S: Look>(

@@ -16,7 +16,7 @@ pub(crate) fn given(register: Register, val: Val) -> ProcessChange
     ProcessChange::Does(Becomes::Gives(register, val))
 }
 
-/// The same, with a number in r0.
+/// The process is at its next instruction, with a number in r0.
 pub(crate) fn answered(number: u64) -> ProcessChange
     requires { number < 2 ^ 63 }
     ensures { result ≡ ProcessChange.Does (Becomes.Gives 0 (vals.Num (pos number))) }
@@ -24,7 +24,7 @@ pub(crate) fn answered(number: u64) -> ProcessChange
     given(Register::ANSWER, Val::Num(number as i64))
 }
 
-/// The same, with an error in r0.
+/// The process is at its next instruction, with an error in r0.
 pub(crate) fn failed(error: Errno) -> ProcessChange
     ensures { result ≡ ProcessChange.Does
         (Becomes.Gives 0 (vals.Num (neg_ℤ (pos (error_number error))))) }
@@ -43,7 +43,7 @@ pub(crate) fn alone(change: ProcessChange) -> Row
     }
 }
 
-/// The same after an entity was looked at.
+/// An entity is looked at, and nothing but the process is written.
 pub(crate) fn looked(change: ProcessChange, entity: Entity) -> Row
     ensures { result ≡ row_of change (Looks.At entity) Beside.Nothing }
 {
@@ -54,7 +54,7 @@ pub(crate) fn looked(change: ProcessChange, entity: Entity) -> Row
     }
 }
 
-/// The same after a name of a directory was looked at.
+/// A name of a directory is looked at, and nothing but the process is written.
 pub(crate) fn looked_up(change: ProcessChange, directory: &ObjId, name: &Name) -> Row
     ensures { result ≡ row_of change (Looks.AtName directory.now name.now) Beside.Nothing }
 {

@@ -154,7 +154,7 @@ fn keep(plan: &mut Plan, planned: Result<Plan, Refusal>) -> Result<(), Refusal>
     }
 }
 
-/// The same as `tabled`, put into a plan. It stands by itself, since each plan of the table has a place of its own
+/// Puts the plan of `tabled` into a plan. It stands by itself, since each plan of the table has a place of its own
 /// in its frame.
 #[inline(never)]
 fn put_tabled<S: Look>(
@@ -420,7 +420,7 @@ pub fn plan_into<'a, S: Look>(
     with_input(store, pid, process, instruction, input, plan)
 }
 
-/// The same by a call of its own, for what takes no step at once.
+/// As `plan_into`, by a call of its own, for `plan_step`, which takes no step at once.
 #[inline(never)]
 fn plan_apart<S: Look>(
     store: &S,

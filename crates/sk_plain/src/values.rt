@@ -65,7 +65,7 @@ pub(crate) fn file_at<'a, S: Look>(store: &'a S, object: &ObjId) -> Result<&'a F
     file_in(store.value(Entity::Obj(*object)))
 }
 
-/// The same of what is there.
+/// The file that is there, or the error of a row that is about one.
 #[inline(always)]
 pub(crate) fn file_in(there: Option<&EntityState>) -> Result<&File, Errno>
     ensures ok { IfOk result

@@ -5,7 +5,7 @@ use Rattle.sk_commands.specs.Table.{is_among, Written}
 use Rattle.sk_commands.specs.Work.{after}
 use Rattle.sk_plain_store.specs.Plain.{bytes_cmp, held, keys_of, written_to, Entries}
 
--- Behind what is written each key has what it got last, and the others what they had.
+-- After writes each key has what it was given last, and the others what they had.
 abbrev pub HoldsWhatIsWritten : Type 0
 HoldsWhatIsWritten = (ws : Written) (entries : Entries) (key : List ℕ)
     → held (written_to ws entries) key ≡ after ws (held entries) key

@@ -1,7 +1,7 @@
 //! What is known of a plain store. Each law is the contract of a function that does nothing.
 ghost use Rattle.sk_plain_store.specs.Laws.{HoldsWhatIsWritten, KnowsItsKeys, StaysInOrder};
 
-/// Behind what is written each key has what it got last, and the others what they had.
+/// After writes each key has what it was given last, and the others what they had.
 pub fn map_law()
     ensures { HoldsWhatIsWritten }
 {}

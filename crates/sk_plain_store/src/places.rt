@@ -65,7 +65,7 @@ fn set_all(places: &mut Places, written: Writes, keys: &mut Vec<Vec<u8>>)
     }
 }
 
-/// Lets the place of a key go, if nothing stands there.
+/// Lets the place of a key go, if it was only held and nothing stands there.
 fn let_go(places: &mut Places, key: &[u8])
     ensures { entries_of places.new.entries ≡ entries_of places.old.entries }
 {
@@ -74,7 +74,7 @@ fn let_go(places: &mut Places, key: &[u8])
     }
 }
 
-/// Lets all places of these keys go where nothing stands.
+/// Lets those places of these keys go that were only held.
 fn let_go_all(places: &mut Places, keys: &[Vec<u8>])
     ensures { entries_of places.new.entries ≡ entries_of places.old.entries }
 {
@@ -83,7 +83,7 @@ fn let_go_all(places: &mut Places, keys: &[Vec<u8>])
     }
 }
 
-/// Lets all places go that were only held for these.
+/// Lets the places go that were only held for these writes.
 fn give_up(places: &mut Places, written: &[(Vec<u8>, Option<ByteString>)])
     ensures { entries_of places.new.entries ≡ entries_of places.old.entries }
 {

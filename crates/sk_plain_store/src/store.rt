@@ -81,7 +81,7 @@ impl PlainStore {
         Ok(keys)
     }
 
-    /// Copies of the keys, where some of the work is told of all; else none, which changes nothing of what comes of it.
+    /// Copies of all keys, where some of the work is told of these; else no keys, as the work comes to the same without.
     fn known_to(&self, work: &Work) -> Result<Vec<Vec<u8>>, AllocError>
         ensures { IfOk result (λ known. comes_to (map vec_items known.items) work.now (held self.now)
             ≡ comes_to (keys_of self.now) work.now (held self.now)) }

@@ -27,11 +27,11 @@ pub record StopsAt (es : List Event) (held : List ℕ) (kernel : KernelView) (at
   pub later : List Event
   pub parts : es ≡ before ++ event ∷ later
   pub place : at ≡ length before + 1
-  -- those before it happen
+  -- the entries before this one happen again
   pub left : List ℕ
   pub here : KernelView
   pub replays : Replays before held kernel left here
-  -- and then its call is answered
+  -- then its own call is answered otherwise
   pub answer : CallAnswer
   pub next : KernelView
   pub answered : AnswerMatches answer (call_of event) left here next

@@ -11,7 +11,7 @@ StepTold CallAnswer.Stepped refused event old new = (refused ≡ None) × (new �
 StepTold (CallAnswer.Refused why) refused event old new = (refused ≡ Some why) × (new ≡ old)
 StepTold _ refused event old new = ⊥
 
--- the same for a guess, whose number is the next one
+-- a guess, whose number is the next one: it is made, or the first cause that stands against it is told and nothing changes
 abbrev pub GuessTold : CallAnswer → Option Refusal → Event → KernelView → KernelView → Type 0
 GuessTold (CallAnswer.Guessed id) refused event old new = (refused ≡ None) × (id ≡ next_guess old) × (new ≡ with_event old event)
 GuessTold (CallAnswer.Refused why) refused event old new = (refused ≡ Some why) × (new ≡ old)

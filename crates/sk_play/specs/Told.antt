@@ -7,7 +7,7 @@ turn_text Turn.Stepped = codes "stepped"
 turn_text (Turn.Guessed id) = codes "guessed " ++ decimal id
 turn_text (Turn.Asked request) = codes "asked " ++ decimal request
 
--- of a content its version
+-- the text of a reply: of a content its version
 abbrev pub reply_text : Answer → List ℕ
 reply_text Answer.Yes = codes "yes"
 reply_text (Answer.No content) = codes "no " ++ decimal content.version

@@ -25,7 +25,7 @@ desk_line d = counts_of d.kernel (length (pending d))
 abbrev pub desk_report_text : DeskView → ServerView → List ℕ
 desk_report_text d s = kernel_text d.kernel ++ remotes_text s.files ++ desk_line d
 
--- the same of a world's desk and server
+-- the report of a world: that of its desk and its server
 abbrev pub world_report_text : WorldView → List ℕ
 world_report_text w = desk_report_text w.desk w.server
 

@@ -7,7 +7,7 @@ use Rattle.sk_play.specs.Plays.{declared_kernel}
 
 -- ---- the start
 
--- with these files, each in its turn
+-- a server with these files, each put in its turn
 abbrev pub seeded : ServerView → List Remote → ServerView
 seeded s [] = s
 seeded s (file ∷ files) = seeded (record s { files = map.insert s.files file.name file.content }) files

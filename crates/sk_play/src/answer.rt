@@ -81,7 +81,7 @@ pub fn put_answer(number: usize, answer: &CallAnswer, line: &mut Line)
     }
 }
 
-/// The same of any answer, apart from the callers.
+/// Makes the line of any answer, by a call of its own.
 #[inline(never)]
 fn put_other(number: usize, answer: &CallAnswer, line: &mut Line)
     ensures { line.new ≡ answer_line number answer.now }

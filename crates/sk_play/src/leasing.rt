@@ -97,7 +97,7 @@ impl Session {
     }
 }
 
-/// The same of a desk.
+/// Leases a process of a desk, has it do up to so many private instructions, and hands it in.
 pub fn lease_at_desk(desk: &mut Desk, pid: Pid, count: u32) -> Result<LeaseTold, AllocError>
     ensures { MatchResult result (λ told. DeskLeases (Some told) pid count desk.old desk.new)
         (λ _. DeskLeases None pid count desk.old desk.new) }
@@ -114,7 +114,7 @@ pub fn lease_at_desk(desk: &mut Desk, pid: Pid, count: u32) -> Result<LeaseTold,
     }
 }
 
-/// The same of a world.
+/// Leases a process of a world's desk, has it do up to so many private instructions, and hands it in.
 pub fn lease_in_world(world: &mut World, pid: Pid, count: u32) -> Result<LeaseTold, AllocError>
     ensures { MatchResult result (λ told. WorldLeases (Some told) pid count world.old world.new)
         (λ _. WorldLeases None pid count world.old world.new) }

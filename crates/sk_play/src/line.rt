@@ -63,7 +63,6 @@ impl Line {
         }
     }
 
-    /// The bytes.
     #[inline(always)]
     pub fn as_bytes(&self) -> &[u8]
         ensures { result.now ≡ self.now }

@@ -48,7 +48,6 @@ impl Session {
         })
     }
 
-    /// The kernel.
     pub fn kernel(&self) -> &Kernel
         ensures { result.now ≡ self.now.holder.kernel }
     {

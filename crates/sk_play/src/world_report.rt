@@ -24,7 +24,7 @@ pub fn write_world_report<W: Write>(alloc: Global, world: &World, out: &mut W) -
     write_desk_report(alloc, world.desk(), world.server(), out)
 }
 
-/// The same of a desk and a server.
+/// Writes the report of a world with this desk and this server.
 pub fn write_desk_report<W: Write>(
     alloc: Global,
     desk: &Desk,

@@ -76,7 +76,7 @@ module _ {E V W F N : Type 0} (K : System E V W F N) (total : IsTotalOrder K.ord
         texts = λ t. sym (nil_right (a.texts t));
       })
 
-  -- the later steps rest on the same guesses
+  -- the later steps depend on the same guesses
   same_tags : (a : Machine E V W) (w : V) → alone_tags K (mid a w) own reads ≡ alone_tags K a own reads
   same_tags a w =
       let p : ℕ → Bool = λ g. list_any (λ e. has g (tags_at (mid a w).state e)) (reads ++ own ∷ []) in

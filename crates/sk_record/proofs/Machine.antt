@@ -47,7 +47,7 @@ module _ {E : Type 0} (R : E → E → Ordering) {V W : Type 0} where
       let P : Bool → Type 0 = λ b. dirt R h (dirtied b f []) ts ≡ [] in
       subst P (sym no_hit) (unmarked_dirt h ts parts.1)
 
-  -- a guess on which nothing rests may be added
+  -- a guess on which nothing depends may be added
   new_guess : (gs : List ℕ) (h : ℕ) (dirty : ℕ → List E) (ts : List (MarkedEffect E V W)) (e : E) (v : Option V) → list_any (λ b. b) (hits R h (dirty h) ts) ≡ false
       → notes_of R (gs ++ h ∷ []) dirty ts e v ≡ notes_of R gs dirty ts e v
   new_guess gs h dirty [] e v none = refl
@@ -114,7 +114,7 @@ module _ {E V W F N : Type 0} (K : System E V W F N) (total : IsTotalOrder K.ord
             ap (λ b. b && has g r.undecided) clean ∙ sym clean
       ]
 
-  -- the union of the tags is the guesses that the step rests on
+  -- the union of the tags is the guesses that the step depends on
   pub union_is : (r : Record N) (a : UndoState E V) → Inv r a → (f : MarkedEffect E V W) → IsFresh K start r f.mark
       → step_tags a f ≡ rests K.order (r.undecided ++ marks f.mark) (λ g. dirt K.order g [] (effects K start r.entries)) f
   union_is r a inv f fresh =

@@ -126,7 +126,7 @@ module _ {V : Type 0} where
   committed_some g [] = tt
   committed_some g (n ∷ ns) = noted_some true (without g n.tags) n.before (committed g ns) (committed_some g ns)
 
-  -- a log whose notes all rest on something leaves none out before its first
+  -- a log whose notes all depend on something leaves none out before its first
   any_first : (t : List ℕ) (ns ms : List (Note V)) → AllSome ns → Merges [] ns ms → Merges t ns ms
   any_first t [] [] all h = tt
   any_first t [] (m ∷ ms) all h = absurd h

@@ -1,4 +1,4 @@
--- Lists of guesses that rise and have the same members are the same. So what a step's footprint rests on, put together as a set, is the step's tags.
+-- Lists of guesses that rise and have the same members are the same. So what a step's footprint depends on, put together as a set, is the step's tags.
 use Rattle.sk_record.proofs.Names.{◌≡◌, ℕ, ◌<◌, true, false, ◌&&◌, eqb, ltb, List, [], ◌∷◌, ◌++◌, Option, Some, None}
 use Rattle.sk_record.proofs.Names.{inl, inr, refl, sym, ◌∙◌, subst, arith, ◌==◌, nat_cmp, Less, Equal, Greater}
 use Rattle.sk_record.proofs.Names.{both_ways, nat_cmp_is, AllByRecursion, list_any, or_cases, or_left, or_right}
@@ -89,7 +89,7 @@ module _ {E V W : Type 0} (a : UndoState E V) (f : MarkedEffect E V W) (tidy : I
   with_known : (g : ℕ) → (is_tag a f g && has g (numbers a.opens ++ marks f.mark)) ≡ is_tag a f g
   with_known g = elim (is_tag a f g) as (λ b. is_tag a f g ≡ b → (b && has g (numbers a.opens ++ marks f.mark)) ≡ b) [ true ↦ λ is. known_tag g is | false ↦ λ _. refl ] refl
 
-  -- a rising list of the guesses that the step's footprint rests on, with its own, is the step's tags
+  -- a rising list of the guesses that the step's footprint depends on, with its own, is the step's tags
   pub union_is_tags : (tags : List ℕ) → IsStrictlySortedBy nat_cmp (numbers a.opens ++ marks f.mark) → IsStrictlySortedBy nat_cmp tags
       → ((g : ℕ) → has g tags ≡ is_tag a f g) → tags ≡ step_tags a f
   union_is_tags tags opens_rise rises members =

@@ -59,7 +59,7 @@ module _ {E V W F N : Type 0} (K : System E V W F N) (total : IsTotalOrder K.ord
       let flags = hits K.order g dirty (effects K s ns) in
       IsLegal K t (keep flags ns) × (effects K t (keep flags ns) ≡ keep flags (effects K s ns))
 
-  -- the same of an entry more, with what its step did and whether it is struck
+  -- t runs what is left of an entry and those behind it, by what its step did and whether it is struck
   FollowsBy : List E → FinMap K.order V → FinMap K.order V → N → List N → Result (Effect E V W) F → Bool → Type 0
   FollowsBy dirty s t n ns o b =
       let rest = effects K (after K o s) ns in

@@ -20,7 +20,7 @@ module _ {E V : Type 0} {R : E → E → Ordering} (total : IsTotalOrder R) wher
       let parts = or_parts _ _ h in
       get-put_all_other ws (put s w.0 w.1) e parts.1 ∙ get-put s w.0 w.1 e ∙ ap (λ b. cond b w.1 (get s e)) parts.0
 
-  -- the same writes keep what is equal before them
+  -- what is equal before some writes is equal after them
   pub get-put_all_same : (ws : List (E × Option V)) (s t : FinMap R V) (e : E) → get s e ≡ get t e → get (put_all ws s) e ≡ get (put_all ws t) e
   get-put_all_same [] s t e h = h
   get-put_all_same (w ∷ ws) s t e h =

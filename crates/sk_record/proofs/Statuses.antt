@@ -88,7 +88,7 @@ absorbed true b = refl
 absorbed false true = refl
 absorbed false false = refl
 
--- the open guesses that rest on the failed one are those whose entries are struck
+-- the open guesses that depend on the failed one are those whose entries are struck
 pub rests_are : {E V W F N : Type 0} (K : System E V W F N) (ts : List (MarkedEffect E V W)) (gs : List ℕ) (c : ℕ) → has c gs ≡ true → (g : ℕ) (os : List Open) → AllOwnTagsExact K ts gs os
     → rests_on c os g ≡ (has g (numbers os) && not (still_marked (keep (hits K.order c [] ts) ts) g))
 rests_are K ts gs c is_open g [] own_tags = refl

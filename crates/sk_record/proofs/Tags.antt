@@ -158,7 +158,7 @@ module _ {E V W : Type 0} {R : E → E → Ordering} (total : IsTotalOrder R) wh
         (λ i. noted (is_in R (writes f) e) (filter_swap (λ h. hit R h (dirty h) f) (λ h. not (h == g)) guesses i) v (commit_is g (next_dirty R guesses dirty f) ts e (written_value R f.written e v) i))
         ∙ noted_committed g (is_in R (writes f) e) (rests R guesses dirty f) v _
 
-    -- guesses on which nothing rests may be left out
+    -- guesses on which nothing depends may be left out
     pub fewer_guesses : (q : ℕ → Bool) (dirty : ℕ → List E) (ts : List (MarkedEffect E V W)) (e : E) (v : Option V)
         → ((h : ℕ) → q h ≡ false → list_any (λ b. b) (hits R h (dirty h) ts) ≡ false) → notes_of R (filter q guesses) dirty ts e v ≡ notes_of R guesses dirty ts e v
     fewer_guesses q dirty [] e v none = refl

@@ -9,7 +9,7 @@ use Rattle.sk_record.proofs.Tags.{suffix_is}
 use Rattle.sk_record.proofs.Machine.{inv_tags, has_filter}
 use Rattle.sk_record.proofs.UndoStates.{inv_of, and_both}
 
--- each note rests on some guess
+-- each note depends on some guess
 abbrev pub AllSome : {V : Type 0} → List (Note V) → Type 0
 AllSome [] = Unit {0}
 AllSome (n ∷ ns) = (n.tags ≡ [] → ⊥) × AllSome ns
@@ -56,7 +56,7 @@ module _ {E V W F N : Type 0} (K : System E V W F N) (total : IsTotalOrder K.ord
         ∙ (and_both _ _ (sym (has_filter (λ g. is_in K.order (dirt K.order g [] (effects K start r.entries)) e) g r.undecided) ∙ ap (has g) (sym (tags_are r a s e)) ∙ here)).1;
   }
 
-  -- each note of a log rests on some guess
+  -- each note of a log depends on some guess
   pub rests_of : (r : Record N) (a : UndoState E V) → Represents K start r a → (e : E) → AllSome (a.logs e)
   rests_of r a s e = subst AllSome (sym (s.logs e)) (notes_some K.order r.undecided (λ g. []) (effects K start r.entries) e (get start e))
 

@@ -47,7 +47,7 @@ module _ {E V W F N : Type 0} (K : System E V W F N) where
     pub steps : effects K s (strike K s ns g) ≡ keep (struck K s ns g) (effects K s ns)
     -- an entity has the value that it had before its first struck write
     pub values : (e : E) (i : ℕ) → IsFirstStruckWrite (effects K s ns) g e i → get (run K s (strike K s ns g)) e ≡ get (run K s (take i ns)) e
-    -- or its last value
+    -- an entity without a struck write has its last value
     pub others : (e : E) → IsUnstruck (effects K s ns) g e → get (run K s (strike K s ns g)) e ≡ get (run K s ns) e
 
   -- of a legal record the struck record is legal, and its run is the struck run
@@ -60,7 +60,7 @@ module _ {E V W F N : Type 0} (K : System E V W F N) where
       (s : FinMap K.order V) (ns : List N) (g h : ℕ) → IsLegal K s ns
       → struck K s (strike K s ns g) h ≡ keep (struck K s ns g) (struck K s ns h)
 
-  -- the same by the relation: the k-th position that is left
+  -- what a later failure strikes of the struck run, by the relation of dependence: the k-th position that is left
   abbrev pub LaterDep : Type 0
   LaterDep =
       (s : FinMap K.order V) (ns : List N) (g h k : ℕ) → IsLegal K s ns
@@ -121,7 +121,7 @@ module _ {E V W F N : Type 0} (K : System E V W F N) where
       (unwound g (m.state.logs e) (m.state.look e) ≡ get (run K start (strike K start (record_of K start es) g)) e)
       × (cut g (m.state.logs e) ≡ log_of K start (strike K start (record_of K start es) g) (undecided_of K start (es ++ Fail g ∷ [])) e)
 
-  -- a commit keeps the value, and of the log what rests on other guesses
+  -- a commit keeps the value, and of the log what depends on other guesses
   abbrev pub CommitKeeps : Type 0
   CommitKeeps =
       (start : FinMap K.order V) (es : List (Event N)) (g : ℕ) (e : E) → IsSound K start es → StatusIs K start es g Undecided

@@ -11,7 +11,7 @@ use Rattle.sk_record.specs.Trace.{Event, Taken, Commit, Fail, Status, Undecided,
 use Rattle.sk_record.specs.Release.{said, said_by, said_with, IsReleased}
 use Rattle.sk_record.specs.UndoState.{Open, UndoState, numbers, tags_at, step_tags, opened, still_open, not_struck, Took, Committed as CommittedState, Failed as FailedState, Represents}
 
--- a text that was said, with the guesses that it rests on
+-- a text that was said, with the guesses that it depends on
 abbrev pub Tagged : Type 0 → Type 0
 Tagged W = W × List ℕ
 
@@ -43,11 +43,11 @@ abbrev pub with_drawn : Option ℕ → (ℕ → Option Status) → ℕ → Optio
 with_drawn None status = status
 with_drawn (Some g) status = with_status g Undecided status
 
--- whether h is an open guess whose own step rests on g
+-- whether h is an open guess whose own step depends on g
 abbrev pub rests_on : ℕ → List Open → ℕ → Bool
 rests_on g os h = list_any (λ o. (o.0 == h) && has g o.1) os
 
--- after the failure of g it has failed, and the open guesses that rest on it are struck
+-- after the failure of g it has failed, and the open guesses that depend on it are struck
 abbrev pub with_failure : ℕ → List Open → (ℕ → Option Status) → ℕ → Option Status
 with_failure g os status = with_status g Failed (λ h. if rests_on g os h then Some Struck else status h)
 
@@ -90,7 +90,7 @@ module _ {E V W F N : Type 0} (K : System E V W F N) where
     texts = λ t. not_dropped g (m.texts t);
   }
 
-  -- the same as relations of parts: what an accepted step makes of the machine a
+  -- calls as relations of parts: what an accepted step makes of the machine a
   pub record Takes (a : Machine E V W) (n : N) (b : Machine E V W) : Type 0 where
     pub state : Took K a.state n b.state
     pub status : (g : ℕ) → b.status g ≡ with_drawn (K.mark n) a.status g
@@ -103,13 +103,13 @@ module _ {E V W F N : Type 0} (K : System E V W F N) where
   moved m (Fail g) = failed_in_place m g
 
 module _ {E V W : Type 0} where
-  -- what the commit of c makes of it
+  -- what the commit of c makes of the machine a
   pub record Commits (a : Machine E V W) (c : ℕ) (b : Machine E V W) : Type 0 where
     pub state : CommittedState a.state c b.state
     pub status : (g : ℕ) → b.status g ≡ with_status c Committed a.status g
     pub texts : (t : ℕ) → b.texts t ≡ lightened c (a.texts t)
 
-  -- and what the failure of c makes of it
+  -- what the failure of c makes of the machine a
   pub record Fails (a : Machine E V W) (c : ℕ) (b : Machine E V W) : Type 0 where
     pub state : FailedState a.state c b.state
     pub status : (g : ℕ) → b.status g ≡ with_failure c a.state.opens a.status g
@@ -140,7 +140,7 @@ module _ {E V W F N : Type 0} (K : System E V W F N) (start : FinMap K.order V) 
     -- and has released the longest prefix of that which depends on no undecided guess
     pub releases : (t : ℕ) → IsReleased K start es t (released (m.texts t))
 
-  -- the texts are those that the record says, each with the undecided guesses that its step rests on
+  -- the texts are those that the record says, each with the undecided guesses that its step depends on
   abbrev pub TextsRepresent : Record N → (ℕ → List (Tagged W)) → Type 0
   TextsRepresent r texts = (t : ℕ) → texts t ≡ said_with K t (tags_along K.order r.undecided (λ g. []) (effects K start r.entries)) (effects K start r.entries)
 

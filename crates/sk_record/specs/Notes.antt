@@ -4,7 +4,7 @@ use Rattle.std.specs.List.{filter, list_any}
 use Rattle.std.specs.declared.cmp.Ordering.{Ordering}
 use Rattle.sk_record.specs.Effects.{MarkedEffect, is_in, hit, dirtied, writes, written_value}
 
--- what a write is undone by: the guesses that it rests on, and the value before it
+-- what a write is undone by: the guesses that it depends on, and the value before it
 pub record Note (V : Type 0) : Type 0 where
   pub tags : List ℕ
   pub before : Option V
@@ -17,7 +17,7 @@ has g tags = list_any (λ t. t == g) tags
 abbrev pub without : ℕ → List ℕ → List ℕ
 without g tags = filter (λ t. not (t == g)) tags
 
--- a write makes a note where it rests on some guess
+-- a write makes a note where it depends on some guess
 abbrev pub noted : {V : Type 0} → Bool → List ℕ → Option V → List (Note V) → List (Note V)
 noted false tags v rest = rest
 noted true [] v rest = rest
@@ -34,7 +34,7 @@ module _ {V : Type 0} where
   cut g [] = []
   cut g (n ∷ ns) = if has g n.tags then [] else n ∷ cut g ns
 
-  -- and from it on
+  -- the notes from the first that carries g on
   abbrev pub carried : ℕ → List (Note V) → List (Note V)
   carried g [] = []
   carried g (n ∷ ns) = if has g n.tags then n ∷ ns else carried g ns
@@ -50,7 +50,7 @@ module _ {V : Type 0} where
   committed g (n ∷ ns) = noted true (without g n.tags) n.before (committed g ns)
 
 module _ {E V W : Type 0} (R : E → E → Ordering) (guesses : List ℕ) where
-  -- the open guesses that a step rests on, where dirty has for each guess the entities that it has dirtied
+  -- the open guesses that a step depends on, where dirty has for each guess the entities that it has dirtied
   abbrev pub rests : (ℕ → List E) → MarkedEffect E V W → List ℕ
   rests dirty f = filter (λ g. hit R g (dirty g) f) guesses
 
@@ -64,7 +64,7 @@ module _ {E V W : Type 0} (R : E → E → Ordering) (guesses : List ℕ) where
   notes_of dirty (f ∷ fs) e v =
       noted (is_in R (writes f) e) (rests dirty f) v (notes_of (next_dirty dirty f) fs e (written_value R f.written e v))
 
-  -- the open guesses that each step of a effects rests on
+  -- the open guesses that each step of a effects depends on
   abbrev pub tags_along : (ℕ → List E) → List (MarkedEffect E V W) → List (List ℕ)
   tags_along dirty [] = []
   tags_along dirty (f ∷ fs) = rests dirty f ∷ tags_along (next_dirty dirty f) fs

@@ -65,7 +65,7 @@ module _ {E V W F N : Type 0} (K : System E V W F N) (start : FinMap K.order V) 
     pub legal : (before later : List (Event N)) → es ≡ before ++ later → IsLegal K start (record_of before)
     pub allowed : (before later : List (Event N)) (e : Event N) → es ≡ before ++ e ∷ later → IsAllowed before e
 
--- ---- the same, as it is computed from left to right
+-- ---- the record of a trace, as it is computed from left to right
 
 -- the guess that a mark names
 abbrev pub marks : Option ℕ → List ℕ
@@ -92,7 +92,7 @@ module _ {E V W F N : Type 0} (K : System E V W F N) (start : FinMap K.order V) 
   recorded r (Fail g) =
       record { entries = strike K start r.entries g; undecided = filter (still_marked (effects K start (strike K start r.entries g))) r.undecided }
 
-  -- and after these events
+  -- the record with its undecided guesses after these events
   abbrev pub all_recorded : Record N → List (Event N) → Record N
   all_recorded r es = fold recorded r es
 

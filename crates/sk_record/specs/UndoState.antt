@@ -31,7 +31,7 @@ opened (Some g) tags = (g, tags) ∷ []
 abbrev pub still_open : ℕ → List Open → List Open
 still_open g os = map (λ o. (o.0, without g o.1)) (filter (λ o. not (o.0 == g)) os)
 
--- after a failure: the guesses whose own steps rest on the failed one are struck
+-- after a failure: the guesses whose own steps depend on the failed one are struck
 abbrev pub not_struck : ℕ → List Open → List Open
 not_struck g os = filter (λ o. not (has g o.1)) os
 
@@ -40,7 +40,7 @@ module _ {E V : Type 0} where
   abbrev pub tags_at : UndoState E V → E → List ℕ
   tags_at a e = last_tags [] (a.logs e)
 
-  -- whether something that a step touches rests on the guess, or it is the step's own
+  -- whether something that a step touches depends on the guess, or it is the step's own
   abbrev pub is_tag : {W : Type 0} → UndoState E V → MarkedEffect E V W → ℕ → Bool
   is_tag a f g = is_marked f.mark g || list_any (λ e. has g (tags_at a e)) (touches f)
 
@@ -103,6 +103,6 @@ module _ {E V W F N : Type 0} (K : System E V W F N) where
     pub logs : (e : E) → a.logs e ≡ notes_of K.order r.undecided (λ g. []) (effects K start r.entries) e (get start e)
     pub own_tags : AllOwnTagsExact (effects K start r.entries) r.undecided a.opens
 
--- along a log, what a note rests on the later notes rest on too
+-- along a log, what a note depends on the later notes depend on too
 abbrev pub IsGrowing : {V : Type 0} → List (Note V) → Type 0
 IsGrowing log = (g : ℕ) → list_all (λ n. has g n.tags) (carried g log) ≡ true

@@ -23,7 +23,7 @@ pub record IsMade (first : ℕ) (start : Entries) (payloads : List (List ℕ)) (
 abbrev pub capped : ℕ → ℕ
 capped n = min n (2 ^ 64 - 1)
 
--- So it is of the frames so far, and that many works were carried out.
+-- The frames so far were carried out, with that many works.
 abbrev pub HasTaken : ℕ → Entries → List (List ℕ) → Frames → Type 0
 HasTaken first start payloads frames =
     (made : IsMade first start payloads frames.store frames.damage) × (frames.works ≡ capped (length made.works))

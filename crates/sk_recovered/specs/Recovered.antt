@@ -31,7 +31,8 @@ part_of s payloads = record { first = s.head.first; bound = s.bound; payloads = 
 abbrev pub counted_with : ℕ → List Part → Segment → List (List ℕ) → List (List ℕ)
 counted_with first parts s payloads = counted first parts ++ counting s.counts (part_of s payloads)
 
--- The same before a segment of which these bytes came, and its frames so far that count are carried out too.
+-- A segment is being read, of which these bytes came: all segments before it are read, and its frames so far that count are
+-- carried out too.
 pub record IsWithin (start : Entries) (first : ℕ) (heads : List Head) (bytes : List (List ℕ)) (left : ℕ) (came : List ℕ) (s : Segment) : Type 0 where
   pub parts : List Part
   pub read : AreRead heads bytes parts

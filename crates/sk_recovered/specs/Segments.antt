@@ -78,7 +78,7 @@ pub record IsAt (head : Head) (p : Part) (place : Place) : Type 0 where
   pub counts : is_below p.bound place.number ≡ true
   pub offset : place.offset ≡ length (log head.segment head.first (take before p.payloads))
 
--- So it is of one of these segments.
+-- A frame of one of these segments has this place.
 abbrev pub Stands : List Head → List Part → Place → Type 0
 Stands heads [] place = ⊥
 Stands (h ∷ heads) (p ∷ parts) place = IsAt h p place ⊎ Stands heads parts place

@@ -32,7 +32,7 @@ pub struct Frames {
     pub(crate) store: PlainStore,
     /// How many commands and queues were carried out.
     pub(crate) works: u64,
-    /// From there on nothing is carried out.
+    /// The first frame that says no works: from there on nothing is carried out.
     pub(crate) damage: Option<Damage>,
 }
 
@@ -83,7 +83,7 @@ impl Frames {
         }
     }
 
-    /// The same, where the frame counts; else nothing is done.
+    /// Carries out what the next frame says, as `take` does, where the frame counts; else nothing is done.
     pub(crate) fn take_if(
         &mut self,
         counts: bool,

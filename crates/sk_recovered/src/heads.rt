@@ -35,7 +35,7 @@ impl Model for Heads {
 }
 
 impl Heads {
-    /// None.
+    /// No heads.
     pub fn new(alloc: Global) -> Heads
         ensures { result ≡ [] }
     {
@@ -44,7 +44,7 @@ impl Heads {
         }
     }
 
-    /// That of one segment.
+    /// The head of one segment, as the only one.
     pub(crate) fn one(alloc: Global, segment: u64, first: u64) -> Result<Heads, AllocError>
         ensures { IfOk result (λ heads. heads ≡ record { segment = segment; first = first } ∷ []) }
     {
@@ -86,7 +86,7 @@ pub(crate) fn least(heads: &[Head]) -> Option<u64>
     bound
 }
 
-/// The lower of both.
+/// The lower of a first number and a bound, where there is one.
 fn lower(first: u64, bound: Option<u64>) -> u64
     ensures { result ≡ lower first bound }
 {

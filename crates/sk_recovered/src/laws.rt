@@ -14,8 +14,8 @@ pub fn restored_law()
     ensures { CountedIsRestored }
 {}
 
-/// Whatever a crash leaves of the segments of a log, what is found is the store behind the first frames, all at least that were told
-/// as synced, and none that was cut off.
+/// Whatever a crash leaves of the segments of a log, what is found is the store behind the first frames, all at least that were
+/// told as synced, and none that was cut off.
 pub fn crash_law()
     ensures { CrashesAreRecovered }
 {}

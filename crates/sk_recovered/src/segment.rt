@@ -51,7 +51,7 @@ fn len_of(rest: Rest) -> u64
     }
 }
 
-/// The first where it is so, else the second.
+/// The first number where `so` holds, else the second.
 fn choose(so: bool, first: u64, second: u64) -> u64
     ensures { result ≡ (if so then first else second) }
 {

@@ -30,14 +30,14 @@ module _ {B K : Type 0} (key : B → Option K) where
   keys_of [] = []
   keys_of (b ∷ bs) = at_key (keys_of bs) (λ k. k ∷ keys_of bs) (key b)
 
-  -- the same writes: each name stands for the key
+  -- writes of names and of keys are the same: each name stands for its key
   abbrev pub AreWrites : {V : Type 0} → List (B × Option V) → List (K × Option V) → Type 0
   AreWrites [] [] = Unit {0}
   AreWrites [] (x ∷ xs) = ⊥
   AreWrites (w ∷ ws) [] = ⊥
   AreWrites (w ∷ ws) (x ∷ xs) = (key w.0 ≡ Some x.0) × (w.1 ≡ x.1) × AreWrites ws xs
 
-  -- the same deed: of the names that it looked at only those that stand for a key are told, and it says the same
+  -- deeds of names and of keys are the same: of the names that one looked at only those that stand for a key are told, and both say the same
   pub record IsDeed {V O : Type 0} (d : Deed B V O) (told : Deed K V O) : Type 0 where
     pub looked : told.looked ≡ keys_of d.looked
     pub written : AreWrites d.written told.written

@@ -32,7 +32,7 @@ pub record IsFilled (room : ℕ) (entries : Entries) (count : ℕ) (text : List 
   pub is : text ≡ entries_text (take count entries)
   pub fits : 1 < count → length text ≤ room
 
--- The same, and the others are left.
+-- So many first entries were written, and the others are left.
 pub record IsPiece (room : ℕ) (old : Entries) (text : List ℕ) (new : Entries) : Type 0 where
   pub count : ℕ
   pub filled : IsFilled room old count text

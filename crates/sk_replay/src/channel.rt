@@ -36,7 +36,7 @@ impl Channel {
         }
     }
 
-    /// One work more.
+    /// Adds a work that was carried out.
     fn push(&mut self, work: Work) -> Result<(), AllocError>
         ensures works { OnOk result (self.new.works.items ≡ self.old.works.items ++ work ∷ []) }
         ensures session { self.new.session ≡ self.old.session }
@@ -45,7 +45,7 @@ impl Channel {
         Ok(())
     }
 
-    /// One work more, if it is more than a reply.
+    /// Adds a work, if it is more than a reply.
     fn keep(&mut self, work: Work) -> Result<(), AllocError>
         ensures works { OnOk result
             (self.new.works.items ≡ self.old.works.items ++ with_work work []) }
@@ -81,7 +81,7 @@ impl Channel {
         self.session.is_open()
     }
 
-    /// What was carried out.
+    /// The works that were carried out.
     pub(crate) fn into_works(self) -> Vec<Work>
         ensures { result ≡ self.works }
     {

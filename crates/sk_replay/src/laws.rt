@@ -7,8 +7,8 @@ pub fn snapshots_restore()
     ensures { SnapshotsRestore }
 {}
 
-/// Of however many first frames the payloads are read again, a plain store behind what they say is that behind the works that
-/// were logged in these frames.
+/// However many first frames are read again, a plain store behind what their payloads say is the one behind the works that were
+/// logged in them.
 pub fn frames_restore()
     ensures { FramesRestore }
 {}

@@ -65,7 +65,7 @@ impl Reading {
         }
     }
 
-    /// All is read.
+    /// The works, once all of the payload is read; `Cut` where it ends within a request.
     fn end(self, payload: &[u8]) -> Result<Vec<Work>, Refusal>
         requires come { HasCome payload.now self }
         requires all { length payload.now ≤ self.place }
@@ -91,7 +91,7 @@ pub fn works_of(alloc: Global, payload: &[u8]) -> Result<Vec<Work>, Refusal>
     read(alloc, payload)
 }
 
-/// The same, as it stands there.
+/// The works that a payload says, or the first refusal on the way.
 fn read(alloc: Global, payload: &[u8]) -> Result<Vec<Work>, Refusal>
     ensures { IsRead log_limits payload.now result }
 {

@@ -47,11 +47,11 @@ held_with directory (EntityState.Process p) = process_text p
 held_with directory (EntityState.Value Value.Dir) = directory
 held_with directory (EntityState.Value v) = value_text v
 
--- the same, among these entities
+-- what an entity has, behind its name; a directory has the names that are among these entities
 abbrev pub gathered : (Entity → Option EntityState) → List Entity → Entity → EntityState → List ℕ
 gathered look es e s = held_with (gathered_at look es e) s
 
--- none where it is absent
+-- the text of what an entity holds; none where it is absent
 abbrev pub held_text : (Entity → Option EntityState) → List Entity → Entity → Option EntityState → List ℕ
 held_text look es e None = []
 held_text look es e (Some s) = gathered look es e s

@@ -12,7 +12,7 @@ abbrev pub footprint_lines : Footprint → List ℕ → List ℕ
 footprint_lines f tags =
     codes "reads " ++ entities_text f.reads ++ codes "\nwrites " ++ entities_text f.writes ++ codes "\ntags " ++ tags_text tags ++ 10 ∷ []
 
--- of a refused step nothing
+-- the lines of what a step touches; of a refused step none
 abbrev pub touched_lines : Result Footprint Refusal → List ℕ → List ℕ
 touched_lines (Ok f) tags = footprint_lines f tags
 touched_lines (Err why) tags = []
@@ -26,6 +26,6 @@ event_lines old new (Some (Event.Guess id pid input)) =
     touched_lines (footprint_of (effect_at old (record { pid = pid; input = input; guess = Some id }))) (tags_at new (Proc pid))
 event_lines old new _ = []
 
--- of whatever was appended between two kernels
+-- the lines of whatever event was appended between two kernels
 abbrev pub listed : KernelView → KernelView → List ℕ
 listed old new = event_lines old new (appended old new)

@@ -69,10 +69,10 @@ body_text look terminal end es = flat_map terminal (with_terminals look [] es) +
 abbrev pub kernel_text : KernelView → List ℕ
 kernel_text k = body_text (finmap.get (state_at k)) (terminal_said k) (λ e. tags_end (tags_at k e)) (finmap.keys (state_at k))
 
--- these, and the last line
+-- the whole report: terminals, entities and the last line
 abbrev pub report_text : KernelView → List ℕ
 report_text k = kernel_text k ++ last_line k
 
--- the same of a plain kernel that has run so many steps
+-- the whole report of a plain kernel that has run so many steps
 abbrev pub plain_report_text : PlainView → ℕ → List ℕ
 plain_report_text k steps = body_text (finmap.get k.state) (plain_terminal_said k) (λ e. []) (finmap.keys k.state) ++ steps_line steps

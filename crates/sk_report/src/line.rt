@@ -65,7 +65,7 @@ fn put_val(registers: &Registers, register: u8, words: &[u8], line: &mut [u8], e
     }
 }
 
-/// The same of the eight registers, with single spaces between.
+/// Puts the eight registers, with single spaces between, and words behind them.
 #[tactic(auto, unfolding(crate::specs::Printed::registers_text))]
 fn put_registers(registers: &Registers, words: &[u8], line: &mut [u8], end: usize) -> usize
     requires { (REGISTERS + length words.now ≤ end) × (end ≤ length line.old) }
@@ -83,7 +83,7 @@ fn put_registers(registers: &Registers, words: &[u8], line: &mut [u8], end: usiz
     put_val(registers, 0, b" ", line, start)
 }
 
-/// The same of a number, or of `-`.
+/// Puts a number, or `-` for none, and words behind it.
 #[inline(always)]
 fn put_option(number: Option<u32>, words: &[u8], line: &mut [u8], end: usize) -> usize
     requires { (DIGITS + length words.now ≤ end) × (end ≤ length line.old) }
@@ -100,7 +100,7 @@ fn put_option(number: Option<u32>, words: &[u8], line: &mut [u8], end: usize) ->
     }
 }
 
-/// The same of `yes` or `no`.
+/// Puts `yes` or `no`, and words behind it.
 #[inline(always)]
 fn put_yes_or_no(yes: bool, words: &[u8], line: &mut [u8], end: usize) -> usize
     requires { (3 + length words.now ≤ end) × (end ≤ length line.old) }
@@ -116,7 +116,7 @@ fn put_yes_or_no(yes: bool, words: &[u8], line: &mut [u8], end: usize) -> usize
     }
 }
 
-/// The same of what a process has made, its handler, and whether it has ended.
+/// Puts what a process has made, its handler, and whether it has ended, and words behind that.
 #[tactic(auto, unfolding(crate::specs::Printed::made_text))]
 fn put_made(process: &Process, words: &[u8], line: &mut [u8], end: usize) -> usize
     requires { (MADE + length words.now ≤ end) × (end ≤ length line.old) }
@@ -132,7 +132,7 @@ fn put_made(process: &Process, words: &[u8], line: &mut [u8], end: usize) -> usi
     put_words(b"kids ", line, start)
 }
 
-/// The same of where a process stands and its registers.
+/// Puts where a process stands and its registers, and words behind these.
 fn put_place(process: &Process, words: &[u8], line: &mut [u8], end: usize) -> usize
     requires { (REGISTERS + DIGITS + 9 + length words.now ≤ end) × (end ≤ length line.old) }
     ensures line { drop result line.new ≡ codes "at " ++ decimal process.now.place ++ codes " regs "
@@ -145,7 +145,7 @@ fn put_place(process: &Process, words: &[u8], line: &mut [u8], end: usize) -> us
     put_words(b"at ", line, start)
 }
 
-/// The same of a process; `None` where its buffer has a byte that does not stand for itself.
+/// Puts a process, and words behind it; `None` where its buffer has a byte that does not stand for itself.
 #[tactic(auto, unfolding(crate::specs::Printed::held_text))]
 fn put_process(process: &Process, words: &[u8], line: &mut [u8], end: usize) -> Option<usize>
     requires { (HELD + length words.now ≤ end) × (end ≤ length line.old) }
@@ -174,7 +174,7 @@ fn short_bytes(file: &File) -> Option<&[u8]>
     Some(file.block(0))
 }
 
-/// The same of a file; `None` for one of several blocks, and where a byte does not stand for itself.
+/// Puts a file, and words behind it; `None` for one of several blocks, and where a byte does not stand for itself.
 fn put_file(file: &File, words: &[u8], line: &mut [u8], end: usize) -> Option<usize>
     requires { (HELD + length words.now ≤ end) × (end ≤ length line.old) }
     ensures line { IfSome result (λ start. drop start line.new ≡ codes "file "
@@ -189,7 +189,7 @@ fn put_file(file: &File, words: &[u8], line: &mut [u8], end: usize) -> Option<us
     Some(put_words(b"file ", line, start))
 }
 
-/// The same of no signals; `None` where there are some.
+/// Puts `-` for no signals, and words behind it; `None` where there are some.
 fn put_signals(signals: &Signals, words: &[u8], line: &mut [u8], end: usize) -> Option<usize>
     requires { (HELD + length words.now ≤ end) × (end ≤ length line.old) }
     ensures line { IfSome result (λ start.
@@ -207,7 +207,7 @@ fn put_signals(signals: &Signals, words: &[u8], line: &mut [u8], end: usize) -> 
     }
 }
 
-/// The same of most values; `None` for the others, directories among them.
+/// Puts most values, and words behind them; `None` for the others, directories among them.
 fn put_value(value: &Value, words: &[u8], line: &mut [u8], end: usize) -> Option<usize>
     requires { (HELD + length words.now ≤ end) × (end ≤ length line.old) }
     ensures line { IfSome result (λ start.
@@ -226,7 +226,7 @@ fn put_value(value: &Value, words: &[u8], line: &mut [u8], end: usize) -> Option
     }
 }
 
-/// The same of a process behind the word of a kind.
+/// Puts the word of a kind, a process, and words behind it.
 #[inline(always)]
 fn put_named(kind: &[u8], pid: Pid, words: &[u8], line: &mut [u8], end: usize) -> usize
     requires { (LEVELS + length kind.now + length words.now ≤ end) × (end ≤ length line.old) }
@@ -238,7 +238,7 @@ fn put_named(kind: &[u8], pid: Pid, words: &[u8], line: &mut [u8], end: usize) -
     put_words(kind, line, start)
 }
 
-/// The same of an entity; `None` for a name of a directory and for a cached copy.
+/// Puts an entity, and words behind it; `None` for a name of a directory and for a cached copy.
 fn put_entity(entity: &Entity, words: &[u8], line: &mut [u8], end: usize) -> Option<usize>
     requires { (OBJECT + 4 + length words.now ≤ end) × (end ≤ length line.old) }
     ensures line { IfSome result (λ start.
@@ -276,7 +276,7 @@ pub(crate) fn put_with_process(
     put_entity(entity, b" ", line, start)
 }
 
-/// The same of a value.
+/// Puts an entity and the value that it has in a line, before a place, and returns where they start; `None` as above.
 pub(crate) fn put_with_value(
     entity: &Entity,
     value: &Value,

@@ -63,7 +63,7 @@ pub(crate) fn put_signed(number: i64, line: &mut [u8], end: usize) -> usize
     start
 }
 
-/// The same of the two last numbers of a path.
+/// Puts the two last numbers of a path in a line, joined by a dot, before a place, and returns where they start.
 #[inline(always)]
 fn put_two_levels(path: u64, line: &mut [u8], end: usize) -> usize
     requires { (DIGITS + 1 + DIGITS ≤ end) × (end ≤ length line.old) }
@@ -75,7 +75,7 @@ fn put_two_levels(path: u64, line: &mut [u8], end: usize) -> usize
     put_number(path / 65_536 % 65_536, b".", line, last)
 }
 
-/// The same of the numbers of a process, joined by dots.
+/// Puts the numbers of a process in a line, joined by dots, before a place, and returns where they start.
 fn put_path(pid: Pid, line: &mut [u8], end: usize) -> usize
     requires { (LEVELS ≤ end) × (end ≤ length line.old) }
     ensures line { drop result line.new ≡ pid_word pid ++ drop end line.old }
@@ -124,7 +124,7 @@ fn put_id(object: ObjId, line: &mut [u8], end: usize) -> usize
     }
 }
 
-/// The same with words behind it.
+/// Puts an object and words behind it in a line, before a place, and returns where they start.
 #[inline(always)]
 pub(crate) fn put_object(object: ObjId, words: &[u8], line: &mut [u8], end: usize) -> usize
     requires { (OBJECT + length words.now ≤ end) × (end ≤ length line.old) }

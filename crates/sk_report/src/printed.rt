@@ -38,7 +38,7 @@ impl fmt::Display for PrintedTags<'_> {
     }
 }
 
-/// The same of guesses by rising number.
+/// The guesses of a list, by rising number, printed as `PrintedTags` prints those of a set.
 #[derive(Drop)]
 pub(crate) struct PrintedIds<'a>(pub(crate) &'a [GuessId]);
 

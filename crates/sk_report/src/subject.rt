@@ -42,8 +42,8 @@ pub trait Subject {
         ensures { OnOk result (Appends (W.contents out.old) (W.contents out.new)
             (terminal_lines self.now number)) };
 
-    /// Puts the end of the line of an entity that depends on these guesses in a line, before a place, and returns where it starts;
-    /// `None` for a longer one.
+    /// Puts the end of the line of an entity that depends on these guesses in a line, before a place, and returns where it
+    /// starts; `None` for a longer one.
     fn put_end(ids: &[GuessId], line: &mut [u8], end: usize) -> Option<usize>
         requires { (END ≤ end) × (end ≤ length line.old) }
         ensures line { IfSome result (λ start.
@@ -51,7 +51,7 @@ pub trait Subject {
         ensures start { IfSome result (λ start. (start ≤ end) × (end ≤ start + END)) }
         ensures length { length line.new ≡ length line.old };
 
-    /// Writes that end.
+    /// Writes the end of the line of an entity that depends on these guesses.
     fn write_end<W: Write>(ids: &[GuessId], out: &mut W) -> io::Result<()>
         ensures { OnOk result (Appends (W.contents out.old) (W.contents out.new)
             (end_with ids.now)) };

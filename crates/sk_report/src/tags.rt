@@ -32,7 +32,7 @@ fn put_more(ids: &[GuessId], line: &mut [u8], end: usize) -> usize
     start
 }
 
-/// The same of guesses that are joined by commas; `-` where there is none.
+/// Puts guesses in a line before a place, joined by commas, or `-` where there is none, and returns where they start.
 fn put_tags(ids: &[GuessId], line: &mut [u8], end: usize) -> usize
     requires { (length ids.now * TAG + 1 ≤ end) × (end ≤ length line.old) }
     ensures line { drop result line.new ≡ tags_text ids.now ++ drop end line.old }
@@ -61,7 +61,7 @@ pub(crate) fn write_tags<W: Write>(ids: &[GuessId], out: &mut W) -> io::Result<(
     write_short(ids, &mut room, out)
 }
 
-/// The same of few, by way of a room.
+/// Writes at most 64 guesses behind ` tags `, at once from a room.
 fn write_short<W: Write>(ids: &[GuessId], room: &mut [u8; ROOM], out: &mut W) -> io::Result<()>
     requires { length ids.now ≤ 64 }
     ensures { OnOk result (Appends (W.contents out.old) (W.contents out.new)

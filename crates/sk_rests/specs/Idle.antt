@@ -30,7 +30,7 @@ module _ {E V W F N : Type 0} (K : System E V W F N) where
       IsTotalOrder K.order → (these : N → Bool) (s : FinMap K.order V) (ns : List N) → IsLegal K s ns
       → OthersAreIdle these s ns → IsRunWithout these s ns
 
--- of a part of what is logged just that is left which is left of all
+-- of a part of a log of steps just those are left that are left of it in the whole log
 abbrev pub PartIsKept : (N O : Type 0) → Type 0
 PartIsKept N O =
     (these : N → Bool) (failed : List ℕ) (log : List (Logged N O))

@@ -25,7 +25,7 @@ pub record IsSaid {K V O : Type 0} (said : List (Tagged (ℕ × O))) (t : ℕ) (
   pub texts : b.texts t ≡ resting_among (numbers b.state.opens) waiting
   -- what is out depends on committed guesses alone
   pub settled : (x : Tagged (ℕ × O)) (g : ℕ) → Contains out x → has g x.1 ≡ true → b.status g ≡ Some Committed
-  -- and so does what waits without tags
+  -- an output that waits without an undecided tag depends on committed guesses alone
   pub ready : (x : Tagged (ℕ × O)) (g : ℕ) → Contains waiting x
       → filter (λ h. has h x.1) (numbers b.state.opens) ≡ [] → has g x.1 ≡ true → b.status g ≡ Some Committed
 
@@ -48,7 +48,7 @@ module _ {K V O F N : Type 0} (own : System K V (ℕ × O) F N) where
     -- what they said is what the channels have let go and what waits there
     pub channels : (t : ℕ) → IsSaid (said_to own t (kept (failed_in es) log)) t told b
 
-  -- so it is after any calls
+  -- after any calls what they came to is told by what is logged of them
   abbrev pub StandsAsLogged : Type 0
   StandsAsLogged =
       IsTotalOrder own.order → IsAntisymmetric own.order → ((w : ℕ × O) → own.goes_to w ≡ w.0)

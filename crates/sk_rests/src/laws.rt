@@ -4,8 +4,8 @@ ghost use Rattle.sk_record.specs.Run.{System};
 ghost use Rattle.sk_rests.specs.Laws.{StandsAsLogged, RangeIsStruck};
 ghost use Rattle.sk_rests.specs.Idle.{IdleMayGo, PartIsKept};
 
-/// Whoever logs of each step what it depended on when it was taken knows, after any calls, which steps stand, what each of them
-/// depends on, and that what went out of a channel depends on committed guesses alone.
+/// A log that has of each step what it depended on when it was taken tells, after any calls, which steps stand, what each of
+/// them depends on, and that what went out of a channel depends on committed guesses alone.
 pub fn as_logged<K: Ord, V, O, F, N>()
     ensures { (own : System K V (ℕ × O) F N) → StandsAsLogged own }
 {}
@@ -15,7 +15,7 @@ pub fn range_struck<N, O>()
     ensures { RangeIsStruck N O }
 {}
 
-/// Of a part of what is logged just that is left which is left of all.
+/// Of a part of a log of steps just those are left that are left of it in the whole log.
 pub fn part_kept<N, O>()
     ensures { PartIsKept N O }
 {}

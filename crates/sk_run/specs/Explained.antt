@@ -35,7 +35,7 @@ module _ {S I : Type 0} where
       (told : List ℕ) × Lists kernel_of Takes is_listed number item s next told
       × (text ≡ told ++ explained source number (stand_of (kernel_of s) (process_of item)))
 
-  -- the same where there is a file to tell of, else it is listed alone
+  -- an item is explained where there is a file to tell of, else it is listed alone
   abbrev pub ShownBy : (S → KernelView) → (I → Option ℕ) → (ℕ → I → S → S → List ℕ → Type 0) → Bool → Option SourceView → ℕ → I → S → S → List ℕ → Type 0
   ShownBy kernel_of process_of Takes is_listed None = Lists kernel_of Takes is_listed
   ShownBy kernel_of process_of Takes is_listed (Some source) = Explains kernel_of process_of Takes is_listed source

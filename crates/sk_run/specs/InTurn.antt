@@ -4,12 +4,12 @@ use Rattle.std.specs.Prelude.{◌≡◌, ℕ, ◌+◌, Bool, List, [], ◌∷◌
 use Rattle.sk_run.specs.Base.{Appends, KernelView}
 use Rattle.sk_run.specs.Listing.{beside}
 
--- such a text is appended
+-- a text of which this holds is appended
 abbrev pub Prints : (List ℕ → Type 0) → Option (List ℕ) → Option (List ℕ) → Type 0
 Prints IsText old new = (text : List ℕ) × IsText text × Appends old new text
 
 module _ {S I : Type 0} where
-  -- the same, with what is told beside the text of the kernels before and after the item, where that is wanted
+  -- an item is taken, and beside its text it is told, where that is wanted, what comes of the kernels before and after it
   abbrev pub Lists : (S → KernelView) → (ℕ → I → S → S → List ℕ → Type 0) → Bool → ℕ → I → S → S → List ℕ → Type 0
   Lists kernel_of Takes is_listed number item s next text =
       (line : List ℕ) × Takes number item s next line × (text ≡ line ++ beside is_listed (kernel_of s) (kernel_of next))
@@ -24,11 +24,11 @@ module _ {S I : Type 0} where
   Tells Takes number (item ∷ items) s last text =
       (next : S) × (line : List ℕ) × (rest : List ℕ) × Takes number item s next line × (text ≡ line ++ rest) × Tells Takes (number + 1) items next last rest
 
-  -- and it is written
+  -- the items are taken in turn, from number 1 on, and what is told of them is written
   abbrev pub Answered : (ℕ → I → S → S → List ℕ → Type 0) → List I → S → S → Option (List ℕ) → Option (List ℕ) → Type 0
   Answered Takes items s last old new = (text : List ℕ) × Tells Takes 1 items s last text × Appends old new text
 
-  -- and then a report of the state that they leave
+  -- the items are taken in turn, and what is told of them is written, and then a report of the state that they leave
   abbrev pub Reported : (ℕ → I → S → S → List ℕ → Type 0) → (S → List ℕ → Type 0) → List I → S → Option (List ℕ) → Option (List ℕ) → Type 0
   Reported Takes IsReport items s old new =
       (text : List ℕ) × (last : S) × (report : List ℕ) × Tells Takes 1 items s last text × IsReport last report × Appends old new (text ++ report)

@@ -100,7 +100,7 @@ WantsMemory line old new = ((asked : Asked) × (asked_by line ≡ Ok (Some asked
 
 -- ---- a talk
 
--- at its start
+-- a talk that was just begun
 abbrev pub begun : Play → Talk
 begun play = record { play = play; number = 1; handed = map.empty }
 

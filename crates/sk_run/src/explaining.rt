@@ -61,7 +61,7 @@ pub(crate) fn process_of_event(event: &KeptEvent) -> Option<Pid>
     process_in(event.lend())
 }
 
-/// The same of an event that is lent.
+/// The process of an event that is lent.
 fn process_in(event: EventRef<'_>) -> Option<Pid>
     ensures { result ≡ process_of_event (event_in event.entry) }
 {
@@ -71,7 +71,7 @@ fn process_in(event: EventRef<'_>) -> Option<Pid>
     }
 }
 
-/// Where a process stands, if it is there.
+/// The script of a process and the place of its next instruction, if it is there.
 fn stand_of(kernel: &Kernel, pid: Option<Pid>) -> Option<Stand>
     ensures { result ≡ stand_of kernel.now pid }
 {
@@ -104,7 +104,7 @@ fn answer_one<P: Player, W: Write>(
     }
 }
 
-/// The same, and what explains it below that.
+/// Takes an item as `answer_one` does, and writes what explains it below that.
 fn explain_one<P: Player, W: Write>(
     player: &mut P,
     number: usize,

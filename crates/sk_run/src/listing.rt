@@ -18,7 +18,8 @@ pub(crate) struct Foreseen {
     footprint: Option<Footprint>,
 }
 
-/// What an event would append and touch whose step this is, where it takes one.
+/// What an event would touch, before it happens: the place of the trace where it goes, and the footprint of its step, if it
+/// takes one.
 pub(crate) fn foresee(kernel: &Kernel, upcoming: Option<(Pid, Input)>) -> Foreseen
     ensures { result ≡ foreseen kernel.now upcoming }
 {

@@ -17,7 +17,7 @@ use sk_scenario::{Call, Declarations, KeptEvent};
 use std::alloc::{AllocError, Global};
 use std::io::Write;
 
-/// What is declared, at play.
+/// A kernel or a world that plays the items of a scenario.
 pub trait Player: Sized {
     ghost use Rattle.std.specs.Prelude.{◌≡◌, ℕ, Bool, List, Option, IfOk, OnOk, Err, true, false};
     ghost use Rattle.std.specs.Io.KnownBytes.{Appends};
@@ -29,7 +29,7 @@ pub trait Player: Sized {
     /// A call or an event.
     type Item;
 
-    /// What is declared, at its start.
+    /// What plays a declared scenario, at its start.
     ghost declared: { Declared → Self };
 
     /// Its kernel.
@@ -41,13 +41,13 @@ pub trait Player: Sized {
     /// The process of an item, where it is of one alone.
     ghost process_of: { Self.Item → Option ℕ };
 
-    /// An item of this number is taken, which leaves that, and this line is told of it.
+    /// What it is to take an item of a number: what it leaves, and the line that is told of it.
     ghost takes: { ℕ → Self.Item → Self → Self → List ℕ → Type 0 };
 
     /// Its report.
     ghost report: { Self → List ℕ };
 
-    /// What is declared, at its start.
+    /// What plays a declared scenario, at its start.
     fn begin(alloc: Global, declarations: &Declarations) -> Result<Self, AllocError>
         ensures { IfOk result (λ player. player ≡ declared declarations.now) };
 
@@ -70,14 +70,13 @@ pub trait Player: Sized {
             (W.contents out.old) (W.contents out.new)) }
         ensures memory { result ≡ Err stops.Memory → out.new ≡ out.old };
 
-    /// The same, and below the line what the item touched.
+    /// Takes an item, and writes the line that is told of it, and below that what it touched.
     fn list<W: Write>(&mut self, number: usize, item: &Self::Item, out: &mut W) -> Result<(), Stop>
         ensures told { OnOk result
             (Writes (Lists kernel_of takes true) number item.now self.old self.new
             (W.contents out.old) (W.contents out.new)) }
         ensures memory { result ≡ Err stops.Memory → out.new ≡ out.old };
 
-    /// Writes its report.
     fn write_report<W: Write>(&self, alloc: Global, out: &mut W) -> Result<(), Stop>
         ensures { OnOk result
             (Appends (W.contents out.old) (W.contents out.new) (report self.now)) };

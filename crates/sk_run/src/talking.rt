@@ -342,8 +342,8 @@ impl Talk {
         self.respond(alloc, number, line, out)
     }
 
-    /// Writes the answer to the line of this number, and writes out what the output buffers; and then where its fault stands, if it
-    /// has one.
+    /// Writes the answer to the line of this number, and writes out what the output buffers; and then where its fault stands, if
+    /// it has one.
     fn answer<W: Write + Drop, E: Write>(
         &mut self,
         alloc: Global,

@@ -63,7 +63,7 @@ process d x =
     else if has_script d.boot x.1 then Ok (record d { boot = with_process d.boot x.0 x.1 x.2 })
     else Err FaultKind.Label
 
--- at most once
+-- what may be declared at most once was not declared before
 abbrev pub once : Option ℕ → Declared → Result Declared FaultKind
 once None new = Ok new
 once (Some before) new = Err FaultKind.Label

@@ -111,7 +111,7 @@ NoEnd ls = list_all (λ line. not (is_end line)) ls ≡ true
 abbrev pub IsEdge : ℕ → ℕ → List (List ℕ) → ℕ → Type 0
 IsEdge first last ls n = (n ≡ first) ⊎ ((first ≤ n) × (n ≡ last) × NoEnd ls)
 
--- such a line of a script in a text, behind whose heading these lines stand
+-- a line of a script in a text whose fault is told behind something else; behind the heading of the script these lines stand
 pub record IsScriptEdge (text : List (List ℕ)) (n : ℕ) : Type 0 where
   pub before : List (List ℕ)
   pub heading : List ℕ

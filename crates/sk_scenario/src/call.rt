@@ -35,7 +35,6 @@ fn add_step(calls: &mut Calls, words: &Words) -> Result<(), FaultKind>
     calls.push(Call::Step(pid, input))
 }
 
-/// Adds a guess.
 fn add_guess(calls: &mut Calls, words: &Words) -> Result<(), FaultKind>
     ensures { Leaves result (with_said calls.old (guess_call words.now)) calls.old calls.new }
 {
@@ -54,7 +53,7 @@ fn behind_step(line: &[u8]) -> Option<Words<'_>>
     }
 }
 
-/// The same behind `guess`.
+/// The words behind `guess` and a space at the front of a line, found as those behind `step` are.
 #[inline(always)]
 fn behind_guess(line: &[u8]) -> Option<Words<'_>>
     ensures { IfSome result (λ ws. first_of (words line.now) ≡ Some (codes "guess", ws)) }

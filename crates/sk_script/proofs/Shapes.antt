@@ -31,7 +31,7 @@ only_so (Err e) f h = h
 only_label : (labels : Labels) (does_at : ℕ → Instruction) (n : List ℕ) → OnlyLabel (at_label labels does_at n)
 only_label labels does_at n = only_so (place_of labels n) does_at (only_place labels n)
 
--- the same words, each with forms and a rule of which this holds
+-- two tables have the same words in the same order, each with forms and a rule of which this holds
 abbrev pub AllRows : {A : Type 0} → (List Form → Rule A → Type 0) → List (List ℕ × Rule A) → Table → Type 0
 AllRows X [] [] = Unit {0}
 AllRows X [] (t ∷ ts) = ⊥

@@ -6,27 +6,27 @@ use Rattle.sk_script.specs.Registers.{held}
 
 -- ---- what becomes of the process
 
--- it moves on to the next instruction
+-- the process moves on to the next instruction
 abbrev pub moved : Process → Process
 moved p = record p { place = p.place + 1 }
 
--- and has a value in a register
+-- the process moves on, and has a value in a register
 abbrev pub given : Process → ℕ → Val → Process
 given p r v = record p { place = p.place + 1; registers = slice_set p.registers r v }
 
--- and has a text in its buffer
+-- the process moves on, and has a text in its buffer
 abbrev pub buffered : Process → List ℕ → Process
 buffered p text = record p { place = p.place + 1; buffer = text }
 
--- and has the error 22 in r0
+-- the process moves on, and has the error 22 in r0
 abbrev pub invalid : Process → Process
 invalid p = given p 0 (Num (neg_ℤ (pos 22)))
 
--- it goes on at a place
+-- the process goes on at a place
 abbrev pub at_place : Process → ℕ → Process
 at_place p place = record p { place = place }
 
--- it goes on at a place if this holds, else at the next instruction
+-- the process goes on at a place if this holds, else at the next instruction
 abbrev pub at_place_if : Bool → Process → ℕ → Process
 at_place_if holds p place = if holds then at_place p place else moved p
 
@@ -94,7 +94,7 @@ private_step p i = None
 abbrev pub private_next : Process → List Instruction → Option Process
 private_next p script = if p.ended then None else option_and_then (private_step p) (slice_get script p.place)
 
--- the process became this; where there is nothing for it to become, it is as it was
+-- the process became what it was to become; where that is nothing it is as it was
 abbrev pub Becomes : Bool → Option Process → Process → Process → Type 0
 Becomes true after old new = after ≡ Some new
 Becomes false after old new = (after ≡ None) × (new ≡ old)

@@ -7,6 +7,6 @@ use Rattle.sk_script.specs.contracts.instruction.InstructionPartialEq.TheImpl as
 abbrev pub same_script : List Instruction → List Instruction → Bool
 same_script = pointwise (instruction.ghosts).eq
 
--- the same names with the same scripts
+-- whether two maps have the same names with the same scripts
 abbrev pub same_scripts : ScriptMap → ScriptMap → Bool
 same_scripts = same_map (pointwise nat_eq) same_script

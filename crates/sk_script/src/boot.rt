@@ -209,7 +209,6 @@ impl Boot {
         Ok(())
     }
 
-    /// The scripts.
     pub fn scripts(&self) -> &Scripts
         ensures value { result.now ≡ self.now.scripts }
         ensures limits { IsBoot self.now }

@@ -92,7 +92,6 @@ impl Lease {
         &self.current
     }
 
-    /// Its script.
     pub fn script(&self) -> &Script
         ensures { result.now ≡ self.now.script }
     {

@@ -99,7 +99,7 @@ impl Script {
         self.instructions.is_empty()
     }
 
-    /// The same script again.
+    /// A copy of the script, with instructions of its own.
     pub fn copy(&self) -> Result<Script, AllocError>
         ensures { IfOk result (λ copy. copy ≡ self.now) }
     {

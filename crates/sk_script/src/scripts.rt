@@ -100,7 +100,7 @@ impl Scripts {
         self.scripts.put(name, shared)
     }
 
-    /// The same scripts again, which share what they hold.
+    /// A copy of the scripts, which share what they hold with these.
     pub fn copy(&self) -> Result<Scripts, AllocError>
         ensures { IfOk result (λ copy. copy ≡ self.now) }
     {

@@ -60,7 +60,6 @@ impl SharedScript {
         })
     }
 
-    /// The script.
     pub(crate) fn script(&self) -> &Script
         ensures { result.now ≡ self.now }
     {

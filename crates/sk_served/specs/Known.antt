@@ -14,7 +14,7 @@ abbrev pub KnowsAll : List (List ℕ) → Have → Type 0
 KnowsAll known has = IsStrictlySortedBy bytes_cmp known
     × ((key : List ℕ) → is_reserved key ≡ false → is_some (has key) ≡ true → is_among key known ≡ true)
 
--- The keys rise by their bytes, and so it is with each that is not among them, but for reserved ones.
+-- The keys rise by their bytes, and `so` holds of each key that is not among them, but for reserved ones.
 abbrev pub LeavesOut : (List ℕ → Type 0) → List (List ℕ) → Type 0
 LeavesOut so known = IsStrictlySortedBy bytes_cmp known
     × ((key : List ℕ) → is_reserved key ≡ false → is_among key known ≡ false → so key)
@@ -32,7 +32,7 @@ abbrev pub IsTold : Have → Entry → Type 0
 IsTold has (Opens n) = Unit {0}
 IsTold has (Runs a) = wants_all a.work ≡ true → KnowsAll a.known has
 
--- So it is with each entry of a run, by what keys have when it is carried out.
+-- Each entry of a run that is told of all keys knows them, by what keys have when it is carried out.
 abbrev pub AreTold : FinMap served.order (List ℕ) → List Entry → Type 0
 AreTold s [] = Unit {0}
 AreTold s (n ∷ ns) = IsTold (get s) n × AreTold (after served (outcome served s n) s) ns

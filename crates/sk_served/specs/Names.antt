@@ -24,7 +24,7 @@ abbrev pub NamesNoReserved : Entry → Type 0
 NamesNoReserved (Opens n) = Unit {0}
 NamesNoReserved (Runs a) = names_reserved a.work ≡ false
 
--- So it is with each entry that is taken.
+-- The work of each entry that is taken names no key that is a batch's.
 abbrev pub NoneTakenNamesReserved : List (Event Entry) → Type 0
 NoneTakenNamesReserved [] = Unit {0}
 NoneTakenNamesReserved (Taken n ∷ es) = NamesNoReserved n × NoneTakenNamesReserved es

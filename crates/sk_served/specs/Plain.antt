@@ -3,7 +3,7 @@ use Rattle.std.specs.Prelude.{ℕ, ◌==◌, List, [], ◌∷◌, ◌++◌, if�
 use Rattle.sk_served.specs.Base.{after_work, Work, Answer, comes_to, may_write_some, held, keys_of, Entries}
 use Rattle.sk_served.specs.Served.{Entry, Opens, Runs}
 
--- what it answers to some work
+-- what the plain store answers to some work
 abbrev pub answer_to : Work → Entries → Answer
 answer_to work entries = (comes_to (keys_of entries) work (held entries)).reply
 

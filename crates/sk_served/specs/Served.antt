@@ -21,7 +21,7 @@ abbrev pub batch_keys : Option ℕ → List (List ℕ)
 batch_keys None = []
 batch_keys (Some n) = batch_key n ∷ []
 
--- the same step, which looks at these keys too before it is done, and says its ticket with the answer
+-- a step as it is logged: it looks at these keys too before it is done, and says its ticket with the answer
 abbrev pub logged : List (List ℕ) → ℕ → Step (List ℕ) (List ℕ) (ℕ × Answer) (Unit {0})
     → Step (List ℕ) (List ℕ) (ℕ × (ℕ × Answer)) (Unit {0})
 logged keys ticket (Ask key next) = Ask key (λ value. logged keys ticket (next value))

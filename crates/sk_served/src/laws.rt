@@ -38,7 +38,7 @@ pub fn run_law()
     ensures { RunsAsPlainStore }
 {}
 
-/// What entries leave is what those of their works leave that may write, which are those that a log keeps.
+/// Entries leave what those of their works leave that may write; just these are what a log keeps.
 pub fn writing_law()
     ensures { WritingIsAll }
 {}
@@ -53,7 +53,7 @@ pub fn store_law()
     ensures { StoreRunsAsPlain }
 {}
 
-/// The same, told of the calls themselves: each step is taken by what the kernel shows then.
+/// As `store_law`, told of the calls themselves, each of whose steps is taken by what the kernel shows then.
 pub fn calls_law()
     ensures { CallsArePlain }
 {}

@@ -21,7 +21,7 @@ Answers s q (Ok reply) t =
     × (t ≡ answered s q (answer_to s q))
 Answers s q (Err back) t = (back.0 ≡ q) × IsRefused s q back.1 × (t ≡ s)
 
--- the same for a request that is lent, with the reply behind these others; there is none after a refusal
+-- a request that is lent is answered, with the reply behind these others; after a refusal there is none, and all is as it was
 abbrev pub AnswersBehind : ServerView → List Reply → Request → Result (Unit {0}) ServerRefusal → ServerView → List Reply → Type 0
 AnswersBehind s rs q (Ok done) t all =
     (is_in_turn s q ≡ true)

@@ -31,7 +31,7 @@ new_server = record { files = map.empty; next = 1; refused = [] }
 abbrev pub is_in_turn : ServerView → Request → Bool
 is_in_turn s q = (q.number == s.next) && nat_le q.number LAST_REQUEST
 
--- the refused guesses on which this request or a later one can rest
+-- the refused guesses on which this request or a later one can depend
 abbrev pub remembered : Request → List ℕ → List ℕ
 remembered q refused = filter (λ g. nat_le q.settled g) refused
 

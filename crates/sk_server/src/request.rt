@@ -20,7 +20,7 @@ pub enum Ask {
 pub struct Request {
     /// Its number, from 1 in the order in which requests are made.
     pub number: u64,
-    /// The undecided guesses of the client on which it rests, its own apart.
+    /// The undecided guesses of the client on which it depends, its own apart.
     pub rests: TagSet,
     /// Every guess below this number is decided at the client.
     pub settled: u64,

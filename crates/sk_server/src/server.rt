@@ -310,7 +310,7 @@ fn make_room(refused: &mut Vec<GuessId>, guess: Option<GuessId>) -> Result<(), A
     Ok(())
 }
 
-/// Forgets the refused guesses on which no request can rest from this one on, and remembers the guess
+/// Forgets the refused guesses on which no request can depend from this one on, and remembers the guess
 /// that its answer refuses, for which there is room.
 fn remember(refused: &mut Vec<GuessId>, request: &RequestRef<'_>, guess: Option<GuessId>)
     requires { is_some guess ≡ true → vec_len refused.old < vec_capacity refused.old }

@@ -20,12 +20,12 @@ says ws = is_some (first_of ws)
 abbrev pub event_told : ℕ → List (List ℕ) → List (List ℕ)
 event_told number ws = if says ws then line_told number ws ∷ [] else []
 
--- those of a section, of which the first has this number
+-- the lines of a section that say something, told; its first has this number
 abbrev pub events_from : ℕ → List (List ℕ) → List (List ℕ)
 events_from number [] = []
 events_from number (l ∷ ls) = event_told number (words l) ++ events_from (number + 1) ls
 
--- those of a file: behind the heading
+-- the lines of a file that are told: those behind the heading of its section
 abbrev pub events_in : ℕ → List (List ℕ) → List (List ℕ)
 events_in number [] = []
 events_in number (l ∷ ls) = if is_section (words l) then events_from (number + 1) ls else events_in (number + 1) ls
@@ -52,6 +52,6 @@ abbrev pub place_told : List (List ℕ) → Option Stand → List ℕ
 place_told ls None = []
 place_told ls (Some stand) = stand_told ls stand
 
--- both
+-- the line of an event, and where its instruction stands
 abbrev pub explained : SourceView → ℕ → Option Stand → List ℕ
 explained s number stand = event_line s number ++ place_told s.lines stand

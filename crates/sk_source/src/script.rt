@@ -50,7 +50,8 @@ fn is_instruction(line: &[u8]) -> bool
     }
 }
 
-/// Whether a process stands at a line of its script that has so many instructions still to pass; behind the last it is at the `end`.
+/// Whether a process stands at a line of its script that has so many instructions still to pass; behind the last it is at the
+/// `end`.
 fn is_at(left: u32, line: &[u8]) -> bool
     ensures { result ≡ is_at left (words line.now) }
 {

@@ -47,7 +47,7 @@ pub(crate) fn write_line<W: Write>(number: u64, line: &[u8], out: &mut W) -> io:
     write_rest(line, out)
 }
 
-/// The same as a text.
+/// The text that `write_line` writes.
 pub(crate) fn line_text(alloc: Global, number: u64, line: &[u8]) -> Result<Vec<u8>, AllocError>
     ensures { IfOk result (λ text. text.items ≡ line_told number (words line.now)) }
 {

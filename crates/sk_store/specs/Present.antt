@@ -2,7 +2,7 @@
 use Rattle.std.specs.Prelude.{◌≡◌, ℕ, List, [], map, Option, Some}
 use Rattle.sk_store.specs.Base.{Entity, EntityState, Present}
 
--- it has what the entity has, and depends on what the entity depends on
+-- what is listed of an entity is what that has and depends on
 abbrev pub IsPresent : (Entity → Option EntityState) → (Entity → List ℕ) → Present → Type 0
 IsPresent look tags p = (look p.entity ≡ Some p.state.now) × (tags p.entity ≡ p.tags.now)
 
@@ -10,7 +10,7 @@ IsPresent look tags p = (look p.entity ≡ Some p.state.now) × (tags p.entity �
 abbrev pub entities_of : List Present → List Entity
 entities_of all = map (λ p. p.entity) all
 
--- what is listed of one, in values
+-- what is listed of one entity, as plain values
 abbrev pub Shown : Type 0
 Shown = Entity × (EntityState × List ℕ)
 

@@ -15,7 +15,7 @@ process_in _ = beginning 0 [] 0
 abbrev pub CanBecome : (Process → Type 0) → Option EntityState → Type 0
 CanBecome can now = IsProcess now × can (process_in now)
 
--- and what is there when it has
+-- what is there when the process has become that
 abbrev pub became : (Process → Process) → Option EntityState → EntityState
 became after now = EntityState.Process (after (process_in now))
 

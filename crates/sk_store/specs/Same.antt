@@ -5,6 +5,6 @@ use Rattle.sk_ids.specs.contracts.entity.EntityPartialEq.TheImpl as entity
 use Rattle.sk_store.specs.State.{State}
 use Rattle.sk_store.specs.contracts.entity_state.EntityStatePartialEq.TheImpl as stored
 
--- the same entities are present, and each has the same
+-- whether in two states the same entities are present, and each has the same
 abbrev pub same_state : State → State → Bool
 same_state = same_map (entity.ghosts).eq (stored.ghosts).eq

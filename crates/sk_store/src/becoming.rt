@@ -7,10 +7,10 @@ pub trait Becoming {
     ghost use Rattle.std.specs.Prelude.{◌≡◌};
     ghost use Rattle.sk_script.specs.declared.process.Process.{Process};
 
-    /// Whether a process can become it.
+    /// Whether a process can be changed so.
     ghost can: { Self → Process → Type 0 };
 
-    /// The process after that.
+    /// The process after the change.
     ghost after: { Self → Process → Process };
 
     /// Changes a process, which takes no memory.
@@ -26,10 +26,10 @@ pub trait BecomingBy {
     ghost use Rattle.sk_script.specs.declared.process.Process.{Process};
     ghost use Rattle.sk_store.specs.declared.entity_state.EntityState.{EntityState};
 
-    /// Whether a process can become it.
+    /// Whether a process can be changed so.
     ghost can: { Self → Option EntityState → Process → Type 0 };
 
-    /// The process after that.
+    /// The process after the change.
     ghost after: { Self → Option EntityState → Process → Process };
 
     /// Changes a process by what is there, which takes no memory.
@@ -38,7 +38,7 @@ pub trait BecomingBy {
         ensures { process.new ≡ after self.now (option_copied there.entry) process.old };
 }
 
-/// What a process becomes by this, which an entity has.
+/// A change of a process by what an entity has, with what it has.
 #[derive(Drop)]
 pub struct Seeing<'a, 'b, C> {
     pub by: &'a C,

@@ -20,7 +20,7 @@ impl EntityState {
     ghost use Rattle.sk_store.specs.Changed.{FitsAt, changed, StateFits, state_undone};
     ghost use Rattle.sk_store.specs.Processes.{CanBecome, became};
 
-    /// A process.
+    /// What an entity has that is a process.
     #[inline(always)]
     pub fn process(alloc: Global, process: Process) -> Result<EntityState, AllocError>
         ensures { IfOk result (λ state. state ≡ EntityState.Process process) }
@@ -36,7 +36,7 @@ impl EntityState {
         Ok(EntityState::Value(Value::content(alloc, content)?))
     }
 
-    /// Another of equal content.
+    /// A copy of what an entity has.
     pub fn copy(&self) -> Result<EntityState, AllocError>
         ensures { IfOk result (λ copy. copy ≡ self.now) }
     {

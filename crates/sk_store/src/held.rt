@@ -53,7 +53,6 @@ impl HeldProcess {
         Ok(HeldProcess { process })
     }
 
-    /// The process.
     #[inline(always)]
     pub fn process(&self) -> &Process
         ensures { result.now ≡ self.now }

@@ -21,10 +21,10 @@ released_in k t = released (said_there k t)
 abbrev pub released_lines : List (List ℕ) → List ℕ
 released_lines texts = codes "released " ++ decimal (length texts) ++ 10 ∷ texts_lines texts
 
--- those behind as many as were handed out
+-- the lines of the released texts behind those that were handed out
 abbrev pub released_answer : KernelView → ℕ → ℕ → List ℕ
 released_answer k t handed = released_lines (drop handed (released_in k t))
 
--- all that are released are handed out then
+-- the counts of handed out texts, once all of a terminal that are released are handed out
 abbrev pub all_handed : KernelView → ℕ → HandedMap → HandedMap
 all_handed k t m = map.insert m t (length (released_in k t))

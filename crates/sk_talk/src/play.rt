@@ -133,7 +133,6 @@ impl Play {
         }
     }
 
-    /// The report.
     pub fn report(&self, alloc: Global) -> Result<Vec<u8>, AllocError>
         ensures { IfOk result (λ text. text.items ≡ report_of self.now) }
     {

@@ -14,7 +14,7 @@ abbrev pub is_listed : ℕ → ℕ → List Listing → Bool
 is_listed g t [] = false
 is_listed g t (l ∷ ls) = if l.guess == g then has t l.terminals else is_listed g t ls
 
--- no terminal is
+-- no terminal is in the list of a guess
 abbrev pub NoneListed : ℕ → List Listing → Type 0
 NoneListed g ls = (t : ℕ) → is_listed g t ls ≡ false
 

@@ -6,14 +6,14 @@ use Rattle.sk_ids.specs.contracts.text.TextPartialEq.TheImpl as text
 use Rattle.sk_terminal.specs.Terminal.{TaggedText}
 use Rattle.sk_terminal.specs.Terminals.{TerminalMap}
 
--- the same text, which depends on the same guesses
+-- whether two texts are the same, and depend on the same guesses
 abbrev pub same_said : TaggedText → TaggedText → Bool
 same_said = same_pair (text.ghosts).eq (pointwise nat_eq)
 
--- the same texts in the same order
+-- whether two lists have the same texts in the same order
 abbrev pub same_texts : List TaggedText → List TaggedText → Bool
 same_texts = pointwise same_said
 
--- the same at each terminal
+-- whether each terminal has the same texts
 abbrev pub same_terminals : TerminalMap → TerminalMap → Bool
 same_terminals = same_map nat_eq same_texts

@@ -9,7 +9,7 @@ use Rattle.sk_record.specs.Notes.{has}
 abbrev pub TaggedText : Type 0
 TaggedText = Tagged (List ℕ)
 
--- it depends on no guess
+-- a text that depends on no guess
 abbrev pub is_clear : TaggedText → Bool
 is_clear said = length said.1 == 0
 

@@ -18,7 +18,7 @@ terminals_code = map.code coded_ℕ (coded_list (coded× (coded_list coded_ℕ) 
 abbrev pub texts_at : TerminalMap → ℕ → List TaggedText
 texts_at m t = unwrap_or (map.get m t) []
 
--- those of them that are released
+-- the texts of one terminal that are released
 abbrev pub released_at : TerminalMap → ℕ → List (List ℕ)
 released_at m t = released (texts_at m t)
 

@@ -26,7 +26,7 @@ fn place_of(lists: &[Listing], guess: GuessId) -> usize
         .count()
 }
 
-/// The same, where the list at `hint` is looked at first: the lists of a text's guesses mostly stand one behind the other.
+/// As `place_of`, but the list at `hint` is looked at first: the lists of a text's guesses mostly stand one behind the other.
 fn place_from(lists: &[Listing], guess: GuessId, hint: usize) -> usize
     requires { AreTidy lists.now }
     ensures { result ≡ prefix_len (λ l. not (l.guess == guess)) lists.now }
@@ -130,7 +130,7 @@ fn take_free(list: &mut Listing, numbered: &Numbered, number: u16)
     }
 }
 
-/// The same, and answers whether anything is left.
+/// As `take_free`, and answers whether any terminal is left in the list.
 fn refresh(list: &mut Listing, numbered: &Numbered, number: u16) -> bool
     ensures guess { list.new.guess ≡ list.old.guess }
     ensures left { (t : ℕ) → has t list.new.terminals
@@ -143,7 +143,7 @@ fn refresh(list: &mut Listing, numbered: &Numbered, number: u16) -> bool
     !list.terminals.as_slice().is_empty()
 }
 
-/// Takes a terminal out of the lists of those guesses on which none of its texts rests. This takes no memory.
+/// Takes a terminal out of the lists of those guesses on which none of its texts depends. This takes no memory.
 pub(crate) fn take_off(lists: &mut Vec<Listing>, numbered: &Numbered, number: u16)
     requires { AreTidy lists.old.items }
     ensures left { (g t : ℕ) → is_listed g t lists.new.items
@@ -153,7 +153,7 @@ pub(crate) fn take_off(lists: &mut Vec<Listing>, numbered: &Numbered, number: u1
     lists.retain_mut(|list: &mut Listing| refresh(list, numbered, number));
 }
 
-/// Takes each of these terminals out so.
+/// Takes each of these terminals out as `take_off` does.
 pub(crate) fn take_off_all(lists: &mut Vec<Listing>, numbered: &Numbered, numbers: &[u16])
     requires { AreTidy lists.old.items }
     ensures left { (g t : ℕ) → is_listed g t lists.new.items

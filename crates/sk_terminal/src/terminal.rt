@@ -109,7 +109,7 @@ impl Terminal {
         self.say_lent(&text, tags)
     }
 
-    /// The same of a text that is lent: one that goes out at once is copied to those that are out, and nowhere else.
+    /// As `say`, of a text that is lent: one that goes out at once is copied to those that are out, and nowhere else.
     pub(crate) fn say_lent(&mut self, text: &Text, tags: TagSet) -> Result<(), AllocError>
         ensures said { OnOk result (self.new ≡ self.old ++ (text.now, tags) ∷ []) }
         ensures refused { OnErr result (self.new ≡ self.old) }

@@ -117,7 +117,7 @@ impl Terminals {
 }
 
 /// Lists a terminal for the guesses that a text depends on, and says the text to it. Without memory the terminal may be listed
-/// for guesses on which no text of it rests.
+/// for guesses on which no text of it depends.
 fn say_listed(
     alloc: Global,
     numbered: &mut Numbered,
@@ -139,7 +139,7 @@ fn say_listed(
     Ok(())
 }
 
-/// The same, and without memory the terminal is listed just for the guesses on which a text of it rests.
+/// As `say_listed`, but without memory the terminal is listed just for the guesses on which a text of it depends.
 fn say_or_not(
     alloc: Global,
     numbered: &mut Numbered,

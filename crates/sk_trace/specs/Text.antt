@@ -10,7 +10,7 @@ event_words (Event.Guess id pid input) = codes "guess" ∷ decimal id ∷ pid_wo
 event_words (Event.Commit id) = codes "commit" ∷ decimal id ∷ []
 event_words (Event.Fail id) = codes "fail" ∷ decimal id ∷ []
 
--- with single spaces
+-- the words of an event with single spaces between them
 abbrev pub event_text : Event → List ℕ
 event_text e = spaced (event_words e)
 

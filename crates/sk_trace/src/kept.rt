@@ -110,7 +110,6 @@ impl KeptInput {
         Ok(KeptInput { words })
     }
 
-    /// The input.
     pub fn input(&self) -> Input
         ensures { result ≡ self.now }
     {

@@ -66,7 +66,7 @@ pub fn kept_step(alloc: Global, words: &Words) -> Result<(Pid, KeptInput), Fault
     }
 }
 
-/// The same of any input, apart since what it reads is large.
+/// As `kept_step`, of any input. It stands by itself, since what it reads is large.
 #[inline(never)]
 fn kept_content(alloc: Global, words: &Words) -> Result<(Pid, KeptInput), FaultKind>
     ensures read { IsRead result (step words.now) }

@@ -12,7 +12,7 @@ by_paths (Some p) (Some q) c f g = refl
 by_paths (Some p) None c f g = ap (λ o. ordering_then o c) (sym (nat_cmp_is p 0 Greater (f refl)))
 by_paths None (Some q) c f g = ap (λ o. ordering_then o c) (sym (nat_cmp_is 0 q Less (g refl)))
 
--- the same of numbers that are these paths
+-- two numbers that are paths, 0 for none, stand as the paths do
 pub by_numbers : (a b : Option ℕ) (m n : ℕ) (c : Ordering) → m ≡ unwrap_or a 0 → n ≡ unwrap_or b 0 → (IsSome a → 0 < m) → (IsSome b → 0 < n)
     → ordering_then (nat_cmp m n) c ≡ ordering_then (option_cmp nat_cmp a b) c
 by_numbers a b m n c e d f g =

@@ -8,7 +8,7 @@ use Rattle.sk_undo.specs.Logs.{SlotMap, log_at}
 abbrev pub note_count : SlotView → ℕ
 note_count s = length s.log
 
--- those of all entities together
+-- the notes of all entities together
 abbrev pub notes_in : SlotMap → ℕ
 notes_in m = sum_by note_count (map.values m)
 

@@ -12,13 +12,13 @@ pub record SlotUnwound (g : ℕ) (old new : SlotView) : Type 0 where
   pub now : IsGrowing (reverse old.log) → new.now ≡ unwound g (reverse old.log) old.now
   pub log : IsGrowing (reverse old.log) → reverse new.log ≡ cut g (reverse old.log)
 
--- a slot with a guess out of all notes, and without each note that then has no tags, or for which the one before it then stands
+-- a slot whose notes have lost a guess; those that then have no tags are left out, and those for which the note before then stands
 pub record SlotCommitted (g : ℕ) (old new : SlotView) : Type 0 where
   pub now : new.now ≡ old.now
   pub log : IsGrowing (reverse old.log) → Merges [] (committed g (reverse old.log)) (reverse new.log)
   pub joined : IsGrowing (reverse old.log) → EachRests (reverse old.log) → reverse new.log ≡ committed_joined g None (reverse old.log)
 
--- the slot of one entity is changed so; it had one where it has one then
+-- the slot of one entity is changed so; an entity that has a slot then had one before
 pub record ChangedAt (Changed : SlotView → SlotView → Type 0) (old : SlotMap) (e : Entity) (new : SlotMap) : Type 0 where
   pub slot : SlotView
   pub changed : Changed (slot_in (map.get old e)) slot
@@ -30,7 +30,7 @@ pub record Unwound (old : SlotMap) (g : ℕ) (new : SlotMap) : Type 0 where
   pub look : (e : Entity) → look_at new e ≡ unwound g (log_at old e) (look_at old e)
   pub logs : (e : Entity) → log_at new e ≡ cut g (log_at old e)
 
--- a guess out of all notes, and each note that then has no tags, or for which the one before it then stands
+-- all notes have lost a guess; those that then have no tags are left out, and those for which the note before then stands
 pub record Lightened (old : SlotMap) (g : ℕ) (new : SlotMap) : Type 0 where
   pub look : (e : Entity) → look_at new e ≡ look_at old e
   pub logs : (e : Entity) → Merges [] (committed g (log_at old e)) (log_at new e)

@@ -16,13 +16,13 @@ HasNote (n ∷ ns) = Unit {0}
 abbrev pub Covers : List ℕ → List ℕ → Type 0
 Covers these tags = (g : ℕ) → has g tags ≡ true → has g these ≡ true
 
--- there is room for one more
+-- a vector has room for one more
 abbrev pub HasRoom : {X Z : Type 0} → Vec X Z → Type 0
 HasRoom v = vec_len v < vec_capacity v
 
 -- ---- what puts a write back
 module _ {V : Type 0} where
-  -- what was there before it
+  -- what was there before a write, by what puts it back and what is there now
   abbrev pub undone_by : (V → Undo → V) → PutBack V → Option V → Option V
   undone_by undone (Was v) now = v
   undone_by undone (Changed undo) None = None
@@ -50,7 +50,7 @@ module _ {U V : Type 0} (undone : U → Option V → Option V) where
   seen now [] = []
   seen now (n ∷ ns) = record { tags = n.tags; before = undone n.undo now } ∷ seen (undone n.undo now) ns
 
-  -- the same from notes in the order of the writes, and in that order
+  -- the notes in the order of the writes, from raw ones in that order, with what was there before each
   abbrev pub log_of : Option V → List (RawNote U) → List (Note V)
   log_of now ns = reverse (seen now (reverse ns))
 
@@ -115,7 +115,7 @@ module _ {V : Type 0} (whole : V → Bool) where
   goes_on_raw least [] = least == 0
   goes_on_raw least (n ∷ ns) = nat_le least (length n.tags) && restores whole n.undo
 
-  -- the same of the note before, where there is one
+  -- whether a write with these tags is not noted behind this note, where there is one
   abbrev pub is_covered : Option (RawNote (PutBack V)) → List ℕ → Bool
   is_covered None tags = false
   is_covered (Some n) tags = stands_for n tags
@@ -126,7 +126,7 @@ module _ {V : Type 0} (whole : V → Bool) where
   repeats p zero (n ∷ ns) = is_covered p n.tags
   repeats p (suc i) (n ∷ ns) = repeats (Some n) i ns
 
-  -- without each note from a place on for which the one before it stands
+  -- the notes without those, from a place on, for which the note before stands
   abbrev pub joined_from : Option (RawNote (PutBack V)) → ℕ → List (RawNote (PutBack V)) → List (RawNote (PutBack V))
   joined_from p i [] = []
   joined_from p zero (n ∷ ns) = if is_covered p n.tags then joined_from p zero ns else n ∷ joined_from (Some n) zero ns

@@ -25,7 +25,7 @@ look_at m e = (slot_in (map.get m e)).now
 abbrev pub log_at : SlotMap → Entity → List (Note EntityState)
 log_at m e = reverse (slot_in (map.get m e)).log
 
--- with this slot; an entity of which there is nothing has none
+-- the slots with this one of an entity; a bare one is left out
 abbrev pub placed : SlotMap → Entity → SlotView → SlotMap
 placed m e s = if is_bare s then map.remove m e else map.insert m e s
 

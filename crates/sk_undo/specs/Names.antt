@@ -11,20 +11,20 @@ NameMap = map.FinMap object_cmp ℕ
 abbrev pub count_in : NameMap → ObjId → ℕ
 count_in names d = unwrap_or (map.get names d) 0
 
--- with this number, where the directory has one
+-- the numbers, with this one for a directory that has one
 abbrev pub with_count : NameMap → ObjId → ℕ → NameMap
 with_count names d n = if is_some (map.get names d) then map.insert names d n else names
 
--- with a number for this directory
+-- the numbers, with 0 for this directory where it had none
 abbrev pub with_place : NameMap → ObjId → NameMap
 with_place names d = if is_some (map.get names d) then names else map.insert names d 0
 
--- with a number for the directory of a name
+-- the numbers, with one for the directory of a name
 abbrev pub made_for : NameMap → Entity → NameMap
 made_for names (Link d name) = with_place names d
 made_for names _ = names
 
--- after a name was there or not, and is there or not
+-- the numbers, once a name of a directory that was there or not is there or not
 abbrev pub recounted_at : NameMap → ObjId → Bool → Bool → NameMap
 recounted_at names d true false = with_count names d (count_in names d - 1)
 recounted_at names d false true = with_count names d (count_in names d + 1)

@@ -33,11 +33,11 @@ note_code = code_by (List ℕ × Option EntityState) (coded× (coded_list coded_
 abbrev pub slot_code : Coded SlotView
 slot_code = code_by (Option EntityState × List (Note EntityState)) (coded× (coded_option stored_row.the_row.coded) (coded_list note_code)) (λ s. (s.now, s.log)) (λ p. record { now = p.0; log = p.1 }) (λ _. refl)
 
--- of an entity of which nothing is noted
+-- the slot of an entity of which nothing is noted
 abbrev pub slot_of : Option EntityState → SlotView
 slot_of now = record { now = now; log = [] }
 
--- neither a value nor a note
+-- a slot with neither a value nor a note
 abbrev pub is_bare : SlotView → Bool
 is_bare s = is_none s.now && is_empty s.log
 
@@ -84,7 +84,7 @@ abbrev pub is_stable : List (Note EntityState) → Bool
 is_stable [] = true
 is_stable (n ∷ ns) = is_whole n.before
 
--- the same of the notes that are there, the newest first
+-- whether the log of these notes, the newest first, is the same whatever stands there now
 abbrev pub is_stable_raw : List (RawNote (PutBack EntityState)) → Bool
 is_stable_raw [] = true
 is_stable_raw (n ∷ ns) = restores is_held_whole n.undo

@@ -102,7 +102,8 @@ fn found<'a, K: Key, V>(values: &'a Map<K, V>, key: &K) -> Option<&'a V>
     values.get(key)
 }
 
-/// The same for a process, its signals or its exit slot. Each step looks its process and its signals up, so it is inlined.
+/// What a process has in the map of processes, signals or exit slots. Each step looks its process and its signals up, so this
+/// is inlined.
 #[inline(always)]
 fn own<'a, V>(values: &'a Map<ProcessKey, V>, pid: Pid) -> Option<&'a V>
     ensures { option_copied result ≡ map.get (seen nat_cmp values.now) pid }
@@ -110,7 +111,7 @@ fn own<'a, V>(values: &'a Map<ProcessKey, V>, pid: Pid) -> Option<&'a V>
     values.get(&process(pid))
 }
 
-/// The same, for a key that stands late.
+/// As `found`, for a key that stands late.
 #[inline(never)]
 fn found_late<'a, K: Key, V>(values: &'a Map<K, V>, key: &K) -> Option<&'a V>
     ensures { option_copied result ≡ map.get (seen K.order values.now) key.now }
@@ -171,8 +172,7 @@ impl<V> EntityMap<V> {
         }
     }
 
-    /// The same as `get`, for an entity that is about to be born, or just was: it mostly stands behind all others of its
-    /// kind.
+    /// As `get`, for an entity that is about to be born, or just was: it mostly stands behind all others of its kind.
     #[inline(always)]
     pub(crate) fn get_late(&self, entity: &Entity) -> Option<&V>
         ensures { option_copied result ≡ map.get self.now entity.now }

@@ -159,7 +159,7 @@ fn stands_for<V: Logged>(note: &Note<PutBack<V>>, tags: &TagSet) -> bool
     restores(&note.undo) && tags.is_same(&note.tags)
 }
 
-/// Whether the note before stands for the one at a place.
+/// Whether the note at a place is needless, since the one before it stands for it.
 fn is_needless<V: Logged>(notes: &[Note<PutBack<V>>], place: usize) -> bool
     requires { place < length notes.now }
     ensures { result ≡ repeats V.is_whole None place notes.now }
@@ -235,8 +235,8 @@ impl<V: Logged> Log<V> {
         }
     }
 
-    /// Whether a write with the tags of the newest note is not noted, which are at least so many: that note stands for it, or there
-    /// are no notes and no tags.
+    /// Whether a write with the tags of the newest note is not noted, which are at least so many: that note stands for it, or
+    /// there are no notes and no tags.
     pub fn goes_on(&self, least: usize) -> bool
         ensures exact { result
             ≡ goes_on_raw V.is_whole least (reverse self.now.notes.items) }
@@ -261,7 +261,7 @@ impl<V: Logged> Log<V> {
         }
     }
 
-    /// The same, as a list.
+    /// The tags of the newest note as a list, which is empty where there is no note.
     #[tactic(auto, using(crate::proofs::SeenNotes::none_rises))]
     fn ids(&self) -> &[GuessId]
         ensures value { result.now ≡ newest_tags (reverse self.now.notes.items) }

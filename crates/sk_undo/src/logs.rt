@@ -262,7 +262,7 @@ impl Logs {
         }
     }
 
-    /// The same, and answers nothing that takes it back.
+    /// As `set`, but answers nothing that takes it back.
     fn set_alone(&mut self, entity: &Entity, value: EntityState) -> Result<(), AllocError>
         ensures ok { OnOk result (self.new ≡ wrote self.old entity.now (Some value)) }
         ensures err { OnErr result (self.new ≡ self.old) }
@@ -297,7 +297,7 @@ impl Logs {
         Ok(())
     }
 
-    /// The same, of a step that depends on no guess: then what has no slot gets none, and needs no number.
+    /// As `clear`, in a step that depends on no guess: then what has no slot gets none, and needs no number.
     fn clear_untagged(&mut self, entity: &Entity) -> Result<(), AllocError>
         requires { self.old.tags ≡ [] }
         ensures ok { OnOk result (self.new ≡ wrote self.old entity.now None) }

@@ -60,7 +60,7 @@ impl Names {
         }
     }
 
-    /// It has one name less.
+    /// A directory has one name less.
     fn take_one(&mut self, directory: &ObjId)
         ensures { self.new
             ≡ with_count self.old directory.now (count_in self.old directory.now - 1) }
@@ -135,7 +135,7 @@ impl Names {
         }
     }
 
-    /// Counts a name of a directory that was there or not, and is there or not.
+    /// Counts a name of a directory anew that came, went, or did neither.
     fn recount_at(&mut self, directory: &ObjId, was: bool, is: bool)
         requires { count_in self.old directory.now < 2 ^ 63 }
         ensures { self.new ≡ recounted_at self.old directory.now was is }

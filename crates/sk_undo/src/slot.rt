@@ -150,7 +150,7 @@ fn note_in(
     Ok(PutBack::Was(Some(before)))
 }
 
-/// The same of a value that is there.
+/// As `note_in`, of a value that is there.
 fn change_noted_in(
     value: &mut Option<EntityState>,
     alloc: Global,
@@ -168,7 +168,7 @@ fn change_noted_in(
     }
 }
 
-/// Another of what is there.
+/// A copy of what an entity has.
 fn copy_in(value: &Option<EntityState>) -> Result<Option<EntityState>, AllocError>
     ensures { IfOk result (λ copy. copy ≡ value.now) }
 {
@@ -203,7 +203,7 @@ fn become_in<C: Becoming>(value: &mut Option<EntityState>, by: &C)
     }
 }
 
-/// Another of the process that is there, in a box of its own.
+/// A copy of the process that is there, in a box of its own.
 fn process_copy(
     alloc: Global,
     value: &Option<EntityState>,
@@ -292,7 +292,7 @@ impl Slot {
         self.change_noted(alloc, tags, by)
     }
 
-    /// The same, where it is noted.
+    /// Changes the process that is there, and notes it as it was. Without memory nothing has changed.
     #[inline(never)]
     fn change_noted<C: Becoming>(
         &mut self,
@@ -414,7 +414,7 @@ impl Slot {
         Ok(())
     }
 
-    /// The same, where it is noted.
+    /// Writes bytes at a place of the file that is there, and notes the file as it was.
     #[inline(never)]
     fn note_overwrite(&mut self, tags: &TagSet, at: u32, bytes: &Text) -> Result<(), AllocError>
         requires fits { FitsAt self.old.now (changes.WriteAt at bytes.now) }
@@ -462,7 +462,7 @@ impl Slot {
         Ok(())
     }
 
-    /// The same, where the process is noted: what that wants is taken first.
+    /// As `write_buffer`, where the process is noted: what that wants is taken first.
     #[inline(never)]
     fn write_noted<C: Becoming>(
         &mut self,

@@ -174,7 +174,7 @@ impl Slots {
         are_present(links, values.copies)
     }
 
-    /// Of the entities that have a slot those that are present.
+    /// Those of the entities with a slot that are present.
     fn present_among(&self, mut all: Vec<Entity>) -> Vec<Entity>
         requires keys { all.items ≡ map.keys self.now }
         requires rising { IsStrictlySortedBy entity_cmp all.items }
@@ -303,8 +303,8 @@ impl Slots {
         })
     }
 
-    /// The same, and answers just whether there was something before it. What is born of a step that depends on no guess is put
-    /// at once.
+    /// Sets what an entity has, and answers just whether there was something before. What is born of a step that depends on no
+    /// guess is put at once. Without memory nothing has changed.
     pub fn set_alone(
         &mut self,
         entity: &Entity,
@@ -324,7 +324,7 @@ impl Slots {
         self.set_apart(entity, tags, value)
     }
 
-    /// The same, where something may be there, or a note is kept.
+    /// As `set_alone`, where something may be there, or a note is kept.
     #[inline(never)]
     fn set_apart(
         &mut self,
@@ -424,7 +424,7 @@ impl Slots {
         self.clear_apart(entity, tags)
     }
 
-    /// The same, where something may be left of the entity.
+    /// As `clear`, where something may be left of the entity.
     #[inline(never)]
     fn clear_apart(&mut self, entity: &Entity, tags: &TagSet) -> Result<bool, AllocError>
         ensures ok { OnOk result (self.new ≡ slots_wrote tags.now self.old entity.now None) }

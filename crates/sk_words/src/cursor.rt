@@ -37,7 +37,7 @@ impl<'a> Cursor<'a> {
         }
     }
 
-    /// The same lines again.
+    /// A cursor at this line, to read from here once more.
     pub fn again(&self) -> Cursor<'a>
         ensures { result ≡ self.now }
     {

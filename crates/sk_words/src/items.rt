@@ -11,7 +11,7 @@ pub trait Listed: Sized + Drop {
     /// What a line says.
     type Item: Drop;
 
-    /// What holds of all that is said.
+    /// What holds of each item that a line says.
     ghost fits: { Self.Item → Type 0 };
 }
 

@@ -47,14 +47,14 @@ pub fn lines()
     ensures { (ls : List (List ℕ)) → AllByRecursion IsLine ls → lines (lined ls) ≡ ls }
 {}
 
-/// Where the line of each item adds it to what is known, whatever is known, the lines of all add all.
+/// If the line of each item adds that item to whatever is known, then the lines of all items add all of them.
 pub fn lines_add<R: Reader, A>()
     ensures { (line_of : A → List ℕ) (add : R → A → R) (s : R) (first : ℕ) (xs : List A) →
         AllByRecursion (λ x. (t : R) → R.said t (line_of x) ≡ Ok (add t x)) xs →
         read_from R.said s first (map line_of xs) ≡ Ok (fold add s xs) }
 {}
 
-/// A text is read again that has the line of each item, where each is read again behind those before.
+/// A text of lines, one for each item, is read again as these items, where each line is read again behind those before it.
 pub fn texts<A>()
     ensures { (said : List A → List ℕ → Result (List A) FaultKind) (line_of : A → List ℕ)
         (first : ℕ) (xs : List A) →

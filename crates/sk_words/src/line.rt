@@ -112,7 +112,7 @@ impl<'a> Words<'a> {
         Words { rest: line }
     }
 
-    /// The same words again.
+    /// These words, to be read once more.
     pub fn again(&self) -> Words<'a>
         ensures { result ≡ self.now }
     {

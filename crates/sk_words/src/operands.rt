@@ -17,7 +17,7 @@ pub trait Operand: Sized + Drop {
         ensures { result ≡ said word.now };
 }
 
-/// The same words, unless one is a literal without its closing quote.
+/// These words, unless one is a literal without its closing quote.
 pub fn closed<'a>(words: &Words<'a>) -> Result<Words<'a>, FaultKind>
     ensures { result ≡ closed words.now }
 {

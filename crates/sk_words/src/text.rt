@@ -38,7 +38,7 @@ impl<'a> Lines<'a> {
         Lines { rest: text }
     }
 
-    /// The same lines again.
+    /// These lines, to be read once more.
     pub fn again(&self) -> Lines<'a>
         ensures { result ≡ self.now }
     {
@@ -133,7 +133,7 @@ impl<'a> Block<'a> {
         }
     }
 
-    /// The same lines again.
+    /// These lines, to be read once more.
     pub(crate) fn again(&self) -> Block<'a>
         ensures { result ≡ self.now }
     {

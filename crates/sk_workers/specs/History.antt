@@ -87,7 +87,7 @@ TakesInAdds r b w l b' w' =
     ((r ≡ Err HandIn.Memory) × (b' ≡ b) × (w' ≡ w))
     ⊎ (DeskTakesIn r l b.desk b'.desk × Adds b w (DeskCall.HandIn l.lent.pid l.count) (Answered.HandedIn r) b' w')
 
--- the same where the lease comes back after a refusal
+-- a lease is taken in, as in `TakesInAdds`, or comes back after a refusal
 abbrev pub HandInAdds : Result (Unit {0}) (LeaseView × HandIn) → BookView → WorkerView → LeaseView → BookView → WorkerView → Type 0
 HandInAdds r b w l b' w' =
     ((answer_alone r ≡ Err HandIn.Memory) × (b' ≡ b) × (w' ≡ w))
@@ -129,7 +129,7 @@ TurnTold r w pid w' = ((r ≡ Err Refusal.Memory) × (w' ≡ w)) ⊎ Told w (Des
 abbrev pub HandInTold : Result (Unit {0}) HandIn → WorkerView → LeaseView → WorkerView → Type 0
 HandInTold r w l w' = ((r ≡ Err HandIn.Memory) × (w' ≡ w)) ⊎ Told w (DeskCall.HandIn l.lent.pid l.count) (Answered.HandedIn r) w'
 
--- so it is with a lease, where there is one
+-- a hand-in is told of the lease, where there is one
 abbrev pub AnyTold : Option (Result (Unit {0}) HandIn) → WorkerView → Option LeaseView → WorkerView → Type 0
 AnyTold None w None w' = w' ≡ w
 AnyTold (Some r) w (Some l) w' = HandInTold r w l w'

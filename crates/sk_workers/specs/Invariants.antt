@@ -16,9 +16,9 @@ pub record IsTidyBook (history : List HistoryEntry) (desk : DeskView) (total par
 
 -- of a worker whose share is so many parts of the ledger, and counts so many calls
 pub record IsTidyWorker (number : ℕ) (receipts : List Receipt) (parts amount : ℕ) : Type 0 where
-  -- it has one part
+  -- the worker has one part of the ledger
   pub part : parts ≡ 1
   -- its share counts its receipts
   pub count : amount ≡ length receipts
-  -- they are its own
+  -- its receipts are its own
   pub own : AreOwn number receipts

@@ -52,8 +52,8 @@ impl<L: Ledger> Model for Book<L> {
 }
 
 impl<L: Ledger> Book<L> {
-    /// A book round a desk on which nothing was done in its epoch, and n workers, 1 to `WORKERS_LIMIT`, numbered from 0. Where memory runs out
-    /// the ledger and the desk come back.
+    /// A book round a desk on which nothing was done in its epoch, and n workers, 1 to `WORKERS_LIMIT`, numbered from 0. Where
+    /// memory runs out the ledger and the desk come back.
     pub fn new(
         alloc: Global,
         blank: Blank,
@@ -447,8 +447,8 @@ fn is_short(answer: &Result<(), HandIn>) -> bool
     matches!(answer, Err(HandIn::Memory))
 }
 
-/// The desk's lease of a process. No clause of the kernel says that a process stands at its own number, so that it is looked at here: one
-/// that does not, of which no kernel has any, is not lent.
+/// The desk's lease of a process. No clause of the kernel says that a process stands at its own number, so that it is looked at
+/// here: one that does not, of which no kernel has any, is not lent.
 fn lend(desk: &Desk, pid: Pid) -> Result<Lease, Refusal>
     ensures lease { Lends result (desk_lease desk.now pid) }
     ensures own { IfOk result (λ lease. lease.lent.pid ≡ pid) }

@@ -71,7 +71,6 @@ impl KeptReply {
         Ok(KeptReply { number, answer })
     }
 
-    /// The reply.
     pub fn reply(&self) -> Reply
         ensures { result ≡ self.now }
     {

@@ -70,8 +70,8 @@ impl<L: Ledger> Model for Shared<L> {
 }
 
 impl<L: Ledger> Shared<L> {
-    /// Shares a desk on which nothing was done in its epoch among n workers, 1 to `WORKERS_LIMIT`, numbered from 0. Where memory runs out the
-    /// ledger and the desk come back.
+    /// Shares a desk on which nothing was done in its epoch among n workers, 1 to `WORKERS_LIMIT`, numbered from 0. Where memory
+    /// runs out the ledger and the desk come back.
     pub fn new(
         alloc: Global,
         blank: Blank,

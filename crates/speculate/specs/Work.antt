@@ -19,7 +19,7 @@ CanLeave workers turns d calls desk =
     × IsCrewed (record { workers = workers; turns = turns; ahead = 64 }) (opened (declared_kernel d)) history desk
     × Runs (opened (declared_kernel d)) history desk × (pending desk ≡ [])
 
--- such a crew left a desk, and this is so of the report of that desk and of a server, with the number of workers and of calls
+-- a crew of so many workers left a desk, and this holds of the report of that desk and of a server, with the number of workers and of calls
 abbrev pub HasWorked : ℕ → ℕ → Declared → (List ℕ → Type 0) → Type 0
 HasWorked workers turns d IsReported =
     (calls : ℕ) × (desk : DeskView) × (server : ServerView)

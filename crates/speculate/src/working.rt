@@ -61,7 +61,8 @@ pub(crate) fn run_work<R: Threads + Wait + Sync, W: Write + Drop>(
     tell_worked(alloc, workers, worked, out)
 }
 
-/// Lets a crew work that has a ledger of its own: each worker has a thread of its own, and the server has another. `None` where memory ran out, or the desk could not be closed.
+/// Lets a crew work that has a ledger of its own: each worker has a thread of its own, and the server has another. `None` where
+/// memory ran out, or the desk could not be closed.
 fn work<R: Threads + Wait + Sync>(
     rt: &R,
     alloc: Global,

@@ -1,6 +1,6 @@
 //! Tests of what a store is made of, over the public calls: a log's bytes, batches, an engine's answers, channels; requests and
-//! commands as a client of a plain store, whose bytes come cut at every place; what each command replies; and what a store has again
-//! of the segments of a log. Those of a log pass too where one growth of memory is refused. And a store as lists of calls.
+//! commands as a client of a plain store, whose bytes come cut at every place; what each command replies; and what a store has
+//! again of the segments of a log. Those of a log pass too where one growth of memory is refused. And a store as lists of calls.
 #![tactic(auto)]
 
 #[cfg(test)]

@@ -1,4 +1,5 @@
-//! What a store has again of the segments of a log, some of which are torn, cut, or another's. Each frame appends a letter to one key.
+//! What a store has again of the segments of a log, some of which are torn, cut, or another's. Each frame appends a letter to one
+//! key.
 use crate::wrong::{Wrong, holds};
 use sk_commands::{Fault, Look};
 use sk_log::append;
@@ -163,7 +164,7 @@ fn found_known(alloc: Global, segments: &[Written], known: u64) -> Result<Found,
     Ok(read_all(empty, segments)?.end(100, known))
 }
 
-/// The same, where nothing is known.
+/// What is found in segments of which no frame is known as synced.
 fn found(alloc: Global, segments: &[Written]) -> Result<Found, Wrong> {
     found_known(alloc, segments, 0)
 }

@@ -26,7 +26,7 @@ fn is_cut(alloc: Global, bytes: &[u8], replies: &[u8], place: usize) -> Result<(
     cut(&mut client, bytes, replies, place)
 }
 
-/// The same, cut at each place.
+/// The bytes are replied to so, at whatever place they are cut.
 fn is_cut_everywhere(alloc: Global, bytes: &[u8], replies: &[u8]) -> Result<(), Wrong> {
     for place in 0..=bytes.len() {
         is_cut(alloc, bytes, replies, place)?;

@@ -7,21 +7,18 @@ use sk_ids::{GuessId, Name, Pid, TagSet, Text};
 use sk_objects::Content;
 use std::alloc::Global;
 
-/// A name.
 pub fn name(bytes: &[u8]) -> Result<Name, Wrong>
     ensures { IfOk result (λ name. name ≡ bytes.now) }
 {
     Name::new(bytes).ok_or(Wrong::Value)
 }
 
-/// A text.
 pub fn text(bytes: &[u8]) -> Result<Text, Wrong>
     ensures { IfOk result (λ text. text ≡ bytes.now) }
 {
     Text::new(bytes).ok_or(Wrong::Value)
 }
 
-/// A content.
 pub fn content(version: u64, bytes: &[u8]) -> Result<Content, Wrong>
     ensures { IfOk result
         (λ content. content ≡ record { version = version; bytes = bytes.now }) }
@@ -36,7 +33,6 @@ pub fn pid(number: u16) -> Result<Pid, Wrong>
     Pid::boot(number).ok_or(Wrong::Value)
 }
 
-/// A guess.
 pub fn guess(number: u64) -> Result<GuessId, Wrong>
     ensures { IfOk result (λ id. id ≡ number) }
 {

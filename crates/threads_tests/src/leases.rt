@@ -60,7 +60,7 @@ fn pid(rt: &impl Abort, number: u16) -> Pid {
     Pid::boot(number).expect(rt, "a process")
 }
 
-/// The same, where a number is named.
+/// The boot process of a number; none where no number is named.
 fn pid_of(rt: &impl Abort, number: Option<u16>) -> Option<Pid> {
     match number {
         Some(number) => Some(pid(rt, number)),

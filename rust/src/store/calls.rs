@@ -241,7 +241,7 @@ unsafe extern "C" {
     /// Decides the oldest batch, if it is decided. It is to be called until it tells none.
     pub fn hidewillow_store_decide(store: *mut Durable) -> Told;
 
-    /// Shows what a key has, whatever it rests on.
+    /// Shows what a key has, whatever it depends on.
     pub fn hidewillow_store_value(
         store: *mut Durable,
         key: *const u8,
@@ -250,7 +250,7 @@ unsafe extern "C" {
         room_count: usize,
     ) -> Told;
 
-    /// Tells one of the undecided batches that a key rests on, by its place among them.
+    /// Tells one of the undecided batches that a key depends on, by its place among them.
     pub fn hidewillow_store_rests_on(store: *mut Durable, key: *const u8, key_count: usize, place: usize) -> Told;
 
     /// Counts what is undecided, in constant time.

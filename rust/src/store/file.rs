@@ -156,7 +156,7 @@ impl Drop for Open {
 
 /// A store of byte strings in a folder of this program's own. A clone is the same store, and each may go to another thread.
 ///
-/// Each answer is durable: what it tells is on the disk, and so is all that it rests on. Keys have at most 65,536 bytes, a request has
+/// Each answer is durable: what it tells is on the disk, and so is all that it depends on. Keys have at most 65,536 bytes, a request has
 /// at most 8 MB. Once the last clone is dropped all that was asked for is brought to the disk. What a crash leaves is read by the next
 /// `open`, or by `hidewillow-server`.
 #[derive(Clone)]
@@ -200,7 +200,7 @@ impl File {
     /// What a key has; `None` where it is absent.
     ///
     /// # Errors
-    /// Where the write that it rests on did not reach the disk, and where the store has stopped.
+    /// Where the write that it depends on did not reach the disk, and where the store has stopped.
     pub fn get(&self, key: impl AsRef<[u8]>) -> io::Result<Option<Vec<u8>>> {
         self.command(&[b"GET", key.as_ref()]).and_then(well).map(bytes_of)
     }
@@ -303,7 +303,7 @@ impl<'a> Transaction<'a> {
         Transaction { engine, looked: Vec::new(), written: BTreeMap::new() }
     }
 
-    /// What a key has, on which all that is written rests from now on; `None` where it is absent.
+    /// What a key has, on which all that is written depends from now on; `None` where it is absent.
     pub fn get(&mut self, key: impl AsRef<[u8]>) -> Option<Vec<u8>> {
         let key = key.as_ref();
         if let Some(value) = self.written.get(key) {
@@ -413,8 +413,8 @@ impl Ahead {
         Ok(result)
     }
 
-    /// Waits until all is decided that was answered: the numbers of those of which nothing was done, as their writes, or what they rested
-    /// on, did not reach the disk. Where there are none all is on the disk. Numbers begin anew then.
+    /// Waits until all is decided that was answered: the numbers of those of which nothing was done, as their writes, or what they
+    /// depended on, did not reach the disk. Where there are none all is on the disk. Numbers begin anew then.
     ///
     /// # Errors
     /// Where the store has stopped: then nobody knows.

@@ -157,7 +157,7 @@ impl Desk {
         }
     }
 
-    /// A request of a process more, which rests on what the process and the copy do.
+    /// A request of a process more, which depends on what the process and the copy do.
     fn ask(&mut self, pid: Pid, name: String, ask: Ask, guess: Option<u64>, rests: Guesses, settled: u64) -> u64 {
         let number = self.next;
         self.requests.push_back(Request { number, pid, name, ask, guess, rests, settled });

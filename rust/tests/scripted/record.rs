@@ -1,5 +1,5 @@
 //! What all that was done comes to: the steps that no failed guess takes back, done by the table one after another, and what each
-//! rests on, followed from what it reads and writes.
+//! depends on, followed from what it reads and writes.
 use crate::scenarios::Declared;
 use crate::state::{joined, literal, value_text, Bytes, Content, Entity, Pid, State, Value};
 use crate::step::{step, Input, Instruction, Refusal, Step};
@@ -20,7 +20,7 @@ struct Taken {
     guess: Option<u64>,
     pid: Pid,
     input: Input,
-    /// The undecided guesses that it rests on.
+    /// The undecided guesses that it depends on.
     rests: Guesses,
     said: Option<(u16, Bytes)>,
     /// What it left of a copy, where it was a store that holds.
@@ -43,7 +43,7 @@ pub struct Record {
     pub declared: Declared,
     taken: Vec<Taken>,
     pub state: State,
-    /// What each entity rests on that has been written.
+    /// What each entity depends on that has been written.
     tags: BTreeMap<Entity, Guesses>,
     /// What became of each guess, by its number less 1.
     statuses: Vec<Status>,
@@ -125,7 +125,7 @@ impl Record {
         }
     }
 
-    /// What a step rests on.
+    /// What a step depends on.
     pub fn rests(&self, step: &Step) -> Guesses {
         let touched = step.reads.iter().chain(step.writes.iter().map(|it| &it.0));
         touched.flat_map(|it| self.tags(it)).collect()
@@ -177,7 +177,7 @@ impl Record {
         self.tags.values_mut().for_each(|it| _ = it.remove(&guess));
     }
 
-    /// A guess fails: the steps that rest on it never were, and those that are left are done again.
+    /// A guess fails: the steps that depend on it never were, and those that are left are done again.
     pub fn fail(&mut self, guess: u64) {
         self.events += 1;
         self.counts.failed += 1;
@@ -231,7 +231,7 @@ impl Record {
         (released, waiting)
     }
 
-    /// Whether nothing rests on an undecided guess.
+    /// Whether nothing depends on an undecided guess.
     pub fn is_all_settled(&self) -> bool {
         self.tags.values().all(Guesses::is_empty)
     }

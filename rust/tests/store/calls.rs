@@ -272,7 +272,7 @@ impl Store {
         Some(room)
     }
 
-    /// The undecided batches that a key rests on.
+    /// The undecided batches that a key depends on.
     pub fn rests_on(&mut self, key: &[u8]) -> Vec<u64> {
         let at = |place| unsafe { c::hidewillow_store_rests_on(&mut self.0, key.as_ptr(), key.len(), place) };
         (0..).map(at).map_while(|told| shown(told, SHOWN, "store_rests_on")).map(|told| told.number).collect()

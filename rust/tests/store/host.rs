@@ -123,7 +123,7 @@ impl Host {
         }
     }
 
-    /// Each key has what it has in the plain store, and rests on what the last that wrote it did; each queue is as long as what came.
+    /// Each key has what it has in the plain store, and depends on what the last that wrote it did; each queue is as long as what came.
     fn judge(&mut self) {
         for link in &self.links {
             assert_eq!(self.store.queued(link.channel), link.reader.queued(), "how much waits for EXEC");

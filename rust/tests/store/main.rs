@@ -2,7 +2,7 @@
 //!
 //! Up to eight channels ask, with frames in flight that are synced in any order or fail, cuts, crashes that leave any bytes of what
 //! was not told as synced, and starts that crash too, or that write a snapshot and begin again behind it. After each call each key
-//! has what the plain store has and rests on what its last writer did, and the answer to a request, looked at before it may go
+//! has what the plain store has and depends on what its last writer did, and the answer to a request, looked at before it may go
 //! out, is the plain store's. What a channel let go of is, whenever it was taken, just what its tickets may be told by then, in
 //! order: nothing too early, nothing held too long. A batch is told as logged only where its frame and all before it were synced,
 //! and as refused only where it was cut off. After a crash what is read is the plain store after the first of the logged commands

@@ -16,7 +16,7 @@ struct Carried {
     work: Work,
     answer: Bytes,
     wrote: Vec<Bytes>,
-    /// The batches that it rested on.
+    /// The batches that it depended on.
     rests: Batches,
 }
 
@@ -74,7 +74,7 @@ impl Model {
         self.standing().count()
     }
 
-    /// The undecided batches that a key rests on: those of the last that wrote it.
+    /// The undecided batches that a key depends on: those of the last that wrote it.
     pub fn rests_on(&self, key: &Bytes) -> Batches {
         let last = self.standing().rev().find(|it| it.wrote.contains(key));
         let rests = last.map(|it| &it.rests - &self.committed);
@@ -121,7 +121,7 @@ impl Model {
         self.committed.insert(batch);
     }
 
-    /// A batch was told as refused: what rested on it never was, and the others have just what they had and said.
+    /// A batch was told as refused: what depended on it never was, and the others have just what they had and said.
     pub fn fail(&mut self, batch: u64) {
         assert!(self.cut_off.remove(&batch), "batch {batch} is told as refused, which was not cut off");
         self.failed.insert(batch);

@@ -23,7 +23,7 @@
 //! # }
 //! ```
 //!
-//! Commands that rest on one that was undone, by the keys that they look at, are undone too; others stand, also if you sent them
+//! Commands that depend on one that was undone, by the keys that they look at, are undone too; others stand, also if you sent them
 //! because of an answer that was undone.
 use std::io::{self, BufRead, BufReader, ErrorKind, Read, Write};
 use std::mem;

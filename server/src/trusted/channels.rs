@@ -311,7 +311,7 @@ impl Channels {
         Ok(fed)
     }
 
-    /// Feeds what shows a key to a client of which the store has nothing, which is told at once, unless that rests on something.
+    /// Feeds what shows a key to a client of which the store has nothing, which is told at once, unless that depends on something.
     fn show(&mut self, channel: u16, next: &Next, batch: u64) -> Result<Fed, Fed> {
         let begin = self.clients.get(&channel).map_or(0, |client| client.taken);
         let fed = self.carry_out(channel, next, None)?;

@@ -18,7 +18,7 @@ enum DeskAct {
     Turns(u32),
     /// So many of the oldest requests are taken, and answered yes.
     Yes(u32),
-    /// The same, answered no.
+    /// So many of the oldest requests are taken, and answered no.
     No(u32),
     /// Process 1 is leased, runs so many private instructions, and is handed in.
     Lends(u32),

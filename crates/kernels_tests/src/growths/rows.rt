@@ -20,7 +20,7 @@ pub enum Act {
     Fills(u32, u32),
     /// The newest tokens, so many, are spent by commits.
     Commits(u32),
-    /// The same by failures.
+    /// The newest tokens, so many, are spent by failures.
     Fails(u32),
     /// The newest token but one is spent by a failure.
     FailsBelow,
@@ -28,8 +28,8 @@ pub enum Act {
     Lends(u32),
     /// Its entities are asked for, and its opening.
     Sees,
-    /// The same, its counts, and its trace, printed and struck. To strike a failed guess takes the square of the steps that
-    /// rested on it.
+    /// It is asked for its entities, its opening, its counts, and its trace, printed and struck. To strike a failed guess takes
+    /// the square of the steps that depended on it.
     Asks,
     /// An epoch begins.
     Epoch,
@@ -239,7 +239,7 @@ steps
     ],
 };
 
-/// Names come behind all objects in the list of what rests on the guess, so the list moves with each object: it takes the
+/// Names come behind all objects in the list of what depends on the guess, so the list moves with each object: it takes the
 /// square of their number.
 pub const DIRECTORIES_UNDER_ONE_GUESS: Row = Row {
     start: b"

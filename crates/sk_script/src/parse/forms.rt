@@ -36,7 +36,7 @@ pub fn instruction_forms(word: &[u8]) -> Option<Forms>
     place_of(word)
 }
 
-/// Behind an instruction about places, or one of the others.
+/// What stands behind the word of an instruction about places, or of one that `object_of` knows.
 fn place_of(word: &[u8]) -> Option<Forms>
     ensures { MatchOption result (place_of word.now ≡ None)
         (λ forms. place_of word.now ≡ Some forms.now) }
@@ -59,7 +59,7 @@ fn place_of(word: &[u8]) -> Option<Forms>
     object_of(word)
 }
 
-/// Behind an instruction about objects and names, or one of the others.
+/// What stands behind the word of an instruction about objects and names, or of one that `byte_of` knows.
 fn object_of(word: &[u8]) -> Option<Forms>
     ensures { MatchOption result (object_of word.now ≡ None)
         (λ forms. object_of word.now ≡ Some forms.now) }

@@ -37,7 +37,7 @@ fn tells_gaps(rt: &impl Abort, channel: &mut Channel, room: &mut [u8], out: &mut
 const GAPS: &[u8] = b"+PONG\r\n-IOERR the write did not reach the disk, nothing of it was done\r\n\
 -IOERR the write did not reach the disk, nothing of it was done\r\n:7\r\n";
 
-/// The same, so many bytes at a time.
+/// It goes out in pieces of so many bytes as well.
 fn told_in_pieces(rt: &impl Abort, alloc: Global, piece: usize) {
     let mut room = Vec::new(alloc);
     let mut out = Vec::new(alloc);

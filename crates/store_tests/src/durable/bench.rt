@@ -161,7 +161,7 @@ fn store(alloc: Global, undecided: u32, commands: u32) -> Option<Store> {
     Some(Store::new(alloc, limits, 1, next, 7))
 }
 
-/// The same is told so, with a room of letters.
+/// Calls of a new store are told so, one after another, with this room.
 fn play_new(
     alloc: Global,
     undecided: u32,

@@ -56,7 +56,7 @@ fn reopened(
     }
 }
 
-/// The same of these keys.
+/// A store that goes on from a plain store with these keys.
 fn reopened_of(
     alloc: Global,
     keys: &[&[u8]],

@@ -11,7 +11,7 @@ back what you did because of these answers, and begin again from what the store 
         store.wait_all()                                # one wait for all of them
         print("sold", number)                           # output, behind it
 
-Commands that rest on one that was undone, by the keys that they look at, are undone too; others stand, also if you sent them because
+Commands that depend on one that was undone, by the keys that they look at, are undone too; others stand, also if you sent them because
 of an answer that was undone. `Undone` has the numbers and the words of all that were undone, from 1 on behind the last `wait_all`.
 """
 from __future__ import annotations

@@ -1,13 +1,13 @@
 """A speculative kernel over your own keys and values, which are bytes; texts are taken as UTF-8.
 
-What a step gets, puts and says rests on the guesses that are undecided in what it got and put. A guess that fails takes back just what
-rests on it; output waits until what it rests on is decided.
+What a step gets, puts and says depends on the guesses that are undecided in what it got and put. A guess that fails takes back just what
+depends on it; output waits until what it depends on is decided.
 
     shop = Speculator(guesses=64)
     with shop.guess() as price:             # a step that goes on as if a price were right
         price.put("apple", "12")
     with shop.step() as s:
-        s.put("bill", s.get("apple"))       # rests on the guess, since it gets what that wrote
+        s.put("bill", s.get("apple"))       # depends on the guess, since it gets what that wrote
         s.say(1, "a bill is out")           # held
     shop.fail(price.guess)                  # the bill is gone, and nothing was said
 
@@ -106,7 +106,7 @@ class Step:
         self.guess: Guess | None = None
 
     def get(self, key: Data) -> bytes | None:
-        """What a key has, on which the step rests from now on; None where it is absent."""
+        """What a key has, on which the step depends from now on; None where it is absent."""
         key = _bytes(key)
         for other, value in reversed(self._written):
             if other == key:
@@ -203,7 +203,7 @@ class Speculator:
         return Decided("committed", firm=firm) if told.answer == DONE else Decided("gone")
 
     def fail(self, guess: Guess) -> Decided:
-        """Fails a guess: what rests on it is taken back. Raises `LookupError` where it is decided, or was never drawn here."""
+        """Fails a guess: what depends on it is taken back. Raises `LookupError` where it is decided, or was never drawn here."""
         waited = {channel: self._held(channel)[1] for channel in self._said}
         told = self._decide("fail", guess)
         if told.answer != DONE:
@@ -221,12 +221,12 @@ class Speculator:
         return len(ready), self.waiting(channel)
 
     def value(self, key: Data) -> bytes | None:
-        """What a key has; None where it is absent. A step that is to rest on it gets it itself."""
+        """What a key has; None where it is absent. A step that is to depend on it gets it itself."""
         key = _bytes(key)
         return self._shown("value", key, len(key))
 
     def tags(self, key: Data) -> list[int]:
-        """The numbers of the undecided guesses that a key rests on, rising."""
+        """The numbers of the undecided guesses that a key depends on, rising."""
         key, tags = _bytes(key), []
         while True:
             told = self._told("tag", key, len(key), len(tags))
@@ -247,7 +247,7 @@ class Speculator:
         return (key for key, _ in self.items())
 
     def dependents(self, guess: Guess) -> list[bytes]:
-        """The keys that rest on a guess, each once: its failure would take just these back."""
+        """The keys that depend on a guess, each once: its failure would take just these back."""
         keys: list[bytes] = []
         while (key := self._shown("dependent", guess.number, len(keys))) is not None:
             keys.append(key)
@@ -259,7 +259,7 @@ class Speculator:
         return {1: "undecided", 2: "struck"}.get(told.number) if told.answer == SHOWN else None
 
     def waiting(self, channel: int) -> int:
-        """How many outputs of a channel wait: the first that rests on a guess, and all behind it."""
+        """How many outputs of a channel wait: the first that depends on a guess, and all behind it."""
         return self._told("waiting", channel).number
 
     def outputs(self) -> Iterator[tuple[int, bytes]]:

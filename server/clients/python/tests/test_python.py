@@ -45,7 +45,7 @@ class Plain:
         self.steps.append({"written": written, "rests": rests, "own": own, "said": said})
 
     def commit(self, guess):
-        """Whether its own step rests on nothing more."""
+        """Whether its own step depends on nothing more."""
         for step in self.steps:
             step["rests"].discard(guess)
         return not any(step["own"] == guess and step["rests"] for step in self.steps)

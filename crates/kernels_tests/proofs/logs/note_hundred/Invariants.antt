@@ -1,4 +1,4 @@
--- The newest run rests on guess 1.
+-- The newest run depends on guess 1.
 use Rattle.kernels_tests.proofs.Names.{◌≡◌, [], ◌∷◌, last_tags, runs_of}
 use Rattle.kernels_tests.proofs.logs.note_hundred.Given as goal
 

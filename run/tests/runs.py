@@ -4,7 +4,7 @@
     run/tests/runs.py [--build FOLDER] [--wrong FOLDER] [--rounds N] [--seed N] [PART..]
 
 FOLDER of --build has hidewillow-run and hidewillow-files (build/ where it isn't named); that of --wrong has a hidewillow-run that was
-built with the feature `wrong`, for the part of that name. Parts: ways, same, foreign, listing, copy, held, deaths, resume, wrong, appends; all but
+built with the feature `wrong`, for the part of that name. Parts: ways, same, foreign, listing, copy, held, deaths, resume, wrong, appends, waits; all but
 `wrong` where none is named. The last line is 'N passed, M failed'.
 
 ways     over ssh, and over a server that is started here; by another user than root
@@ -16,6 +16,7 @@ held     with a long way nothing is shown, and no outside file appears, before t
 resume   a server that is killed and comes back: status, output and files are as of a local run
 deaths   either side is killed at random moments: what was shown is on the server, and the rest is as if it never began
 appends  two processes of each client append to one file, which each opens for each line, or which both keep open: nothing is lost
+waits    who waits for children goes on, while what is open is read anew since others append to it
 wrong    supervisors and servers that are wrong on purpose: each is found by one of the others
 """
 import argparse
@@ -500,7 +501,16 @@ for k in range(int(sys.argv[2])):
 os.close(f); os.close(g)
 if pid: os.waitpid(pid, 0)
 """
+# All are stopped each time that another client's lines come: just then a child may be born or end, or its end be told within a fork.
+WAIT_SH = """
+exec 3>> log; i=0
+while [ $i -lt $2 ]; do
+  echo "$1 $i" >> log; i=$((i+1))
+  for k in 1 2 3 4 5 6; do (exit 0) & done; wait
+done
+"""
 APPENDS = {
+    "waits": (["sh", "wait.sh"], [""]),
     "python": ([sys.executable, "append.py"], [""]),
     "shell": (["sh", "append.sh"], ["", "+"]),
     "kept": ([sys.executable, "kept.py"], ["", "+"]),
@@ -508,10 +518,11 @@ APPENDS = {
 }
 
 
-def append_together(given, kind, clients, rounds):
+def append_together(given, kind, clients, rounds, env=None):
     """Clients that append to one file without a lock, which stays open over other calls: each line is there once, in its writer's order."""
     words, writers = APPENDS[kind]
-    place = Place({"log": "", "other": "x", "append.py": APPEND_PY, "append.sh": APPEND_SH, "kept.py": APPEND_KEPT})
+    scripts = {"append.py": APPEND_PY, "append.sh": APPEND_SH, "kept.py": APPEND_KEPT, "wait.sh": WAIT_SH}
+    place = Place({"log": "", "other": "x", **scripts})
     running = []
     try:
         with Served(given.build, place.there, "--delay-ms", "3") as served:
@@ -519,8 +530,10 @@ def append_together(given, kind, clients, rounds):
                 place.mount, place.stats = place.room / f"mount{at}", place.room / f"stats{at}"
                 place.mount.mkdir()
                 flag = 0 if kind == "set" else os.O_APPEND
-                command = place.command(given.build, served.at, [*words, f"c{at}", str(rounds), str(flag)])
-                running.append(subprocess.Popen(command, stdout=subprocess.DEVNULL, stderr=subprocess.PIPE, text=True, stdin=subprocess.DEVNULL))
+                build = given.wrong if env else given.build
+                command = place.command(build, served.at, [*words, f"c{at}", str(rounds), str(flag)])
+                running.append(subprocess.Popen(command, stdout=subprocess.DEVNULL, stderr=subprocess.PIPE, text=True,
+                                                stdin=subprocess.DEVNULL, env={**os.environ, **(env or {})}))
             said = [it.communicate(timeout=LONG)[1] for it in running]
         bad = [f"status {it.returncode}: {err[-200:]}" for it, err in zip(running, said) if it.returncode or err]
         lines = [it.split() for it in (place.there / "log").read_text().splitlines()]
@@ -546,6 +559,11 @@ def part_appends(given, counted):
     for at in range(given.rounds * 2):
         for kind in ("shell", "kept", "set"):
             counted.said(f"appends: {kind}, {at}", append_together(given, kind, 4, 6))
+
+
+def part_waits(given, counted):
+    for at in range(given.rounds * 4):
+        counted.said(f"waits, {at}", append_together(given, "waits", 4, 40))
 
 
 # The folder is asked for behind that moment, however slow the machine is.
@@ -762,7 +780,8 @@ def part_ways(given, counted):
         place.away()
 
 
-WRONG = ["output-at-once", "late-checkpoint", "undo-missed", "pipe-empty", "offsets", "predicted", "write-early"]
+WRONG = ["output-at-once", "late-checkpoint", "undo-missed", "pipe-empty", "offsets", "predicted", "write-early", "births-forgotten",
+         "signal-in-fork"]
 
 
 def part_wrong(given, counted):
@@ -782,6 +801,8 @@ def is_found(given, env):
     """By which test a wrong supervisor is found, if it is."""
     if env["HIDEWILLOW_RUN_WRONG"] in ("output-at-once", "write-early"):
         return "held" if is_held(given, env) else None
+    if env["HIDEWILLOW_RUN_WRONG"] in ("births-forgotten", "signal-in-fork"):
+        return "waits" if any(append_together(given, "waits", 4, 40, env) for _ in range(12)) else None
     for seed in range(4):
         for percent in (30, 10):
             for name in ("pipe", "offsets", "shell", "python", "make", "files"):
@@ -800,7 +821,7 @@ def main():
     words.add_argument("parts", nargs="*")
     given = words.parse_args()
     parts = {"ways": part_ways, "same": part_same, "foreign": part_foreign, "listing": part_listing, "copy": part_copy, "held": part_held,
-             "deaths": part_deaths, "resume": part_resume, "wrong": part_wrong, "appends": part_appends}
+             "deaths": part_deaths, "resume": part_resume, "wrong": part_wrong, "appends": part_appends, "waits": part_waits}
     counted = Counted()
     for it in given.parts or [name for name in parts if name != "wrong" or given.wrong]:
         begin = time.time()

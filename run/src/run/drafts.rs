@@ -5,8 +5,9 @@ use crate::run::calls::Use;
 use crate::run::names::{parts, Known};
 use crate::run::supervisor::{Done, Failure, Supervisor};
 use crate::run::sys::{self, Pid};
-use crate::run::tree::{Process, State};
+use crate::run::tree::State;
 use crate::run::undo::{pieces, Pieces};
+use crate::run::wrong;
 use crate::wire::{Body, Content, Entry, Kind, Reply, Request, Step, Version, LONGEST_PIECE};
 use std::collections::{HashMap, HashSet};
 use std::fs::{self, Metadata, Permissions};
@@ -220,8 +221,11 @@ impl Supervisor {
         if self.changed_drafts.is_empty() {
             return Ok(());
         }
-        let stands = |(pid, p): (&Pid, &Process)| matches!(p.state, State::Again | State::Stopped).then_some(*pid);
-        let stood: HashSet<Pid> = self.tree.all.iter().filter_map(stands).collect();
+        let those = |are: fn(State) -> bool| -> HashSet<Pid> {
+            self.tree.all.iter().filter(|(_, p)| are(p.state)).map(|(pid, _)| *pid).collect()
+        };
+        let ran = those(|s| s == State::Running);
+        let stood = those(|s| matches!(s, State::Again | State::Stopped));
         self.stop_all()?;
         // [20]
         while let Some(name) = self.changed_drafts.pop() {
@@ -233,7 +237,9 @@ impl Supervisor {
             }
         }
         // also those that were born, or whose waits ended, while all were being stopped
-        let others: Vec<Pid> = self.tree.all.keys().copied().filter(|pid| !stood.contains(pid)).collect();
+        let forgets = wrong::is(wrong::BIRTHS_FORGOTTEN);
+        let goes = |pid: &Pid| if forgets { ran.contains(pid) } else { !stood.contains(pid) };
+        let others: Vec<Pid> = self.tree.all.keys().copied().filter(goes).collect();
         self.go_each(&others);
         Ok(())
     }

@@ -4,6 +4,7 @@ use crate::run::inside::{self, Inside};
 use crate::run::supervisor::{Done, Supervisor};
 use crate::run::sys::{self, Pid, Regs, Stop, Told, Waited};
 use crate::run::tree::{Bound, Ended, Facts, Hold, News, Process, State};
+use crate::run::wrong;
 use std::time::Instant;
 
 impl Supervisor {
@@ -150,6 +151,10 @@ impl Supervisor {
     }
     fn on_signal(&mut self, pid: Pid, signal: i32) {
         self.tree.forget_copy(pid);
+        // a fork that it ends is made anew behind its handler, and the handler's arguments are not the fork's
+        if !wrong::is(wrong::SIGNAL_IN_FORK) {
+            self.fix_registers(pid);
+        }
         if let Some(r) = (signal == libc::SIGSEGV).then(|| inside::out_of_code(pid)).flatten() {
             let _ = sys::set_registers(pid, &r);
             let _ = sys::go_on(pid, 0);

@@ -8,6 +8,8 @@ pub const PIPE_EMPTY: &str = "pipe-empty";
 pub const OFFSETS: &str = "offsets";
 pub const PREDICTED: &str = "predicted";
 pub const WRITE_EARLY: &str = "write-early";
+pub const BIRTHS_FORGOTTEN: &str = "births-forgotten";
+pub const SIGNAL_IN_FORK: &str = "signal-in-fork";
 
 #[cfg(feature = "wrong")]
 pub fn is(what: &str) -> bool {

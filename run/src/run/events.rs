@@ -74,9 +74,14 @@ impl Supervisor {
         }
         Ok(())
     }
-    /// The arguments of a fork that was made into a clone are what they were.
+    /// Its registers are as of its own call: the arguments of a fork that was made into a clone are what they were, and a wait that
+    /// a signal is to end is one that is made again behind it, or not, as its handler wants it.
     pub fn fix_registers(&mut self, pid: Pid) {
-        let Some((number, a, b)) = self.tree.get_mut(pid).and_then(|p| p.fix.take()) else { return };
+        let Some(p) = self.tree.get_mut(pid) else { return };
+        if let Some(r) = p.woken.take() {
+            let _ = sys::set_registers(pid, &r);
+        }
+        let Some((number, a, b)) = p.fix.take() else { return };
         if let Ok(mut r) = sys::registers(pid) {
             r.rdi = a;
             r.rsi = b;
@@ -152,9 +157,9 @@ impl Supervisor {
     fn on_signal(&mut self, pid: Pid, signal: i32) {
         self.tree.forget_copy(pid);
         // a fork that it ends is made anew behind its handler, and the handler's arguments are not the fork's
-        if !wrong::is(wrong::SIGNAL_IN_FORK) {
-            self.fix_registers(pid);
-        }
+        let late = wrong::is(wrong::SIGNAL_IN_FORK).then(|| self.tree.at(pid).fix.take()).flatten();
+        self.fix_registers(pid);
+        self.tree.at(pid).fix = late;
         if let Some(r) = (signal == libc::SIGSEGV).then(|| inside::out_of_code(pid)).flatten() {
             let _ = sys::set_registers(pid, &r);
             let _ = sys::go_on(pid, 0);
@@ -162,10 +167,6 @@ impl Supervisor {
         }
         let p = self.tree.at(pid);
         p.listens = false;
-        if let Some(r) = p.woken.take() {
-            // as where the signal ends the call: again, or not, as its handler wants it
-            let _ = sys::set_registers(pid, &r);
-        }
         let process = p.facts.process;
         if signal == libc::SIGCHLD {
             if let Some(e) = self.tree.get(process).and_then(|p| p.facts.ended.last()) {

@@ -1,41 +1,16 @@
-//! Tests of what a store is made of, over the public calls: a log's bytes, batches, an engine's answers, channels; requests and
-//! commands as a client of a plain store, whose bytes come cut at every place; what each command replies; and what a store has
-//! again of the segments of a log. Those of a log pass too where one growth of memory is refused. And a store as lists of calls.
+//! What no call of a store shows of what it is made of: the bytes of a frame, a record that is withdrawn, tickets that do not wait,
+//! whose a batch is, and the bytes of replies. All else is tested through C's calls (`rust/tests/calls`, `rust/tests/store`).
 #![tactic(auto)]
 
 #[cfg(test)]
-mod asked;
-#[cfg(test)]
-mod batches;
-#[cfg(test)]
-mod channels;
-#[cfg(test)]
 mod check;
 #[cfg(test)]
-mod client;
+mod frames;
 #[cfg(test)]
-mod commands;
-#[cfg(test)]
-mod durable;
-#[cfg(test)]
-mod engine;
-#[cfg(test)]
-mod log;
-#[cfg(test)]
-mod plain;
-#[cfg(test)]
-mod queues;
-#[cfg(test)]
-mod recovered;
-#[cfg(test)]
-mod replay;
+mod owners;
 #[cfg(test)]
 mod replies;
 #[cfg(test)]
-mod requests;
+mod tickets;
 #[cfg(test)]
-mod reserved;
-#[cfg(test)]
-mod words;
-#[cfg(test)]
-mod wrong;
+mod withdrawn;

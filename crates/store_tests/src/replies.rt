@@ -1,5 +1,4 @@
 //! The bytes of replies.
-use crate::wrong::{Wrong, holds};
 use sk_requests::reply::{array, bulk, error, integer, null, simple};
 use std::alloc::AllocError;
 
@@ -17,8 +16,8 @@ const REPLIES: &[u8] =
     b"+OK\r\n-ERR a  b\r\n:-9223372036854775808\r\n$4\r\na\r\nb\r\n$-1\r\n*12\r\n";
 
 #[test]
-fn replies_are_written_as_known(rt: HostRuntime) -> Result<(), Wrong> {
+fn replies_are_written_as_known(rt: HostRuntime) {
     let mut out = Vec::new(rt.alloc());
-    replies(&mut out)?;
-    holds(out.as_slice() == REPLIES, Wrong::Keys)
+    replies(&mut out).expect(&rt, "memory");
+    assert!(rt; out.as_slice() == REPLIES);
 }

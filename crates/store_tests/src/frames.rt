@@ -1,9 +1,8 @@
-//! What a frame looks like, and what begins with one.
+//! What a frame looks like, what begins with one, and what a blanked log has.
 ghost use Rattle.std.specs.Prelude.{◌<◌};
 
 use crate::check::check;
-use crate::log::support::copied;
-use sk_log::{FrameRefusal, Front, append, first_number, front_of, seal};
+use sk_log::{Front, append, blank, first_number, front_of, seal};
 use std::process::Abort;
 
 /// The frame of segment 3 with the number 129 and the payload 'hi', reckoned by hand: 129 is 1 and 1 * 128, the bytes of 'hi'
@@ -12,17 +11,6 @@ const HI: [u8; 26] = [
     131, 128, 128, 128, 129, 129, 128, 128, 128, 128, 128, 128, 130, 128, 128, 128, 209, 129, 128,
     128, 128, 128, 167, 149, 104, 105,
 ];
-
-/// Appends the frame; once more where memory was refused and the log is as it was.
-fn appends_to(rt: &impl Abort, log: &mut Vec<u8>) -> Result<(), FrameRefusal> {
-    match append(log, 3, 129, b"hi") {
-        Err(FrameRefusal::Memory) => {
-            assert!(rt; log.as_slice() == b"x".as_slice());
-            append(log, 3, 129, b"hi")
-        }
-        answer => answer,
-    }
-}
 
 /// Room for a frame of this payload is sealed.
 fn seals(rt: &impl Abort) {
@@ -35,8 +23,8 @@ fn seals(rt: &impl Abort) {
 
 #[test]
 fn frame_is_the_one_reckoned_by_hand(rt: HostRuntime) {
-    let mut log = copied(rt.alloc(), b"x").expect(&rt, "memory");
-    check(&rt, 1, appends_to(&rt, &mut log) == Ok(()));
+    let mut log = Vec::from_slice(rt.alloc(), b"x").expect(&rt, "memory");
+    check(&rt, 1, append(&mut log, 3, 129, b"hi") == Ok(()));
     check(&rt, 2, log.as_slice().get(1..) == Some(HI.as_slice()));
     seals(&rt);
 }
@@ -103,4 +91,17 @@ fn first_number_is_that_of_the_first_head(rt: HostRuntime) {
     for (bytes, segment) in rows {
         check(&rt, 2, first_number(bytes, segment).is_none());
     }
+}
+
+/// Where a log is blanked a stale frame stands no more, and all before stays.
+#[test]
+fn stale_frame_is_blanked(rt: HostRuntime) {
+    let mut bytes = [7; 36];
+    for (byte, frame) in bytes.iter_mut().skip(10).zip(HI.iter()) {
+        *byte = *frame;
+    }
+    check(&rt, 1, first_number(&bytes[10..], 3) == Some(129));
+    blank(&mut bytes, 10);
+    check(&rt, 2, bytes[..10] == [7; 10]);
+    check(&rt, 3, bytes[10..] == [0; 26]);
 }

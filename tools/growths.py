@@ -11,7 +11,7 @@ own keys that rest on each other to 1,500.
 
 A call is a public function of a library whose result can be want of memory: an `AllocError`, or an error or an answer that has it
 among its cases, at any depth. Each has a row, which names what grows past 70,000 through it: rows of `checks/growths`, tests of the
-crates of tests, scenarios of `checks/long-runs` and runs of `checks/own-runs` and `checks/store-runs`, each by its name in backquotes, or the word `none` and the
+crates of tests and of the Rust crate, scenarios of `checks/long-runs` and runs of `checks/own-runs` and `checks/store-runs`, each by its name in backquotes, or the word `none` and the
 reason. The last line is 'N passed, M failed', a row each.
 """
 import re
@@ -83,7 +83,8 @@ def calls():
 
 def known_rows():
     """The names that a row may name: tests, and runs of scripts."""
-    tests = (without_comments(path) for crate in crates() if crate.endswith("_tests") for path in files_of(crate))
+    proved = (without_comments(path) for crate in crates() if crate.endswith("_tests") for path in files_of(crate))
+    tests = [*proved, *(without_comments(path) for path in sorted((ROOT / "rust/tests").glob("**/*.rs")))]
     names = {name for text in tests for name in re.findall(r"#\[test\]\nfn (\w+)", text)}
     for script in ("checks/growths", "checks/long-runs", "checks/own-runs", "checks/store-runs"):
         names |= set(re.findall(r"^def (\w+)", (ROOT / script).read_text(), re.M))

@@ -1,5 +1,5 @@
-//! The tests of records, kernels, servers and a client's desks over those public calls that no door shows; and whatever can grow
-//! in them is grown past 70,000.
+//! The tests of records, kernels, servers and a client's desks over those public calls that no door shows; what can grow through doors
+//! is grown past 70,000 there (`rust/tests/growths`).
 #![tactic(auto)]
 
 #[cfg(test)]
@@ -22,8 +22,6 @@ mod kernels;
 mod leases;
 #[cfg(test)]
 mod logs;
-#[cfg(test)]
-mod notes;
 #[cfg(test)]
 mod openings;
 #[cfg(test)]

@@ -30,8 +30,6 @@ pub enum Count {
     Events,
     /// The places of the trace that are free.
     Room,
-    /// The notes that are held.
-    Notes,
 }
 
 /// Something that can depend on a guess.
@@ -53,8 +51,6 @@ pub enum KernelPlay {
     Guesses(u16, u64, u64),
     /// The decision of the oldest guess whose token is kept.
     Decides(Decision, Outcome),
-    /// The decision of the newest.
-    DecidesNewest(Decision, Outcome),
     /// How much there is.
     Has(Count, usize),
     /// Just these depend on the guess of this number, by rising order.
@@ -147,14 +143,6 @@ fn decided_oldest(rt: &impl Abort, player: &mut Player, decision: Decision) -> O
     Some(decided(rt, &mut player.kernel, token, decision))
 }
 
-/// What that of the newest comes to.
-fn decided_newest(rt: &impl Abort, player: &mut Player, decision: Decision) -> Option<Outcome> {
-    match player.tokens.pop() {
-        Some(token) => Some(decided(rt, &mut player.kernel, token, decision)),
-        None => None,
-    }
-}
-
 /// The place of a process, where it is present.
 fn place_of(kernel: &Kernel, pid: Pid) -> Option<usize> {
     match kernel.value(&Entity::Proc(pid)) {
@@ -177,7 +165,6 @@ fn counted(kernel: &Kernel, count: Count) -> Result<Option<usize>, Wrong> {
         Count::Released(number) => Ok(released(kernel, number)),
         Count::Events => Ok(Some(kernel.trace().events().len())),
         Count::Room => Ok(Some(kernel.room())),
-        Count::Notes => Ok(Some(kernel.notes())),
     }
 }
 
@@ -229,9 +216,6 @@ pub fn does(rt: &impl Abort, player: &mut Player, play: KernelPlay) -> Result<bo
         KernelPlay::Guesses(number, first, last) => guesses(player, number, first, last),
         KernelPlay::Decides(decision, want) => {
             Ok(decided_oldest(rt, player, decision) == Some(want))
-        }
-        KernelPlay::DecidesNewest(decision, want) => {
-            Ok(decided_newest(rt, player, decision) == Some(want))
         }
         KernelPlay::Has(count, want) => has(&player.kernel, count, want),
         KernelPlay::Rests(number, want) => rests(&player.kernel, number, want),

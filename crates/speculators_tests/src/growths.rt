@@ -1,18 +1,16 @@
-//! What grows in the kernels over own keys.
+//! What grows in the kernel over own keys.
 use crate::job::{Written, bit_of};
-use crate::kernel::{Kernel, fail};
+use crate::kernel::{Numbers, counts, fail, names_one_of};
 use crate::own::Own;
 use crate::step::{add_look, add_write};
 use crate::wrong::{Wrong, holds};
-use sk_bytes::Bytes;
-use sk_inversion::Sum;
-use sk_speculator::{Refusal, Speculator};
+use sk_speculator::Refusal;
 use std::alloc::{AllocError, Global};
 use std::num::NonZeroU16;
 use std::process::Abort;
 
 /// How often what grows is grown: past each number at which a body could give up.
-pub const MANY: u32 = 70_001;
+const MANY: u32 = 70_001;
 
 /// How many guesses depend on each other, each of which has the numbers of all before it.
 const NESTED: u32 = 1_500;
@@ -39,11 +37,10 @@ enum Row {
 }
 
 /// Puts into the step writes of so many keys, from a first one on.
-fn writes<K: Kernel>(own: &mut Own<K>, first: u32, count: u32) -> Result<(), AllocError> {
+fn writes(own: &mut Own, first: u32, count: u32) -> Result<(), AllocError> {
     for turn in 0..count {
         add_write(
             &mut own.step,
-            own.alloc,
             first.wrapping_add(turn),
             Written::Set(Some(1)),
         )?;
@@ -52,36 +49,36 @@ fn writes<K: Kernel>(own: &mut Own<K>, first: u32, count: u32) -> Result<(), All
 }
 
 /// A guess whose step writes so many keys.
-fn guesses<K: Kernel>(own: &mut Own<K>, count: u32) -> Result<(), Wrong> {
+fn guesses(own: &mut Own, count: u32) -> Result<(), Wrong> {
     writes(own, 0, count)?;
     own.draw()?;
     Ok(())
 }
 
 /// A guess that depends on the first key.
-fn guesses_behind<K: Kernel>(own: &mut Own<K>) -> Result<(), Wrong> {
-    add_look(&mut own.step, own.alloc, 0)?;
+fn guesses_behind(own: &mut Own) -> Result<(), Wrong> {
+    add_look(&mut own.step, 0)?;
     own.draw()?;
     Ok(())
 }
 
 /// A step that depends on the first key, with an output.
-fn says<K: Kernel>(own: &mut Own<K>, channel: u16) -> Result<(), Wrong> {
-    add_look(&mut own.step, own.alloc, 0)?;
+fn says(own: &mut Own, channel: u16) -> Result<(), Wrong> {
+    add_look(&mut own.step, 0)?;
     own.step.said = Some((channel, 1));
     own.kernel.take(&mut own.step)?;
     Ok(())
 }
 
 /// The token at a place is spent by a failure.
-fn fails_at<K: Kernel>(rt: &impl Abort, own: &mut Own<K>, place: usize) {
+fn fails_at(rt: &impl Abort, own: &mut Own, place: usize) {
     if place < own.tokens.len() {
         let token = own.tokens.remove(place);
         fail(rt, &mut own.kernel, token);
     }
 }
 
-fn grows_keys<K: Kernel>(rt: &impl Abort, own: &mut Own<K>) -> Result<(), Wrong> {
+fn grows_keys(rt: &impl Abort, own: &mut Own) -> Result<(), Wrong> {
     guesses(own, MANY)?;
     for turn in 0..MANY {
         writes(own, MANY + turn, 1)?;
@@ -94,7 +91,7 @@ fn grows_keys<K: Kernel>(rt: &impl Abort, own: &mut Own<K>) -> Result<(), Wrong>
 }
 
 /// So many guesses, each of which but the first depends on the first.
-fn fills<K: Kernel>(own: &mut Own<K>, count: u16) -> Result<(), Wrong> {
+fn fills(own: &mut Own, count: u16) -> Result<(), Wrong> {
     guesses(own, 1)?;
     for _ in 1..count {
         guesses_behind(own)?;
@@ -102,50 +99,45 @@ fn fills<K: Kernel>(own: &mut Own<K>, count: u16) -> Result<(), Wrong> {
     Ok(())
 }
 
-fn grows_guesses<K: Kernel>(own: &mut Own<K>) -> Result<(), Wrong> {
+fn grows_guesses(own: &mut Own) -> Result<(), Wrong> {
     fills(own, u16::MAX)?;
     let is_full = own.draw() == Err(Refusal::TooMany);
     holds(is_full, Wrong::Refused)
 }
 
 /// Draws so many guesses, of which the failure of the first strikes all others; so many are struck then whose tokens are out.
-fn strikes<K: Kernel>(
-    rt: &impl Abort,
-    own: &mut Own<K>,
-    count: u16,
-    struck: usize,
-) -> Result<(), Wrong> {
+fn strikes(rt: &impl Abort, own: &mut Own, count: u16, struck: usize) -> Result<(), Wrong> {
     let first = own.tokens.len();
     fills(own, count)?;
     fails_at(rt, own, first);
-    let counts = own.kernel.counts();
+    let counts = counts(&own.kernel);
     let is_so = counts.undecided == 0 && counts.struck == struck;
     holds(is_so, Wrong::Status)
 }
 
-fn grows_struck<K: Kernel>(rt: &impl Abort, own: &mut Own<K>) -> Result<(), Wrong> {
+fn grows_struck(rt: &impl Abort, own: &mut Own) -> Result<(), Wrong> {
     let most = u16::MAX as usize - 1;
     strikes(rt, own, u16::MAX, most)?;
     strikes(rt, own, MORE, most + MORE as usize - 1)
 }
 
-fn grows_notes<K: Kernel>(own: &mut Own<K>) -> Result<(), Wrong> {
+fn grows_notes(own: &mut Own) -> Result<(), Wrong> {
     for _ in 0..NESTED {
         guesses(own, 1)?;
     }
-    let count = own.kernel.tags(0).ids().len();
+    let count = own.kernel.tags_of(&0).ids().len();
     holds(count == NESTED as usize, Wrong::Tags)
 }
 
-fn grows_channels<K: Kernel>(rt: &impl Abort, own: &mut Own<K>) -> Result<(), Wrong> {
+fn grows_channels(rt: &impl Abort, own: &mut Own) -> Result<(), Wrong> {
     guesses(own, 1)?;
     for channel in 0..u16::MAX {
         says(own, channel)?;
     }
-    holds(own.kernel.names_one_of(0), Wrong::Channel)?;
+    holds(names_one_of(&own.kernel, 0), Wrong::Channel)?;
     own.spend(rt);
     for channel in 0..64 {
-        let is_named = own.kernel.names_one_of(bit_of(channel as usize));
+        let is_named = names_one_of(&own.kernel, bit_of(channel as usize));
         let is_out = own.kernel.released(channel) == Some(1);
         holds(is_named && is_out, Wrong::Channel)?;
     }
@@ -153,8 +145,8 @@ fn grows_channels<K: Kernel>(rt: &impl Abort, own: &mut Own<K>) -> Result<(), Wr
 }
 
 /// A kernel grows, and ends.
-fn grows<K: Kernel>(rt: &impl Abort, alloc: Global, kernel: K, row: Row) -> Result<(), Wrong> {
-    let mut own = Own::new(alloc, kernel);
+fn grows(rt: &impl Abort, alloc: Global, row: Row) -> Result<(), Wrong> {
+    let mut own = Own::new(alloc, Numbers::new(alloc, 7, NonZeroU16::MAX));
     let grown = match row {
         Row::Keys => grows_keys(rt, &mut own),
         Row::Guesses => grows_guesses(&mut own),
@@ -165,48 +157,27 @@ fn grows<K: Kernel>(rt: &impl Abort, alloc: Global, kernel: K, row: Row) -> Resu
     grown.and(own.end(rt))
 }
 
-/// A kernel over numbers grows.
-fn numbers_grow(rt: &impl Abort, alloc: Global, row: Row) -> Result<(), Wrong> {
-    let kernel: Speculator<u32, u64, u64, Sum> = Speculator::new(alloc, 7, NonZeroU16::MAX);
-    grows(rt, alloc, kernel, row)
-}
-
-/// A kernel over byte strings grows.
-fn strings_grow(rt: &impl Abort, alloc: Global, row: Row) -> Result<(), Wrong> {
-    grows(rt, alloc, Bytes::new(alloc, 7, NonZeroU16::MAX, 1), row)
-}
-
 #[test]
 fn own_keys_and_outputs(rt: HostRuntime) -> Result<(), Wrong> {
-    numbers_grow(&rt, rt.alloc(), Row::Keys)
+    grows(&rt, rt.alloc(), Row::Keys)
 }
 
 #[test]
 fn own_guesses_up_to_their_limit(rt: HostRuntime) -> Result<(), Wrong> {
-    numbers_grow(&rt, rt.alloc(), Row::Guesses)
+    grows(&rt, rt.alloc(), Row::Guesses)
 }
 
 #[test]
 fn own_guesses_that_are_struck(rt: HostRuntime) -> Result<(), Wrong> {
-    numbers_grow(&rt, rt.alloc(), Row::Struck)
+    grows(&rt, rt.alloc(), Row::Struck)
 }
 
 #[test]
 fn own_notes_of_a_key(rt: HostRuntime) -> Result<(), Wrong> {
-    numbers_grow(&rt, rt.alloc(), Row::Notes)
+    grows(&rt, rt.alloc(), Row::Notes)
 }
 
 #[test]
 fn own_channels(rt: HostRuntime) -> Result<(), Wrong> {
-    numbers_grow(&rt, rt.alloc(), Row::Channels)
-}
-
-#[test]
-fn strings_under_one_guess(rt: HostRuntime) -> Result<(), Wrong> {
-    strings_grow(&rt, rt.alloc(), Row::Keys)
-}
-
-#[test]
-fn strings_and_guesses_up_to_their_limit(rt: HostRuntime) -> Result<(), Wrong> {
-    strings_grow(&rt, rt.alloc(), Row::Guesses)
+    grows(&rt, rt.alloc(), Row::Channels)
 }

@@ -1,21 +1,13 @@
-//! Tests of the kernels over their user's own keys, numbers and byte strings: writes and what puts them back, keys that are too
-//! long, keys that come and go, numbers that are added to, random runs, each held after each call against a plain record of the
-//! steps that depend on no failed guess, which does them again from nothing, what grows past 70,000 in them, in requests and in
-//! commands, with ample memory, and what steps cost beside open guesses of others.
+//! Tests of the kernel over its user's own keys, of which no door shows numbers: writes and what puts them back, numbers that are
+//! added to, random runs, each held after each call against a plain record of the steps that depend on no failed guess, which does
+//! them again from nothing, what grows past 70,000 in it with ample memory, and what steps cost beside open guesses of others.
+//! Kernels over byte strings are tested through C's calls (`rust/tests/random.rs`, `rust/tests/growths`).
 #![tactic(auto)]
 
 #[cfg(test)]
-mod byte_runs;
-#[cfg(test)]
-mod byte_strings;
-#[cfg(test)]
 mod costs;
 #[cfg(test)]
-mod edges;
-#[cfg(test)]
 mod growths;
-#[cfg(test)]
-mod held_growths;
 #[cfg(test)]
 mod inversion;
 #[cfg(test)]
@@ -23,13 +15,9 @@ mod job;
 #[cfg(test)]
 mod kernel;
 #[cfg(test)]
-mod numbers;
-#[cfg(test)]
 mod own;
 #[cfg(test)]
 mod record;
-#[cfg(test)]
-mod request_growths;
 #[cfg(test)]
 mod runs;
 #[cfg(test)]

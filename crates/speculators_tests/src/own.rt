@@ -1,7 +1,7 @@
 //! A kernel with its tokens.
 ghost use Rattle.std.specs.Prelude.{◌≡◌, vec_len};
 
-use crate::kernel::{Kernel, commit};
+use crate::kernel::{Numbers, commit, shuts};
 use crate::step::OwnStep;
 use crate::wrong::{Wrong, holds};
 use sk_guesses::Guess;
@@ -11,17 +11,15 @@ use std::alloc::Global;
 use std::process::Abort;
 
 /// A kernel, the tokens of its guesses, and the step that is handed to it.
-pub struct Own<K: Kernel> {
-    pub alloc: Global,
-    pub kernel: K,
+pub struct Own {
+    pub kernel: Numbers,
     pub tokens: Vec<Guess>,
-    pub step: OwnStep<K::Key>,
+    pub step: OwnStep,
 }
 
-impl<K: Kernel> Own<K> {
-    pub fn new(alloc: Global, kernel: K) -> Own<K> {
+impl Own {
+    pub fn new(alloc: Global, kernel: Numbers) -> Own {
         Own {
-            alloc,
             kernel,
             tokens: Vec::new(alloc),
             step: Step::new(alloc),
@@ -55,12 +53,11 @@ impl<K: Kernel> Own<K> {
         let mut own = self;
         own.spend(rt);
         let Own {
-            alloc: _,
             kernel,
             tokens,
             step: _,
         } = own;
         tokens.destroy_empty();
-        holds(kernel.shuts(), Wrong::Status)
+        holds(shuts(kernel), Wrong::Status)
     }
 }

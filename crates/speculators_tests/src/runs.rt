@@ -2,14 +2,11 @@
 ghost use Rattle.std.specs.Prelude.{◌<◌};
 
 use crate::job::{ACTORS, CHANNELS, Job};
-use crate::kernel::Kernel;
+use crate::kernel::Numbers;
 use crate::session::Session;
-use crate::step::Name;
 use crate::wrong::Wrong;
 use rand_core::Rng;
 use rand_pcg::Pcg32;
-use sk_inversion::Sum;
-use sk_speculator::Speculator;
 use std::alloc::Global;
 use std::num::NonZeroU16;
 use std::process::Abort;
@@ -39,13 +36,13 @@ fn any_key(rng: &mut Pcg32, others: u32) -> Option<u32> {
     if key < ACTORS { Some(key) } else { None }
 }
 
-/// Whether one thing is done rather than another, where it may be.
-fn any(rng: &mut Pcg32, may: bool) -> bool {
-    may && below(rng, 2) == 0
+/// Whether one thing is done rather than another.
+fn any(rng: &mut Pcg32) -> bool {
+    below(rng, 2) == 0
 }
 
-/// A step of one of two actors, or of nobody, which may add amounts or not.
-fn any_job(rng: &mut Pcg32, may_add: bool) -> Job {
+/// A step of one of two actors, or of nobody.
+fn any_job(rng: &mut Pcg32) -> Job {
     let actor = below(rng, 4);
     let says = below(rng, 6) as u16;
     Job {
@@ -57,21 +54,17 @@ fn any_job(rng: &mut Pcg32, may_add: bool) -> Job {
         looks: any_key(rng, 4),
         writes: any_key(rng, 2),
         also: any_key(rng, 10),
-        adds: [any(rng, may_add), any(rng, may_add)],
+        adds: [any(rng), any(rng)],
         says: if says < CHANNELS { Some(says) } else { None },
         number: u64::from(rng.next_u32()),
     }
 }
 
 /// One call, judged.
-fn call<K: Kernel>(
-    rt: &impl Abort,
-    rng: &mut Pcg32,
-    session: &mut Session<K>,
-) -> Result<(), Wrong> {
+fn call(rt: &impl Abort, rng: &mut Pcg32, session: &mut Session) -> Result<(), Wrong> {
     match below(rng, 8) {
-        0..=2 => session.take(&any_job(rng, K::Key::may_add()))?,
-        3 | 4 => session.guess(&any_job(rng, K::Key::may_add()))?,
+        0..=2 => session.take(&any_job(rng))?,
+        3 | 4 => session.guess(&any_job(rng))?,
         5 => session.decide(rt, below(rng, 4) as usize, false)?,
         6 => session.decide(rt, below(rng, 4) as usize, true)?,
         _ => session.release(below(rng, CHANNELS as u32) as u16)?,
@@ -80,7 +73,7 @@ fn call<K: Kernel>(
 }
 
 /// The calls of a run.
-fn plays<K: Kernel>(rt: &impl Abort, number: u64, session: &mut Session<K>) -> Result<(), Wrong> {
+fn plays(rt: &impl Abort, number: u64, session: &mut Session) -> Result<(), Wrong> {
     let mut rng = Pcg32::new(number, 11);
     for _ in 0..CALLS {
         call(rt, &mut rng, session)?;
@@ -88,15 +81,17 @@ fn plays<K: Kernel>(rt: &impl Abort, number: u64, session: &mut Session<K>) -> R
     Ok(())
 }
 
+/// How many guesses may be undecided at once.
+fn limit() -> NonZeroU16 {
+    match NonZeroU16::new(LIMIT) {
+        Some(limit) => limit,
+        None => unreachable!(),
+    }
+}
+
 /// A run of a kernel to its end, where a growth may be refused or not.
-pub fn run<K: Kernel>(
-    rt: &impl Abort,
-    alloc: Global,
-    kernel: K,
-    number: u64,
-    may_lack: bool,
-) -> Result<(), (u64, Wrong)> {
-    let mut session = Session::new(alloc, kernel, may_lack);
+fn run(rt: &impl Abort, alloc: Global, number: u64, may_lack: bool) -> Result<(), (u64, Wrong)> {
+    let mut session = Session::new(alloc, Numbers::new(alloc, 7, limit()), may_lack);
     let played = plays(rt, number, &mut session);
     match played.and(session.end(rt)) {
         Ok(()) => Ok(()),
@@ -104,29 +99,10 @@ pub fn run<K: Kernel>(
     }
 }
 
-/// How many guesses may be undecided at once.
-pub fn limit() -> NonZeroU16 {
-    match NonZeroU16::new(LIMIT) {
-        Some(limit) => limit,
-        None => unreachable!(),
-    }
-}
-
-/// A run over numbers.
-fn number_run(
-    rt: &impl Abort,
-    alloc: Global,
-    number: u64,
-    may_lack: bool,
-) -> Result<(), (u64, Wrong)> {
-    let kernel: Speculator<u32, u64, u64, Sum> = Speculator::new(alloc, 7, limit());
-    run(rt, alloc, kernel, number, may_lack)
-}
-
 #[test]
 fn as_a_plain_run(rt: HostRuntime) -> Result<(), (u64, Wrong)> {
     for number in 0..RUNS {
-        number_run(&rt, rt.alloc(), number, false)?;
+        run(&rt, rt.alloc(), number, false)?;
     }
     Ok(())
 }
@@ -135,7 +111,7 @@ fn as_a_plain_run(rt: HostRuntime) -> Result<(), (u64, Wrong)> {
 #[test]
 fn once_more(rt: HostRuntime) -> Result<(), (u64, Wrong)> {
     for number in RUNS..RUNS + REFUSED_RUNS {
-        number_run(&rt, rt.alloc(), number, true)?;
+        run(&rt, rt.alloc(), number, true)?;
     }
     Ok(())
 }

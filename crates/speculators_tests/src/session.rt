@@ -1,6 +1,8 @@
 //! A kernel with its tokens, and the record that it is held against.
 use crate::job::{CHANNELS, Deed, Job, KEYS, NOTHING, bit_of};
-use crate::kernel::{Counts, Kernel, Told, commit, fail};
+use crate::kernel::{
+    Counts, Numbers, Told, commit, counts, dependents, fail, has_keys, names_one_of,
+};
 use crate::own::Own;
 use crate::record::{Reckoning, Record};
 use crate::step::{fill, is_step};
@@ -12,8 +14,8 @@ use std::alloc::{AllocError, Global};
 use std::process::Abort;
 
 /// A kernel, the record of its steps, and of each channel how many outputs were taken out.
-pub struct Session<K: Kernel> {
-    own: Own<K>,
+pub struct Session {
+    own: Own,
     record: Record,
     taken_out: [usize; CHANNELS as usize],
     drawn: u64,
@@ -21,9 +23,9 @@ pub struct Session<K: Kernel> {
     may_lack: bool,
 }
 
-impl<K: Kernel> Session<K> {
+impl Session {
     /// Nothing has happened in the kernel, to which a growth may be refused or not.
-    pub fn new(alloc: Global, kernel: K, may_lack: bool) -> Session<K> {
+    pub fn new(alloc: Global, kernel: Numbers, may_lack: bool) -> Session {
         Session {
             own: Own::new(alloc, kernel),
             record: Record::new(alloc),
@@ -35,7 +37,7 @@ impl<K: Kernel> Session<K> {
 
     fn value(&self, key: Option<u32>) -> Option<u64> {
         match key {
-            Some(key) => self.own.kernel.value(key),
+            Some(key) => self.own.kernel.value(&key).copied(),
             None => None,
         }
     }
@@ -52,8 +54,8 @@ impl<K: Kernel> Session<K> {
 
     /// Makes ready what a call with this deed wants beside the kernel.
     fn prepare(&mut self, deed: &Deed) -> Result<(), AllocError> {
-        if fill(&mut self.own.step, self.own.alloc, deed).is_err() {
-            fill(&mut self.own.step, self.own.alloc, deed)?;
+        if fill(&mut self.own.step, deed).is_err() {
+            fill(&mut self.own.step, deed)?;
         }
         if self.record.reserve().is_err() {
             self.record.reserve()?;
@@ -100,7 +102,7 @@ impl<K: Kernel> Session<K> {
 
     /// As many guesses are undecided as may be.
     fn is_full(&self) -> bool {
-        self.record.undecided().len() >= self.own.kernel.limit()
+        self.record.undecided().len() >= usize::from(self.own.kernel.limit())
     }
 
     /// Draws a guess with its step, unless as many are undecided as may be; once more, where memory was refused and all is as
@@ -238,18 +240,18 @@ impl<K: Kernel> Session<K> {
         for key in 0..KEYS {
             self.judge_key(reckoning, key)?;
         }
-        holds(self.own.kernel.has_keys(reckoning.keys()), Wrong::Keys)
+        holds(has_keys(&self.own.kernel, reckoning.keys()), Wrong::Keys)
     }
 
     fn judge_key(&self, reckoning: &Reckoning, key: u32) -> Result<(), Wrong> {
         let cell = reckoning.cell(Some(key));
-        holds(self.own.kernel.value(key) == cell.value, Wrong::Value)?;
+        holds(self.value(Some(key)) == cell.value, Wrong::Value)?;
         holds(self.has_tags(key, cell.rests), Wrong::Tags)
     }
 
     /// Whether a key depends on these guesses.
     fn has_tags(&self, key: u32, rests: u64) -> bool {
-        let mut tags = self.own.kernel.tags(key).ids().iter();
+        let mut tags = self.own.kernel.tags_of(&key).ids().iter();
         for (place, id) in self.record.undecided().iter().enumerate() {
             if rests & bit_of(place) != 0 && tags.next() != Some(id) {
                 return false;
@@ -260,9 +262,9 @@ impl<K: Kernel> Session<K> {
 
     /// How many guesses there are, and what depends on each.
     fn judge_guesses(&self, reckoning: &Reckoning) -> Result<(), Wrong> {
-        holds(self.own.kernel.counts() == self.counts(), Wrong::Status)?;
+        holds(counts(&self.own.kernel) == self.counts(), Wrong::Status)?;
         for (place, id) in self.record.undecided().iter().enumerate() {
-            let keys = self.own.kernel.dependents(*id);
+            let keys = dependents(&self.own.kernel, *id);
             let is_so = keys == Some(reckoning.dependents(place));
             holds(is_so, Wrong::Dependents)?;
         }
@@ -305,7 +307,7 @@ impl<K: Kernel> Session<K> {
                 channels |= bit_of(channel as usize);
             }
         }
-        holds(self.own.kernel.names_one_of(channels), Wrong::Channel)
+        holds(names_one_of(&self.own.kernel, channels), Wrong::Channel)
     }
 
     /// Commits the guesses whose tokens are left, and ends.

@@ -1,67 +1,53 @@
 //! Steps that are handed to a kernel.
 use crate::job::{Deed, Written};
-use sk_inversion::Inversion;
+use sk_inversion::{Sum, Write};
 use sk_speculator::Step;
-use std::alloc::{AllocError, Global};
+use std::alloc::AllocError;
 
-/// What names a key in a step, and how its value is written there.
-pub trait Name: Sized + Drop {
-    type Write: Drop;
+/// A step over numbers, which has numbers and says them; to what a key has an amount may be added.
+pub type OwnStep = Step<u32, u64, u64, Sum>;
 
-    type Way: Inversion<u64, Write = Self::Write>;
-
-    /// The name of a key.
-    fn of(alloc: Global, key: u32) -> Result<Self, AllocError>;
-
-    /// Whether it is the name of this key.
-    fn is(&self, key: u32) -> bool;
-
-    /// Whether amounts can be added to values.
-    fn may_add() -> bool;
-
-    /// A write.
-    fn write(written: Written) -> Self::Write;
-
-    /// Whether it is this write.
-    fn is_write(write: &Self::Write, written: Written) -> bool;
+/// A write.
+fn write_of(written: Written) -> Write<u64, u64> {
+    match written {
+        Written::Set(value) => Write::Set(value),
+        Written::Add(amount) => Write::Change(amount),
+    }
 }
 
-/// A step over keys with such names.
-pub type OwnStep<N> = Step<N, u64, u64, <N as Name>::Way>;
+/// Whether it is this write.
+fn is_write(write: &Write<u64, u64>, written: Written) -> bool {
+    match (write, written) {
+        (Write::Set(value), Written::Set(other)) => *value == other,
+        (Write::Change(amount), Written::Add(other)) => *amount == other,
+        _ => false,
+    }
+}
 
 /// Adds a key to those that a step looked at.
-pub fn add_look<N: Name>(step: &mut OwnStep<N>, alloc: Global, key: u32) -> Result<(), AllocError> {
-    step.looked.reserve(1)?;
-    let name = N::of(alloc, key)?;
-    step.looked.push_reserved(name);
+pub fn add_look(step: &mut OwnStep, key: u32) -> Result<(), AllocError> {
+    step.looked.push(key)?;
     Ok(())
 }
 
 /// Adds a write of a key to a step.
-pub fn add_write<N: Name>(
-    step: &mut OwnStep<N>,
-    alloc: Global,
-    key: u32,
-    written: Written,
-) -> Result<(), AllocError> {
-    step.written.reserve(1)?;
-    let name = N::of(alloc, key)?;
-    step.written.push_reserved((name, N::write(written)));
+pub fn add_write(step: &mut OwnStep, key: u32, written: Written) -> Result<(), AllocError> {
+    step.written.push((key, write_of(written)))?;
     Ok(())
 }
 
 /// Puts a deed into a step's buffers, and nothing else.
-pub fn fill<N: Name>(step: &mut OwnStep<N>, alloc: Global, deed: &Deed) -> Result<(), AllocError> {
+pub fn fill(step: &mut OwnStep, deed: &Deed) -> Result<(), AllocError> {
     step.looked.clear();
     step.written.clear();
     for key in deed.looked {
         if let Some(key) = key {
-            add_look(step, alloc, key)?;
+            add_look(step, key)?;
         }
     }
     for (key, written) in deed.written {
         if let Some(key) = key {
-            add_write(step, alloc, key, written)?;
+            add_write(step, key, written)?;
         }
     }
     step.said = deed.said;
@@ -69,26 +55,23 @@ pub fn fill<N: Name>(step: &mut OwnStep<N>, alloc: Global, deed: &Deed) -> Resul
 }
 
 /// Whether these are the keys that a deed looks at.
-fn is_looked<N: Name>(names: &[N], deed: &Deed) -> bool {
-    let mut names = names.iter();
+fn is_looked(keys: &[u32], deed: &Deed) -> bool {
+    let mut keys = keys.iter();
     for key in deed.looked {
-        if let Some(key) = key {
-            match names.next() {
-                Some(name) if name.is(key) => {}
-                _ => return false,
-            }
+        if key.is_some() && keys.next().copied() != key {
+            return false;
         }
     }
-    names.next().is_none()
+    keys.next().is_none()
 }
 
 /// Whether these are a deed's writes.
-fn is_written<N: Name>(writes: &[(N, N::Write)], deed: &Deed) -> bool {
+fn is_written(writes: &[(u32, Write<u64, u64>)], deed: &Deed) -> bool {
     let mut writes = writes.iter();
     for (key, written) in deed.written {
         if let Some(key) = key {
             match writes.next() {
-                Some(write) if write.0.is(key) && N::is_write(&write.1, written) => {}
+                Some(write) if write.0 == key && is_write(&write.1, written) => {}
                 _ => return false,
             }
         }
@@ -97,7 +80,7 @@ fn is_written<N: Name>(writes: &[(N, N::Write)], deed: &Deed) -> bool {
 }
 
 /// Whether a step's buffers have a deed, and nothing else.
-pub fn is_step<N: Name>(step: &OwnStep<N>, deed: &Deed) -> bool {
+pub fn is_step(step: &OwnStep, deed: &Deed) -> bool {
     is_looked(step.looked.as_slice(), deed)
         && is_written(step.written.as_slice(), deed)
         && step.said == deed.said

@@ -2,7 +2,7 @@
 ghost use Rattle.std.specs.Prelude.{◌<◌};
 
 use crate::check::check;
-use sk_log::{Front, append, blank, first_number, front_of, seal};
+use sk_log::{FrameRefusal, Front, append, blank, first_number, front_of, seal};
 use std::process::Abort;
 
 /// The frame of segment 3 with the number 129 and the payload 'hi', reckoned by hand: 129 is 1 and 1 * 128, the bytes of 'hi'
@@ -104,4 +104,21 @@ fn stale_frame_is_blanked(rt: HostRuntime) {
     blank(&mut bytes, 10);
     check(&rt, 2, bytes[..10] == [7; 10]);
     check(&rt, 3, bytes[10..] == [0; 26]);
+}
+
+/// How many frames are appended: past each number at which a body could give up.
+const MANY: usize = 70_001;
+
+fn append_all(log: &mut Vec<u8>) -> Result<(), FrameRefusal> {
+    for number in 0..MANY {
+        append(log, 3, number as u64, b"hi")?;
+    }
+    Ok(())
+}
+
+#[test]
+fn appended_frames(rt: HostRuntime) {
+    let mut log = Vec::new(rt.alloc());
+    check(&rt, 1, append_all(&mut log) == Ok(()));
+    check(&rt, 2, log.len() == MANY * HI.len());
 }

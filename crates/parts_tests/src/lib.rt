@@ -1,6 +1,6 @@
-//! The tests of the parts of a kernel over their public calls: identifiers, values and changes, scripts, what is read and
-//! printed, traces, terminals and guesses. Tests stand in crates of their own, since the checker proves a crate anew for its
-//! tests.
+//! The tests of the parts of a kernel over those public calls that no door shows: identifiers, values and changes, traces and
+//! guesses. What texts say, private instructions and terminals are tested through C's calls (`rust/tests/calls`). Tests stand in
+//! crates of their own, since the checker proves a crate anew for its tests.
 #![tactic(auto)]
 
 #[cfg(test)]
@@ -14,17 +14,9 @@ mod lists;
 #[cfg(test)]
 mod plain;
 #[cfg(test)]
-mod private;
-#[cfg(test)]
 mod random;
 #[cfg(test)]
-mod scripts;
-#[cfg(test)]
 mod sizes;
-#[cfg(test)]
-mod terminals;
-#[cfg(test)]
-mod texts;
 #[cfg(test)]
 mod traces;
 #[cfg(test)]

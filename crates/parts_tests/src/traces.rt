@@ -1,4 +1,4 @@
-//! Traces, the faults of their texts, and that what is printed of them is read again.
+//! Traces, and that what is printed of them is read again.
 use crate::plain::{check, child, content, guess, pid};
 use rand_core::Rng;
 use rand_pcg::Pcg32;
@@ -6,8 +6,6 @@ use sk_ids::Pid;
 use sk_objects::Content;
 use sk_script::Input;
 use sk_trace::{Event, InputRef, KeptInput, Trace};
-use sk_words::FaultKind::{Operand as Malformed, Word};
-use sk_words::{Cursor, Fault, FaultKind};
 use std::alloc::Global;
 use std::process::Abort;
 
@@ -70,67 +68,6 @@ fn one_text_of_a_trace(rt: HostRuntime) {
     let trace = parsed(&rt, rt.alloc(), text);
     let want = b"step 1.3 fresh 7 \"aJ\\n\\\" \"\ncommit 9\n";
     prints(&rt, rt.alloc(), &trace, want);
-}
-
-/// The first fault of a trace's text stands in this line and is of this kind.
-fn faulty(rt: &impl Abort, alloc: Global, text: &[u8], line: u64, kind: FaultKind) {
-    let fault = Trace::parse(alloc, text).err();
-    assert!(rt; fault == Some(Fault { line, kind }), "{text:?}: {fault:?}");
-}
-
-#[test]
-fn faulty_words_of_traces(rt: HostRuntime) {
-    let rows: [&[u8]; 7] = [
-        b"stop 1 none",
-        b"\xff 1",
-        b"guess 1 good",
-        b"step 1 1 none",
-        b"step 1 fresh 1",
-        b"commit",
-        b"fail 1 1",
-    ];
-    for text in rows {
-        faulty(&rt, rt.alloc(), text, 1, Word);
-    }
-}
-
-#[test]
-fn faulty_operands_of_traces(rt: HostRuntime) {
-    let rows: [&[u8]; 5] = [
-        b"step 1 \"a",
-        b"step 1 bad",
-        b"step 0 none",
-        b"commit 0\nstop",
-        b"commit 9223372036854775808",
-    ];
-    for text in rows {
-        faulty(&rt, rt.alloc(), text, 1, Malformed);
-    }
-    let third = b"step 1 none\n# a\nguess 0 1 good";
-    faulty(&rt, rt.alloc(), third, 3, Malformed);
-}
-
-#[test]
-fn traces_that_are_well(rt: HostRuntime) {
-    let rows: [&[u8]; 2] = [
-        b"guess 9223372036854775807 1.2.3.4 good\r\n",
-        b"# \xff\n\r\n",
-    ];
-    for text in rows {
-        check(&rt, 3, Trace::parse(rt.alloc(), text).is_ok());
-    }
-}
-
-#[test]
-fn reads_below_a_heading(rt: HostRuntime) {
-    let mut lines = Cursor::of(b"limit 3\ntrace\nstep 1 none\nfail 0\n");
-    let _ = lines.next();
-    let _ = lines.next();
-    let one = Trace::read(rt.alloc(), &lines.first(1));
-    check(&rt, 4, one.is_ok_and(|trace| trace.events().len() == 1));
-    let (line, kind) = (4, Malformed);
-    let both = Trace::read(rt.alloc(), &lines).err();
-    check(&rt, 5, both == Some(Fault { line, kind }));
 }
 
 /// A number of a path: the least, the greatest, a small one or any.

@@ -1,6 +1,6 @@
 //! What grows in the kernel over own keys.
 use crate::job::{Written, bit_of};
-use crate::kernel::{Numbers, counts, fail, names_one_of};
+use crate::kernel::{Numbers, counted, fail, names_one_of};
 use crate::own::Own;
 use crate::step::{add_look, add_write};
 use crate::wrong::{Wrong, holds};
@@ -110,7 +110,7 @@ fn strikes(rt: &impl Abort, own: &mut Own, count: u16, struck: usize) -> Result<
     let first = own.tokens.len();
     fills(own, count)?;
     fails_at(rt, own, first);
-    let counts = counts(&own.kernel);
+    let counts = counted(&own.kernel);
     let is_so = counts.undecided == 0 && counts.struck == struck;
     holds(is_so, Wrong::Status)
 }

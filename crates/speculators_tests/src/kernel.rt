@@ -77,7 +77,7 @@ pub fn dependents(kernel: &Numbers, id: GuessId) -> Option<u64> {
     bits_of(kernel.dependents(id))
 }
 
-pub fn counts(kernel: &Numbers) -> Counts {
+pub fn counted(kernel: &Numbers) -> Counts {
     Counts {
         undecided: kernel.undecided(),
         struck: kernel.struck().len(),

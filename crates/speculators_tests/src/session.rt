@@ -1,7 +1,7 @@
 //! A kernel with its tokens, and the record that it is held against.
 use crate::job::{CHANNELS, Deed, Job, KEYS, NOTHING, bit_of};
 use crate::kernel::{
-    Counts, Numbers, Told, commit, counts, dependents, fail, has_keys, names_one_of,
+    Counts, Numbers, Told, commit, counted, dependents, fail, has_keys, names_one_of,
 };
 use crate::own::Own;
 use crate::record::{Reckoning, Record};
@@ -262,7 +262,7 @@ impl Session {
 
     /// How many guesses there are, and what depends on each.
     fn judge_guesses(&self, reckoning: &Reckoning) -> Result<(), Wrong> {
-        holds(counts(&self.own.kernel) == self.counts(), Wrong::Status)?;
+        holds(counted(&self.own.kernel) == self.counts(), Wrong::Status)?;
         for (place, id) in self.record.undecided().iter().enumerate() {
             let keys = dependents(&self.own.kernel, *id);
             let is_so = keys == Some(reckoning.dependents(place));

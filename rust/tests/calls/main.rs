@@ -13,5 +13,7 @@ mod limits;
 mod notes;
 mod openings;
 mod payloads;
+mod private;
 mod replies;
 mod segments;
+mod texts;

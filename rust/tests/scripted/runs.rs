@@ -272,6 +272,7 @@ fn all(part: u64, count: u64, manner: Manner, habit: (usize, usize), calls: (usi
         Manner::Guessing if count == LONG_RUNS => &[NoProcess, NeedsReply, TooMany, TraceFull],
         Manner::Guessing => &[NoProcess, Mismatch, NeedsReply, TraceFull],
         Manner::Naming => &[Mismatch, NeedsReply, NoRoom],
+        Manner::Changing => &[Mismatch, NeedsReply, Blocked],
     };
     let mut made = 0;
     for number in runs(part, count) {
@@ -342,6 +343,12 @@ fn many_guesses() {
 #[test]
 fn names_up_to_the_limit() {
     all(200, 60, Manner::Naming, (8, 4), (150, 100));
+}
+
+/// Files, pipes and queues come to their limits, and failures take it back.
+#[test]
+fn changes_up_to_the_limits() {
+    all(300, 100, Manner::Changing, (4, 8), (150, 150));
 }
 
 #[test]

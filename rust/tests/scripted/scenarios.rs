@@ -14,6 +14,8 @@ pub enum Manner {
     Guessing,
     /// Mostly names of two directories, of which one is nearly full.
     Naming,
+    /// Mostly changes of files, near the edges of their blocks and of their greatest length, and of pipes and queues up to theirs.
+    Changing,
 }
 
 /// The lines of scripts, and how often each comes. A capital letter stands for any of its operands, which `operands` has.
@@ -78,6 +80,36 @@ const NAMING_LINES: [&str; 14] = [
     "jump a",
 ];
 
+/// The lines of scripts that do little but change what there is.
+const CHANGING_LINES: [&str; 14] = [
+    "set r4 M",
+    "set r4 M",
+    "text Y",
+    "text Y",
+    "write r1 r4",
+    "write r1 r4",
+    "write r1 r4",
+    "cut r1 r4",
+    "put r2",
+    "put r2",
+    "put r2",
+    "take r2 r4",
+    "kill r6 r5",
+    "fetch X",
+];
+
+/// A text of as many bytes as there may be.
+const LONGEST: &str = concat!(
+    r#"""#,
+    "0123456789abcdef0123456789abcdef0123456789abcdef0123456789abcdef0123456789abcdef0123456789abcdef",
+    "0123456789abcdef0123456789abcdef0123456789abcdef0123456789abcdef0123456789abcdef0123456789abcdef",
+    "0123456789abcdef0123456789abcdef0123456789abcdef0123456789abcdef0123456789abcdef0123456789abcdef",
+    "0123456789abcdef0123456789abcdef0123456789abcdef0123456789abcdef0123456789abcdef0123456789abcdef",
+    "0123456789abcdef0123456789abcdef0123456789abcdef0123456789abcdef0123456789abcdef0123456789abcdef",
+    "0123456789abcdef0123456789abcdef",
+    r#"""#
+);
+
 /// The boot objects, copies and processes that each scenario has.
 const DECLARED: [&str; 8] =
     ["file f T", "file g T", "pipe p T", "dir d", "copy /x 3 T", "copy /y 1 T", "process 1 S I", "process 2 S I"];
@@ -124,6 +156,11 @@ fn operands(letter: char) -> &'static [&'static str] {
             r#""n\n\x00\xff""#,
             r#""0123456789012345678901234567890123456789""#,
         ],
+        'M' => &[
+            "0", "1", "20", "492", "500", "511", "512", "513", "530", "1004", "1023", "1024", "1536", "4096", "16384",
+            "32240", "32256", "32257", "32700", "32766", "32767", "32768", "33000",
+        ],
+        'Y' => &[LONGEST, LONGEST, r#""""#, r#""ab""#, r#""0123456789012345678901234567890123456789""#],
         'S' => &["s1", "s2", "s3"],
         'I' => &["1", "1", "2"],
         _ => &[],
@@ -182,6 +219,11 @@ impl Writing<'_> {
             Manner::Guessing => {
                 self.text.push_str("look r1 r7 f\na:\nfetch /x\n");
                 self.lines(&GUESSING_LINES, 8);
+                self.line("jump a");
+            }
+            Manner::Changing => {
+                self.text.push_str("look r1 r7 f\nlook r2 r7 p\nset r5 7\nboot r6 2\na:\nfetch /x\n");
+                self.lines(&CHANGING_LINES, 16);
                 self.line("jump a");
             }
             Manner::Naming => {

@@ -3,9 +3,10 @@
 
     bench/epochs.py PROGRAM
 
-PROGRAM is `crates/kernels_tests/out/kernels_tests_tests`, whose test `growths::epochs::epochs_of_rounds` runs. An
-epoch of the first table has 100,000 events, with a guess and its decision every thousand. The second table has epochs in which nothing is done, over so many files:
-two runs with a different number of them, and the difference for each, the best of three.
+PROGRAM is the test program `growths` of the Rust crate, over the proved library, of which `cargo test --release --no-run --test growths`
+in rust/ tells the path; its test `epochs::epochs_of_rounds` runs. An epoch of the first table has 100,000 events, with a guess and its
+decision every thousand. The second table has epochs in which nothing is done, over so many files: two runs with a different number of
+them, and the difference for each, the best of three.
 """
 
 import os
@@ -29,7 +30,7 @@ def high_water(pid):
 def ran(program, epochs, rounds, files):
     """The processor's seconds that a run takes, so that other work counts little, and its peak memory in KB."""
     asked = {"EPOCHS": str(epochs), "ROUNDS": str(rounds), "FILES": str(files)}
-    words = [program, "growths::epochs::epochs_of_rounds"]
+    words = [program, "epochs::epochs_of_rounds"]
     child = subprocess.Popen(words, stdout=subprocess.DEVNULL, env={**os.environ, **asked})
     peak = 0
     while True:

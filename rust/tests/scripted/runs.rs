@@ -348,7 +348,7 @@ fn names_up_to_the_limit() {
 /// Files, pipes and queues come to their limits, and failures take it back.
 #[test]
 fn changes_up_to_the_limits() {
-    all(300, 100, Manner::Changing, (4, 8), (150, 150));
+    all(300, 50, Manner::Changing, (4, 8), (150, 150));
 }
 
 #[test]

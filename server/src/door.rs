@@ -1,18 +1,23 @@
 //! The door: what of a client's bytes comes to the store. One that has not said the password is answered here, and nothing of it does.
 use crate::ahead::Ahead;
+use crate::guests::named;
 use crate::options::Options;
 use crate::request::Does;
+use crate::resp::{bulk, error, plain, wrong_number, Nulls, Reply, Version, OK};
 use crate::server::State;
 use hidewillow::store::log::Room;
 use std::hint::black_box;
+use std::mem;
 use std::time::Instant;
 
 /// No request at the door is longer; and no other is longer than its words by more.
 pub const LONGEST: usize = 1 << 14;
-pub const OK: &[u8] = b"+OK\r\n";
-const WRONG: &[u8] = b"-WRONGPASS invalid username-password pair or user is disabled.\r\n";
-const NO_PASSWORD: &[u8] = b"-ERR AUTH <password> called without any password configured for the default user. \
-Are you sure your configuration is correct?\r\n";
+const WRONG: &str = "WRONGPASS invalid username-password pair or user is disabled.";
+const NOT_IN: &str =
+    "NOAUTH HELLO must be called with the client already authenticated, otherwise the HELLO <proto> AUTH <user> \
+<pass> option can be used to authenticate the client and select the RESP protocol version at the same time";
+const NO_PASSWORD: &str = "AUTH <password> called without any password configured for the default user. \
+Are you sure your configuration is correct?";
 
 /// What was queued since MULTI: whether some of it may write, and the bytes of what all of it is to be told.
 #[derive(Clone, Copy, Default)]
@@ -21,10 +26,24 @@ pub struct Queue {
     pub shows: usize,
 }
 
+/// What a client waits for, until all before is decided: no more than that, or then to begin by `HELLO`, to be as a new one, or to be told
+/// how much a key has.
+pub enum Wait {
+    All,
+    Begins(Vec<Vec<u8>>),
+    Resets,
+    Weighs(Vec<u8>),
+}
+
 /// What stands beside knows of a client.
 pub struct Guest {
-    /// A number that no other has or had.
+    /// A number that no other has or had; when it came, what it is called, and the library that it has, with its version.
     pub id: u64,
+    pub born: Instant,
+    pub name: Vec<u8>,
+    pub library: [String; 2],
+    /// How what goes out is told, where it speaks version 3.
+    pub nulls: Option<Nulls>,
     /// Whether it said the password, or needn't; said at the door that it goes; and has just said a wrong one.
     pub is_in: bool,
     pub leaves: bool,
@@ -36,7 +55,7 @@ pub struct Guest {
     pub state: State,
     pub asks: (bool, bool),
     /// The batch up to which all is to be decided before it is answered, what it was sent ahead, and what it queues.
-    pub waits: Option<u64>,
+    pub waits: Option<(u64, Wait)>,
     pub ahead: Option<Ahead>,
     pub queue: Option<Queue>,
 }
@@ -46,17 +65,112 @@ impl Guest {
         let (state, heard) = (State::Free, Instant::now());
         let (leaves, is_wrong, has_ended, asks) = (false, false, false, (false, false));
         let (waits, ahead, queue) = (None, None, None);
-        Guest { id, is_in, leaves, is_wrong, has_ended, heard, state, asks, waits, ahead, queue }
+        let (born, name, library, nulls) = (heard, Vec::new(), Default::default(), None);
+        #[rustfmt::skip]
+        let guest = Guest {
+            id, born, name, library, nulls, is_in, leaves, is_wrong, has_ended, heard, state, asks, waits, ahead, queue,
+        };
+        guest
+    }
+
+    /// The version of the protocol that it speaks.
+    pub fn version(&self) -> Version {
+        self.nulls.as_ref().map_or(Version::Two, |_| Version::Three)
+    }
+
+    /// It is as a new one.
+    pub fn forget(&mut self) {
+        (self.name, self.library, self.nulls, self.ahead) = (Vec::new(), Default::default(), None, None);
     }
 
     /// Answers the request of a client that is not in.
     pub fn greet(&mut self, words: &[&[u8]], options: &Options) -> Vec<u8> {
-        let (told, is_in) = greet(options, words, false);
-        self.is_in = is_in;
         self.leaves = words.first().is_some_and(|word| word.eq_ignore_ascii_case(b"QUIT"));
-        let told = told.unwrap_or_default();
+        let Some(told) = self.greeted(words, options) else { return Vec::new() };
         self.is_wrong = is_wrong(&told);
-        told
+        told.bytes(self.version())
+    }
+
+    /// What is answered to what is said at the door, also by one who is in; nothing where it is not of the door.
+    pub fn greeted(&mut self, words: &[&[u8]], options: &Options) -> Option<Reply> {
+        let (word, rest) = words.split_first()?;
+        Some(match (word.to_ascii_uppercase().as_slice(), rest) {
+            (b"AUTH", [_]) if options.password.is_empty() => error(NO_PASSWORD),
+            (b"AUTH", [word]) => self.says(b"default", word, options),
+            (b"AUTH", [user, word]) => self.says(user, word, options),
+            (b"AUTH", []) => wrong_number("auth"),
+            (b"AUTH", _) => error("syntax error"),
+            (b"HELLO", rest) => self.begins(rest, options).unwrap_or_else(|fault| fault),
+            (b"QUIT", _) => OK,
+            _ if self.is_in => return None,
+            (b"PING", []) => Reply::Line("PONG"),
+            (b"RESET", []) => {
+                self.forget();
+                Reply::Line("RESET")
+            }
+            _ => Reply::Error("NOAUTH Authentication required.".into()),
+        })
+    }
+
+    /// It says a password: who is in stays so.
+    fn says(&mut self, user: &[u8], word: &[u8], options: &Options) -> Reply {
+        let is_right = (user == b"default") & (options.password.is_empty() | is_password(options, word));
+        self.is_in |= is_right;
+        if is_right {
+            OK
+        } else {
+            Reply::Error(WRONG.into())
+        }
+    }
+
+    /// It begins, by the words behind `HELLO`: with a version, a password and a name, or none of them; nothing is so where one is at fault.
+    fn begins(&mut self, words: &[&[u8]], options: &Options) -> Result<Reply, Reply> {
+        let (version, mut rest) = match words {
+            [] => (self.version(), words),
+            [b"2", rest @ ..] => (Version::Two, rest),
+            [b"3", rest @ ..] => (Version::Three, rest),
+            [word, ..] if plain(word).parse::<i64>().is_ok() => {
+                return Err(Reply::Error("NOPROTO unsupported protocol version".into()))
+            }
+            _ => return Err(error("Protocol version is not an integer or out of range")),
+        };
+        let (mut name, mut says) = (None, None);
+        while let [what, behind @ ..] = rest {
+            rest = match (what.to_ascii_uppercase().as_slice(), behind) {
+                (b"AUTH", [user, word, behind @ ..]) => {
+                    says = Some((user, word));
+                    behind
+                }
+                (b"SETNAME", [word, behind @ ..]) => {
+                    name = Some(named(word)?);
+                    behind
+                }
+                _ => return Err(error(format!("Syntax error in HELLO option '{}'", plain(what)))),
+            };
+        }
+        match says.map(|(user, word)| self.says(user, word, options)) {
+            Some(fault @ Reply::Error(_)) => return Err(fault),
+            _ if !self.is_in => return Err(Reply::Error(NOT_IN.into())),
+            _ => (),
+        }
+        self.name = name.unwrap_or(mem::take(&mut self.name));
+        self.nulls = (version == Version::Three).then(|| self.nulls.take().unwrap_or_default());
+        Ok(self.hello())
+    }
+
+    /// What it is told of the server.
+    fn hello(&self) -> Reply {
+        let (proto, id) = (Reply::Number(self.version().number()), Reply::Number(self.id as i64));
+        let of = [
+            ("server", bulk("hidewillow")),
+            ("version", bulk(env!("CARGO_PKG_VERSION"))),
+            ("proto", proto),
+            ("id", id),
+            ("mode", bulk("standalone")),
+            ("role", bulk("master")),
+            ("modules", Reply::List(Vec::new())),
+        ];
+        Reply::Map(of.map(|(name, it)| (bulk(name), it)).into())
     }
 
     /// What is fed in the place of a request for which there is no room, or no memory: a queue takes none then, whatever it does.
@@ -84,8 +198,8 @@ impl Guest {
 }
 
 /// Whether what a client is told is that its password is wrong.
-pub fn is_wrong(told: &[u8]) -> bool {
-    told == WRONG
+pub fn is_wrong(told: &Reply) -> bool {
+    matches!(told, Reply::Error(words) if words == WRONG)
 }
 
 /// Whether a word is the password. How long that takes tells nothing of it.
@@ -93,36 +207,4 @@ pub fn is_password(options: &Options, word: &[u8]) -> bool {
     let wanted = options.password.iter().chain(&[0]).cycle();
     let differs = word.iter().zip(wanted).fold(0, |differs, (it, wanted)| black_box(differs | (it ^ wanted)));
     (differs == 0) & (word.len() == options.password.len())
-}
-
-/// What a client is told of the server.
-fn hello() -> Vec<u8> {
-    let words = ["server", "hidewillow", "version", env!("CARGO_PKG_VERSION"), "mode", "standalone", "role", "master"];
-    let words: String = words.iter().map(|word| format!("${}\r\n{word}\r\n", word.len())).collect();
-    format!("*{}\r\n{words}$5\r\nproto\r\n:2\r\n$7\r\nmodules\r\n*0\r\n", 12).into()
-}
-
-/// What a client is answered at the door, if anything, and whether it is in. The password is asked for where one is set.
-pub fn greet(options: &Options, words: &[&[u8]], mut is_in: bool) -> (Option<Vec<u8>>, bool) {
-    let mut pass = |user: &[u8], word| {
-        let is_right = (user == b"default") & is_password(options, word);
-        is_in |= is_right;
-        is_right
-    };
-    let Some((word, rest)) = words.split_first() else { return (Some(Vec::new()), is_in) };
-    let told: &[u8] = match (word.to_ascii_uppercase().as_slice(), rest) {
-        (b"AUTH", [word]) if pass(b"default", word) => OK,
-        (b"AUTH", [user, word]) if pass(user, word) => OK,
-        (b"AUTH", [_] | [_, _]) if options.password.is_empty() => NO_PASSWORD,
-        (b"AUTH", [_] | [_, _]) => WRONG,
-        (b"AUTH", _) => b"-ERR wrong number of arguments for 'auth' command\r\n",
-        (b"QUIT", _) => OK,
-        (b"PING", []) => b"+PONG\r\n",
-        (b"HELLO", [version, ..]) if *version != b"2" => b"-NOPROTO unsupported protocol version\r\n",
-        (b"HELLO", [_, auth, user, word, ..]) if auth.eq_ignore_ascii_case(b"AUTH") && !pass(user, word) => WRONG,
-        (b"HELLO", _) if is_in => return (Some(hello()), is_in),
-        _ if is_in => return (None, is_in),
-        _ => b"-NOAUTH Authentication required.\r\n",
-    };
-    (Some(told.into()), is_in)
 }

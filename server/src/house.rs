@@ -41,7 +41,7 @@ pub struct House {
     /// Channels that wait to be answered until more is decided.
     pub waiting: Vec<u16>,
     /// How many clients came, and how many commands.
-    connected: u64,
+    pub connected: u64,
     pub commands: u64,
     /// Batches that are logged, those that were refused, those that a cut kept, and keys that were taken back.
     pub logged: u64,
@@ -173,7 +173,7 @@ impl Server {
     /// A signal came: one asks for counts, each other is to stop.
     pub fn signalled(&mut self, signal: u8) {
         if u32::from(signal) == SIGUSR1 {
-            return say!("{}", self.info(false));
+            return say!("{}", self.info(&[]));
         }
         say!("stopping");
         self.house.stopping = Some(Instant::now() + PATIENCE);

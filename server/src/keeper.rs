@@ -1,4 +1,5 @@
 //! When snapshots are made, and backups.
+use crate::resp::{error, Reply, OK};
 use crate::server::Server;
 use hidewillow::store::folder::Folder;
 use hidewillow::store::log::{Closed, Segments};
@@ -56,9 +57,9 @@ impl Keeper {
 
 impl Server {
     /// Wishes for a snapshot of all that is in the log up to now, and who is told when it is made.
-    pub fn wish(&mut self, channel: u16, backup: Option<&str>) -> Option<Vec<u8>> {
+    pub fn wish(&mut self, channel: u16, backup: Option<&str>) -> Option<Reply> {
         let Some(Segments { written: up_to, .. }) = self.channels.log().segments() else {
-            return Some(b"-ERR no snapshots are made of this log\r\n".into());
+            return Some(error("no snapshots are made of this log"));
         };
         let client = self.guest(channel).map_or(0, |guest| guest.id);
         let (options, keeper) = (&self.house.options, &mut self.house.keeper);
@@ -116,8 +117,8 @@ impl Server {
             }
         }
         if self.guest(wish.channel).is_some_and(|guest| guest.id == wish.client) {
-            let told = did.map_or_else(|error| format!("-IOERR no snapshot: {error}\r\n"), |_| "+OK\r\n".into());
-            self.tell(wish.channel, told.as_bytes());
+            let told = did.map_or_else(|error| Reply::Error(format!("IOERR no snapshot: {error}")), |_| OK);
+            self.reply(wish.channel, &told);
         }
     }
 }

@@ -22,8 +22,8 @@
 //!     nothing of it. Where there is no room on the disk or in memory for what a request writes,
 //!     one is fed in its place that the store hands back, or which in a queue is an error that drops the queue (`channels.rs`).
 //!  7. What a channel puts out goes to its socket, in order and once, as long as there is the connection, behind what is answered at the
-//!     door, and nothing else does; but a client that wishes so is sent answers ahead, each with a number, until it waits for all
-//!     (`channels.rs`, `replies.rs`).
+//!     door, and nothing else does; but a client that wishes so is sent answers ahead, each with a number, until it waits for all, and
+//!     one that speaks version 3 of the protocol its null for each of version 2 (`channels.rs`, `replies.rs`).
 //!  8. What a start reads of segments, but for zeros, it writes again and syncs before it serves, since what can be read needn't be on
 //!     the disk; a snapshot has its name only once it is, and was read back whole (`reading.rs`, `folder.rs`, `recovery.rs`).
 //!  9. A start gives the library the newest snapshot, which is whole, the heads of all segments behind, and then of each, in order, the
@@ -53,14 +53,19 @@ mod asked;
 mod door;
 mod etcd;
 mod gather;
+mod glob;
 mod guard;
+mod guests;
 mod house;
 mod info;
 mod keeper;
 mod options;
 mod progress;
 mod request;
+mod resp;
 mod server;
+mod settings;
+mod table;
 mod trusted;
 
 use hidewillow::store::folder::Folder;

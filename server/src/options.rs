@@ -155,8 +155,13 @@ fn is_far(address: &str) -> bool {
 }
 
 impl Options {
+    /// The host and the port of the address.
+    pub fn place(&self) -> (&str, &str) {
+        self.address.rsplit_once(':').unwrap_or_default()
+    }
+
     /// Takes a value; an error says what was expected.
-    fn set(&mut self, name: &str, value: &str) -> Result<(), String> {
+    pub fn set(&mut self, name: &str, value: &str) -> Result<(), String> {
         match name {
             "address" => self.address = address(value)?,
             "password" if value.is_empty() => return Err("expected a word, and an empty one is none".into()),
@@ -246,11 +251,16 @@ impl Options {
 
     /// So many handles may be open: as many as files may want are kept back from clients.
     pub fn has_handles(&mut self, handles: u64) {
-        let most = handles.saturating_sub(KEPT_BACK + u64::from(self.limits.in_flight)).max(1) as usize;
+        let most = self.most_clients(handles);
         if self.clients > most {
             say!("{most} clients may be here at once, as the system allows {handles} handles");
             self.clients = most;
         }
+    }
+
+    /// How many clients there may be where so many handles may be open.
+    pub fn most_clients(&self, handles: u64) -> usize {
+        handles.saturating_sub(KEPT_BACK + u64::from(self.limits.in_flight)).max(1) as usize
     }
 
     /// These, as far as they go together.

@@ -407,6 +407,11 @@ impl Server {
     /// Tells the answer of what a channel asks, which goes out in its turn.
     pub fn tell(&mut self, channel: u16, text: &[u8]) {
         let did = self.channels.tell(channel, text);
+        self.is_told(channel, did);
+    }
+
+    /// The answer of what a channel asks is told, unless there was no memory.
+    pub fn is_told(&mut self, channel: u16, did: bool) {
         self.has_told = true;
         let Some(guest) = self.guest(channel) else { return };
         if !did {

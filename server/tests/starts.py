@@ -118,7 +118,7 @@ def password(program, folder):
     server = Server(program, folder, "--config", str(file))
     yield "a start from a file", server.says("listening on")
     no, wrong = b"-NOAUTH Authentication required.\r\n", b"-WRONGPASS invalid username-password pair or user is disabled.\r\n"
-    yield "nothing without the password", server.ask(b"GET a\r\nSET a 1\r\nHELLO 2\r\nPING\r\n", no * 3 + b"+PONG\r\n")
+    yield "nothing without the password", server.ask(b"GET a\r\nSET a 1\r\nPING\r\nHELLO 2\r\n", no * 2 + b"+PONG\r\n-NOAUTH HELLO must be called")
     yield "wrong ones", server.ask(b"AUTH secre\r\nAUTH secretsecret\r\nAUTH other secret\r\nGET a\r\n", wrong * 3 + no)
     yield "all with it", server.ask(b"*2\r\n$4\r\nAUTH\r\n$6\r\nsecret\r\nSET a 1\r\nGET a\r\n", b"+OK\r\n+OK\r\n$1\r\n1\r\n")
     yield "a request that never ends, at the door", server.ask(b"x" * 100_000, b"") and server.ask(b"PING\r\n", b"+PONG\r\n")
@@ -141,9 +141,10 @@ def backup(program, server, folder):
 
 def hosts(server):
     """What the server is asked itself, in its turn among commands."""
-    yield "clients' first words", server.ask(b"SET h 1\r\nCLIENT SETNAME x\r\nGET h\r\nSELECT 0\r\nCOMMAND\r\nDEL h\r\n",
+    yield "clients' first words", server.ask(b"SET h 1\r\nCLIENT SETNAME x\r\nGET h\r\nSELECT 0\r\nSLOWLOG GET\r\nDEL h\r\n",
                                              b"+OK\r\n+OK\r\n$1\r\n1\r\n+OK\r\n*0\r\n:1\r\n")
-    yield "what isn't known", server.ask(b"NOSUCH 1\r\nSELECT 1\r\nHELLO 3\r\n", b"-ERR unknown command 'NOSUCH'\r\n-ERR DB index is out of range\r\n-NOPROTO")
+    yield "what isn't known", server.ask(b"NOSUCH 1\r\nSELECT 1\r\nHELLO 4\r\n",
+                                       b"-ERR unknown command 'NOSUCH', with args beginning with: '1' \r\n-ERR DB index is out of range\r\n-NOPROTO")
     yield "a password where none is set", server.line(b"AUTH x\r\n").startswith(b"-ERR AUTH <password> called without any password")
     yield "settings", server.ask(b"CONFIG GET appendonly\r\nCONFIG GET x\r\n", b"*2\r\n$10\r\nappendonly\r\n$3\r\nyes\r\n*0\r\n")
     with socket.create_connection(("127.0.0.1", server.port), timeout=60) as link:

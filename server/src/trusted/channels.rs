@@ -180,16 +180,34 @@ impl Client {
         }
         let words = words(&self.came[self.taken..][..next.len]);
         let told = self.guest.greet(&words, &house.options);
-        self.replies.put(&told, 0, true); // [7]
+        self.put(&told, 0, true);
         self.has_fed(next.len);
         Ok(Fed::Part)
     }
 
+    /// Has bytes sent once those before are, and what has this mark may be told, as its version of the protocol has them.
+    fn put(&mut self, bytes: &[u8], mark: u64, may_tell: bool) {
+        match &mut self.guest.nulls {
+            None => self.replies.put(bytes, mark, may_tell), // [7]
+            Some(nulls) => self.replies.put(&nulls.told(bytes), mark, may_tell), // [7]
+        }
+    }
+
     /// An answer that stands ahead of what goes out, where the client wishes so.
     fn send_ahead(&mut self, text: &[u8]) {
-        if let Some(ahead) = &mut self.guest.ahead {
-            self.replies.put(&ahead.sent(text), 0, true); // [7]
+        if let Some(sent) = self.guest.ahead.as_mut().map(|ahead| ahead.sent(text)) {
+            self.put(&sent, 0, true);
         }
+    }
+
+    /// Where it is, and where it came to.
+    pub fn ends(&self) -> [String; 2] {
+        [self.socket.peer_addr(), self.socket.local_addr()].map(|at| at.map_or(String::new(), |at| at.to_string()))
+    }
+
+    /// How many bytes of what came are not fed yet.
+    pub fn unfed(&self) -> usize {
+        self.came.len() - self.taken
     }
 
     /// Sends what may be sent, as much as the socket takes.
@@ -426,11 +444,11 @@ impl Channels {
             } else if self.log.is_over() {
                 // Nothing will be proved any more, and refusals tell of nothing that could be old.
                 while let Some(behind) = bytes.strip_prefix(REFUSAL) {
-                    client.replies.put(REFUSAL, 0, true);
+                    client.put(REFUSAL, 0, true);
                     bytes = behind;
                 }
             }
-            client.replies.put(bytes, client.mark, may_tell); // [7]
+            client.put(bytes, client.mark, may_tell);
         }
         true
     }
@@ -489,6 +507,30 @@ impl Channels {
             client.send_ahead(text);
         }
         did
+    }
+
+    /// Has a client that asks so begin anew, at the door if it is not in, and tells it by this text, where all up to a batch is decided, and the
+    /// store has nothing of it beside; whether it was so.
+    pub fn reset(&mut self, channel: u16, decided: u64, is_in: bool, text: &[u8]) -> bool {
+        let is_due = |it: &&mut Client| it.guest.state == State::Asked && it.last <= decided && it.had == Had::Whole;
+        let Some(client) = self.clients.get_mut(&channel).filter(is_due) else { return false };
+        client.guest.forget();
+        if !self.tell(channel, text) || !self.take(channel) {
+            return false;
+        }
+        if let Some(client) = self.clients.get_mut(&channel).filter(|_| !is_in) {
+            (client.guest.is_in, client.had) = (false, Had::Nothing);
+        }
+        true
+    }
+
+    /// How many bytes a key has, or none where it is absent; nothing while that depends on what is undecided.
+    pub fn decided_bytes(&mut self, key: &[u8]) -> Option<Option<usize>> {
+        if self.store.rests_on(key, 0).is_some() {
+            return None;
+        }
+        let bytes = self.store.value_bytes(key);
+        Some((bytes > 0 || self.store.value(key, &mut self.room).is_some()).then_some(bytes))
     }
 
     /// What is undecided.

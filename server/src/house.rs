@@ -187,6 +187,7 @@ impl Server {
         if is_late && undecided > 0 {
             return Err(io::Error::other(format!("{undecided} bytes of writes are undecided, and were not answered")));
         }
-        Ok(is_late || undecided == 0 && self.clients().1 == 0)
+        let mut clients = self.channels.clients();
+        Ok(is_late || undecided == 0 && clients.all(|(_, client)| client.waits().0 == 0))
     }
 }

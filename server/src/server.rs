@@ -128,6 +128,8 @@ impl Server {
             for channel in mem::take(&mut self.touched) {
                 self.write(channel);
             }
+            let channels = &mut self.channels;
+            self.ending.retain(|channel| channels.client(*channel).is_some());
         }
         self.channels.let_go()?;
         Ok(self.channels.log().is_over())
@@ -334,7 +336,6 @@ impl Server {
             _ => false,
         };
         if is_over || self.asks(channel, asks).is_err() {
-            self.ending.retain(|it| *it != channel);
             self.channels.hang_up(channel);
             self.doorway.may_open();
         }
@@ -372,12 +373,6 @@ impl Server {
     /// What it knows of a client.
     pub fn guest(&mut self, channel: u16) -> Option<&mut Guest> {
         Some(&mut self.channels.client(channel)?.guest)
-    }
-
-    /// How many clients are there, and how many of them wait for bytes.
-    pub fn clients(&self) -> (usize, usize) {
-        let waits = self.channels.clients().filter(|(_, client)| client.waits().0 > 0).count();
-        (self.channels.count(), waits)
     }
 
     /// The last batch of those that have what was fed up to now, as they are decided one after the other.

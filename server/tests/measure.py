@@ -3,16 +3,17 @@
 the disk at hand, and with milliseconds added to each sync of both. With `--folder /dev/shm`, where syncs take nothing, they take just
 these milliseconds.
 
-    tests/measure.py [--server PROGRAM] [--folder DIR] [--seconds 1.5] [--rounds 3] [--few]
+    tests/measure.py [--server PROGRAM] [--folder DIR] [--seconds 1.5] [--rounds 3] [--few] [--waiting]
 
 A table of ratios for each number of milliseconds: commands a second, the median over the rounds, ours by theirs. Then what the rows
 with an aim come to: of these too, beside the aim and OVER where it is missed, how long reads wait, what a chain of 100 dependent
-commands takes where answers come ahead, and what the processor takes for a SET. The last line says the machine and its load. With
-`--few` the rows with an aim alone. Where `redis-server` is not installed it says 'not there'.
+commands takes where answers come ahead, what the processor takes for a SET, and for a command beside clients that wait. The last line
+says the machine and its load. With `--few` the rows with an aim alone, and with `--waiting` those of clients that wait. Where `redis-server` is not installed it says 'not there'.
 """
 import argparse
 import os
 import pathlib
+import resource
 import shutil
 import socket
 import statistics
@@ -27,6 +28,8 @@ CHAIN = 100
 # What is wanted: reads of a hundred, connections, pipeline, milliseconds added, and the least ratio.
 AIMS = [(90, 50, 1, 1, 3.0), (90, 50, 1, 10, 8.0), (50, 50, 1, 1, 2.5), (50, 50, 1, 10, 2.0), (0, 50, 1, 1, 1.2), (0, 50, 1, 10, 1.2), (0, 1, 1, 1, 0.9), (0, 1, 1, 10, 0.9)]
 WAIT_OF_READS, CHAIN_AHEAD, PROCESSOR_OF_A_SET = 0.2, 20, 1.3
+# Connections that wait beside fifty, and what a command takes beside them, by what it takes without.
+WAITING, BESIDE_WAITING = (1_000, 9_900), 1.3
 
 
 class Bench:
@@ -37,8 +40,8 @@ class Bench:
         subprocess.run(["cc", "-O2", "-o", self.room / "load", HERE / "load.c"], check=True)
         subprocess.run(["cc", "-O2", "-shared", "-fPIC", "-o", self.room / "shim.so", HERE / "shim.c", "-ldl", "-lpthread"], check=True)
 
-    def load(self, name, added, *words):
-        """What a load on a server of its own prints, and the seconds of a processor that the server took."""
+    def load(self, name, added, *words, waiting=0):
+        """What a load on a server of its own prints, beside clients that wait, and the seconds of a processor that the server took."""
         folder = pathlib.Path(tempfile.mkdtemp(dir=self.options.folder))
         with socket.socket() as probe:
             probe.bind(("127.0.0.1", 0))
@@ -53,6 +56,8 @@ class Bench:
                 if len(list(folder.glob("log-*"))) > 1:
                     break
                 time.sleep(0.02)
+            waits = [socket.create_connection(("127.0.0.1", port)) for _ in range(waiting)]
+            time.sleep(0.5 if waits else 0)
             begun = processor_of(process.pid)
             ran = subprocess.run([self.room / "load", str(port), *map(str, words)], capture_output=True, text=True, check=False)
             if ran.returncode:
@@ -74,6 +79,17 @@ class Bench:
                     runs[name].append((commands / seconds, *waits, took * 1e6 / commands))
             self.known[row] = {name: [statistics.median(it) for it in zip(*runs[name])] for name in SERVERS}
         return self.known[row]
+
+    def beside(self, waiting):
+        """What the processor takes for a command beside so many clients that wait, by what it takes beside none; the median."""
+        ratios = []
+        for _ in range(self.options.rounds):
+            costs = []
+            for count in (0, waiting):
+                (commands, *_), took = self.load("ours", 1, "mix", 50, 50, 1, self.options.seconds, waiting=count)
+                costs.append(took / commands)
+            ratios.append(costs[1] / costs[0])
+        return statistics.median(ratios)
 
     def ratio(self, *row):
         told = self.mix(*row)
@@ -116,12 +132,20 @@ def tables(bench):
                 print(f"| {reads} %, {pipeline} | " + " | ".join(ratios) + " |", flush=True)
 
 
+def row(what, value, aim, is_least=True):
+    """A row with an aim."""
+    is_over = value < aim if is_least else value > aim
+    print(f"| {what} | {value:.2f} | {aim} {'at least' if is_least else 'at most'} | {'OVER' if is_over else ''} |", flush=True)
+
+
+def beside_waiting(bench):
+    """What clients cost that wait."""
+    for count in WAITING:
+        row(f"{count:,} clients that wait, beside 50: processor a command, by without them", bench.beside(count), BESIDE_WAITING, False)
+
+
 def aims(bench):
     """The rows with an aim."""
-    def row(what, value, aim, is_least=True):
-        is_over = value < aim if is_least else value > aim
-        print(f"| {what} | {value:.2f} | {aim} {'at least' if is_least else 'at most'} | {'OVER' if is_over else ''} |", flush=True)
-
     print("\n| ours by theirs | | aim | |\n|---|---|---|---|")
     for reads, connections, pipeline, added, aim in AIMS:
         row(f"{reads} % reads, {connections} connections, {added} ms: commands a second", bench.ratio(reads, connections, pipeline, added), aim)
@@ -133,6 +157,7 @@ def aims(bench):
     told = bench.mix(0, 50, 16, 0)
     what = f"writes alone, 50 connections, pipeline 16: processor {told['ours'][3]:.1f} us a SET, theirs {told['redis'][3]:.1f}"
     row(what, told["ours"][3] / told["redis"][3], PROCESSOR_OF_A_SET, False)
+    beside_waiting(bench)
 
 
 def main():
@@ -142,16 +167,18 @@ def main():
     words.add_argument("--seconds", type=float, default=1.5)
     words.add_argument("--rounds", type=int, default=3)
     words.add_argument("--few", action="store_true")
+    words.add_argument("--waiting", action="store_true")
     options = words.parse_args()
-    if not shutil.which("redis-server"):
+    resource.setrlimit(resource.RLIMIT_NOFILE, (resource.getrlimit(resource.RLIMIT_NOFILE)[1],) * 2)
+    if not options.waiting and not shutil.which("redis-server"):
         print("measure: no redis-server: not there")
         return
     before = os.getloadavg()[0]
     with tempfile.TemporaryDirectory() as room:
         bench = Bench(options, room)
-        if not options.few:
+        if not options.few and not options.waiting:
             tables(bench)
-        aims(bench)
+        (beside_waiting if options.waiting else aims)(bench)
     model = next(it.split(":")[1].strip() for it in open("/proc/cpuinfo", encoding="ascii") if it.startswith("model name"))
     print(f"\n{os.cpu_count()} processors, {model}; load {before:.1f} before and {os.getloadavg()[0]:.1f} behind")
 

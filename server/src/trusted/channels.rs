@@ -8,7 +8,7 @@ use crate::request::{words, Does, Front, Lack};
 use crate::server::State;
 use hidewillow::store::log::{Closed, Room};
 use hidewillow::store::{Decision, Fed as Taken, Refusal, Request, Store, StoreCounts};
-use std::collections::{BTreeMap, VecDeque};
+use std::collections::{BTreeSet, VecDeque};
 use std::io::{self, Read};
 use std::mem;
 use std::net::TcpStream;
@@ -226,11 +226,40 @@ impl Client {
     }
 }
 
-/// A store, its log, and the clients of its channels.
+/// The clients of channels, each in its place.
+#[derive(Default)]
+struct Clients {
+    places: Vec<Option<Box<Client>>>,
+    count: usize,
+}
+
+impl Clients {
+    fn get(&self, channel: u16) -> Option<&Client> {
+        self.places.get(usize::from(channel))?.as_deref()
+    }
+
+    fn get_mut(&mut self, channel: u16) -> Option<&mut Client> {
+        self.places.get_mut(usize::from(channel))?.as_deref_mut()
+    }
+
+    fn insert(&mut self, channel: u16, client: Client) {
+        let place = usize::from(channel);
+        self.places.resize_with(self.places.len().max(place + 1), || None);
+        self.count += usize::from(self.places[place].replace(Box::new(client)).is_none());
+    }
+
+    fn remove(&mut self, channel: u16) {
+        let gone = self.places.get_mut(usize::from(channel)).and_then(Option::take);
+        self.count -= usize::from(gone.is_some());
+    }
+}
+
+/// A store, its log, and the clients of its channels; and the channels that may have something that is held back until its mark may be told.
 pub struct Channels {
     store: Store,
     log: Box<dyn Log>,
-    clients: BTreeMap<u16, Client>,
+    clients: Clients,
+    held: BTreeSet<u16>,
     waiting: Waiting,
     /// A room for what sockets read and channels put out.
     room: Vec<u8>,
@@ -238,7 +267,8 @@ pub struct Channels {
 
 impl Channels {
     pub fn new(store: Store, log: Box<dyn Log>) -> Channels {
-        Channels { store, log, clients: BTreeMap::new(), waiting: Waiting::default(), room: vec![0; 1 << 18] }
+        let (clients, held, waiting) = (Clients::default(), BTreeSet::new(), Waiting::default());
+        Channels { store, log, clients, held, waiting, room: vec![0; 1 << 18] }
     }
 
     /// Gives a connection a channel, or back, where there is none.
@@ -255,7 +285,7 @@ impl Channels {
 
     /// Lets go of a connection and its channel.
     pub fn hang_up(&mut self, channel: u16) {
-        self.clients.remove(&channel);
+        self.clients.remove(channel);
         self.store.hang_up(channel);
     }
 
@@ -263,7 +293,7 @@ impl Channels {
     /// and was taken out. Whether it has one: its number is the last that was given back.
     pub fn renew(&mut self, channel: u16, decided: u64) -> bool {
         let is_due = |client: &&mut Client| client.keeps_room() && client.is_done(decided);
-        let Some(client) = self.clients.get_mut(&channel).filter(is_due) else { return true };
+        let Some(client) = self.clients.get_mut(channel).filter(is_due) else { return true };
         client.shown = 0;
         self.store.hang_up(channel);
         let Ok(given) = self.store.connect() else { return false };
@@ -274,16 +304,17 @@ impl Channels {
     }
 
     pub fn client(&mut self, channel: u16) -> Option<&mut Client> {
-        self.clients.get_mut(&channel)
+        self.clients.get_mut(channel)
     }
 
     pub fn clients(&self) -> impl Iterator<Item = (u16, &Client)> {
-        self.clients.iter().map(|(channel, client)| (*channel, client))
+        let places = (0..).zip(&self.clients.places);
+        places.filter_map(|(channel, client)| Some((channel, client.as_deref()?)))
     }
 
     /// How many there are; and how many bytes wait for all of them.
     pub fn count(&self) -> usize {
-        self.clients.len()
+        self.clients.count
     }
 
     pub fn waiting(&self) -> usize {
@@ -292,7 +323,7 @@ impl Channels {
 
     /// Reads what came: how many bytes, and 0 at the end.
     pub fn read(&mut self, channel: u16) -> io::Result<usize> {
-        let client = self.clients.get_mut(&channel).ok_or(io::ErrorKind::NotFound)?;
+        let client = self.clients.get_mut(channel).ok_or(io::ErrorKind::NotFound)?;
         let count = client.socket.read(&mut self.room)?;
         client.came.extend_from_slice(&self.room[..count]);
         Ok(count)
@@ -304,7 +335,7 @@ impl Channels {
     }
 
     fn try_to_feed(&mut self, channel: u16, house: &House) -> Result<Fed, Fed> {
-        let client = self.clients.get_mut(&channel).ok_or(Fed::Over)?;
+        let client = self.clients.get_mut(channel).ok_or(Fed::Over)?;
         let mut next = client.next(house)?;
         if !client.guest.is_in {
             return client.greet(&next, house);
@@ -314,7 +345,7 @@ impl Channels {
         let instead = self.admitted(channel, &next, &counts, house)?;
         // It may be the first of the next batch.
         let batch = house.decided() + counts.open_batches as u64 + 1;
-        let _ = self.clients.get_mut(&channel).map(|client| client.last = batch);
+        let _ = self.clients.get_mut(channel).map(|client| client.last = batch);
         if is_settled && next.does == Does::Shows && next.words == 2 {
             return self.show(channel, &next, batch);
         }
@@ -323,7 +354,7 @@ impl Channels {
             return Err(Fed::Owed);
         }
         let fed = self.carry_out(channel, &next, instead)?;
-        if let Some(client) = self.clients.get_mut(&channel) {
+        if let Some(client) = self.clients.get_mut(channel) {
             client.is_owed(batch, next.shows.max(TOLD));
         }
         Ok(fed)
@@ -331,12 +362,12 @@ impl Channels {
 
     /// Feeds what shows a key to a client of which the store has nothing, which is told at once, unless that depends on something.
     fn show(&mut self, channel: u16, next: &Next, batch: u64) -> Result<Fed, Fed> {
-        let begin = self.clients.get(&channel).map_or(0, |client| client.taken);
+        let begin = self.clients.get(channel).map_or(0, |client| client.taken);
         let fed = self.carry_out(channel, next, None)?;
         let waited = self.waiting.get();
         let has_memory = self.take(channel);
         let shown = self.waiting.get() - waited;
-        if let Some(client) = self.clients.get_mut(&channel).filter(|_| shown == 0) {
+        if let Some(client) = self.clients.get_mut(channel).filter(|_| shown == 0) {
             let words = words(&client.came[begin..][..next.len]);
             let bytes = words.last().map_or(0, |key| self.store.value_bytes(key));
             client.is_owed(batch, bytes + TOLD);
@@ -353,7 +384,7 @@ impl Channels {
         counts: &StoreCounts,
         house: &House,
     ) -> Result<Option<&'static [u8]>, Fed> {
-        let guest = &self.clients.get(&channel).ok_or(Fed::Over)?.guest;
+        let guest = &self.clients.get(channel).ok_or(Fed::Over)?.guest;
         let (is_queued, is_pressed) = (guest.queue.is_some(), house.is_pressed(counts));
         let writes = match next.does {
             Does::Adds | Does::TakesAway => Some(next.len),
@@ -375,7 +406,7 @@ impl Channels {
 
     /// How many bytes a request shows, where that may be many: what its keys have.
     fn shows(&mut self, channel: u16, next: &Next) -> Option<usize> {
-        let client = self.clients.get(&channel)?;
+        let client = self.clients.get(channel)?;
         match (next.does, next.words) {
             (Does::CarriesOut, _) => return Some(client.guest.queue.map_or(0, |queue| queue.shows)),
             (Does::Else, _) => return Some(next.len),
@@ -394,7 +425,7 @@ impl Channels {
 
     /// Feeds a request, or another in its place.
     fn carry_out(&mut self, channel: u16, next: &Next, instead: Option<&[u8]>) -> Result<Fed, Fed> {
-        let client = self.clients.get_mut(&channel).ok_or(Fed::Over)?;
+        let client = self.clients.get_mut(channel).ok_or(Fed::Over)?;
         let (is_ahead, bytes) = (client.guest.ahead.is_some(), instead.unwrap_or(client.bytes(next)));
         let told = match is_ahead {
             true => self.store.feed_ahead(channel, bytes),
@@ -427,7 +458,7 @@ impl Channels {
 
     /// Takes what may go out of a channel: whether there was memory for it.
     pub fn take(&mut self, channel: u16) -> bool {
-        let Some(client) = self.clients.get_mut(&channel) else { return false };
+        let Some(client) = self.clients.get_mut(channel) else { return false };
         let (may_tell, most) = (self.log.may_tell(client.mark), self.room.len());
         let (mut count, mut all) = (most, 0);
         // Where the room has more than there was, nothing is left.
@@ -450,6 +481,9 @@ impl Channels {
             }
             client.put(bytes, client.mark, may_tell);
         }
+        if client.replies.mark().is_some() {
+            self.held.insert(channel);
+        }
         true
     }
 
@@ -468,12 +502,18 @@ impl Channels {
         if self.log.may_tell(u64::MAX) {
             return Ok(Vec::new());
         }
-        let held = self.clients.values().filter_map(|client| client.replies.mark());
+        let held = self.held.iter().filter_map(|channel| self.clients.get(*channel)?.replies.mark());
         let Some(mark) = held.max() else { return Ok(Vec::new()) };
         self.log.prove(&mut self.store, mark, may_ask)?;
-        let log = &*self.log;
-        let free = self.clients.iter_mut().filter_map(|(channel, it)| it.replies.let_go(log).then_some(*channel));
-        Ok(free.collect())
+        let (log, clients, mut free) = (&*self.log, &mut self.clients, Vec::new());
+        self.held.retain(|channel| {
+            let Some(client) = clients.get_mut(*channel) else { return false };
+            if client.replies.let_go(log) {
+                free.push(*channel);
+            }
+            client.replies.mark().is_some()
+        });
+        Ok(free)
     }
 
     /// What became of the oldest batch, if it is decided.
@@ -503,7 +543,7 @@ impl Channels {
     /// Tells the answer of what a channel asks, which goes out in its turn; whether there was memory for it.
     pub fn tell(&mut self, channel: u16, text: &[u8]) -> bool {
         let did = self.store.tell(channel, text).is_ok();
-        if let Some(client) = self.clients.get_mut(&channel).filter(|_| did) {
+        if let Some(client) = self.clients.get_mut(channel).filter(|_| did) {
             client.send_ahead(text);
         }
         did
@@ -513,12 +553,12 @@ impl Channels {
     /// store has nothing of it beside; whether it was so.
     pub fn reset(&mut self, channel: u16, decided: u64, is_in: bool, text: &[u8]) -> bool {
         let is_due = |it: &&mut Client| it.guest.state == State::Asked && it.last <= decided && it.had == Had::Whole;
-        let Some(client) = self.clients.get_mut(&channel).filter(is_due) else { return false };
+        let Some(client) = self.clients.get_mut(channel).filter(is_due) else { return false };
         client.guest.forget();
         if !self.tell(channel, text) || !self.take(channel) {
             return false;
         }
-        if let Some(client) = self.clients.get_mut(&channel).filter(|_| !is_in) {
+        if let Some(client) = self.clients.get_mut(channel).filter(|_| !is_in) {
             (client.guest.is_in, client.had) = (false, Had::Nothing);
         }
         true

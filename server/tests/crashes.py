@@ -77,7 +77,7 @@ WRONG = {
 """), ("disk.rs", "    *own = Some((segment, file)); // [4]\n", "    *own = None;\n")]),
     "short write taken for whole": ("a short write", [("disk.rs", "file.write_all_at(bytes, place)?; // [1]",
                                      "let _ = file.write_at(bytes, place)?;")]),
-    "start that writes nothing again": ("a start on what isn't on the disk", [("recovery.rs", "Walk::begin(path, again, &owner", "Walk::begin(path, false, &owner")]),
+    "start that writes nothing again": ("a start on what isn't on the disk", [("recovery.rs", "(Reader::ahead(path, again)?, ", "(Reader::ahead(path, again && segment == 0)?, ")]),
     "refusal before the cut": ("a cut under way", [("log.rs", "self.under_way.push(at);",
                                 "self.under_way.push(at);\n                    if self.cutting.is_some() {\n"
                                 "                        store.cut(true)?;\n                    }"),
@@ -88,7 +88,7 @@ WRONG = {
     "segments removed before the snapshot has its name": ("a snapshot", [("folder.rs", "            disk::opened(|| File::open(&self.0))?.sync_all()?;\n            Ok(did)", "            Ok(did)"),
                                                           ("folder.rs", "        File::open(&self.0)?.sync_all()?;\n        for", "        for")]),
     "snapshot of what is written": ("a snapshot beside a write", [("log.rs", "self.under_way.iter().map(|at| at.segment).min().unwrap_or(self.at.written) - 1", "self.at.written")]),
-    "all stands before it is decided": ("answers ahead", [("asked.rs", "Some(ahead) => ahead.waiting.is_empty(),", "Some(_) => true,")]),
+    "all stands before it is decided": ("answers ahead", [("asked.rs", "|ahead| ahead.waiting.is_empty());", "|_| true);")]),
     "replies wait for all": ("a read beside a write", [("server.rs", "            self.take_output();\n            self.attend()?;",
                                                       "            if self.channels.counts().undecided == 0 {\n                self.take_output();\n"
                                                       "            }\n            self.attend()?;")]),

@@ -6,26 +6,110 @@ use std::fs::{File, OpenOptions};
 use std::io;
 use std::os::unix::fs::FileExt;
 use std::path::Path;
+use std::sync::mpsc::{self, Receiver, SyncSender};
+use std::thread::{self, JoinHandle};
 
+/// Files are read by pieces of so many bytes, up to so many pieces ahead.
 const PIECE: usize = 1 << 20;
+const PIECES: usize = 8;
 
 pub fn is_zeros(bytes: &[u8]) -> bool {
     bytes.chunks(4096).all(|bytes| bytes.iter().fold(0, |all, byte| all | byte) == 0)
 }
 
-/// A file that is read from its front to its end, piece by piece; what isn't zeros is written again where it stands, if asked to.
+/// Reads a file ahead of who takes its pieces, on a thread of its own: what isn't zeros is written again where it stands, if asked to, and
+/// is on the disk once the file was read to its end.
+struct Ahead {
+    pieces: Option<Receiver<Vec<u8>>>,
+    thread: Option<JoinHandle<io::Result<()>>>,
+}
+
+impl Ahead {
+    fn of(file: File, again: bool) -> Ahead {
+        let (tell, pieces) = mpsc::sync_channel(PIECES);
+        let thread = thread::spawn(move || read_ahead(&file, again, &tell));
+        Ahead { pieces: Some(pieces), thread: Some(thread) }
+    }
+
+    /// The next piece, and nothing at the end.
+    fn next(&mut self) -> io::Result<Vec<u8>> {
+        match self.pieces.as_ref().map(Receiver::recv) {
+            Some(Ok(piece)) => Ok(piece),
+            _ => self.end().map(|()| Vec::new()),
+        }
+    }
+
+    /// Nothing more is taken: what came of the thread.
+    fn end(&mut self) -> io::Result<()> {
+        self.pieces = None;
+        let did = self.thread.take().map(JoinHandle::join);
+        did.unwrap_or(Ok(Ok(()))).unwrap_or_else(|_| refused("it could not be read"))
+    }
+}
+
+impl Drop for Ahead {
+    fn drop(&mut self) {
+        let _ = self.end();
+    }
+}
+
+/// Tells the pieces of a file, the last of which is empty.
+fn read_ahead(file: &File, again: bool, tell: &SyncSender<Vec<u8>>) -> io::Result<()> {
+    let mut at = 0;
+    loop {
+        let mut piece = vec![0; PIECE];
+        let count = file.read_at(&mut piece, at)?;
+        piece.truncate(count);
+        if again && !is_zeros(&piece) {
+            file.write_all_at(&piece, at)?; // [8]
+        }
+        at += count as u64;
+        if tell.send(piece).is_err() {
+            return Ok(());
+        }
+        if count == 0 {
+            // Nobody waits for that before all is read.
+            return if again { file.sync_data() } else { Ok(()) }; // [8]
+        }
+    }
+}
+
+/// What is yet to come of a file that was read to its end: that what was written again is on the disk.
+pub struct Again(Option<Ahead>);
+
+impl Again {
+    pub fn end(self) -> io::Result<()> {
+        self.0.map_or(Ok(()), |mut ahead| ahead.end())
+    }
+}
+
+enum Source {
+    Here(File),
+    Ahead(Ahead),
+}
+
+/// A file that is read from its front to its end, piece by piece.
 pub struct Reader {
-    file: File,
-    again: bool,
+    source: Source,
     room: Vec<u8>,
     from: u64,
     is_end: bool,
 }
 
 impl Reader {
-    pub fn open(path: &Path, again: bool) -> io::Result<Reader> {
+    /// Of which the front is read.
+    pub fn open(path: &Path) -> io::Result<Reader> {
+        Ok(Reader::of(Source::Here(File::open(path)?)))
+    }
+
+    /// Of which all is read, by a thread ahead of what is asked for; and written again, if asked to.
+    pub fn ahead(path: &Path, again: bool) -> io::Result<Reader> {
         let file = OpenOptions::new().read(true).write(again).open(path)?;
-        Ok(Reader { file, again, room: Vec::new(), from: 0, is_end: false })
+        Ok(Reader::of(Source::Ahead(Ahead::of(file, again))))
+    }
+
+    fn of(source: Source) -> Reader {
+        Reader { source, room: Vec::new(), from: 0, is_end: false }
     }
 
     /// So many bytes from a place on, or fewer at the end of the file. Places don't fall, and lie in what was read or next to it.
@@ -43,32 +127,34 @@ impl Reader {
 
     fn fill(&mut self) -> io::Result<()> {
         let (len, at) = (self.room.len(), self.from + self.room.len() as u64);
-        self.room.resize(len + PIECE, 0);
-        let count = self.file.read_at(&mut self.room[len..], at)?;
-        self.room.truncate(len + count);
-        self.is_end = count == 0;
-        if self.again && !is_zeros(&self.room[len..]) {
-            self.file.write_all_at(&self.room[len..], at)?; // [8]
+        match &mut self.source {
+            Source::Here(file) => {
+                self.room.resize(len + PIECE, 0);
+                let count = file.read_at(&mut self.room[len..], at)?;
+                self.room.truncate(len + count);
+            }
+            Source::Ahead(ahead) => self.room.extend_from_slice(&ahead.next()?),
         }
+        self.is_end = self.room.len() == len;
         Ok(())
     }
 
-    /// The file was read to its end: what was written again is on the disk.
-    pub fn end(self) -> io::Result<()> {
-        if self.again {
-            self.file.sync_data()?; // [8]
+    /// The file was read to its end.
+    pub fn end(self) -> Again {
+        match self.source {
+            Source::Here(_) => Again(None),
+            Source::Ahead(ahead) => Again(Some(ahead)),
         }
-        Ok(())
     }
 }
 
 /// Gives all of a file that is of an older server, as it stands.
-pub fn whole(path: &Path, again: bool, mut take: impl FnMut(&[u8]) -> io::Result<()>) -> io::Result<()> {
-    let (mut reader, mut at) = (Reader::open(path, again)?, 0);
+pub fn whole(mut reader: Reader, mut take: impl FnMut(&[u8]) -> io::Result<()>) -> io::Result<Again> {
+    let mut at = 0;
     loop {
         let piece = reader.at(at, PIECE)?;
         if piece.is_empty() {
-            return reader.end();
+            return Ok(reader.end());
         }
         take(piece)?;
         at += piece.len() as u64;
@@ -77,12 +163,13 @@ pub fn whole(path: &Path, again: bool, mut take: impl FnMut(&[u8]) -> io::Result
 
 /// Whether a segment was made and nothing was written in it.
 pub fn is_unused(path: &Path) -> bool {
-    whole(path, false, |piece| is_zeros(piece).then_some(()).ok_or(io::ErrorKind::Other.into())).is_ok()
+    let no = |piece: &[u8]| is_zeros(piece).then_some(()).ok_or(io::ErrorKind::Other.into());
+    Reader::open(path).and_then(|reader| whole(reader, no)).is_ok()
 }
 
 /// Whether a file is of a server that gives its files heads.
 pub fn has_head(path: &Path) -> io::Result<bool> {
-    Ok(is_of_heads(Reader::open(path, false)?.at(0, FILE_HEAD)?))
+    Ok(is_of_heads(Reader::open(path)?.at(0, FILE_HEAD)?))
 }
 
 fn refused<T>(what: impl Into<String>) -> io::Result<T> {
@@ -131,14 +218,7 @@ pub struct Walk<'a> {
 
 impl<'a> Walk<'a> {
     /// Begins to read a segment. A head of another store or segment is refused by name.
-    pub fn begin(
-        path: &Path,
-        again: bool,
-        identity: &'a Identity,
-        segment: u64,
-        gave_up: GaveUp,
-    ) -> io::Result<Walk<'a>> {
-        let mut reader = Reader::open(path, again)?;
+    pub fn begin(mut reader: Reader, identity: &'a Identity, segment: u64, gave_up: GaveUp) -> io::Result<Walk<'a>> {
         let mut at = Walked { segment, place: FILE_HEAD as u64, ..Walked::default() };
         let front = reader.at(0, FILE_HEAD)?;
         match FileHead::of(front) {
@@ -182,7 +262,7 @@ impl<'a> Walk<'a> {
     }
 
     /// Reads what stands behind the frames that are whole, to the end.
-    pub fn end(mut self) -> io::Result<Walked> {
+    pub fn end(mut self) -> io::Result<(Walked, Again)> {
         let (tag, mut place, mut last) = (self.identity.tag(), self.at.place, self.at.place);
         loop {
             let piece = self.reader.at(place, PIECE)?;
@@ -205,8 +285,7 @@ impl<'a> Walk<'a> {
             last = last.max(place);
         }
         self.at.rest = last - self.at.place;
-        self.reader.end()?;
-        Ok(self.at)
+        Ok((self.at, self.reader.end()))
     }
 
     /// Looks at what may be an envelope, behind frames that aren't whole: how many bytes it is, with its frame.
@@ -246,7 +325,7 @@ pub fn snapshot(
     of: (u64, u64),
     mut take: impl FnMut(&[u8]) -> io::Result<()>,
 ) -> io::Result<Ending> {
-    let mut reader = Reader::open(path, false)?;
+    let mut reader = Reader::ahead(path, false)?;
     begins(reader.at(0, FILE_HEAD)?, identity, of)?;
     let (mut so_far, mut place) = (Ending::default(), FILE_HEAD as u64);
     loop {

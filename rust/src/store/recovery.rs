@@ -4,7 +4,7 @@ use super::envelope::{wrap, Ending, Envelope, FileHead, Identity, ENVELOPE, ROOM
 use super::folder::{named, Folder};
 use super::log::Closed;
 use super::mark::{self, GaveUp, Mark, Owner, Said};
-use super::reading::{self, Reader, Walk, Walked};
+use super::reading::{self, Again, Reader, Walk, Walked};
 use super::system;
 use super::{ReadCounts, Recovery, Refusal, HEAD};
 use std::fs::File;
@@ -160,10 +160,14 @@ impl Folder {
             let head = named(path, front(path, *number, said.as_ref()))?;
             log.head(*number, &head)?;
         }
-        let mut walked = Vec::new();
+        let (mut walked, mut written) = (Vec::new(), Vec::new());
         for (number, path) in segments.iter().filter(|(number, _)| *number <= how.up_to) {
-            let read = feed(&mut log, path, *number, how.again, said.as_ref()); // [9]
-            walked.push(named(path, read)?);
+            let (read, again) = named(path, feed(&mut log, path, *number, how.again, said.as_ref()))?; // [9]
+            walked.push(read);
+            written.push((path, again));
+        }
+        for (path, again) in written {
+            named(path, again.end())?; // [8]
         }
         let mut found = Found::new(log, kept, ending, walked, said);
         found.end(self, how)?;
@@ -232,29 +236,35 @@ fn whole_of_old(path: &Path, mut feed: impl FnMut(&[u8]) -> io::Result<()>) -> i
     if reading::is_unused(path) {
         return Err(io::Error::other("it has no piece at all"));
     }
-    reading::whole(path, false, |piece| feed(piece))
+    reading::whole(Reader::ahead(path, false)?, |piece| feed(piece)).map(drop)
 }
 
 /// The head of the first frame of a segment, where that frame is whole.
 fn front(path: &Path, segment: u64, said: Option<&Said>) -> io::Result<Vec<u8>> {
     let head = |bytes: &[u8]| bytes[..HEAD.min(bytes.len())].to_vec();
     match said.filter(|said| segment >= said.owner.first) {
-        None => Ok(head(Reader::open(path, false)?.at(0, HEAD)?)),
+        None => Ok(head(Reader::open(path)?.at(0, HEAD)?)),
         Some(said) => {
-            let mut walk = Walk::begin(path, false, &said.owner.identity, segment, GaveUp::default())?;
+            let mut walk = Walk::begin(Reader::open(path)?, &said.owner.identity, segment, GaveUp::default())?;
             Ok(walk.next()?.map(head).unwrap_or_default())
         }
     }
 }
 
 /// Gives the library the frames of a segment that are whole, up to the first that isn't.
-fn feed(log: &mut Recovery, path: &Path, segment: u64, again: bool, said: Option<&Said>) -> io::Result<Walked> {
-    let mut feed = |bytes: &[u8]| Ok(log.feed(segment, bytes)?);
+fn feed(
+    log: &mut Recovery,
+    path: &Path,
+    segment: u64,
+    again: bool,
+    said: Option<&Said>,
+) -> io::Result<(Walked, Again)> {
+    let (reader, mut feed) = (Reader::ahead(path, again)?, |bytes: &[u8]| Ok(log.feed(segment, bytes)?));
     let Some(Said { owner, mark, .. }) = said.filter(|said| segment >= said.owner.first) else {
-        reading::whole(path, again, feed)?;
-        return Ok(Walked { segment, ..Walked::default() });
+        let again = reading::whole(reader, feed)?;
+        return Ok((Walked { segment, ..Walked::default() }, again));
     };
-    let mut walk = Walk::begin(path, again, &owner.identity, segment, mark.gave_up)?;
+    let mut walk = Walk::begin(reader, &owner.identity, segment, mark.gave_up)?;
     while let Some(frame) = walk.next()? {
         feed(frame)?;
     }

@@ -1,6 +1,7 @@
 //! When snapshots are made, and backups.
 use crate::resp::{error, Reply, OK};
 use crate::server::Server;
+use crate::trusted::system;
 use hidewillow::store::folder::Folder;
 use hidewillow::store::log::{Closed, Segments};
 use hidewillow::store::recovery::Made;
@@ -45,6 +46,7 @@ impl Keeper {
         let (folder, tell) = (Folder(folder.into()), self.tell.clone());
         self.is_keeping = true;
         thread::spawn(move || {
+            system::step_back();
             let did = match &wish.backup {
                 Some(path) => folder.back_up(&closed, path),
                 None => folder.write(&closed, &folder).and_then(|made| folder.remove().map(|()| made)),

@@ -219,6 +219,8 @@ impl Folder {
                 let envelope = Envelope::around(0, ending.pieces, 0, &room[ROOM_BEFORE..end]);
                 let from = wrap(&mut room, None, &envelope, &identity);
                 file.write_all(&room[from..end])?;
+                // A frame that is written meanwhile waits for one of them at most.
+                file.sync_data()?;
             }
         };
         self.place(&self.snapshot_of(up_to, next), writes, |new| read_back(new, &identity, (up_to, next)))

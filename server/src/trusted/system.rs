@@ -45,6 +45,7 @@ extern "C" {
     fn getrlimit(of: c_int, limit: *mut Limit) -> c_int;
     fn setrlimit(of: c_int, limit: *const Limit) -> c_int;
     fn setsockopt(fd: c_int, level: c_int, name: c_int, value: *const c_void, len: u32) -> c_int;
+    fn setpriority(kind: c_int, of: u32, nice: c_int) -> c_int;
     fn umask(mask: u32) -> u32;
     fn epoll_create1(flags: c_int) -> c_int;
     fn epoll_ctl(epoll: c_int, op: c_int, fd: c_int, event: *mut Event) -> c_int;
@@ -63,6 +64,8 @@ const SIGINT: u32 = 2;
 pub const SIGUSR1: u32 = 10;
 const SIGTERM: u32 = 15;
 
+/// How far a thread steps back behind those that serve.
+const STEP: c_int = 10;
 /// Open handles, as a limit of the system.
 const HANDLES: c_int = 7;
 /// So many seconds a connection is silent until it is looked whether its other side is there, so many between tries, and so many tries.
@@ -115,6 +118,12 @@ pub fn raise_handles() -> u64 {
 pub fn give_memory_back() {
     // Safety: it takes a number, of bytes that are kept.
     unsafe { malloc_trim(0) };
+}
+
+/// Lets other threads go before the one that says so, where not all can go on.
+pub fn step_back() {
+    // Safety: it takes numbers: of a thread, the one that calls, and how far it steps back.
+    unsafe { setpriority(0, 0, STEP) };
 }
 
 /// Files and folders are made for their owner alone from now on.

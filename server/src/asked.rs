@@ -144,6 +144,7 @@ impl Server {
             return Err(error(format!("The system allows {most} clients at once")));
         }
         self.house.options = changed;
+        self.weigh();
         Ok(OK)
     }
 

@@ -119,12 +119,11 @@ impl Server {
     /// What is done beside, in each turn.
     pub fn attend(&mut self) -> io::Result<()> {
         self.answer_waiting();
-        let house = &mut self.house;
+        let house = &self.house;
         if house.options.memory > 0 && !house.keeper.is_keeping && house.weighed.0.elapsed() > WEIGHED {
-            let beside = system::memory().saturating_sub(self.channels.waiting() as u64);
-            house.weighed = (Instant::now(), beside);
+            self.weigh();
         }
-        let waiting = self.channels.waiting();
+        let (house, waiting) = (&mut self.house, self.channels.waiting());
         house.peak = house.peak.max(waiting);
         if house.peak > MUCH && waiting < house.peak / 4 {
             house.peak = waiting;
@@ -132,6 +131,12 @@ impl Server {
         }
         self.sweep();
         self.keep()
+    }
+
+    /// Looks how much memory is used, beside what waits for clients.
+    pub fn weigh(&mut self) {
+        let beside = system::memory().saturating_sub(self.channels.waiting() as u64);
+        self.house.weighed = (Instant::now(), beside);
     }
 
     /// Ends clients that say nothing for too long, and take nothing, while nothing is done for them.

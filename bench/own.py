@@ -4,7 +4,7 @@
     bench/own.py PROGRAM [COSTS [LIBRARY]]
 
 PROGRAM is `crates/many_steps/out/many_steps`, COSTS the test program of `speculators_tests`, for what stands beside open guesses of others
-and for byte keys, and LIBRARY is `build/libhidewillow_c.a`, which `bench/own_steps.c` is linked with. Keys are of 64 bits and values of 16
+and for byte keys, and LIBRARY is `build/libhidewillow_c.a`, which `bench/own_steps.c` and `bench/own_shrunk.c` are linked with. Keys are of 64 bits and values of 16
 bytes, 100 keys are present, and each step looks at one key, whose value it reads, and writes it, in buffers that are used again; what
 is said is taken out. What a row says is the difference of two runs; beside it stands its limit, and OVER where it is passed. The last
 rows are of larger steps, which write another key too, make it absent now and then, and say an output every fourth time. The
@@ -106,14 +106,28 @@ def byte_keys(costs):
     return (many - few) / 2_000
 
 
+def linked(library, source, folder):
+    """A program over the library for C."""
+    program = os.path.join(folder, source.removesuffix(".c"))
+    words = [os.environ.get("CC", "cc"), "-std=c11", "-O2", f"-I{HERE.parent / 'c'}", HERE / source, library, "-o", program]
+    subprocess.run(words, check=True)
+    return program
+
+
 def through_c(library):
     """What the same step costs through C."""
     with tempfile.TemporaryDirectory() as folder:
-        program = os.path.join(folder, "own_steps")
-        words = [os.environ.get("CC", "cc"), "-std=c11", "-O2", f"-I{HERE.parent / 'c'}", HERE / "own_steps.c", library, "-o", program]
-        subprocess.run(words, check=True)
+        program = linked(library, "own_steps.c", folder)
         few, many = (counted([program, steps]) for steps in (1_000, 3_000))
     return (many - few) / 2_000
+
+
+def shrunk(library):
+    """How many bytes a key keeps, with its value, that rests on 4 guesses and rested on 64."""
+    with tempfile.TemporaryDirectory() as folder:
+        program = linked(library, "own_shrunk.c", folder)
+        few, many = (peak([program, kernels]) for kernels in (1, 8))
+    return (many - few) / (7 * 20_000)
 
 
 def a_key(program):
@@ -152,6 +166,7 @@ def main(program, costs=None, library=None):
         rows.row(byte_keys(costs), 900, "a step over keys of 16 bytes with values of 100")
     if library:
         rows.row(through_c(library), 1_100, "the same through C")
+        rows.row(shrunk(library), 900, "bytes of a key that rests on 4 guesses and rested on 64, in C")
     for keys, limit in ((1, 1_500), (100, 1_600), (60_000, 1_100)):
         rows.row(under_own(program, "mixed", keys), limit, f"a larger step under an own guess, keys: {keys:,}")
     rows.row(guess_with(program, "mixed", "mixed"), 2_600, "a guess with a larger step and its decision")
